@@ -1,0 +1,12 @@
+//! Places in a file, types and their classes, and the want of memory: what every crate above speaks of.
+#![tactic(auto)]
+
+mod memory;
+mod place;
+mod table;
+mod ty;
+
+pub use memory::NoMemory;
+pub use place::Place;
+pub use table::{TypeTable, class_of};
+pub use ty::{Class, NameId, Ty, TyId};
