@@ -1,15 +1,15 @@
 -- The points that know where they lead, and what is read off them.
 use Rattle.std.specs.Prelude.{ℕ, ◌≤◌, zero, suc, ◌+◌, Bool, true, false, List, [], ◌∷◌, ◌++◌, Option, Some, None, option_map, option_and_then, slice_get}
 use Rattle.life_types.specs.declared.place.Place.{Place}
-use Rattle.life_core.specs.declared.instr.Instr.{Instr}
 use Rattle.life_core.specs.declared.instr.Test.{Test}
-use Rattle.life_core.specs.declared.program.CoreFn.{CoreFn}
 use Rattle.life_core.specs.declared.stmt.Edge.{Edge}
 use Rattle.life_core.specs.declared.stmt.Point.{Point}
 use Rattle.life_core.specs.declared.exits.Exits.{Exits}
 use Rattle.life_core.specs.declared.exits.Entry.{Entry}
 use Rattle.life_core.specs.declared.exits.Entry.TheVariants as entry
-use Rattle.life_core.specs.Tree.{Tree, Skip, Then, Acts, Asks, Both, Either, Negated, Choice, Turns, Breaks, Continues, Returns, Stops, tree_of, size, Node, Action, Question, Return, Stop, Spot}
+use Rattle.life_core.specs.Function.{Function}
+use Rattle.life_core.specs.Step.{Step}
+use Rattle.life_core.specs.Tree.{Tree, Skip, Then, Acts, Asks, Both, Either, Negated, Choice, Turns, Breaks, Continues, Returns, Stops, size, Node, Action, Question, Return, Stop, Spot}
 
 -- where control goes to one tree and then another
 abbrev pub entry_then : Entry → Entry → Entry
@@ -124,14 +124,14 @@ abbrev pub no_exits : Exits
 no_exits = record { next = None; on_break = None; on_continue = None; on_true = None; on_false = None }
 
 -- the points of a function, numbered from 1
-abbrev pub code_of : CoreFn → List Linked
-code_of f = linked (tree_of f.body) 1 no_exits
+abbrev pub code_of : Function → List Linked
+code_of f = linked (f.body) 1 no_exits
 
-abbrev pub points_of : CoreFn → ℕ
-points_of f = size (tree_of f.body)
+abbrev pub points_of : Function → ℕ
+points_of f = size (f.body)
 
 -- the edges of a function, in ascending order of their first points, the one of a test that holds first
-abbrev pub edges_of : CoreFn → List Edge
+abbrev pub edges_of : Function → List Edge
 edges_of f = edges_from 1 (code_of f)
 
 abbrev pub numbered : List Linked → ℕ → Option Linked
@@ -142,16 +142,16 @@ abbrev pub spot_of_linked : Linked → Spot
 spot_of_linked l = l.spot
 
 -- what is at a point
-abbrev pub spot_of : CoreFn → Point → Option Spot
+abbrev pub spot_of : Function → Point → Option Spot
 spot_of f p = option_map spot_of_linked (numbered (code_of f) p.0)
 
-abbrev pub node_of : CoreFn → Point → Option Node
+abbrev pub node_of : Function → Point → Option Node
 node_of f p = option_map (λ (s : Spot). s.node) (spot_of f p)
 
-abbrev pub place_of : CoreFn → Point → Option Place
+abbrev pub place_of : Function → Point → Option Place
 place_of f p = option_map (λ (s : Spot). s.place) (spot_of f p)
 
-abbrev pub instr_part : Node → Option Instr
+abbrev pub instr_part : Node → Option Step
 instr_part (Action i) = Some i
 instr_part (Question t) = None
 instr_part Return = None
@@ -170,10 +170,10 @@ is_return (Some (Question t)) = false
 is_return (Some Return) = true
 is_return (Some Stop) = false
 
-abbrev pub instr_of : CoreFn → Point → Option Instr
+abbrev pub instr_of : Function → Point → Option Step
 instr_of f p = option_and_then instr_part (node_of f p)
 
-abbrev pub test_of : CoreFn → Point → Option Test
+abbrev pub test_of : Function → Point → Option Test
 test_of f p = option_and_then test_part (node_of f p)
 
 -- both ends are points

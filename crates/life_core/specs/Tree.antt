@@ -1,8 +1,8 @@
 -- A statement as a tree whose lists are made of pairs, and how many points it has.
 use Rattle.std.specs.Prelude.{ℕ, ◌+◌, List, [], ◌∷◌, ◌++◌}
 use Rattle.life_types.specs.declared.place.Place.{Place}
-use Rattle.life_core.specs.declared.instr.Instr.{Instr}
 use Rattle.life_core.specs.declared.instr.Test.{Test}
+use Rattle.life_core.specs.Step.{Step, step_of}
 use Rattle.life_core.specs.declared.stmt.Condition.{Condition}
 use Rattle.life_core.specs.declared.stmt.Condition.TheFolds.{fold-Condition, fold-Stmt}
 use Rattle.life_core.specs.declared.stmt.Condition.TheOpen.{Condition-F, After, Single, And, Or, Not, Stmt-F, List as Sequence, Do, Branch, Loop, Break, Continue, Return as ReturnAt, Stop as StopAt}
@@ -12,7 +12,7 @@ use Rattle.life_core.specs.declared.stmt.Stmt.{Stmt}
 pub data Tree : Type 0 where
   Skip : Tree
   Then : Tree → Tree → Tree
-  Acts : Place → Instr → Tree
+  Acts : Place → Step → Tree
   Asks : Place → Test → Tree
   Both : Tree → Tree → Tree
   Either : Tree → Tree → Tree
@@ -38,7 +38,7 @@ condition_step (Not a) = Negated a.value
 
 abbrev pub stmt_step : Stmt-F Tree Tree → Tree
 stmt_step (Sequence items) = trees items.items
-stmt_step (Do place i) = Acts place i
+stmt_step (Do place i) = Acts place (step_of i)
 stmt_step (Branch t a b) = Choice t a.value b.value
 stmt_step (Loop t body step) = Turns t body.value step.value
 stmt_step Break = Breaks
@@ -71,7 +71,7 @@ size (Stops place) = 1
 
 -- what stands at a point
 pub data Node : Type 0 where
-  Action : Instr → Node
+  Action : Step → Node
   Question : Test → Node
   Return : Node
   Stop : Node

@@ -7,12 +7,11 @@ use Rattle.life_types.specs.declared.ty.Class.{Class}
 use Rattle.life_types.specs.declared.ty.Class.TheVariants.{Value, Pointer}
 use Rattle.life_types.specs.declared.ty.NameId.{NameId}
 use Rattle.life_core.specs.declared.instr.Form.{Form}
-use Rattle.life_core.specs.declared.instr.Instr.{Instr}
-use Rattle.life_core.specs.declared.instr.Instr.TheVariants.{Live, End, Eval, Load, Save, Aim, Repoint}
-use Rattle.life_core.specs.declared.program.CoreFn.{CoreFn}
 use Rattle.life_core.specs.declared.program.Local.{Local}
 use Rattle.life_core.specs.declared.program.LocalKind.{LocalKind}
 use Rattle.life_core.specs.declared.program.LocalKind.TheVariants.{Object, Register}
+use Rattle.life_core.specs.Function.{Function}
+use Rattle.life_core.specs.Step.{Step, Live, End, Eval, Load, Save, Aim, Repoint}
 use Rattle.life_core.specs.Tree.{Node, Action, Question, Return, Stop, Spot}
 use Rattle.life_core.specs.Linked.{Linked, code_of, points_of}
 use Rattle.life_pset.specs.declared.element.AbsPlace.{AbsPlace}
@@ -38,8 +37,8 @@ abbrev pub locations_from : Types → ℕ → List Local → List AbsPlace
 locations_from types x [] = []
 locations_from types x (l ∷ ls) = location_if (class_at types l.ty) x ++ locations_from types (x + 1) ls
 
-abbrev pub locations_of : Types → CoreFn → List AbsPlace
-locations_of types f = locations_from types 0 f.locals.items
+abbrev pub locations_of : Types → Function → List AbsPlace
+locations_of types f = locations_from types 0 f.locals
 
 -- an object may be pointed to
 abbrev pub object_if : LocalKind → ℕ → List Element
@@ -72,39 +71,39 @@ end_causes place x None = []
 end_causes place x (Some l) = end_if l.kind (ended_local place x l)
 
 -- the causes that the end of a local has: one for an object, none for a register
-abbrev pub causes_of_end : CoreFn → Place → ℕ → List Cause
-causes_of_end f place x = end_causes place x (slice_get f.locals.items x)
+abbrev pub causes_of_end : Function → Place → ℕ → List Cause
+causes_of_end f place x = end_causes place x (slice_get f.locals x)
 
 -- the causes that an instruction may give
-abbrev pub instr_causes : CoreFn → Place → Instr → List Cause
-instr_causes f place (Live x form) = uninitialised place x ∷ []
-instr_causes f place (End xs) = flat_map (causes_of_end f place) xs.items
-instr_causes f place (Eval r operation) = []
-instr_causes f place (Load r o) = []
-instr_causes f place (Save o r) = []
-instr_causes f place (Aim p s) = []
-instr_causes f place (Repoint p q) = []
+abbrev pub step_causes : Function → Place → Step → List Cause
+step_causes f place (Live x form) = uninitialised place x ∷ []
+step_causes f place (End xs) = flat_map (causes_of_end f place) xs
+step_causes f place (Eval r operation) = []
+step_causes f place (Load r o) = []
+step_causes f place (Save o r) = []
+step_causes f place (Aim p s) = []
+step_causes f place (Repoint p q) = []
 
-abbrev pub node_causes : CoreFn → Place → Node → List Cause
-node_causes f place (Action i) = instr_causes f place i
+abbrev pub node_causes : Function → Place → Node → List Cause
+node_causes f place (Action i) = step_causes f place i
 node_causes f place (Question t) = []
 node_causes f place Return = []
 node_causes f place Stop = []
 
-abbrev pub causes_at : CoreFn → Linked → List Cause
+abbrev pub causes_at : Function → Linked → List Cause
 causes_at f l = node_causes f l.spot.place l.spot.node
 
-abbrev pub causes_of : CoreFn → List Cause
+abbrev pub causes_of : Function → List Cause
 causes_of f = flat_map (causes_at f) (code_of f)
 
 -- null, own and static, the objects, and what has a cause, in the order of the points
-abbrev pub elements_of : CoreFn → List Element
-elements_of f = element.Null ∷ element.Own ∷ element.Static ∷ (objects_from 0 f.locals.items ++ map element.Invalid (causes_of f))
+abbrev pub elements_of : Function → List Element
+elements_of f = element.Null ∷ element.Own ∷ element.Static ∷ (objects_from 0 f.locals ++ map element.Invalid (causes_of f))
 
 -- the numbers that a function may not pass: 1,024 points, 256 locations, 2,048 elements, and locals
 -- that 32 bits can number
-pub record IsWithinLimits (types : Types) (f : CoreFn) : Type 0 where
+pub record IsWithinLimits (types : Types) (f : Function) : Type 0 where
   pub points : points_of f ≤ 1024
-  pub locals : length f.locals.items < 2 ^ 32
+  pub locals : length f.locals < 2 ^ 32
   pub locations : length (locations_of types f) ≤ 256
   pub elements : length (elements_of f) ≤ 2048

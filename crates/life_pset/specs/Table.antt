@@ -2,7 +2,7 @@
 use Rattle.std.specs.Prelude.{◌≡◌, ℕ, List, [], Some, slice_get}
 use Rattle.indexmap.specs.IndexSet.{insert_all}
 use Rattle.life_types.specs.Types.{Types}
-use Rattle.life_core.specs.declared.program.CoreFn.{CoreFn}
+use Rattle.life_core.specs.Function.{Function}
 use Rattle.life_pset.specs.contracts.element.AbsPlacePartialEq.TheImpl.{ghosts as place}
 use Rattle.life_pset.specs.contracts.element.ElementPartialEq.TheImpl.{ghosts as element}
 use Rattle.life_pset.specs.declared.element.AbsPlace.{AbsPlace}
@@ -16,7 +16,7 @@ pub record Table : Type 0 where
   pub elements : List Element
 
 -- each location and each element of the function once, in the order in which they first stand
-abbrev pub table_of : Types → CoreFn → Table
+abbrev pub table_of : Types → Function → Table
 table_of types f = record {
   locations = insert_all place.eq [] (locations_of types f);
   elements = insert_all element.eq [] (elements_of f);
