@@ -1,0 +1,49 @@
+-- The line that a diagnostic prints, and the order of lines.
+use Rattle.std.specs.Prelude.{ℕ, List, ◌++◌, codes, decimal}
+use Rattle.std.specs.Cmp.Lexicographic.{slice_cmp}
+use Rattle.std.specs.Ordering.{nat_cmp, ordering_then}
+use Rattle.std.specs.declared.cmp.Ordering.{Ordering}
+use Rattle.life_types.specs.Places.{position_text}
+use Rattle.life_types.specs.Types.{Types}
+use Rattle.life_core.specs.Function.{Function}
+use Rattle.life_rules.specs.Texts.{place_text, why_text}
+use Rattle.life_rules.specs.declared.diag.Diag.{Diag}
+use Rattle.life_rules.specs.declared.diag.DiagKind.{DiagKind}
+use Rattle.life_rules.specs.declared.diag.DiagKind.TheVariants.{NullUse, DanglingUse}
+
+-- what is printed of a diagnostic: nothing else tells two of them apart
+pub record Line : Type 0 where
+  pub line : ℕ
+  pub column : ℕ
+  pub kind : ℕ
+  pub name : List ℕ
+  pub why : List ℕ
+
+abbrev pub kind_number : DiagKind → ℕ
+kind_number NullUse = 1
+kind_number DanglingUse = 2
+
+abbrev pub kind_text : DiagKind → List ℕ
+kind_text NullUse = codes "null-use"
+kind_text DanglingUse = codes "dangling-use"
+
+abbrev pub line_of : List (List ℕ) → Types → Function → Diag → Line
+line_of names types f d = record {
+  line = d.place.line;
+  column = d.place.column;
+  kind = kind_number d.kind;
+  name = place_text names types f d.name;
+  why = why_text names types f d.why;
+}
+
+-- by line, column, kind, name and reason
+abbrev pub line_cmp : Line → Line → Ordering
+line_cmp x y =
+    ordering_then (nat_cmp x.line y.line)
+    (ordering_then (nat_cmp x.column y.column)
+    (ordering_then (nat_cmp x.kind y.kind) (ordering_then (slice_cmp nat_cmp x.name y.name) (slice_cmp nat_cmp x.why y.why))))
+
+-- what the line prints: place, kind, name and reason, parted by a colon and a space
+abbrev pub printed : List (List ℕ) → Types → Function → Diag → List ℕ
+printed names types f d =
+    position_text d.place ++ codes ": " ++ kind_text d.kind ++ codes ": " ++ place_text names types f d.name ++ codes ": " ++ why_text names types f d.why ++ codes "\n"
