@@ -1,12 +1,24 @@
 //! Core programs: what a typed program is translated to, its points and its edges.
 #![tactic(auto)]
 
+mod edge_list;
 mod exits;
 mod instr;
+mod node;
+mod point_count;
+mod point_lookup;
 mod program;
+mod spot_list;
 mod stmt;
+#[cfg(test)]
+mod tests;
 
+pub use edge_list::edges;
 pub use exits::{Entry, Exits};
 pub use instr::{Form, Instr, Operand, Operation, Source, Test};
+pub use node::{NodeRef, SpotRef};
+pub use point_count::points;
+pub use point_lookup::{instr_at, place_at, returns_at, test_at};
 pub use program::{CoreFn, CoreProgram, FnId, Local, LocalKind, Names};
+pub use spot_list::spots;
 pub use stmt::{Condition, Edge, Point, Stmt};

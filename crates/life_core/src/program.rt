@@ -1,4 +1,7 @@
 // Core programs and their functions.
+ghost use Rattle.std.specs.Prelude.{◌≡◌, ◌<◌, length, map, slice_get};
+ghost use Rattle.life_core.specs.Function.{name_bytes};
+
 use crate::stmt::Stmt;
 use life_types::{NameId, Place, TyId, TypeTable};
 
@@ -51,4 +54,14 @@ pub struct CoreProgram {
 #[derive(Debug, Drop)]
 pub struct Names {
     pub texts: Vec<Vec<u8>>,
+}
+
+impl Names {
+    /// The text of the name.
+    pub fn text(&self, name: NameId) -> &[u8]
+        requires { name.0 < length self.now.texts.items }
+        ensures { slice_get (map name_bytes self.now.texts.items) name.0 ≡ Some result.now }
+    {
+        &self.texts[name.0 as usize]
+    }
 }

@@ -1,18 +1,17 @@
 -- The locations and the elements of a function, in the order of their numbers.
-use Rattle.std.specs.Prelude.{◌≡◌, ℕ, ◌+◌, ◌<◌, ◌≤◌, ◌^◌, List, [], ◌∷◌, ◌++◌, Option, Some, None, length, map, slice_get}
+use Rattle.std.specs.Prelude.{ℕ, ◌+◌, ◌<◌, ◌≤◌, ◌^◌, List, [], ◌∷◌, ◌++◌, Option, Some, None, length, map, slice_get}
 use Rattle.std.specs.List.{flat_map}
 use Rattle.life_types.specs.Types.{Types, class_at}
 use Rattle.life_types.specs.declared.place.Place.{Place}
 use Rattle.life_types.specs.declared.ty.Class.{Class}
 use Rattle.life_types.specs.declared.ty.Class.TheVariants.{Value, Pointer}
 use Rattle.life_types.specs.declared.ty.NameId.{NameId}
-use Rattle.life_core.specs.declared.instr.Form.{Form}
 use Rattle.life_core.specs.declared.program.Local.{Local}
 use Rattle.life_core.specs.declared.program.LocalKind.{LocalKind}
 use Rattle.life_core.specs.declared.program.LocalKind.TheVariants.{Object, Register}
 use Rattle.life_core.specs.Function.{Function}
 use Rattle.life_core.specs.Step.{Step, Live, End, Eval, Load, Save, Aim, Repoint}
-use Rattle.life_core.specs.Tree.{Node, Action, Question, Return, Stop, Spot}
+use Rattle.life_core.specs.Tree.{Node, Action, Question, Return, Stop}
 use Rattle.life_core.specs.Linked.{Linked, code_of, points_of}
 use Rattle.life_pset.specs.declared.element.AbsPlace.{AbsPlace}
 use Rattle.life_pset.specs.declared.element.Cause.{Cause}
@@ -20,7 +19,6 @@ use Rattle.life_pset.specs.declared.element.CauseKind.{CauseKind}
 use Rattle.life_pset.specs.declared.element.CauseKind.TheVariants.{Uninitialised, Ended, TemporaryEnded}
 use Rattle.life_pset.specs.declared.element.Element.{Element}
 use Rattle.life_pset.specs.declared.element.Element.TheVariants as element
-use Rattle.life_pset.specs.declared.element.Root.{Root}
 use Rattle.life_pset.specs.declared.element.Root.TheVariants as root
 
 -- the place of a whole local

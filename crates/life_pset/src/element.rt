@@ -1,4 +1,6 @@
 // Abstract places, and what a pointer may be.
+ghost use Rattle.std.specs.Prelude.{◌≡◌};
+
 use life_types::Place;
 
 /// Where an abstract place begins.
@@ -18,6 +20,21 @@ pub struct AbsPlace {
     pub root: Root,
     pub length: u8,
     pub steps: [u8; 8],
+}
+
+impl AbsPlace {
+    ghost use Rattle.life_pset.specs.Elements.{local_place};
+
+    /// The place of the whole local with this number.
+    pub fn of_local(local: u32) -> AbsPlace
+        ensures { result ≡ local_place local }
+    {
+        AbsPlace {
+            root: Root::Local(local),
+            length: 0,
+            steps: [0; 8],
+        }
+    }
 }
 
 /// What made a pointer invalid.

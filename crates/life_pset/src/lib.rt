@@ -2,5 +2,19 @@
 #![tactic(auto)]
 
 mod element;
+mod element_list;
+mod limits;
+mod location_list;
+mod rows;
+mod set_rows;
+mod table;
 
 pub use element::{AbsPlace, Cause, CauseKind, Element, Fact, Root};
+pub use element_list::{causes, elements};
+pub use limits::{
+    ELEMENT_LIMIT, LOCATION_LIMIT, POINT_LIMIT, count_elements, count_points, is_within_limits,
+};
+pub use location_list::{count_locations, locations};
+pub use rows::Rows;
+pub use set_rows::SetRows;
+pub use table::ElementTable;

@@ -2,4 +2,4 @@
 use Rattle.life_types.specs.declared.memory.NoMemory.{NoMemory}
 
 abbrev pub no_memory : NoMemory
-no_memory = record { }
+no_memory = record {}

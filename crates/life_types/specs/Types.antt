@@ -1,5 +1,5 @@
 -- The table of types, and the class of each.
-use Rattle.std.specs.Prelude.{ℕ, ◌<◌, ◌++◌, Bool, List, [], ◌∷◌, Option, Some, None, length, slice_get, if◌then◌else◌}
+use Rattle.std.specs.Prelude.{◌≡◌, ℕ, ◌<◌, ◌++◌, List, [], ◌∷◌, Option, Some, None, length, slice_get, if◌then◌else◌}
 use Rattle.std.specs.List.{list_any}
 use Rattle.life_types.specs.declared.ty.Class.{Class}
 use Rattle.life_types.specs.declared.ty.Class.TheVariants.{Value, Pointer}
@@ -15,6 +15,11 @@ pub record Types : Type 0 where
 -- the types after one was added: they stay if it is among them
 abbrev pub with_type : List Ty → Ty → List Ty
 with_type types t = if list_any (ty.eq t) types then types else types ++ t ∷ []
+
+-- no type has two numbers
+abbrev pub HasEachOnce : Types → Type 0
+HasEachOnce table =
+    (m n : ℕ) (t : Ty) → slice_get table.types m ≡ Some t → slice_get table.types n ≡ Some t → m ≡ n
 
 -- the parts of the type are in the table
 abbrev pub HasParts : Types → Ty → Type 0

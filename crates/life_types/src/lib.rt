@@ -10,3 +10,6 @@ pub use memory::NoMemory;
 pub use place::Place;
 pub use table::{TypeTable, class_of};
 pub use ty::{Class, NameId, Ty, TyId};
+
+#[cfg(test)]
+mod tests;

@@ -1,6 +1,6 @@
 // The table that numbers the types of a program.
 ghost use Rattle.std.specs.Prelude.{◌≡◌, ◌<◌, ◌-◌, ◌^◌, ◌∷◌, [], length, IfOk, OnErr, OnOk, Some, slice_get};
-ghost use Rattle.life_types.specs.Types.{class_at, with_type, HasParts};
+ghost use Rattle.life_types.specs.Types.{class_at, with_type, HasEachOnce, HasParts};
 
 use crate::memory::NoMemory;
 use crate::ty::{Class, Ty, TyId};
@@ -37,11 +37,13 @@ impl TypeTable {
 
     /// The number of the type: that of an equal type if the table has one, else the next number.
     /// Numbers that were given before keep their types. After `NoMemory` the table is as before.
+    #[tactic(auto, using(crate::proofs::Numbers::each_once))]
     pub fn add(&mut self, ty: Ty) -> Result<TyId, NoMemory>
         requires room { length self.old.types < 2 ^ 32 - 1 }
         requires parts { HasParts self.old ty }
         ensures number { IfOk result (λ id. slice_get self.new.types id.0 ≡ Some ty) }
         ensures grown { OnOk result (self.new.types ≡ with_type self.old.types ty) }
+        ensures once { HasEachOnce self.new }
         ensures err { OnErr result (self.new ≡ self.old) }
     {
         let (number, _) = self.types.insert_full(ty)?;

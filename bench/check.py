@@ -1,0 +1,102 @@
+#!/usr/bin/env python3
+"""Times `lifecheck check` on generated files, beside `clang++ -fsyntax-only` on the same files in the same run.
+
+usage: bench/check.py [LIFECHECK]     (default: crates/lifecheck/out/lifecheck, which `rt run` and `rt ci` leave)
+
+For each file: the least time of several runs of each program, in milliseconds, and their ratio. Only the ratio
+carries over to another machine. clang++ is left out where it isn't installed.
+"""
+import os
+import shutil
+import subprocess
+import sys
+import tempfile
+import time
+
+RUNS = 7
+FILE_LIMIT = 1_048_576
+HERE = os.path.dirname(os.path.abspath(__file__))
+DEFAULT = os.path.join(HERE, "..", "crates", "lifecheck", "out", "lifecheck")
+
+
+def comment_file():
+    """One comment that fills a file of the largest size, and an empty main behind it."""
+    tail = b"*/int main() { return 0; }"
+    return b"/*" + b"x" * (FILE_LIMIT - 2 - len(tail)) + tail
+
+
+def names_file():
+    """Usual tokens up to the largest size: the file isn't of the language, which shows at its end alone."""
+    line = b"  int value = other; { value = 12345; }\n"
+    head = b"int main() {\n"
+    return head + line * ((FILE_LIMIT - len(head)) // len(line))
+
+
+def blocks_file():
+    """Empty blocks up to the largest size."""
+    head, tail = b"int main() { ", b"return 0; }"
+    return head + b"{}" * ((FILE_LIMIT - len(head) - len(tail)) // 2) + tail
+
+
+def limits_file():
+    """250 variables and some 1,000 points, each pointer used twice."""
+    lines = ["int main() {"]
+    lines += [f"  int x{n} = {n};" for n in range(125)]
+    lines += [f"  int* p{n} = &x{n};" for n in range(125)]
+    lines += [f"  *p{n} = x{(n * 7) % 125};" for n in range(125)]
+    lines += [f"  x{n} = *p{(n * 11) % 125};" for n in range(122)]
+    lines += ["  return 0;", "}"]
+    return "\n".join(lines).encode() + b"\n"
+
+
+def faults_file():
+    """The same size, where each use is a diagnostic."""
+    lines = ["int main() {"]
+    lines += [f"  int* p{n};" for n in range(250)]
+    lines += ["  {", "    int x = 1;"]
+    lines += [f"    p{n} = &x;" for n in range(0, 250, 2)]
+    lines += ["  }"]
+    lines += [f"  *p{n} = 3;" for n in range(250)]
+    lines += ["  return 0;", "}"]
+    return "\n".join(lines).encode() + b"\n"
+
+
+FILES = [
+    ("one comment, 1 MiB", comment_file),
+    ("tokens, 1 MiB", names_file),
+    ("empty blocks, 1 MiB", blocks_file),
+    ("250 variables, 1,000 points", limits_file),
+    ("250 diagnostics", faults_file),
+]
+
+
+def least_time(words):
+    best = None
+    for _ in range(RUNS):
+        begin = time.perf_counter()
+        done = subprocess.run(words, stdout=subprocess.PIPE, stderr=subprocess.PIPE)
+        taken = time.perf_counter() - begin
+        best = taken if best is None else min(best, taken)
+    return best * 1000, done.returncode, done.stdout
+
+
+def main():
+    program = os.path.abspath(sys.argv[1] if len(sys.argv) > 1 else DEFAULT)
+    clang = shutil.which("clang++")
+    print(f"{'file':30} {'bytes':>9} {'status':>6} {'lifecheck':>12} {'clang++':>12} {'ratio':>7}")
+    with tempfile.TemporaryDirectory() as folder:
+        for name, make in FILES:
+            path = os.path.join(folder, "file.cpp")
+            text = make()
+            with open(path, "wb") as handle:
+                handle.write(text)
+            ours, status, _ = least_time([program, "check", path])
+            row = f"{name:30} {len(text):9} {status:6} {ours:9.1f} ms"
+            if clang:
+                theirs, _, _ = least_time([clang, "-std=c++17", "-fsyntax-only", path])
+                row += f" {theirs:9.1f} ms {ours / theirs:7.2f}"
+            print(row)
+
+
+if __name__ == "__main__":
+    main()

@@ -1,0 +1,5 @@
+pub mod EdgeLemmas
+pub mod EntryLemmas
+pub mod ShapeLemmas
+pub mod SpotLemmas
+pub mod WorkedRows

@@ -1,0 +1,7 @@
+use Rattle.std.proofs.Common.{◌≡◌, ◌++◌, drop}
+use Rattle.life_pset.specs.Elements.{locations_from}
+use Rattle.life_pset.proofs.location_list.locations.Given as goal
+
+abbrev pub invariant-loop-number : goal.invariant-loop-number
+invariant-loop-number l =
+    l.all.items ++ locations_from l.types l.number (drop l.number l.local-items) ≡ locations_from l.types 0 l.local-items
