@@ -1,6 +1,7 @@
 pub mod Beginnings
 pub mod Lists
 pub mod LongestToken
+pub mod OneReading
 pub mod Positions
 pub mod Slices
 pub mod Steps

@@ -8,7 +8,7 @@ use Rattle.life_lex.specs.Bytes.{is_nondigit, is_word_byte, is_empty}
 use Rattle.life_lex.specs.Lengths.{plus}
 use Rattle.life_lex.specs.Literals.{is_escape, is_unit, is_character_rest, is_string_rest}
 use Rattle.life_lex.specs.Marks.{is_short_mark, is_long_mark, is_mark_rest}
-use Rattle.life_lex.specs.Scan.{starts_byte, quote_scan, escape_scan, character_scan, string_scan, mark_scan, number_scan, token_rest_scan, token_scan}
+use Rattle.life_lex.specs.Scan.{starts_byte, quote_scan, escape_scan, character_scan, string_scan, mark_scan, token_rest_scan, token_scan}
 use Rattle.life_lex.specs.Tokens.{is_token_rest, is_token, IsLongest}
 
 all_true : (p : ℕ → Bool) (bs : List ℕ) (m : ℕ) → m ≤ prefix_len p bs → list_all p (take m bs) ≡ true

@@ -1,12 +1,12 @@
 -- The lexer knows its point.
-use Rattle.std.proofs.Common.{◌≡◌, ℕ, ◌+◌, ◌-◌, ◌<◌, ◌≤◌, ◌^◌, Bool, true, false, nat_eq, cond, List, [], ◌∷◌, ◌++◌, length, take, drop, fold, refl, sym, ap, ◌∙◌, arith}
+use Rattle.std.proofs.Common.{◌≡◌, ℕ, ◌+◌, ◌<◌, ◌≤◌, ◌^◌, Bool, true, false, nat_eq, cond, List, [], ◌∷◌, length, take, drop, fold, refl, sym, ap, ◌∙◌, arith}
 use Rattle.std.proofs.Math.Seq.{take-add}
 use Rattle.std.proofs.lemmas.Bool.Decides.{Decides-eqb}
 use Rattle.std.proofs.lemmas.List.{drop-append-le, length-take-le, length-drop}
 use Rattle.std.proofs.lemmas.List.Sums.{fold-append}
 use Rattle.std.proofs.lemmas.Slice.Eq.{starts_is}
 use Rattle.std.specs.List.{starts_with}
-use Rattle.life_lex.specs.Places.{line_after, column_after, blank_after, start_of, line_blank_at}
+use Rattle.life_lex.specs.Places.{line_after, column_after, blank_after, byte_order_mark_len, line_blank_at}
 use Rattle.life_lex.specs.Positions.{IsPosition}
 use Rattle.life_lex.specs.declared.position.Position.{Position}
 
@@ -15,11 +15,11 @@ fold-take-add : {B : Type 0} (f : B → ℕ → B) (a : B) (m n : ℕ) (bytes : 
 fold-take-add f a m n bytes = ap (fold f a) (take-add m n bytes) ∙ fold-append f a (take m bytes) (take n (drop m bytes))
 
 -- the flag n bytes further on
-line_blank_at-add : (source : List ℕ) (m n : ℕ) → start_of source ≤ m → m ≤ length source → line_blank_at source (m + n) ≡ fold blank_after (line_blank_at source m) (take n (drop m source))
+line_blank_at-add : (source : List ℕ) (m n : ℕ) → byte_order_mark_len source ≤ m → m ≤ length source → line_blank_at source (m + n) ≡ fold blank_after (line_blank_at source m) (take n (drop m source))
 line_blank_at-add source m n started within =
-    ap (λ (bytes : List ℕ). fold blank_after true (drop (start_of source) bytes)) (take-add m n source)
-    ∙ ap (fold blank_after true) (drop-append-le (start_of source) (take m source) (take n (drop m source)) (rw (length-take-le m source within) started))
-    ∙ fold-append blank_after true (drop (start_of source) (take m source)) (take n (drop m source))
+    ap (λ (bytes : List ℕ). fold blank_after true (drop (byte_order_mark_len source) bytes)) (take-add m n source)
+    ∙ ap (fold blank_after true) (drop-append-le (byte_order_mark_len source) (take m source) (take n (drop m source)) (rw (length-take-le m source within) started))
+    ∙ fold-append blank_after true (drop (byte_order_mark_len source) (take m source)) (take n (drop m source))
 
 -- the position behind n bytes, where the one before them is known
 pub position_after : (source rest : List ℕ) (p q : Position) (n : ℕ) → IsPosition source p → rest ≡ drop p.offset source → n ≤ length rest
@@ -47,7 +47,7 @@ record IsStart (source : List ℕ) (offset : ℕ) : Type 0 where
   column : fold column_after 1 (take offset source) ≡ offset + 1
   line_blank : fold blank_after true (drop offset (take offset source)) ≡ true
 
-is_start : (source : List ℕ) → IsStart source (start_of source)
+is_start : (source : List ℕ) → IsStart source (byte_order_mark_len source)
 is_start source = go (starts_with nat_eq source (239 ∷ 187 ∷ 191 ∷ [])) refl
   where
     marked : starts_with nat_eq source (239 ∷ 187 ∷ 191 ∷ []) ≡ true → take 3 source ≡ 239 ∷ 187 ∷ 191 ∷ []
@@ -58,7 +58,7 @@ is_start source = go (starts_with nat_eq source (239 ∷ 187 ∷ 191 ∷ [])) re
     go false is = record { line = refl; column = refl; line_blank = refl }
 
 -- the first position
-pub position_first : (source : List ℕ) (p : Position) (n : ℕ) → length source < 2 ^ 32 → n ≡ start_of source → n ≤ length source
+pub position_first : (source : List ℕ) (p : Position) (n : ℕ) → length source < 2 ^ 32 → n ≡ byte_order_mark_len source → n ≤ length source
     → p.offset ≡ n → p.line ≡ 1 → p.column ≡ n + 1 → p.line_blank ≡ true → IsPosition source p
 position_first source p n short is within offset line column line_blank = record {
   short = short;
@@ -69,8 +69,8 @@ position_first source p n short is within offset line column line_blank = record
   line_blank = line_blank ∙ sym (ap (line_blank_at source) start ∙ at_start.line_blank);
 }
   where
-    start : p.offset ≡ start_of source
+    start : p.offset ≡ byte_order_mark_len source
     start = offset ∙ is
 
-    at_start : IsStart source (start_of source)
+    at_start : IsStart source (byte_order_mark_len source)
     at_start = is_start source

@@ -1,5 +1,5 @@
 -- Each token is a slice of the source.
-use Rattle.std.proofs.Common.{◌≡◌, ℕ, ◌+◌, ◌≤◌, List, [], ◌∷◌, length, take, drop, refl, arith}
+use Rattle.std.proofs.Common.{◌≡◌, ℕ, ◌+◌, ◌≤◌, List, [], ◌∷◌, length, take, refl, arith}
 use Rattle.std.proofs.lemmas.List.{length-take}
 use Rattle.life_lex.specs.Cursors.{Cursor, start, advance, rest_of}
 use Rattle.life_lex.specs.Slices.{AreSlices}

@@ -1,19 +1,15 @@
 -- Steps of a reading.
-use Rattle.std.proofs.Common.{◌≡◌, ℕ, ◌↔◌, List, [], ◌∷◌, ◌++◌, refl, sym, subst, ap, append_assoc, append-nil, ◌∙◌}
+use Rattle.std.proofs.Common.{◌≡◌, ℕ, List, [], ◌∷◌, ◌++◌, refl, sym, subst, ap, append_assoc, append-nil, ◌∙◌}
 use Rattle.life_lex.specs.Answers.{ReadsAlike, ReadsFirst, ReadsOnly}
 use Rattle.life_lex.specs.Places.{line_blank_at}
 use Rattle.life_lex.specs.Cursors.{Cursor, rest_of, advance}
 use Rattle.life_lex.specs.Readings.{Lexeme, lexeme_at, fault_at, Ending, whole, broken, Piece, gap, token, BeginsAt, EndsAt, IsPieces, lexemes_of, Reads}
-use Rattle.life_lex.specs.Scan.{scan_of}
+use Rattle.life_lex.specs.Scan.{scan_at}
 use Rattle.life_lex.specs.declared.fault.LexFault.{LexFault}
 use Rattle.life_lex.specs.declared.fault.LexFaultKind.{LexFaultKind}
 use Rattle.life_lex.specs.declared.scan.Scanned.{Scanned}
 use Rattle.life_lex.specs.declared.scan.Scanned.TheVariants.{End, Gap, Token, Fault}
 use Rattle.life_lex.proofs.Beginnings.{begins, begins_is}
-
--- what the scan finds at a point
-abbrev pub scan_at : Cursor → Scanned
-scan_at c = scan_of (line_blank_at c.source c.offset) (rest_of c)
 
 -- one thing alone begins at a point
 one_begins : (c : Cursor) (a b : Scanned) → BeginsAt c a → BeginsAt c b → a ≡ b

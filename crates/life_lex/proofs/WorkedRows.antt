@@ -2,7 +2,7 @@
 use Rattle.std.proofs.Common.{◌≡◌, true, false, [], ◌∷◌, ◌++◌, refl, codes}
 use Rattle.life_lex.specs.Keywords.{is_keyword}
 use Rattle.life_lex.specs.Kinds.{kind_of}
-use Rattle.life_lex.specs.Places.{place_at, start_of, line_blank_at}
+use Rattle.life_lex.specs.Places.{place_at, byte_order_mark_len, line_blank_at}
 use Rattle.life_lex.specs.Scan.{token_scan, scan_of}
 use Rattle.life_lex.specs.declared.fault.LexFaultKind.TheVariants.{BadByte, UnclosedText, UnclosedComment, NumberTooLarge}
 use Rattle.life_lex.specs.declared.scan.Scanned.TheVariants.{End, Gap, Token, Fault}
@@ -74,7 +74,7 @@ kinds = (refl, refl, refl, refl)
 -- a byte order mark takes three columns, and a directive line may begin behind it
 places : (place_at (codes "a" ++ 10 ∷ codes "bc") 3 ≡ record { line = 2; column = 2 })
     × (place_at (239 ∷ 187 ∷ 191 ∷ codes "x") 3 ≡ record { line = 1; column = 4 })
-    × (start_of (239 ∷ 187 ∷ 191 ∷ codes "x") ≡ 3)
+    × (byte_order_mark_len (239 ∷ 187 ∷ 191 ∷ codes "x") ≡ 3)
     × (line_blank_at (239 ∷ 187 ∷ 191 ∷ codes " #") 4 ≡ true)
     × (line_blank_at (codes "/*" ++ 10 ∷ codes "*/ #") 6 ≡ false)
 places = (refl, refl, refl, refl, refl)

@@ -1,6 +1,6 @@
 -- Points of a file.
 use Rattle.std.specs.Prelude.{ℕ, ◌+◌, List, drop}
-use Rattle.life_lex.specs.Places.{start_of}
+use Rattle.life_lex.specs.Places.{byte_order_mark_len}
 
 -- a point of a file
 pub record Cursor : Type 0 where
@@ -9,7 +9,7 @@ pub record Cursor : Type 0 where
 
 -- the first point, behind a byte order mark
 abbrev pub start : List ℕ → Cursor
-start source = record { source = source; offset = start_of source }
+start source = record { source = source; offset = byte_order_mark_len source }
 
 -- the point n bytes further on
 abbrev pub advance : ℕ → Cursor → Cursor

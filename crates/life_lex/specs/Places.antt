@@ -1,5 +1,5 @@
 -- Where the bytes of a file stand.
-use Rattle.std.specs.Prelude.{ℕ, ◌+◌, Bool, true, false, nat_eq, ◌&&◌, ◌==◌, List, [], ◌∷◌, take, drop, fold, if◌then◌else◌}
+use Rattle.std.specs.Prelude.{ℕ, ◌+◌, Bool, true, nat_eq, ◌&&◌, ◌==◌, List, [], ◌∷◌, take, drop, fold, if◌then◌else◌}
 use Rattle.std.specs.List.{starts_with}
 use Rattle.life_lex.specs.Bytes.{is_blank}
 use Rattle.life_types.specs.declared.place.Place.{Place}
@@ -19,9 +19,9 @@ place_at source offset = record {
   column = fold column_after 1 (take offset source);
 }
 
--- the offset behind a leading byte order mark, EF BB BF
-abbrev pub start_of : List ℕ → ℕ
-start_of source = if starts_with nat_eq source (239 ∷ 187 ∷ 191 ∷ []) then 3 else 0
+-- the length of a leading byte order mark, EF BB BF
+abbrev pub byte_order_mark_len : List ℕ → ℕ
+byte_order_mark_len source = if starts_with nat_eq source (239 ∷ 187 ∷ 191 ∷ []) then 3 else 0
 
 -- whether only spaces and tabs stand on the line behind a byte, if they did before it
 abbrev pub blank_after : Bool → ℕ → Bool
@@ -29,4 +29,4 @@ blank_after line_blank b = if b == 10 then true else (line_blank && is_blank b)
 
 -- whether only spaces and tabs stand before an offset on its line, a byte order mark aside
 abbrev pub line_blank_at : List ℕ → ℕ → Bool
-line_blank_at source offset = fold blank_after true (drop (start_of source) (take offset source))
+line_blank_at source offset = fold blank_after true (drop (byte_order_mark_len source) (take offset source))

@@ -1,14 +1,16 @@
 -- How what begins at a point is found. No definition of tokens, gaps and faults stands on this.
-use Rattle.std.specs.Prelude.{ℕ, ◌<◌, ◌≤◌, Bool, true, false, nat_eq, ◌&&◌, ◌||◌, nat_lt, ◌==◌, List, [], ◌∷◌, length, take, Option, Some, None, if◌then◌else◌, codes}
+use Rattle.std.specs.Prelude.{ℕ, ◌<◌, ◌≤◌, Bool, true, false, ◌&&◌, ◌||◌, nat_lt, ◌==◌, List, [], ◌∷◌, take, Option, Some, None, if◌then◌else◌}
 use Rattle.std.specs.Char.{is_ascii_digit}
 use Rattle.std.specs.List.{prefix_len}
 use Rattle.life_lex.specs.Bytes.{is_nondigit, is_word_byte}
 use Rattle.life_lex.specs.Comments.{opens_comment}
+use Rattle.life_lex.specs.Cursors.{Cursor, rest_of}
 use Rattle.life_lex.specs.Gaps.{gap_len}
 use Rattle.life_lex.specs.Lengths.{plus}
 use Rattle.life_lex.specs.Literals.{is_escape, is_unit, opens_literal}
 use Rattle.life_lex.specs.Marks.{is_short_mark, is_long_mark}
 use Rattle.life_lex.specs.Numbers.{is_too_large}
+use Rattle.life_lex.specs.Places.{line_blank_at}
 use Rattle.life_lex.specs.declared.fault.LexFaultKind.TheVariants.{BadByte, UnclosedText, UnclosedComment, NumberTooLarge}
 use Rattle.life_lex.specs.declared.scan.Scanned.{Scanned}
 use Rattle.life_lex.specs.declared.scan.Scanned.TheVariants.{End, Gap, Token, Fault}
@@ -87,6 +89,10 @@ scan_at_gap bytes None = if opens_comment bytes then Fault UnclosedComment else 
 unfoldable pub scan_of : Bool → List ℕ → Scanned
 scan_of line_blank [] = End
 scan_of line_blank (b ∷ bs) = scan_at_gap (b ∷ bs) (gap_len line_blank (b ∷ bs))
+
+-- what begins at a point
+abbrev pub scan_at : Cursor → Scanned
+scan_at c = scan_of (line_blank_at c.source c.offset) (rest_of c)
 
 -- what begins lies within the bytes
 abbrev pub IsWithin : ℕ → Scanned → Type 0

@@ -2,11 +2,10 @@
 
 ghost use Rattle.std.specs.Prelude.{◌≡◌, ◌<◌, ◌≤◌, ◌+◌, ◌^◌, length, IfOk, IfSome};
 ghost use Rattle.life_lex.specs.Answers.{lexeme, Answers};
-ghost use Rattle.life_lex.specs.Places.{line_blank_at};
 ghost use Rattle.life_lex.specs.Cursors.{start, advance, rest_of};
 ghost use Rattle.life_lex.specs.Readings.{lexeme_at, fault_at};
 ghost use Rattle.life_lex.specs.Places as places;
-ghost use Rattle.life_lex.specs.Scan.{scan_of, IsWithin};
+ghost use Rattle.life_lex.specs.Scan.{scan_at, IsWithin};
 ghost use Rattle.life_lex.specs.Slices.{IsNextSlice};
 
 use crate::fault::{LexFault, LexFaultKind};
@@ -16,7 +15,8 @@ use crate::scan::{Scanned, scan_front};
 use crate::token::Token;
 use std::marker::Model;
 
-/// The tokens of a file, one after the other. It is seen as a point of the file.
+/// The tokens of a file, one after the other. Contracts see it as the point of the file at which it
+/// stands.
 #[derive(Drop)]
 pub struct Lexer<'a> {
     source: &'a [u8],
@@ -34,9 +34,9 @@ impl<'a> Model for Lexer<'a> {
     ghost invariant = { λ l. IsPosition l.source.now l.position };
 }
 
-/// How long a leading byte order mark is, EF BB BF: 3 bytes, or none.
-fn start_of(source: &[u8]) -> usize
-    ensures value { result ≡ places.start_of source.now }
+/// The length of a leading byte order mark, EF BB BF: 3 bytes, or none.
+fn byte_order_mark_len(source: &[u8]) -> usize
+    ensures value { result ≡ places.byte_order_mark_len source.now }
     ensures bound { result ≤ length source.now }
 {
     if source.starts_with(b"\xEF\xBB\xBF") {
@@ -47,14 +47,16 @@ fn start_of(source: &[u8]) -> usize
 }
 
 impl<'a> Lexer<'a> {
-    /// A lexer at the beginning of a file, behind a leading EF BB BF.
+    /// A lexer at the beginning of a file of fewer than 2^32 bytes, behind a leading EF BB BF.
+    ///
+    /// The mark is no part of the text, but columns count its three bytes.
     pub fn new(source: &'a [u8]) -> Lexer<'a>
         requires { length source.now < 2 ^ 32 }
         ensures { result ≡ start source.now }
     {
         Lexer {
             source,
-            position: Position::first(start_of(source)),
+            position: Position::first(byte_order_mark_len(source)),
         }
     }
 
@@ -67,7 +69,7 @@ impl<'a> Lexer<'a> {
 
     /// What begins here.
     fn scan(&self) -> Scanned
-        ensures value { result ≡ scan_of (line_blank_at self.now.source self.now.offset) (rest_of self.now) }
+        ensures value { result ≡ scan_at self.now }
         ensures bound { IsWithin (length (rest_of self.now)) result }
     {
         scan_front(self.position.line_blank, self.rest())
@@ -113,7 +115,13 @@ impl<'a> Lexer<'a> {
         }
     }
 
-    /// The next token; `None` at the end and ever after. A fault stays, and is answered again.
+    /// The next token, which is the longest at its place; `None` at the end of the file and ever
+    /// after. It takes no memory.
+    ///
+    /// # Errors
+    ///
+    /// The file's first fault, once the tokens before it were answered. It stays, and is answered
+    /// again.
     pub fn next(&mut self) -> Result<Option<Token<'a>>, LexFault>
         ensures reading { Answers self.old result self.new }
         ensures slice { IfOk result (λ next. IfSome next (λ t. IsNextSlice self.old (lexeme t) self.new)) }

@@ -1,5 +1,9 @@
+pub mod BitJoin
+pub mod BitSetLemmas
+pub mod Bits
+pub mod CandidateLemmas
+pub mod ListedLemmas
 pub mod Members
-pub mod PairLemmas
 pub mod Numbering
 pub mod Numbers
-pub mod CandidateLemmas
+pub mod PairLemmas

@@ -60,13 +60,6 @@ pair_cases p a b one l e h =
       | inr there ↦ inr there
     ]
 
-pub still_within : (m n a b : ℕ) (old new : BTreeSet (ℕ × ℕ)) → IsPairWithin m n old → a < m → b < n → AddsPair a b (contains_pair old) (contains_pair new) → IsPairWithin m n new
-still_within m n a b old new was la lb adds l e h =
-    elim (pair_cases (a, b) (contains_pair old) (contains_pair new) adds l e h) [
-      | inl here ↦ (subst (λ (q : ℕ × ℕ). q.0 < m) here la, subst (λ (q : ℕ × ℕ). q.1 < n) here lb)
-      | inr there ↦ was l e there
-    ]
-
 -- ---- pairs added one after the other
 pub adds_key : (rest : List (ℕ × ℕ)) (p : ℕ × ℕ) (a b new : ℕ → ℕ → Bool) → AddsPair p.0 p.1 a b → AddsKeys rest b new → AddsKeys (p ∷ rest) a new
 adds_key rest p a b new one more l e = (

@@ -1,5 +1,7 @@
+pub mod BitSets
 pub mod Causes
 pub mod Elements
+pub mod Listed
 pub mod Pairs
 pub mod PairSets
 pub mod Table

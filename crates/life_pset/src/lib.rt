@@ -1,6 +1,7 @@
 //! Points-to sets: what a pointer may point to, and sets of such facts.
 #![tactic(auto)]
 
+mod bit_rows;
 mod element;
 mod element_list;
 mod limits;
@@ -9,6 +10,7 @@ mod rows;
 mod set_rows;
 mod table;
 
+pub use bit_rows::BitRows;
 pub use element::{AbsPlace, Cause, CauseKind, Element, Fact, Root};
 pub use element_list::{causes, elements};
 pub use limits::{

@@ -1,6 +1,6 @@
 use Rattle.std.proofs.Common.{◌∷◌, [], map, ap, ◌∙◌}
 use Rattle.std.proofs.lemmas.List.{map-append}
-use Rattle.life_lex.specs.Answers.{lexeme, LexesOnly}
+use Rattle.life_lex.specs.Answers.{lexeme}
 use Rattle.life_lex.specs.Cursors.{start}
 use Rattle.life_lex.specs.Readings.{whole, broken}
 use Rattle.life_lex.proofs.Slices.{slices_of_reading}

@@ -1,0 +1,4 @@
+pub mod Giving
+pub mod SetLemmas
+pub mod Spots
+pub mod Unique

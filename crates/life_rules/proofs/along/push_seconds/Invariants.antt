@@ -1,0 +1,13 @@
+use Rattle.std.proofs.Common.{◌≡◌, ◌++◌, drop}
+use Rattle.std.specs.List.{flat_map}
+use Rattle.std.specs.Prelude.{option_map}
+use Rattle.life_core.specs.Function.{function_of}
+use Rattle.life_core.specs.Node.{spot_seen}
+use Rattle.life_rules.specs.Carrying.{two_at}
+use Rattle.life_rules.proofs.along.push_seconds.Given as goal
+
+-- what was added, and what is left to add
+abbrev pub invariant-loop-second : goal.invariant-loop-second
+invariant-loop-second l =
+    let two = two_at (function_of l.f) (option_map spot_seen l.spot) l.first in
+    l.out.items ++ flat_map two (drop l.second-index l.facts) ≡ l.fn.out.items ++ flat_map two l.facts
