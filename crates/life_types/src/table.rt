@@ -50,6 +50,13 @@ impl TypeTable {
         Ok(TyId(number as u32))
     }
 
+    /// The type with this number, if the table has it.
+    pub fn get(&self, id: TyId) -> Option<Ty>
+        ensures { result ≡ slice_get self.now.types id.0 }
+    {
+        self.types.get_index(id.0 as usize).copied()
+    }
+
     /// The type with this number.
     pub fn ty(&self, id: TyId) -> Ty
         requires { id.0 < length self.now.types }
