@@ -1,13 +1,13 @@
 -- The edges as they are computed are those that the linked points lead along; they ascend, and
 -- their ends are points.
-use Rattle.std.proofs.Common.{◌≡◌, ℕ, zero, suc, ◌+◌, ◌≤◌, List, [], ◌∷◌, ◌++◌, length, Option, Some, None, true, false, refl, sym, ap, subst, ◌∙◌, arith, append_assoc, append-nil}
+use Rattle.std.proofs.Common.{◌≡◌, ℕ, ◌+◌, ◌≤◌, List, [], ◌∷◌, ◌++◌, length, Option, Some, None, true, false, refl, sym, ap, subst, ◌∙◌, arith, append_assoc, append-nil}
 use Rattle.life_core.specs.declared.exits.Entry.{Entry}
 use Rattle.life_core.specs.declared.exits.Entry.TheVariants as entry
 use Rattle.life_core.specs.declared.exits.Exits.{Exits}
 use Rattle.life_core.specs.declared.stmt.Edge.{Edge}
 use Rattle.life_core.specs.Columns.{edges_in}
 use Rattle.life_core.specs.Function.{Function}
-use Rattle.life_core.specs.Linked.{Lead, Linked, entry_then, entry_of, target_of, enter, with_next, with_true, with_false, turned, body_exits, linked, edge_to, edges_out, edges_from, no_exits, code_of, edges_of, points_of, IsJoined, AllJoin, AreFrom, AreAscending}
+use Rattle.life_core.specs.Linked.{Lead, Linked, entry_then, entry_of, target_of, enter, with_next, with_true, with_false, turned, body_exits, linked, edge_to, edges_out, edges_from, no_exits, code_of, edges_of, points_of, AllJoin, AreFrom, AreAscending}
 use Rattle.life_core.specs.Tree.{Tree, Skip, Then, Acts, Asks, Both, Either, Negated, Choice, Turns, Breaks, Continues, Returns, Stops, size}
 use Rattle.life_core.proofs.SpotLemmas.{linked_length}
 

@@ -3,12 +3,11 @@ use Rattle.std.proofs.Common.{◌≡◌, ℕ, zero, suc, ◌+◌, ◌-◌, ◌�
 use Rattle.std.proofs.lemmas.List.{length-map, map-append}
 use Rattle.std.proofs.lemmas.Bool.Decides.{eqb_tells, leb_tells}
 use Rattle.std.proofs.lemmas.Option.{slice_get-map}
-use Rattle.std.specs.Prelude.{slice_get, cond, option_map}
+use Rattle.std.specs.Prelude.{slice_get, cond}
 use Rattle.life_core.specs.declared.exits.Exits.{Exits}
-use Rattle.life_core.specs.declared.stmt.Point.{Point}
 use Rattle.life_core.specs.Columns.{spot_in, of_two, only}
 use Rattle.life_core.specs.Function.{Function}
-use Rattle.life_core.specs.Linked.{Linked, linked, enter, with_next, with_true, with_false, turned, body_exits, no_exits, code_of, points_of, spot_of_linked, spot_of}
+use Rattle.life_core.specs.Linked.{Linked, linked, no_exits, code_of, spot_of_linked, spot_of}
 use Rattle.life_core.specs.Tree.{Tree, Skip, Then, Acts, Asks, Both, Either, Negated, Choice, Turns, Breaks, Continues, Returns, Stops, Spot, size, spots}
 
 two_mapped : (us vs : List Linked) (xs ys : List Spot) → map spot_of_linked us ≡ xs → map spot_of_linked vs ≡ ys → map spot_of_linked (us ++ vs) ≡ xs ++ ys

@@ -1,12 +1,11 @@
 -- Two functions' bodies whose points and edges were written out by hand.
-use Rattle.std.proofs.Common.{◌≡◌, ℕ, Bool, true, false, List, [], ◌∷◌, map, Option, Some, None, refl}
+use Rattle.std.proofs.Common.{◌≡◌, ℕ, Bool, true, false, [], ◌∷◌, Option, Some, None, refl}
 use Rattle.life_types.specs.declared.place.Place.{Place}
 use Rattle.life_core.specs.declared.instr.Form.TheVariants.{Plain}
-use Rattle.life_core.specs.declared.instr.Test.{Test}
 use Rattle.life_core.specs.declared.instr.Test.TheVariants.{NonZero, NotNull}
 use Rattle.life_core.specs.declared.stmt.Edge.{Edge}
 use Rattle.life_core.specs.Linked.{edges_from, linked, no_exits}
-use Rattle.life_core.specs.Step.{Step, Live}
+use Rattle.life_core.specs.Step.{Live}
 use Rattle.life_core.specs.Tree.{Tree, Skip, Then, Acts, Asks, Both, Either, Negated, Choice, Turns, Breaks, Continues, Returns, Node, Action, Question, Return, Spot, size, spots}
 
 -- a place on the line with this number

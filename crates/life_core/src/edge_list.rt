@@ -12,9 +12,9 @@ use crate::stmt::{Condition, Edge, Point, Stmt};
 use life_types::NoMemory;
 use std::alloc::Global;
 
-/// The edges of the function, in ascending order of the points from which they go; of a test's two
-/// the one that is taken where it holds comes first. A point that ends the function has none, and
-/// neither has a way past the end of the body.
+/// The edges of the function, in ascending order of the points from which they go; of the two edges
+/// of a test the one that is taken where it holds comes first. No edge goes from a return or a stop,
+/// or past the end of the body. `NoMemory` says that memory was wanted.
 pub fn edges(alloc: Global, f: &CoreFn) -> Result<Vec<Edge>, NoMemory>
     requires { points_of (function_of f.now) < 2 ^ 31 }
     ensures all { IfOk result (λ edges. edges.items ≡ edges_of (function_of f.now)) }

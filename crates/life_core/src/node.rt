@@ -61,6 +61,7 @@ pub struct SpotRef<'a> {
 }
 
 impl<'a> SpotRef<'a> {
+    /// What stands at this place.
     pub(crate) fn new(place: &Place, node: NodeRef<'a>) -> SpotRef<'a>
         ensures { spot_seen result ≡ spot_at place.now (node_seen node.entry) }
     {

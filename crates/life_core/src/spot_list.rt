@@ -12,6 +12,7 @@ use life_types::NoMemory;
 use std::alloc::Global;
 
 /// All points of the function, each once: the k-th of the list, counted from 0, is point k + 1.
+/// `NoMemory` says that memory was wanted.
 pub fn spots(alloc: Global, f: &CoreFn) -> Result<Vec<SpotRef>, NoMemory>
     ensures all { IfOk result (λ spots.
         map spot_seen spots.items ≡ map spot_of_linked (code_of (function_of f.now))) }

@@ -4,11 +4,6 @@ ghost use Rattle.std.specs.Prelude.{◌≡◌, ◌≤◌, length, IfSome};
 ghost use Rattle.life_lex.specs.Marks as spec;
 ghost use Rattle.life_lex.specs.Scan as scan;
 
-const LONG_MARKS: [[u8; 2]; 16] = [
-    *b"->", *b"&&", *b"||", *b"==", *b"!=", *b"<=", *b">=", *b"<<", *b"++", *b"--", *b"+=", *b"-=",
-    *b"*=", *b"/=", *b"%=", *b"::",
-];
-
 fn is_short_mark(b: u8) -> bool
     ensures { result ≡ spec.is_short_mark b }
 {
@@ -18,7 +13,13 @@ fn is_short_mark(b: u8) -> bool
 fn is_long_mark(first: u8, second: u8) -> bool
     ensures { result ≡ spec.is_long_mark first second }
 {
-    LONG_MARKS.contains(&[first, second])
+    match first {
+        b'-' => matches!(second, b'>' | b'-' | b'='),
+        b'&' | b'|' | b':' => second == first,
+        b'<' | b'+' => second == first || second == b'=',
+        b'=' | b'!' | b'>' | b'*' | b'/' | b'%' => second == b'=',
+        _ => false,
+    }
 }
 
 fn pairs_with(first: u8, bytes: &[u8]) -> bool

@@ -13,7 +13,7 @@ fn at(line: u32, column: u32) -> Place {
     Place { line, column }
 }
 
-/// A function whose only local has this name.
+// A function whose only local has this name.
 fn with_local(alloc: Global, name: NameId) -> Result<CoreFn, NoMemory> {
     let mut locals = Vec::new(alloc);
     locals.push(Local {
@@ -39,7 +39,7 @@ fn names(alloc: Global) -> Result<Names, NoMemory> {
     Ok(Names { texts })
 }
 
-/// A function with the local `p`, and then one with the local `q`.
+// A function with the local `p`, and then one with the local `q`.
 fn two_functions(alloc: Global) -> Result<CoreProgram, NoMemory>
     ensures { IfOk result (λ p. length p.functions.items ≡ 2) }
 {
@@ -94,8 +94,7 @@ fn reports_as_text(rt: HostRuntime) -> Result<(), Fail> {
     let text = text_report(rt.alloc(), &p, &found)?;
     assert_eq!(rt;
         text.as_slice(),
-        b"7:10: null-use: p: may be null\n12:3: dangling-use: q: q ended at 11:5\ndiagnosed: 2\n"
-            .as_slice()
+        b"7:10: null-use: p: may be null\n12:3: dangling-use: q: q ended at 11:5\ndiagnosed: 2\n".as_slice()
     );
     Ok(())
 }

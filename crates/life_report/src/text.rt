@@ -45,12 +45,7 @@ fn push_diagnosed(alloc: Global, diagnostics: usize, out: &mut Vec<u8>) -> Resul
     Ok(())
 }
 
-fn push_lines(
-    alloc: Global,
-    p: &CoreProgram,
-    d: &[Diag],
-    out: &mut Vec<u8>,
-) -> Result<(), NoMemory>
+fn push_lines(alloc: Global, p: &CoreProgram, d: &[Diag], out: &mut Vec<u8>) -> Result<(), NoMemory>
     requires { HaveFunctions (program_of p.now) d.now }
     ensures { OnOk result
         (out.new.items ≡ out.old.items ++ flat_map (line_text (program_of p.now)) d.now) }
@@ -69,7 +64,7 @@ fn push_line(alloc: Global, p: &CoreProgram, d: &Diag, out: &mut Vec<u8>) -> Res
     push_printed(alloc, &p.names, f, &p.types, d, out)
 }
 
-/// The line of a diagnostic of the function.
+// The line of a diagnostic of the function.
 fn push_printed(
     alloc: Global,
     names: &Names,
@@ -80,7 +75,7 @@ fn push_printed(
 ) -> Result<(), NoMemory>
     ensures { OnOk result
         (out.new.items
-            ≡ out.old.items ++ printed (map name_bytes names.now.texts.items) types.now (function_of f.now) d.now) }
+        ≡ out.old.items ++ printed (map name_bytes names.now.texts.items) types.now (function_of f.now) d.now) }
 {
     let text = texts_of(alloc, names, f, types, d)?;
     let line = d.place.line;

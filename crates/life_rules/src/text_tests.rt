@@ -34,7 +34,7 @@ fn names(alloc: Global) -> Result<Names, NoMemory> {
     Ok(Names { texts })
 }
 
-/// A parameter `p`, the result, a temporary and a variable `x1`.
+// A parameter `p`, the result, a temporary and a variable `x1`.
 fn four_locals(alloc: Global) -> Result<CoreFn, NoMemory> {
     let mut locals = Vec::new(alloc);
     locals.push(local(Some(NameId(0))))?;

@@ -61,7 +61,7 @@ pub fn texts_of(
     Ok(DiagText { name, why })
 }
 
-/// The line and the column, with a colon between.
+// The line and the column, with a colon between.
 fn push_position(alloc: Global, place: Place, out: &mut Vec<u8>) -> Result<(), NoMemory>
     ensures { OnOk result (out.new.items ≡ out.old.items ++ position_text place) }
 {
@@ -82,7 +82,7 @@ fn push_name(names: &Names, name: NameId, out: &mut Vec<u8>) -> Result<(), NoMem
     Ok(())
 }
 
-/// Whether the local with this number holds the function's result.
+// Whether the local with this number holds the function's result.
 fn is_result(f: &CoreFn, types: &TypeTable, local: u32) -> bool
     ensures { result ≡ is_result types.now (function_of f.now) local }
 {
@@ -151,7 +151,7 @@ fn push_root(
     Ok(())
 }
 
-/// What became of the pointer or of the variable, given the variable's text.
+// What became of the pointer or of the variable, given the variable's text.
 fn push_subject(name: &[u8], kind: CauseKind, out: &mut Vec<u8>) -> Result<(), NoMemory>
     ensures { OnOk result (out.new.items ≡ out.old.items ++ cause_subject name.now kind) }
 {

@@ -31,7 +31,7 @@ pub fn push_diags(
     }
 }
 
-/// Adds what is wrong with the pointers through which an instruction at a place goes.
+// Adds what is wrong with the pointers through which an instruction at a place goes.
 fn push_misuses(
     function: u32,
     place: Place,
@@ -101,7 +101,7 @@ fn push_misuse(
     Ok(())
 }
 
-/// Adds what is wrong with using the fact's location, if it may not be used as it is.
+// Adds what is wrong with using the fact's location, if it may not be used as it is.
 fn push_misused(
     function: u32,
     place: Place,

@@ -1,4 +1,4 @@
-use Rattle.std.proofs.Common.{◌≡◌, sym, subst}
+use Rattle.std.proofs.Common.{sym, subst}
 use Rattle.life_core.specs.Function.{function_of}
 use Rattle.life_core.specs.Linked.{points_of, AllJoin, AreAscending}
 use Rattle.life_core.proofs.EdgeLemmas.{edges_of_is, all_join, ascending}

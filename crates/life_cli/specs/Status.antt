@@ -1,0 +1,31 @@
+-- The statuses, their numbers, and which of them come where.
+use Rattle.std.specs.Prelude.{ℕ}
+use Rattle.life_cli.specs.declared.status.Status.{Status}
+use Rattle.life_cli.specs.declared.status.Status.TheVariants.{Done, Diagnosed, Syntax, Limit, Usage, NoFile, NoMemory, ReadFault, WriteFault}
+
+-- the exit status of the program
+abbrev pub code_of : Status → ℕ
+code_of Done = 0
+code_of Diagnosed = 1
+code_of Syntax = 2
+code_of Limit = 4
+code_of Usage = 64
+code_of NoFile = 66
+code_of NoMemory = 71
+code_of ReadFault = 74
+code_of WriteFault = 74
+
+-- the status says what the words and the files come to, and not that memory or a counted fault was in the way
+abbrev pub IsSettled : Status → Type 0
+IsSettled NoMemory = ⊥
+IsSettled ReadFault = ⊥
+IsSettled WriteFault = ⊥
+IsSettled _ = Unit {0}
+
+-- the status says what the bytes of a file come to
+abbrev pub IsOfBytes : Status → Type 0
+IsOfBytes Done = Unit {0}
+IsOfBytes Diagnosed = Unit {0}
+IsOfBytes Syntax = Unit {0}
+IsOfBytes Limit = Unit {0}
+IsOfBytes _ = ⊥

@@ -1,0 +1,61 @@
+// The one call.
+ghost use Rattle.std.specs.Prelude.{◌≡◌, None, map, string_bytes};
+ghost use Rattle.life_cli.specs.Ends.{Closes, Ends, status_of, text_of};
+ghost use Rattle.life_cli.specs.Question.{asked};
+ghost use Rattle.life_cli.specs.Words.{job_of};
+ghost use Rattle.life_cli.specs.declared.status.Status.TheVariants.{Usage};
+
+use crate::Status;
+use crate::stop::{Ending, Stop};
+use crate::work::work;
+use life_base::{Files, Sink, write_whole};
+use std::alloc::Global;
+
+/// Does what the words ask for, with these files, and writes to out and err. `words` begin with the
+/// program's own name.
+pub fn run_command<F: Files, O: Sink, E: Sink>(
+    alloc: Global,
+    words: &[String],
+    files: &mut F,
+    out: &mut O,
+    err: &mut E,
+) -> Status
+    ensures ends { Ends (asked (job_of (map string_bytes words.now)) (F.held files.old))
+        (F.faults files.old) (F.faults files.new)
+        (record { taken = O.taken out.old; faults = O.faults out.old })
+        (record { taken = O.taken out.new; faults = O.faults out.new })
+        (record { taken = E.taken err.old; faults = E.faults err.old })
+        (record { taken = E.taken err.new; faults = E.faults err.new }) result }
+
+    // This holds of files that don't tell what they hold, too.
+    ensures no_job { result ≡ Usage → job_of (map string_bytes words.now) ≡ None }
+{
+    let ended = work(alloc, words, files, out);
+    close(ended, err)
+}
+
+// Writes what is left to write, and says how the command ended.
+fn close<E: Sink>(ended: Result<Ending, Stop>, err: &mut E) -> Status
+    ensures { Closes (record { taken = E.taken err.old; faults = E.faults err.old })
+        (record { taken = E.taken err.new; faults = E.faults err.new })
+        (text_of ended) (status_of ended) result }
+{
+    match ended {
+        Ok(ending) => end_with(ending.status, &ending.err, err),
+        Err(Stop::NoMemory) => end_with(Status::NoMemory, b"no memory\n", err),
+        Err(Stop::ReadFault) => end_with(Status::ReadFault, b"read fault\n", err),
+        Err(Stop::WriteFault) => end_with(Status::WriteFault, b"write fault\n", err),
+    }
+}
+
+// The status, unless the text was not taken whole.
+fn end_with<E: Sink>(status: Status, text: &[u8], err: &mut E) -> Status
+    ensures { Closes (record { taken = E.taken err.old; faults = E.faults err.old })
+        (record { taken = E.taken err.new; faults = E.faults err.new })
+        text.now status result }
+{
+    match write_whole(err, text) {
+        Ok(()) => status,
+        Err(_) => Status::WriteFault,
+    }
+}

@@ -1,0 +1,44 @@
+// How a call ended.
+ghost use Rattle.std.specs.Prelude.{◌≡◌};
+ghost use Rattle.life_cli.specs.Status.{code_of};
+
+/// How a command ended.
+#[derive(Clone, Copy, Debug, PartialEq, Eq)]
+pub enum Status {
+    /// The file was accepted.
+    Done,
+    /// The profile's rules diagnose something in the file.
+    Diagnosed,
+    /// The file is no text of the subset.
+    Syntax,
+    /// A count passed its limit.
+    Limit,
+    /// The words are no job.
+    Usage,
+    /// There is no file of the name.
+    NoFile,
+    /// Memory was wanted and not had.
+    NoMemory,
+    /// A call of the files failed, and their count of faults rose.
+    ReadFault,
+    /// A write to out or to err failed, and its count of faults rose.
+    WriteFault,
+}
+
+impl Status {
+    /// The exit status of the program.
+    pub fn code(self) -> u8
+        ensures { result ≡ code_of self }
+    {
+        match self {
+            Status::Done => 0,
+            Status::Diagnosed => 1,
+            Status::Syntax => 2,
+            Status::Limit => 4,
+            Status::Usage => 64,
+            Status::NoFile => 66,
+            Status::NoMemory => 71,
+            Status::ReadFault | Status::WriteFault => 74,
+        }
+    }
+}

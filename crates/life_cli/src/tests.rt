@@ -1,0 +1,178 @@
+// The command over files and sinks in memory, some calls of which fail.
+ghost use Rattle.std.specs.Prelude.{◌≤◌};
+
+use crate::{Status, run_command};
+use life_base::{MemFiles, MemSink};
+use std::alloc::Global;
+use std::test::Fail;
+
+const ACCEPTED: &str = "int main() { int x = 4; int* p = &x; return *p; }\n";
+
+const USAGE: &str = "usage: lifecheck COMMAND FILE [OPTIONS]\n";
+
+// A call with this number is never reached.
+const NEVER: u64 = 99;
+
+fn words(alloc: Global, line: &str) -> Result<Vec<String>, Fail> {
+    let mut words = Vec::new(alloc);
+    for word in line.split_whitespace() {
+        words.push(word.to_string(alloc)?)?;
+    }
+    Ok(words)
+}
+
+// One file, whose reads give at most 30 bytes.
+fn one_file(alloc: Global, text: &str, failing: u64) -> Result<MemFiles, Fail> {
+    let mut files = Vec::new(alloc);
+    files.push(("row2.cpp".to_string(alloc)?, text.as_bytes().to_vec(alloc)?))?;
+    Ok(MemFiles::new(files, 30, [failing].to_vec(alloc)?))
+}
+
+// Each write takes at most 7 bytes.
+fn sink(alloc: Global, failing: u64) -> Result<MemSink, Fail> {
+    Ok(MemSink::new(alloc, 100, 7, [failing].to_vec(alloc)?)?)
+}
+
+#[test]
+fn answers_and_faults(rt: HostRuntime) -> Result<(), Fail> {
+    let alloc = rt.alloc();
+    let check = "lifecheck check row2.cpp";
+    let accepted = "accepted, functions: 1\n";
+    let (read, write) = (Status::ReadFault, Status::WriteFault);
+    for (line, text, [file_call, out_call, err_call], status, code, out_text, err_text) in [
+        (
+            check,
+            ACCEPTED,
+            [NEVER, NEVER, NEVER],
+            Status::Done,
+            0,
+            accepted,
+            "",
+        ),
+        (
+            check,
+            "a!b!",
+            [NEVER, NEVER, NEVER],
+            Status::Diagnosed,
+            1,
+            "diagnosed: 2\n",
+            "",
+        ),
+        (
+            "lifecheck check a.cpp",
+            "",
+            [NEVER, NEVER, NEVER],
+            Status::NoFile,
+            66,
+            "",
+            "no file a.cpp\n",
+        ),
+        (
+            "",
+            ACCEPTED,
+            [NEVER, NEVER, NEVER],
+            Status::Usage,
+            64,
+            "",
+            USAGE,
+        ),
+        (
+            "lifecheck check",
+            ACCEPTED,
+            [NEVER, NEVER, NEVER],
+            Status::Usage,
+            64,
+            "",
+            USAGE,
+        ),
+        (
+            "lifecheck check -a",
+            ACCEPTED,
+            [NEVER, NEVER, NEVER],
+            Status::Usage,
+            64,
+            "",
+            USAGE,
+        ),
+        // The file isn't started, its first read fails, or a later one.
+        (
+            check,
+            ACCEPTED,
+            [0, NEVER, NEVER],
+            read,
+            74,
+            "",
+            "read fault\n",
+        ),
+        (
+            check,
+            ACCEPTED,
+            [1, NEVER, NEVER],
+            read,
+            74,
+            "",
+            "read fault\n",
+        ),
+        (
+            check,
+            ACCEPTED,
+            [3, NEVER, NEVER],
+            read,
+            74,
+            "",
+            "read fault\n",
+        ),
+        // The first write to out fails, a later one, or also one to err.
+        (
+            check,
+            ACCEPTED,
+            [NEVER, 0, NEVER],
+            write,
+            74,
+            "",
+            "write fault\n",
+        ),
+        (
+            check,
+            ACCEPTED,
+            [NEVER, 1, NEVER],
+            write,
+            74,
+            "accepte",
+            "write fault\n",
+        ),
+        (
+            check,
+            ACCEPTED,
+            [NEVER, 1, 1],
+            write,
+            74,
+            "accepte",
+            "write f",
+        ),
+        (check, ACCEPTED, [0, NEVER, 0], write, 74, "", ""),
+    ] {
+        let given = words(alloc, line)?;
+        let mut files = one_file(alloc, text, file_call)?;
+        let mut out = sink(alloc, out_call)?;
+        let mut err = sink(alloc, err_call)?;
+        let ended = run_command(alloc, &given, &mut files, &mut out, &mut err);
+        assert_eq!(rt; ended, status, "{line} {file_call} {out_call} {err_call}");
+        assert_eq!(rt;
+            ended.code(),
+            code,
+            "{line} {file_call} {out_call} {err_call}"
+        );
+        assert_eq!(rt;
+            out.held(),
+            out_text.as_bytes(),
+            "{line} {file_call} {out_call} {err_call}"
+        );
+        assert_eq!(rt;
+            err.held(),
+            err_text.as_bytes(),
+            "{line} {file_call} {out_call} {err_call}"
+        );
+    }
+    Ok(())
+}

@@ -1,0 +1,10 @@
+pub mod Candidates
+pub mod Finding
+pub mod FirstKept
+pub mod Listed
+pub mod Marks
+pub mod PointRows
+pub mod Sizes
+pub mod Solved
+pub mod Starting
+pub mod States

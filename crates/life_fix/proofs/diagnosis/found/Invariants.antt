@@ -1,0 +1,7 @@
+use Rattle.life_core.specs.Function.{function_of}
+use Rattle.life_fix.proofs.Finding.{AreFoundUpTo}
+use Rattle.life_fix.proofs.diagnosis.found.Given as goal
+
+-- all that is wrong at the points so far
+abbrev pub invariant-loop-index : goal.invariant-loop-index
+invariant-loop-index g l = AreFoundUpTo l.types l.id.0 (function_of l.f) l.index l.all.items

@@ -1,0 +1,4 @@
+pub mod Candidates
+pub mod Finding
+pub mod Solution
+pub mod Solving

@@ -1,0 +1,122 @@
+// A list of diagnostics in the order of their lines.
+ghost use Rattle.std.specs.Prelude.{◌≡◌, length, map, take, Contains, IfOk};
+ghost use Rattle.std.specs.List.{dedup};
+ghost use Rattle.life_core.specs.Function.{function_of, name_bytes};
+ghost use Rattle.life_rules.specs.Lines.{line_of};
+ghost use Rattle.life_rules.specs.Listing.{IsListing};
+ghost use Rattle.life_fix.specs.Candidates.{candidate_seen, diag_part, is_same_line, line_seen, lined, KeepsLines, Sorts};
+
+use life_core::{CoreFn, Names};
+use life_rules::{Diag, DiagKind, texts_of};
+use life_types::{NoMemory, TypeTable};
+use std::alloc::Global;
+
+/// The line that a diagnostic prints. The order of the fields is the order of lines.
+#[derive(Debug, PartialEq, Eq, PartialOrd, Ord, Drop)]
+struct PrintedLine {
+    line: u32,
+    column: u32,
+    kind: DiagKind,
+    name: Vec<u8>,
+    why: Vec<u8>,
+}
+
+/// A diagnostic that may stand for its line. Those of one line are ordered by their diagnostics.
+#[derive(Debug, PartialEq, Eq, PartialOrd, Ord, Drop)]
+struct Candidate {
+    line: PrintedLine,
+    diag: Diag,
+}
+
+/// The diagnostics of a function in the order of their lines, each line once, and by the least of
+/// those that print it.
+pub(crate) fn listing(
+    alloc: Global,
+    names: &Names,
+    f: &CoreFn,
+    types: &TypeTable,
+    found: &[Diag],
+) -> Result<Vec<Diag>, NoMemory>
+    ensures { IfOk result (λ all. IsListing
+        (Contains found.now)
+        (line_of (map name_bytes names.now.texts.items) types.now (function_of f.now))
+        all.items) }
+{
+    let mut candidates = candidates(alloc, names, f, types, found)?;
+    keep_lines(&mut candidates);
+    diags(alloc, &candidates)
+}
+
+// Each diagnostic with its line.
+fn candidates(
+    alloc: Global,
+    names: &Names,
+    f: &CoreFn,
+    types: &TypeTable,
+    found: &[Diag],
+) -> Result<Vec<Candidate>, NoMemory>
+    ensures { IfOk result (λ all.
+        map candidate_seen all.items
+        ≡ map (lined (line_of (map name_bytes names.now.texts.items) types.now (function_of f.now))) found.now) }
+{
+    let mut all = Vec::new(alloc);
+    for diag in found {
+        let line = line_of(alloc, names, f, types, diag)?;
+        all.push(Candidate { line, diag: *diag })?;
+    }
+    Ok(all)
+}
+
+fn line_of(
+    alloc: Global,
+    names: &Names,
+    f: &CoreFn,
+    types: &TypeTable,
+    d: &Diag,
+) -> Result<PrintedLine, NoMemory>
+    ensures { IfOk result (λ line.
+        line_seen line ≡ line_of (map name_bytes names.now.texts.items) types.now (function_of f.now) d.now) }
+{
+    let text = texts_of(alloc, names, f, types, d)?;
+    Ok(PrintedLine {
+        line: d.place.line,
+        column: d.place.column,
+        kind: d.kind,
+        name: text.name,
+        why: text.why,
+    })
+}
+
+// Puts the candidates in order, and of those that print one line keeps the first.
+fn keep_lines(candidates: &mut Vec<Candidate>)
+    ensures { KeepsLines
+        (map candidate_seen candidates.old.items) (map candidate_seen candidates.new.items) }
+{
+    sort(candidates);
+    keep_first_of_each_run(candidates);
+}
+
+fn sort(candidates: &mut Vec<Candidate>)
+    ensures { Sorts
+        (map candidate_seen candidates.old.items) (map candidate_seen candidates.new.items) }
+{
+    candidates.sort_unstable();
+}
+
+// Keeps the first of each run of candidates that print one line.
+fn keep_first_of_each_run(candidates: &mut Vec<Candidate>)
+    ensures { map candidate_seen candidates.new.items
+        ≡ dedup is_same_line (map candidate_seen candidates.old.items) }
+{
+    candidates.dedup_by(|later, kept| later.line == kept.line);
+}
+
+fn diags(alloc: Global, candidates: &[Candidate]) -> Result<Vec<Diag>, NoMemory>
+    ensures { IfOk result (λ all. all.items ≡ map diag_part (map candidate_seen candidates.now)) }
+{
+    let mut all = Vec::new(alloc);
+    for candidate in candidates {
+        all.push(candidate.diag)?;
+    }
+    Ok(all)
+}

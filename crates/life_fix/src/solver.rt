@@ -1,0 +1,102 @@
+// The solver.
+ghost use Rattle.std.specs.Prelude.{◌≡◌, ◌+◌, ◌≤◌, ℕ, false, length, IfOk, OnOk};
+ghost use Rattle.life_core.specs.Function.{function_of};
+ghost use Rattle.life_core.specs.Linked.{points_of};
+ghost use Rattle.life_pset.specs.Elements.{IsWithinLimits};
+ghost use Rattle.life_pset.specs.Table.{table_of};
+ghost use Rattle.life_fix.specs.Solution.{AllLimited, IsSolution};
+ghost use Rattle.life_fix.specs.Solving.{most_steps, pairs_at, IsSolved, StartsAs};
+
+use crate::flow::Flow;
+use crate::solution::Solution;
+use crate::worklist::run_all;
+use life_base::Steps;
+use life_core::CoreFn;
+use life_pset::{ElementTable, Fact, Rows};
+use life_rules::{add_facts, entry_facts};
+use life_types::{NoMemory, TypeTable};
+use std::alloc::Global;
+use std::sync::ledger::Ledger;
+
+/// The derived facts at each point of the function. It takes one step for each transfer.
+pub fn solve<R: Rows, L: Ledger>(
+    alloc: Global,
+    f: &CoreFn,
+    types: &TypeTable,
+    steps: &mut Steps<L>,
+) -> Result<Solution<R>, NoMemory>
+    requires { IsWithinLimits types.now (function_of f.now) }
+    ensures solution { IfOk result
+        (λ solution. IsSolution R.has R.location_limit R.element_limit types.now (function_of f.now) solution) }
+    ensures ticks { steps.new ≤ steps.old + most_steps types.now (function_of f.now) }
+{
+    let table = ElementTable::of(alloc, f, types)?;
+    let rows = solved_rows(alloc, f, types, &table, steps)?;
+    Ok(Solution::new(table, rows))
+}
+
+// A row for each point, with exactly the pairs that are derived there.
+fn solved_rows<R: Rows, L: Ledger>(
+    alloc: Global,
+    f: &CoreFn,
+    types: &TypeTable,
+    table: &ElementTable,
+    steps: &mut Steps<L>,
+) -> Result<Vec<R>, NoMemory>
+    requires limits { IsWithinLimits types.now (function_of f.now) }
+    requires table { table.now ≡ table_of types.now (function_of f.now) }
+    ensures count { IfOk result (λ rows. length rows.items ≡ points_of (function_of f.now)) }
+    ensures solved { IfOk result (λ rows. IsSolved types.now (function_of f.now) (pairs_at R.has rows.items)) }
+    ensures ticks { steps.new ≤ steps.old + most_steps types.now (function_of f.now) }
+    ensures locations { IfOk result (λ rows. AllLimited R.location_limit (length table.now.locations) rows.items) }
+    ensures elements { IfOk result (λ rows. AllLimited R.element_limit (length table.now.elements) rows.items) }
+{
+    let edges = life_core::edges(alloc, f)?;
+    let spots = life_core::spots(alloc, f)?;
+    let flow = Flow {
+        f,
+        types,
+        table,
+        edges: &edges,
+        spots: &spots,
+    };
+    let mut rows = empty_rows(alloc, table, spots.len())?;
+    let facts = entry_facts(alloc, f, types)?;
+    start(table, &facts, &mut rows)?;
+    let mut dirty = vec![in alloc; true; edges.len()]?;
+    run_all(alloc, &flow, &mut rows, &mut dirty, steps)?;
+    Ok(rows)
+}
+
+// Empty rows for the points.
+fn empty_rows<R: Rows>(
+    alloc: Global,
+    table: &ElementTable,
+    count: usize,
+) -> Result<Vec<R>, NoMemory>
+    ensures count { IfOk result (λ rows. length rows.items ≡ count) }
+    ensures none { IfOk result (λ rows. (p l e : ℕ) → pairs_at R.has rows.items p l e ≡ false) }
+    ensures locations { IfOk result (λ rows. AllLimited R.location_limit (length table.now.locations) rows.items) }
+    ensures elements { IfOk result (λ rows. AllLimited R.element_limit (length table.now.elements) rows.items) }
+{
+    let mut rows = Vec::new(alloc);
+    for _ in 0..count {
+        rows.push(R::empty(alloc, table.location_count(), table.element_count())?)?;
+    }
+    Ok(rows)
+}
+
+// Adds facts to the row of the first point, if there is one.
+fn start<R: Rows>(table: &ElementTable, facts: &[Fact], rows: &mut [R]) -> Result<(), NoMemory>
+    requires locations { AllLimited R.location_limit (length table.now.locations) rows.old }
+    requires elements { AllLimited R.element_limit (length table.now.elements) rows.old }
+    ensures starts { OnOk result (StartsAs table.now facts.now (length rows.old) (pairs_at R.has rows.old) (pairs_at R.has rows.new)) }
+    ensures locations { AllLimited R.location_limit (length table.now.locations) rows.new }
+    ensures elements { AllLimited R.element_limit (length table.now.elements) rows.new }
+{
+    if rows.is_empty() {
+        return Ok(());
+    }
+    add_facts(table, facts, &mut rows[0])?;
+    Ok(())
+}
