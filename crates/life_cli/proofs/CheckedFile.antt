@@ -35,7 +35,7 @@ one_answer_to (Whole program) a b p q = one_report program a b p q
 pub one_answer : (bytes : List ℕ) (a b : Answer) → AnswersFile bytes a → AnswersFile bytes b → a ≡ b
 one_answer bytes a b p q =
     one_answer_to p.reading a b p.answered
-      (subst (λ r. AnswersReading r b) (p.read.only q.reading q.read.is) q.answered)
+    (subst (λ r. AnswersReading r b) (p.read.only q.reading q.read.is) q.answered)
 
 verdict_of_bytes : (ds : List Diag) → IsOfBytes (verdict ds)
 verdict_of_bytes [] = tt

@@ -64,4 +64,4 @@ below n d some is = subst (λ k. k < n) (sym is) some
 pub have_functions : (p : Program) (names : List (List ℕ)) (types : Types) (f : Function) (ds : List Diag) → HasOneFunction p → AreDiagnostics names types 0 f ds → HaveFunctions p ds
 have_functions p names types f ds one listed =
     All-weaker (Contains ds) (λ (d : Diag). d.function < length p.functions)
-      (λ d h. below (length p.functions) d (one_function p one) (diagnosed_about types 0 f d (listed.only d h))) ds (All-contains_itself ds)
+    (λ d h. below (length p.functions) d (one_function p one) (diagnosed_about types 0 f d (listed.only d h))) ds (All-contains_itself ds)

@@ -20,7 +20,7 @@ use std::alloc::Global;
 /// The reply to a check of a file with these bytes.
 #[tactic(auto, using(crate::proofs::CheckedFile::answers_faulty, crate::proofs::CheckedFile::answers_foreign, crate::proofs::CheckedFile::answers_whole))]
 pub fn check_bytes(alloc: Global, bytes: &[u8]) -> Result<Reply, NoMemory>
-    requires { length bytes.now < 2 ^ 32 }
+    requires { length bytes.now < 2 ^ 28 }
     ensures { IfOk result (λ reply. AnswersFile bytes.now (answer_in reply)) }
 {
     match read_program(alloc, bytes) {

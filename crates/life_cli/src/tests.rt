@@ -8,6 +8,11 @@ use std::test::Fail;
 
 const ACCEPTED: &str = "int main() { int x = 4; int* p = &x; return *p; }\n";
 
+const UNINITIALISED: &str = "int main() { int* p; return *p; }";
+
+const DANGLING: &str =
+    "int main() {\n  int* p = nullptr;\n  {\n    int x = 1;\n    p = &x;\n  }\n  return *p;\n}\n";
+
 const USAGE: &str = "usage: lifecheck COMMAND FILE [OPTIONS]\n";
 
 // A call with this number is never reached.
@@ -51,12 +56,39 @@ fn answers_and_faults(rt: HostRuntime) -> Result<(), Fail> {
         ),
         (
             check,
-            "a!b!",
+            UNINITIALISED,
             [NEVER, NEVER, NEVER],
             Status::Diagnosed,
             1,
-            "diagnosed: 2\n",
+            "1:29: dangling-use: p: p uninitialised at 1:19\ndiagnosed: 1\n",
             "",
+        ),
+        (
+            check,
+            DANGLING,
+            [NEVER, NEVER, NEVER],
+            Status::Diagnosed,
+            1,
+            "7:10: dangling-use: p: x ended at 6:3\ndiagnosed: 1\n",
+            "",
+        ),
+        (
+            check,
+            "",
+            [NEVER, NEVER, NEVER],
+            Status::Syntax,
+            2,
+            "",
+            "syntax\n",
+        ),
+        (
+            check,
+            "int main() { return 0; /* }",
+            [NEVER, NEVER, NEVER],
+            Status::Syntax,
+            2,
+            "",
+            "1:24: unclosed comment\n",
         ),
         (
             "lifecheck check a.cpp",

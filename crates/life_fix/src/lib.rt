@@ -2,6 +2,8 @@
 #![tactic(auto)]
 
 mod diagnosis;
+#[cfg(test)]
+mod diagnosis_tests;
 mod flow;
 mod listing;
 mod solution;

@@ -1,2 +1,10 @@
+pub mod Answers
+pub mod Form
+pub mod ItemViews
+pub mod NumbersFit
+pub mod Parses
+pub mod Readers
+pub mod Reads
 pub mod Source
 pub mod Translation
+pub mod Views

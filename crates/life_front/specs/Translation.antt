@@ -1,6 +1,6 @@
 -- The core program of a source, or none where it isn't typed.
-use Rattle.std.specs.Prelude.{ℕ, ◌+◌, ◌-◌, ◌*◌, Bool, true, false, cond, not, ◌&&◌, ◌||◌, nat_eq, nat_lt, List, [], ◌∷◌, ◌++◌, map, fold, length, Option, Some, None, option_map, option_and_then, codes, position, slice_get}
-use Rattle.std.specs.List.{list_any, flat_map, position_or_len}
+use Rattle.std.specs.Prelude.{ℕ, ◌+◌, ◌-◌, ◌*◌, Bool, true, false, cond, not, ◌&&◌, ◌||◌, nat_eq, nat_lt, List, [], ◌∷◌, ◌++◌, map, fold, length, Option, Some, None, option_map, option_and_then, codes, find, position, is_some, unwrap_or}
+use Rattle.std.specs.List.{flat_map}
 use Rattle.std.specs.Str.{bytes_eq}
 use Rattle.life_types.specs.Types.{Types}
 use Rattle.life_types.specs.declared.place.Place.{Place}
@@ -12,6 +12,7 @@ use Rattle.life_core.specs.Function.{Function, Program}
 use Rattle.life_core.specs.Step.{Step, Live, End, Eval, Load, Save, Aim, Repoint}
 use Rattle.life_core.specs.Tree.{Tree, Acts, Returns, trees}
 use Rattle.life_core.specs.declared.instr.Form.TheVariants.{Plain}
+use Rattle.life_core.specs.declared.instr.Operand.{Operand}
 use Rattle.life_core.specs.declared.instr.Operand.TheVariants.{Name, Through}
 use Rattle.life_core.specs.declared.instr.Operation.TheVariants as operation
 use Rattle.life_core.specs.declared.instr.Source.TheVariants as source
@@ -76,12 +77,9 @@ visible s = flat_map (λ block. block) s.blocks
 abbrev pub finds : List ℕ → Bound → Bool
 finds text v = bytes_eq text v.text
 
-abbrev pub found : List Bound → Option ℕ → Option Bound
-found vs None = None
-found vs (Some n) = slice_get vs n
-
-abbrev pub lookup : State → Named → Option Bound
-lookup s x = found (visible s) (position (finds x.text) (visible s))
+-- the visible variable with a text
+abbrev pub lookup : State → List ℕ → Option Bound
+lookup s text = find (finds text) (visible s)
 
 abbrev pub of_kind : Bool → Bound → Option Bound
 of_kind true v = cond v.pointer (Some v) None
@@ -89,11 +87,11 @@ of_kind false v = cond v.pointer None (Some v)
 
 -- a visible variable of type int, or of type int*
 abbrev pub variable : State → Bool → Named → Option ℕ
-variable s pointer x = option_map (λ (v : Bound). v.local) (option_and_then (of_kind pointer) (lookup s x))
+variable s pointer x = option_map (λ (v : Bound). v.local) (option_and_then (of_kind pointer) (lookup s x.text))
 
 -- `main` is visible, and no name may hide a visible one
 abbrev pub is_taken : State → List ℕ → Bool
-is_taken s text = bytes_eq text (codes "main") || list_any (finds text) (visible s)
+is_taken s text = bytes_eq text (codes "main") || is_some (lookup s text)
 
 -- ---- instructions
 
@@ -120,10 +118,17 @@ value_of digits = fold with_digit 0 digits
 
 -- ---- an expression as an int in a register
 
--- a step that writes an int: into a register of its own, or into the result
+-- the register that takes an int: one of its own, or the result
+abbrev pub target : Bool → State → ℕ
+target true s = next_local s
+target false s = result
+
+abbrev pub with_target : Bool → State → State
+with_target true s = with_register int_type s
+with_target false s = s
+
 abbrev pub write : Bool → Place → (ℕ → Step) → State → State
-write true place step s = with_code place (step (next_local s)) (with_register int_type s)
-write false place step s = with_code place (step result) s
+write own place step s = with_code place (step (target own s)) (with_target own s)
 
 -- the register that was made last
 abbrev pub last_register : State → ℕ
@@ -143,17 +148,14 @@ abbrev pub literal : Bool → Place → ℕ → State → State
 literal own place value s =
     cond (nat_lt value 2147483648) (write own place (number value) s) (write own place (convert (next_local s)) (with_long place value s))
 
-abbrev pub load_name : ℕ → ℕ → Step
-load_name x r = Load r (Name x)
-
-abbrev pub load_through : ℕ → ℕ → Step
-load_through p r = Load r (Through p)
+abbrev pub load : Operand → ℕ → Step
+load from r = Load r from
 
 abbrev pub value : Bool → Expression → State → Option State
 value own (Number place digits) s = Some (literal own place (value_of digits) s)
 value own (Null place) s = None
-value own (Variable x) s = option_map (λ n. write own x.place (load_name n) s) (variable s false x)
-value own (Pointee star p) s = option_map (λ n. write own star (load_through n) s) (variable s true p)
+value own (Variable x) s = option_map (λ n. write own x.place (load (Name n)) s) (variable s false x)
+value own (Pointee star p) s = option_map (λ n. write own star (load (Through n)) s) (variable s true p)
 value own (Address ampersand x) s = None
 
 -- ---- an expression that a pointer is given
@@ -167,11 +169,12 @@ aim p (Address ampersand x) s = option_map (λ n. with_code ampersand (Aim p (so
 
 -- ---- declarations
 
+-- the number of a name, which is the next one if the name is new
 abbrev pub name_number : List (List ℕ) → List ℕ → ℕ
-name_number names text = position_or_len (bytes_eq text) names
+name_number names text = unwrap_or (position (bytes_eq text) names) (length names)
 
 abbrev pub with_name : List ℕ → List (List ℕ) → List (List ℕ)
-with_name text names = cond (list_any (bytes_eq text) names) names (names ++ text ∷ [])
+with_name text names = cond (is_some (position (bytes_eq text) names)) names (names ++ text ∷ [])
 
 abbrev pub bind : Bound → List (List Bound) → List (List Bound)
 bind v [] = []
@@ -182,13 +185,20 @@ abbrev pub variable_local : Bool → NameId → Place → Local
 variable_local false name place = record { name = Some name; ty = int_type; kind = Object; place = place }
 variable_local true name place = record { name = Some name; ty = pointer_type; kind = Register; place = place }
 
+abbrev pub with_names : List (List ℕ) → State → State
+with_names names s = record s { names = names }
+
+abbrev pub with_blocks : List (List Bound) → State → State
+with_blocks blocks s = record s { blocks = blocks }
+
+abbrev pub with_bound : Bound → State → State
+with_bound v s = with_blocks (bind v s.blocks) s
+
 abbrev pub with_variable : Bool → Named → State → State
 with_variable pointer x s =
-    with_local (variable_local pointer (record { 0 = name_number s.names x.text }) x.place)
-    (record s {
-      names = with_name x.text s.names;
-      blocks = bind (record { text = x.text; local = next_local s; pointer = pointer }) s.blocks;
-    })
+    with_bound (record { text = x.text; local = next_local s; pointer = pointer })
+    (with_local (variable_local pointer (record { 0 = name_number s.names x.text }) x.place)
+    (with_names (with_name x.text s.names) s))
 
 abbrev pub live : Bool → Named → State → State
 live pointer x s = with_code x.place (Live (next_local s) Plain) (with_variable pointer x s)
@@ -199,7 +209,7 @@ declared x s = with_code x.place (Save (Name (next_local s)) (last_register s)) 
 
 -- the new pointer isn't visible in what it is given
 abbrev pub aimed : Named → Expression → State → Option State
-aimed x e s = option_map (λ after. record (with_variable true x s) { code = after.code }) (aim (next_local s) e s)
+aimed x e s = option_map (with_variable true x) (aim (next_local s) e s)
 
 abbrev pub declare_new : Bool → Named → Option Expression → State → Option State
 declare_new pointer x None s = Some (live pointer x s)
@@ -211,27 +221,27 @@ declare pointer x e s = cond (is_taken s x.text) None (declare_new pointer x e s
 
 -- ---- assignments
 
-abbrev pub save_name : ℕ → Place → State → State
-save_name n place s = with_code place (Save (Name n) (last_register s)) s
-
-abbrev pub save_through : ℕ → Place → State → State
-save_through p place s = with_code place (Save (Through p) (last_register s)) s
+abbrev pub save : Operand → Place → State → State
+save to place s = with_code place (Save to (last_register s)) s
 
 abbrev pub assign_to : Bound → Place → Expression → State → Option State
-assign_to v equals e s = cond v.pointer (aim v.local e s) (option_map (save_name v.local equals) (value true e s))
+assign_to v equals e s = cond v.pointer (aim v.local e s) (option_map (save (Name v.local) equals) (value true e s))
 
 abbrev pub assign : Named → Place → Expression → State → Option State
-assign x equals e s = option_and_then (λ v. assign_to v equals e s) (lookup s x)
+assign x equals e s = option_and_then (λ v. assign_to v equals e s) (lookup s x.text)
 
 abbrev pub store : Named → Place → Expression → State → Option State
-store p equals e s = option_and_then (λ n. option_map (save_through n equals) (value true e s)) (variable s true p)
+store p equals e s = option_and_then (λ n. option_map (save (Through n) equals) (value true e s)) (variable s true p)
 
 -- ---- blocks and returns
 
+abbrev pub locals_of : List Bound → List ℕ
+locals_of = map (λ (v : Bound). v.local)
+
 -- variables end last first; an end that would list nothing isn't there
-abbrev pub end : List Bound → Place → State → State
+abbrev pub end : List ℕ → Place → State → State
 end [] place s = s
-end (v ∷ vs) place s = with_code place (End (map (λ (b : Bound). b.local) (v ∷ vs))) s
+end (x ∷ xs) place s = with_code place (End (x ∷ xs)) s
 
 abbrev pub leave : Place → State → State
 leave place s = record s { code = s.code ++ Returns place ∷ [] }
@@ -239,21 +249,22 @@ leave place s = record s { code = s.code ++ Returns place ∷ [] }
 abbrev pub with_returned : Bool → State → State
 with_returned returned s = record s { returned = returned }
 
-abbrev pub with_blocks : List (List Bound) → State → State
-with_blocks blocks s = record s { blocks = blocks }
-
 abbrev pub return : Place → State → State
-return keyword s = with_returned true (leave keyword (end (visible s) keyword s))
+return keyword s = with_returned true (leave keyword (end (locals_of (visible s)) keyword s))
 
 -- a body that returns at its end needs no other return
 abbrev pub finish : Bool → List Bound → Place → State → State
 finish true block place s = s
-finish false block place s = leave place (end block place s)
+finish false block place s = leave place (end (locals_of block) place s)
+
+-- a block ends, of which the outermost is the body
+abbrev pub end_block : Bool → List Bound → Place → State → State
+end_block true block place s = finish s.returned block place s
+end_block false block place s = end (locals_of block) place s
 
 abbrev pub close_block : List (List Bound) → Place → State → State
 close_block [] place s = s
-close_block (block ∷ []) place s = with_blocks [] (finish s.returned block place s)
-close_block (block ∷ outer ∷ more) place s = with_blocks (outer ∷ more) (end block place s)
+close_block (block ∷ outer) place s = end_block (nat_eq (length outer) 0) block place (with_blocks outer s)
 
 -- ---- the whole
 

@@ -1,0 +1,13 @@
+pub mod Complete
+pub mod Digits
+pub mod Growth
+pub mod Items
+pub mod LexedNumbers
+pub mod Positions
+pub mod Reserved
+pub mod Scopes
+pub mod Sound
+pub mod Spelling
+pub mod Steps
+pub mod TokenCount
+pub mod Wholes

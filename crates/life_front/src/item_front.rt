@@ -1,0 +1,96 @@
+// An item from the front of a list of tokens.
+ghost use Rattle.std.specs.Prelude.{◌≡◌, option_map, map};
+ghost use Rattle.life_lex.specs.Answers.{lexeme};
+ghost use Rattle.life_front.specs.ItemViews.{expression_of, item_of};
+ghost use Rattle.life_front.specs.Readers as spec;
+
+use crate::front::{Front, assigned, is_keyword, is_mark, is_name, mark, name, named, value};
+use crate::item::{Expression, Item};
+use life_lex::Token;
+
+/// Whether `*` stands in front, and what stands behind it.
+#[tactic(auto, unfolding(crate::specs::Readers::star_front))]
+fn star<'t, 'a>(tokens: &'t [Token<'a>]) -> (bool, &'t [Token<'a>])
+    ensures { spec.star_front (map lexeme tokens.now) ≡ (result.0, map lexeme result.1.now) }
+{
+    match tokens {
+        [first, rest @ ..] if is_mark(first, b"*") => (true, rest),
+        _ => (false, tokens),
+    }
+}
+
+/// `;`, or `=`, an expression and `;`.
+#[tactic(auto, unfolding(crate::specs::Readers::initial_front))]
+fn initial<'t, 'a>(tokens: &'t [Token<'a>]) -> Front<'t, 'a, Option<Expression<'a>>>
+    ensures { option_map (λ r. (option_map expression_of r.0, map lexeme r.1.now)) result ≡ spec.initial_front (map lexeme tokens.now) }
+{
+    if let Some((_, rest)) = mark(tokens, b";") {
+        return Some((None, rest));
+    }
+    let ((_, value), rest) = assigned(tokens)?;
+    Some((Some(value), rest))
+}
+
+/// A declaration behind `int`.
+#[tactic(auto, unfolding(crate::specs::Readers::declaration_front))]
+fn declaration<'t, 'a>(tokens: &'t [Token<'a>]) -> Front<'t, 'a, Item<'a>>
+    ensures { option_map (λ r. (item_of r.0, map lexeme r.1.now)) result ≡ spec.declaration_front (map lexeme tokens.now) }
+{
+    let (pointer, rest) = star(tokens);
+    let (name, rest) = name(rest)?;
+    let (initial, rest) = initial(rest)?;
+    let declaration = Item::Declare {
+        pointer,
+        name,
+        initial,
+    };
+    Some((declaration, rest))
+}
+
+/// An item.
+#[tactic(auto, unfolding(crate::specs::Readers::item_front))]
+pub(crate) fn item<'t, 'a>(tokens: &'t [Token<'a>]) -> Front<'t, 'a, Item<'a>>
+    ensures { option_map (λ r. (item_of r.0, map lexeme r.1.now)) result ≡ spec.item_front (map lexeme tokens.now) }
+{
+    let [first, rest @ ..] = tokens else {
+        return None;
+    };
+    if is_mark(first, b"{") {
+        return Some((Item::Open, rest));
+    }
+    if is_mark(first, b"}") {
+        return Some((Item::Close(first.place), rest));
+    }
+    if is_keyword(first, b"int") {
+        return declaration(rest);
+    }
+    if is_keyword(first, b"return") {
+        let (value, rest) = value(rest)?;
+        let item = Item::Return {
+            keyword: first.place,
+            value,
+        };
+        return Some((item, rest));
+    }
+    if is_name(first) {
+        let ((equals, value), rest) = assigned(rest)?;
+        let assignment = Item::Assign {
+            variable: named(first),
+            equals,
+            value,
+        };
+        return Some((assignment, rest));
+    }
+    if is_mark(first, b"*") {
+        let (pointer, rest) = name(rest)?;
+        let ((equals, value), rest) = assigned(rest)?;
+        let store = Item::Store {
+            star: first.place,
+            pointer,
+            equals,
+            value,
+        };
+        return Some((store, rest));
+    }
+    None
+}
