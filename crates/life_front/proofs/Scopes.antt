@@ -1,5 +1,5 @@
 -- Lists of lists that are looked through from their ends.
-use Rattle.std.proofs.Common.{◌≡◌, ℕ, ◌+◌, ◌-◌, ◌<◌, ◌≤◌, length, get_or, take, set, arith, Bool, cond, true, false, List, [], ◌∷◌, ◌++◌, map, reverse, Option, Some, None, option_map, find, refl, sym, ap, ◌∙◌}
+use Rattle.std.proofs.Common.{◌≡◌, ℕ, ◌+◌, ◌-◌, ◌<◌, ◌≤◌, length, get_or, take, set, arith, Bool, cond, true, false, List, [], ◌∷◌, ◌++◌, map, reverse, Some, option_map, find, refl, sym, ap, ◌∙◌}
 use Rattle.std.specs.List.{flat_map}
 use Rattle.std.specs.declared.vec.Vec.{Vec}
 use Rattle.std.specs.declared.alloc.Global.{Global}

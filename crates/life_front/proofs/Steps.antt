@@ -1,11 +1,11 @@
 -- The translation of a list of items, item by item.
-use Rattle.std.proofs.Common.{◌≡◌, ◌≤◌, ◌<◌, ◌+◌, ◌*◌, ◌^◌, ℕ, List, [], ◌∷◌, length, drop, map, Option, Some, None, option_map, option_and_then, refl, sym, ◌∙◌, ap, subst, arith, Result, Ok, Err, slice_index_or, add-one}
+use Rattle.std.proofs.Common.{◌≡◌, ◌≤◌, ◌<◌, ◌+◌, ◌*◌, ◌^◌, ℕ, List, [], ◌∷◌, length, drop, map, Option, Some, None, option_and_then, refl, sym, ◌∙◌, ap, subst, arith, Err, slice_index_or, add-one}
 use Rattle.std.proofs.lemmas.List.{length-map}
 use Rattle.std.specs.Prelude.{All}
 use Rattle.life_front.specs.NumbersFit.{ItemFits}
 use Rattle.std.proofs.Math.Seq.{drop-cons}
 use Rattle.std.proofs.Math.ListN.{get_or-map}
-use Rattle.life_front.proofs.Growth.{Grows, item_grows, items_points}
+use Rattle.life_front.proofs.Growth.{item_grows, items_points}
 use Rattle.life_front.specs.Answers.{HasRoom}
 use Rattle.life_front.specs.Reads.{GivesState, GivesStep}
 use Rattle.life_front.specs.Source.{Item}

@@ -1,18 +1,17 @@
 -- What the parts of reading a file say of the whole.
-use Rattle.std.proofs.Common.{◌≡◌, ◌≤◌, ◌<◌, ◌^◌, ℕ, List, [], ◌∷◌, length, Option, Some, None, option_map, refl, sym, ◌∙◌, ap, subst, arith, Result, Ok, Err}
-use Rattle.life_types.specs.declared.place.Place.{Place}
+use Rattle.std.proofs.Common.{◌≡◌, ◌≤◌, ◌<◌, ◌^◌, ℕ, List, length, Option, Some, None, option_map, refl, sym, ap, subst, arith, Result, Ok, Err}
 use Rattle.life_core.specs.Function.{Program, program_of}
 use Rattle.life_core.specs.declared.program.CoreProgram.{CoreProgram}
 use Rattle.life_core.specs.Tree.{size, trees}
 use Rattle.life_lex.specs.Answers.{FaultsOnly, LexesOnly}
-use Rattle.life_lex.specs.Readings.{Ending, Lexeme, Lexes, broken, whole}
+use Rattle.life_lex.specs.Readings.{Ending, Lexeme, broken, whole}
 use Rattle.life_lex.specs.declared.fault.LexFault.{LexFault}
 use Rattle.life_front.proofs.Growth.{items_pointed}
 use Rattle.life_front.proofs.LexedNumbers.{numbers_fit}
 use Rattle.life_front.proofs.TokenCount.{few_items}
 use Rattle.life_front.specs.Form.{AllWithinLimits, Faulty, Foreign, IsProgramOf, IsReading, IsSpelled, Reading, ReadsOnlyAs, Whole}
 use Rattle.life_front.specs.Reads.{GivesProgram, GivesState, Reads, ReadsTokens, SpellTranslatable, SpellsProgram}
-use Rattle.life_front.specs.Source.{Item, Source}
+use Rattle.life_front.specs.Source.{Source}
 use Rattle.life_front.specs.Translation.{State, first_state, program_from, translate, translate_items}
 use Rattle.life_front.specs.declared.fault.FrontFault.{FrontFault}
 use Rattle.life_front.specs.declared.fault.FrontFault.TheVariants as fault

@@ -1,5 +1,5 @@
 -- What the reading of a file and its parts answer.
-use Rattle.std.specs.Prelude.{◌≡◌, ◌<◌, ◌^◌, ℕ, List, Result, Ok, Err, Option, Some, None, All, length}
+use Rattle.std.specs.Prelude.{◌≡◌, ◌<◌, ◌^◌, ℕ, List, Result, Ok, Err, Option, Some, All, length}
 use Rattle.life_core.specs.Function.{Program, program_of}
 use Rattle.life_core.specs.declared.program.CoreProgram.{CoreProgram}
 use Rattle.life_lex.specs.Readings.{Lexeme}

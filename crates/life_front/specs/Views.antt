@@ -1,5 +1,5 @@
 -- What has been translated, as definitions see it.
-use Rattle.std.specs.Prelude.{ℕ, Bool, List, map, reverse, option_map, Option}
+use Rattle.std.specs.Prelude.{List, map, reverse}
 use Rattle.life_core.specs.Function.{name_bytes}
 use Rattle.life_core.specs.Tree.{tree_of}
 pub use Rattle.life_front.specs.ItemViews.{named_of, expression_of, item_of, source_of}

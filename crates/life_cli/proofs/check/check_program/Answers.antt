@@ -1,7 +1,6 @@
-use Rattle.std.proofs.Common.{subst, sym, map, List}
+use Rattle.std.proofs.Common.{subst, sym, map}
 use Rattle.life_core.specs.Function.{function_of, name_bytes, program_of}
 use Rattle.life_report.specs.Reports.{HaveFunctions}
-use Rattle.life_rules.specs.declared.diag.Diag.{Diag}
 use Rattle.life_cli.proofs.Functions.{have_functions}
 use Rattle.life_cli.proofs.check.check_program.Goals as goal
 

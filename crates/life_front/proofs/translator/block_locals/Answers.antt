@@ -4,8 +4,6 @@ use Rattle.std.proofs.lemmas.Iterator.Adapters.{YieldsList-from_rev_slice}
 use Rattle.std.proofs.lemmas.Result.{IfOk-at_ok}
 use Rattle.std.specs.declared.vec.Vec.{Vec}
 use Rattle.std.specs.declared.alloc.Global.{Global}
-use Rattle.life_front.specs.Translation.{Bound}
-use Rattle.life_front.specs.Views.{bound_of}
 use Rattle.life_front.specs.declared.translator.Variable.{Variable}
 use Rattle.life_front.proofs.Scopes.{locals_are}
 use Rattle.life_front.proofs.translator.block_locals.Goals as goal

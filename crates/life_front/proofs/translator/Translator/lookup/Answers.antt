@@ -1,10 +1,10 @@
-use Rattle.std.proofs.Common.{rules, ◌≡◌, [], ◌∷◌, ℕ, length, option_map, reverse, map, find, tests, ◌∙◌, ap, sym}
+use Rattle.std.proofs.Common.{rules, option_map, reverse, find, tests, ◌∙◌, ap}
 use Rattle.std.proofs.lemmas.Iterator.Adapters.{YieldsList-from_rev_slice, YieldsList-from_flat_map}
 use Rattle.std.proofs.lemmas.Iterator.Search.{find_from_yields_List}
 use Rattle.std.specs.declared.vec.Vec.{Vec}
 use Rattle.std.specs.declared.alloc.Global.{Global}
 use Rattle.life_front.specs.Translation as spec
-use Rattle.life_front.specs.Views.{bound_of, block_of, state_of}
+use Rattle.life_front.specs.Views.{bound_of, state_of}
 use Rattle.life_front.specs.declared.translator.Variable.{Variable}
 use Rattle.life_front.proofs.Scopes.{option_map-find, all_variables, visible_is}
 use Rattle.life_front.proofs.translator.Translator.lookup.Goals as goal
