@@ -4,7 +4,7 @@
 usage: bench/check.py [LIFECHECK]     (default: crates/lifecheck/out/lifecheck, which `rt run` and `rt ci` leave)
 
 For each file: the least time of several runs of each program, in milliseconds, and their ratio. Only the ratio
-carries over to another machine. clang++ is left out where it isn't installed.
+carries over to another machine. clang++ stops at its first error, and is left out where it isn't installed.
 """
 import os
 import shutil
@@ -97,7 +97,7 @@ def main():
             ours, status, _ = least_time([program, "check", path])
             row = f"{name:30} {len(text):9} {status:6} {ours:9.1f} ms"
             if clang:
-                theirs, _, _ = least_time([clang, "-std=c++17", "-fsyntax-only", path])
+                theirs, _, _ = least_time([clang, "-std=c++17", "-fsyntax-only", "-ferror-limit=1", path])
                 row += f" {theirs:9.1f} ms {ours / theirs:7.2f}"
             print(row)
 
