@@ -15,6 +15,7 @@ pub data Step : Type 0 where
   Save : Operand → (from : ℕ) → Step
   Aim : (pointer : ℕ) → Source → Step
   Repoint : (pointer from : ℕ) → Step
+  Port : (item : ℕ) → Step
 
 abbrev pub step_of : Instr → Step
 step_of (instr.Live x form) = Live x form
@@ -24,3 +25,4 @@ step_of (instr.Load r o) = Load r o
 step_of (instr.Save o r) = Save o r
 step_of (instr.Aim p s) = Aim p s
 step_of (instr.Repoint p q) = Repoint p q
+step_of (instr.Port r) = Port r

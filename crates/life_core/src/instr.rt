@@ -55,6 +55,9 @@ pub enum Instr {
     Aim { pointer: u32, source: Source },
     /// Makes a pointer point to what another one points to.
     Repoint { pointer: u32, from: u32 },
+    /// Writes the value of a register to the program's output, as `std::cout <<` does
+    /// (ISO/IEC 14882:2017 [ostream.inserters.arithmetic]).
+    Port { item: u32 },
 }
 
 /// A single test, at a point of its own.

@@ -10,7 +10,7 @@ use Rattle.life_core.specs.declared.program.Local.{Local}
 use Rattle.life_core.specs.declared.program.LocalKind.{LocalKind}
 use Rattle.life_core.specs.declared.program.LocalKind.TheVariants.{Object, Register}
 use Rattle.life_core.specs.Function.{Function}
-use Rattle.life_core.specs.Step.{Step, Live, End, Eval, Load, Save, Aim, Repoint}
+use Rattle.life_core.specs.Step.{Step, Live, End, Eval, Load, Save, Aim, Repoint, Port}
 use Rattle.life_core.specs.Tree.{Node, Action, Question, Return, Stop}
 use Rattle.life_core.specs.Linked.{Linked, code_of, points_of}
 use Rattle.life_pset.specs.declared.element.AbsPlace.{AbsPlace}
@@ -81,6 +81,7 @@ step_causes f place (Load r o) = []
 step_causes f place (Save o r) = []
 step_causes f place (Aim p s) = []
 step_causes f place (Repoint p q) = []
+step_causes f place (Port r) = []
 
 abbrev pub node_causes : Function → Place → Node → List Cause
 node_causes f place (Action i) = step_causes f place i

@@ -104,6 +104,7 @@ fn push_causes(
         Instr::Save { .. } => {}
         Instr::Aim { .. } => {}
         Instr::Repoint { .. } => {}
+        Instr::Port { .. } => {}
     }
     Ok(())
 }

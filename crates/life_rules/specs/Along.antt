@@ -4,7 +4,7 @@ use Rattle.std.specs.List.{flat_map}
 use Rattle.life_types.specs.Types.{Types}
 use Rattle.life_core.specs.Function.{Function}
 use Rattle.life_core.specs.Linked.{spot_of}
-use Rattle.life_core.specs.Step.{Step, Live, End, Eval, Load, Save, Aim, Repoint}
+use Rattle.life_core.specs.Step.{Step, Live, End, Eval, Load, Save, Aim, Repoint, Port}
 use Rattle.life_core.specs.Tree.{Node, Action, Question, Return, Stop, Spot}
 use Rattle.life_core.specs.declared.stmt.Edge.{Edge}
 use Rattle.life_pset.specs.declared.element.Fact.{Fact}
@@ -27,6 +27,7 @@ takes_two (Load r o) = false
 takes_two (Save o r) = false
 takes_two (Aim p s) = false
 takes_two (Repoint p q) = false
+takes_two (Port r) = false
 
 abbrev pub node_takes_two : Node → Bool
 node_takes_two (Action i) = takes_two i

@@ -5,7 +5,7 @@ use Rattle.life_types.specs.Types.{Types, class_at}
 use Rattle.life_types.specs.declared.place.Place.{Place}
 use Rattle.life_core.specs.Function.{Function}
 use Rattle.life_core.specs.Linked.{spot_of}
-use Rattle.life_core.specs.Step.{Step, Live, End, Eval, Load, Save, Aim, Repoint}
+use Rattle.life_core.specs.Step.{Step, Live, End, Eval, Load, Save, Aim, Repoint, Port}
 use Rattle.life_core.specs.Tree.{Node, Action, Question, Return, Stop, Spot}
 use Rattle.life_core.specs.declared.instr.Form.{Form}
 use Rattle.life_core.specs.declared.instr.Form.TheVariants as form
@@ -127,6 +127,7 @@ from_none types f place (Load r o) = []
 from_none types f place (Save o r) = []
 from_none types f place (Aim p s) = aimed_facts p (named_target s)
 from_none types f place (Repoint p q) = []
+from_none types f place (Port r) = []
 
 -- whether it drops a fact: what is written or ended loses its old set
 abbrev pub drops : Step → Fact → Bool
@@ -137,6 +138,7 @@ drops (Load r o) fact = false
 drops (Save o r) fact = false
 drops (Aim p s) fact = is_location p fact.location
 drops (Repoint p q) fact = is_location p fact.location
+drops (Port r) fact = false
 
 -- a pointer to what ended is invalid, unless it ended itself
 abbrev pub invalid_facts : AbsPlace → List Cause → List Fact
@@ -173,6 +175,7 @@ makes f place (Load r o) fact = []
 makes f place (Save o r) fact = []
 makes f place (Aim p s) fact = aimed_through p s fact
 makes f place (Repoint p q) fact = given_if (is_location q fact.location) (fact_at (local_place p) fact.element)
+makes f place (Port r) fact = []
 
 -- what comes of one fact: itself, unless it is dropped, and what is made of it
 abbrev pub from_one : Function → Place → Step → Fact → List Fact
@@ -187,6 +190,7 @@ from_two f place (Load r o) a b = []
 from_two f place (Save o r) a b = []
 from_two f place (Aim p s) a b = []
 from_two f place (Repoint p q) a b = []
+from_two f place (Port r) a b = []
 
 -- ---- the tests
 

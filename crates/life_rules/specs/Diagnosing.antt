@@ -5,7 +5,7 @@ use Rattle.life_types.specs.Types.{Types}
 use Rattle.life_types.specs.declared.place.Place.{Place}
 use Rattle.life_core.specs.Function.{Function}
 use Rattle.life_core.specs.Linked.{spot_of}
-use Rattle.life_core.specs.Step.{Step, Live, End, Eval, Load, Save, Aim, Repoint}
+use Rattle.life_core.specs.Step.{Step, Live, End, Eval, Load, Save, Aim, Repoint, Port}
 use Rattle.life_core.specs.Tree.{Node, Action, Question, Return, Stop, Spot}
 use Rattle.life_core.specs.declared.instr.Operand.{Operand}
 use Rattle.life_core.specs.declared.instr.Operand.TheVariants.{Name, Through}
@@ -39,6 +39,7 @@ uses (Load r o) = used_in o
 uses (Save o r) = used_in o
 uses (Aim p s) = used_by_source s
 uses (Repoint p q) = []
+uses (Port r) = []
 
 -- what is wrong with using a pointer that may be this: null may not be used, nor what is invalid
 abbrev pub misused : ℕ → Place → AbsPlace → Element → List Diag

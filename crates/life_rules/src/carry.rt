@@ -41,6 +41,7 @@ pub fn push_from_none(
         Instr::Save { .. } => {}
         Instr::Aim { pointer, source } => push_named_target(*pointer, source, out)?,
         Instr::Repoint { .. } => {}
+        Instr::Port { .. } => {}
     }
     Ok(())
 }
@@ -158,6 +159,7 @@ fn drops(instr: &Instr, fact: Fact) -> bool
         Instr::Save { .. } => false,
         Instr::Aim { pointer, .. } => is_location(*pointer, &fact.location),
         Instr::Repoint { pointer, .. } => is_location(*pointer, &fact.location),
+        Instr::Port { .. } => false,
     }
 }
 
@@ -184,6 +186,7 @@ fn push_made(
             fact_of(*pointer, fact.element),
             out,
         )?,
+        Instr::Port { .. } => {}
     }
     Ok(())
 }
@@ -338,6 +341,7 @@ pub fn takes_two(instr: &Instr) -> bool
         Instr::Save { .. } => false,
         Instr::Aim { .. } => false,
         Instr::Repoint { .. } => false,
+        Instr::Port { .. } => false,
     }
 }
 
@@ -361,6 +365,7 @@ pub fn push_from_two(
         Instr::Save { .. } => {}
         Instr::Aim { .. } => {}
         Instr::Repoint { .. } => {}
+        Instr::Port { .. } => {}
     }
     Ok(())
 }

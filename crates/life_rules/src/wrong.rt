@@ -50,6 +50,7 @@ fn push_misuses(
         Instr::Save { to, .. } => push_misuses_of(function, place, *to, fact, out),
         Instr::Aim { source, .. } => push_misuses_by(function, place, *source, fact, out),
         Instr::Repoint { .. } => Ok(()),
+        Instr::Port { .. } => Ok(()),
     }
 }
 

@@ -1,0 +1,10 @@
+//! The store of a run: objects in memory, and what programs mean over it.
+#![tactic(auto)]
+
+mod object;
+mod run;
+mod store;
+
+pub use object::{BirthFault, Dead, ObjRef, Shape};
+pub use run::{FaultKind, Growth, Limits, TrapKind};
+pub use store::Store;

@@ -1,0 +1,37 @@
+// What a run is given, and how it may end.
+
+/// How much a vector grows where a `push_back` finds it full.
+#[derive(Clone, Copy, Debug, PartialEq, Eq)]
+pub enum Growth {
+    /// To one more than its size: each such call moves the elements.
+    Always,
+    /// To 1 after 0, and else to twice its capacity.
+    Double,
+}
+
+/// The most that a run may take.
+#[derive(Clone, Copy, Debug, PartialEq, Eq)]
+pub struct Limits {
+    /// Live words.
+    pub cells: u32,
+    /// Frames: calls that stand at once, the entry among them.
+    pub depth: u32,
+}
+
+/// Why a run was stopped, where the program used nothing null, dangling or moved-from.
+#[derive(Clone, Copy, Debug, PartialEq, Eq)]
+pub enum TrapKind {
+    /// A birth would pass the limit of live words.
+    Cells,
+    /// A call would pass the limit of frames.
+    Depth,
+}
+
+/// What a run used that it may not use.
+#[derive(Clone, Copy, Debug, PartialEq, Eq)]
+pub enum FaultKind {
+    /// A null pointer (ISO/IEC 14882:2017 [expr.unary.op]).
+    Null,
+    /// A pointer to what has ended, or that never pointed to anything (ISO/IEC 14882:2017 [basic.stc]).
+    Dangling,
+}
