@@ -2,14 +2,14 @@
 use Rattle.std.proofs.Common.{◌≡◌, ◌≤◌, ◌+◌, ℕ, refl, sym, ◌∙◌, ap, subst, Bool, true, false, cond, List, [], ◌∷◌, ◌++◌, length, Option, Some, None, option_map, option_and_then, position, bytes_eq, is_some, nat_eq, nat_lt, le_refl, le_trans, length-append, add_assoc, arith}
 use Rattle.life_types.specs.declared.place.Place.{Place}
 use Rattle.life_types.specs.declared.ty.TyId.{TyId}
-use Rattle.life_core.specs.Step.{Step, End, Save, Aim, Repoint}
+use Rattle.life_core.specs.Step.{Step, End, Save, Aim, Repoint, Port}
 use Rattle.life_core.specs.Tree.{Tree, Acts, Returns, trees, size}
 use Rattle.life_core.specs.declared.instr.Operand.{Operand}
 use Rattle.life_core.specs.declared.instr.Operand.TheVariants.{Name, Through}
 use Rattle.life_core.specs.declared.instr.Source.TheVariants as source
 use Rattle.life_core.specs.declared.program.Local.{Local}
-use Rattle.life_front.specs.Source.{Named, Expression, Number, Null, Variable, Pointee, Address, Item, Open, Close, Declare, Assign, Store, Return}
-use Rattle.life_front.specs.Translation.{Bound, State, nameless, int_type, long_type, lookup, visible, variable, is_taken, with_local, with_code, next_local, last_register, with_register, value_of, with_target, write, with_long, number, convert, load, literal, value, aim, with_name, with_names, with_blocks, with_variable, live, declared, aimed, declare_new, declare, save, assign_to, assign, store, locals_of, end, leave, with_returned, return, finish, end_block, close_block, translate_item, translate_items}
+use Rattle.life_front.specs.Source.{Named, Expression, Number, Null, Variable, Pointee, Address, Item, Open, Close, Declare, Assign, Store, Return, Print, Insert, Semicolon}
+use Rattle.life_front.specs.Translation.{Bound, State, nameless, int_type, long_type, lookup, visible, variable, is_taken, with_local, with_code, next_local, last_register, with_register, value_of, with_target, write, with_long, number, convert, load, literal, value, aim, with_name, with_names, with_blocks, with_variable, live, declared, aimed, declare_new, declare, save, assign_to, assign, store, expression_place, is_converted, port, print, locals_of, end, leave, with_returned, return, finish, end_block, close_block, translate_item, translate_items}
 
 -- what one item adds at most
 pub record Grows (s t : State) : Type 0 where
@@ -313,6 +313,18 @@ store_adds : (p : Named) (equals : Place) (e : Expression) (s : State) → MayAd
 store_adds p equals e s =
     may_and_then 2 0 s (λ n. option_map (save (Through n) equals) (value true e s)) (variable s true p) (λ n. saves (Through n) equals e s)
 
+-- ---- printing
+
+-- the register that was made last is printed
+port_adds : (place : Place) (s : State) → Adds 0 0 s (port place s)
+port_adds place s = code_adds place (Port (last_register s)) s
+
+-- an expression that is printed
+print_adds : (e : Expression) (s : State) → MayAdd 2 0 s (print e s)
+print_adds e s =
+    may_cond 2 0 s (is_converted e) None (option_map (port (expression_place e)) (value true e s)) tt
+    (may_then 2 0 0 0 s (port (expression_place e)) (value true e s) (value_adds true e s) (port_adds (expression_place e)))
+
 -- ---- blocks and returns
 
 -- ends, then a return
@@ -363,6 +375,9 @@ item_adds (Store star x equals e) s = not_returned 2 0 s (store x equals e s) (o
 item_adds (Return keyword e) s =
     let given = may_then 2 0 0 0 s (return keyword) (value false e s) (value_adds false e s) (return_adds keyword) in
     may_wider 2 0 3 1 s (option_map (return keyword) (value false e s)) (omega arith) (omega arith) given
+item_adds (Print e) s = not_returned 2 0 s (print e s) (omega arith) (omega arith) (print_adds e s)
+item_adds (Insert e) s = not_returned 2 0 s (print e s) (omega arith) (omega arith) (print_adds e s)
+item_adds Semicolon s = adds_none 3 1 s
 
 -- the state behind an item
 item_given : (i : Item) (s t : State) → translate_item i s ≡ Some t → Adds 3 1 s t

@@ -8,7 +8,7 @@ use Rattle.life_lex.specs.Readings.{Lexeme}
 use Rattle.life_front.specs.Form.{item_tokens, source_tokens, AreWanted, IsSpelled, has_reserved}
 use Rattle.life_front.specs.Parses.{AreOnlyItems, IsOnlySource}
 use Rattle.life_front.specs.Readers.{Read, item_front, head_front}
-use Rattle.life_front.specs.Source.{Item, Open, Close, Declare, Assign, Store, Return, Source, is_nested}
+use Rattle.life_front.specs.Source.{Item, Open, Close, Declare, Assign, Store, Return, Print, Insert, Semicolon, Source, is_nested, is_printed}
 use Rattle.life_front.proofs.Complete.{item_read, item_some, head_read}
 use Rattle.life_front.proofs.Sound.{Front, head_tokens, item_sound, head_sound}
 use Rattle.life_front.proofs.Spelling.{Spells, join, split, suffix, all_spelled, all_wanted}
@@ -91,18 +91,26 @@ not_nested ts rest main items is only nothing s h =
     let a : is_nested 1 items ≡ true = rw same at h.nested in
     cc
 
+-- .. or that are parts of no whole print statement
+pub not_printed : (ts rest : List Lexeme) (main : Place) (items : List Item) → head_front ts ≡ Some (main, rest) → AreOnlyItems rest items → is_printed false items ≡ false → (s : Source) → IsSpelled ts s → ⊥
+not_printed ts rest main items is only nothing s h =
+    let same = only.only s.items (behind_head ts rest main is s h).1 in
+    let a : is_printed false items ≡ true = rw same at h.printed in
+    cc
+
 pub not_free : (ts rest : List Lexeme) (main : Place) (items : List Item) → head_front ts ≡ Some (main, rest) → AreOnlyItems rest items → has_reserved items ≡ true → (s : Source) → IsSpelled ts s → ⊥
 not_free ts rest main items is only nothing s h =
     let same = only.only s.items (behind_head ts rest main is s h).1 in
     let a : has_reserved items ≡ false = rw same at h.free in
     cc
 
-pub the_source : (ts rest : List Lexeme) (main : Place) (items : List Item) → head_front ts ≡ Some (main, rest) → AreOnlyItems rest items → is_nested 1 items ≡ true → has_reserved items ≡ false
+pub the_source : (ts rest : List Lexeme) (main : Place) (items : List Item) → head_front ts ≡ Some (main, rest) → AreOnlyItems rest items → is_nested 1 items ≡ true → is_printed false items ≡ true → has_reserved items ≡ false
     → IsOnlySource ts (record { main = main; items = items })
-the_source ts rest main items is only nested free = record {
+the_source ts rest main items is only nested printed free = record {
   spelled = record {
     tokens = all_wanted (source_tokens source) ts (join (head_tokens main) (flat_map item_tokens items) ts rest [] (subst (λ (r : Read Place). Front head_tokens ts r) is (head_sound ts)) (all_spelled (flat_map item_tokens items) rest only.spelled));
     nested = nested;
+    printed = printed;
     free = free;
   };
   only = λ s h. same s (behind_head ts rest main is s h).0 (only.only s.items (behind_head ts rest main is s h).1);
@@ -123,6 +131,9 @@ item_length (Declare pointer x e) = omega arith
 item_length (Assign x equals e) = omega arith
 item_length (Store star x equals e) = omega arith
 item_length (Return place e) = omega arith
+item_length (Print e) = omega arith
+item_length (Insert e) = omega arith
+item_length Semicolon = omega arith
 
 -- the tokens of an item are those that no longer stand behind it
 pub record IsCounted (ts rest : List Lexeme) : Type 0 where

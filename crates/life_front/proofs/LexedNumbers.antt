@@ -15,7 +15,7 @@ use Rattle.life_lex.specs.declared.token.TokenKind.{TokenKind}
 use Rattle.life_lex.specs.declared.token.TokenKind.TheVariants as kind
 use Rattle.life_front.specs.Form.{Wanted, AreWanted, expression_tokens, initial_tokens, semicolon, star_if, item_tokens, source_tokens}
 use Rattle.life_front.specs.NumbersFit.{ExpressionFits, InitialFits, ItemFits}
-use Rattle.life_front.specs.Source.{Expression, Number, Null, Variable, Pointee, Address, Item, Open, Close, Declare, Assign, Store, Return, Source}
+use Rattle.life_front.specs.Source.{Expression, Number, Null, Variable, Pointee, Address, Item, Open, Close, Declare, Assign, Store, Return, Print, Insert, Semicolon, Source}
 use Rattle.life_front.specs.Translation.{value_of}
 
 -- a number of this kind and text fits
@@ -69,6 +69,11 @@ front_fits : (a b : List Wanted) → WantedFit (a ++ b) → WantedFit a × Wante
 front_fits [] b h = (tt, h)
 front_fits (w ∷ a) b h = let r = front_fits a b h.1 in ((h.0, r.0), r.1)
 
+-- nothing stands behind
+alone : (a : List Wanted) → WantedFit a → WantedFit (a ++ [])
+alone [] h = tt
+alone (w ∷ a) h = (h.0, alone a h.1)
+
 expression_fits : (e : Expression) (ws : List Wanted) → WantedFit (expression_tokens e ++ ws) → ExpressionFits e
 expression_fits (Number place digits) ws h = h.0 refl
 expression_fits (Null place) ws h = tt
@@ -87,6 +92,9 @@ item_fits (Declare pointer x e) h = initial_fits e semicolon (front_fits (star_i
 item_fits (Assign x equals e) h = expression_fits e semicolon h.1.1
 item_fits (Store star x equals e) h = expression_fits e semicolon h.1.1.1
 item_fits (Return place e) h = expression_fits e semicolon h.1
+item_fits (Print e) h = expression_fits e [] (alone (expression_tokens e) h.1.1.1.1)
+item_fits (Insert e) h = expression_fits e [] (alone (expression_tokens e) h.1)
+item_fits Semicolon h = tt
 
 items_fit : (is : List Item) → WantedFit (flat_map item_tokens is) → All ItemFits is
 items_fit [] h = All-nil ItemFits

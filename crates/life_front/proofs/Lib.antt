@@ -11,3 +11,4 @@ pub mod Spelling
 pub mod Steps
 pub mod TokenCount
 pub mod Wholes
+pub mod WorkedRows

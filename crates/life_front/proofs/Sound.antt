@@ -6,8 +6,8 @@ use Rattle.life_types.specs.declared.place.Place.{Place}
 use Rattle.life_lex.specs.Readings.{Lexeme}
 use Rattle.life_lex.specs.declared.token.TokenKind.{TokenKind}
 use Rattle.life_lex.specs.declared.token.TokenKind.TheVariants as kind
-use Rattle.life_front.specs.Form.{Wanted, IsWanted, mark, mark_at, keyword, keyword_at, name, expression_tokens, star_if, initial_tokens, semicolon, item_tokens}
-use Rattle.life_front.specs.Readers.{is_name_kind, is_keyword_kind, is_number_kind, is_mark_kind, is_mark, is_keyword, Read, and_then, mark_front, keyword_front, name_front, main_front, expression_front, value_front, assigned_front, or_assigned, initial_front, star_front, declared_front, declaration_front, item_front, head_front}
+use Rattle.life_front.specs.Form.{Wanted, IsWanted, mark, mark_at, keyword, keyword_at, name, word, expression_tokens, star_if, initial_tokens, semicolon, item_tokens}
+use Rattle.life_front.specs.Readers.{is_name_kind, is_keyword_kind, is_number_kind, is_mark_kind, is_mark, is_keyword, Read, and_then, mark_front, keyword_front, name_front, word_front, expression_front, value_front, assigned_front, or_assigned, initial_front, star_front, declared_front, declaration_front, print_front, or_assign, named_front, item_front, head_front}
 use Rattle.life_front.specs.Source.{Named, Expression, Item}
 use Rattle.life_front.proofs.Spelling.{Spells, join}
 
@@ -86,15 +86,15 @@ name_sound : (ts : List Lexeme) → Front one_name ts (name_front ts)
 name_sound [] = tt
 name_sound (t ∷ ts) = chosen (Front one_name (t ∷ ts)) (is_name_kind t.kind) _ None (λ h. ((name_kind t.kind h, refl, refl), refl)) tt
 
-abbrev main_token : Place → List Wanted
-main_token place = name (record { text = codes "main"; place = place }) ∷ []
+abbrev one_word : List ℕ → Place → List Wanted
+one_word text place = name (record { text = text; place = place }) ∷ []
 
-main_sound : (ts : List Lexeme) → Front main_token ts (main_front ts)
-main_sound [] = tt
-main_sound (t ∷ ts) = chosen (Front main_token (t ∷ ts)) (is_name_kind t.kind && bytes_eq t.text (codes "main")) _ None token tt
+word_sound : (text : List ℕ) (ts : List Lexeme) → Front (one_word text) ts (word_front text ts)
+word_sound text [] = tt
+word_sound text (t ∷ ts) = chosen (Front (one_word text) (t ∷ ts)) (is_name_kind t.kind && bytes_eq t.text text) _ None token tt
   where
-    token : (is_name_kind t.kind && bytes_eq t.text (codes "main")) ≡ true → Front main_token (t ∷ ts) (Some (t.place, ts))
-    token h = let b = both_true (is_name_kind t.kind) (bytes_eq t.text (codes "main")) h in ((name_kind t.kind b.0, text_is (codes "main") t b.1, refl), refl)
+    token : (is_name_kind t.kind && bytes_eq t.text text) ≡ true → Front (one_word text) (t ∷ ts) (Some (t.place, ts))
+    token h = let b = both_true (is_name_kind t.kind) (bytes_eq t.text text) h in ((name_kind t.kind b.0, text_is text t b.1, refl), refl)
 
 -- ---- expressions
 
@@ -165,6 +165,37 @@ declaration_sound t ts int = go (star_front ts).0 (star_front ts).1 (star_sound 
         (λ x more k. behind given_tokens _ P more (initial_front more) tt (initial_sound more)
         (λ e last m. (int, join (star_if pointer) (name x ∷ given_tokens e) ts rest last h (join (one_name x) (given_tokens e) rest more last k m))))
 
+-- a print statement up to its first expression
+abbrev printed_tokens : Expression → List Wanted
+printed_tokens e = word (codes "cout") ∷ mark (codes "<<") ∷ expression_tokens e
+
+print_sound : (t : Lexeme) (colons ts : List Lexeme) → kind.Name ≡ t.kind → Spells (mark (codes "::") ∷ []) colons ts → Front item_tokens (t ∷ colons) (print_front (record { text = t.text; place = t.place }) ts)
+unfolding print_front
+print_sound t colons ts named h =
+    let P : Read Item → Type 0 = Front item_tokens (t ∷ colons) in
+    chosen P (bytes_eq t.text (codes "std")) _ None
+    (λ std. behind (one_word (codes "cout")) _ P ts (word_front (codes "cout") ts) tt (word_sound (codes "cout") ts)
+    (λ cout ts1 h1. behind (one_mark (codes "<<")) _ P ts1 (mark_front (codes "<<") ts1) tt (mark_sound (codes "<<") ts1)
+    (λ shift ts2 h2. behind expression_tokens _ P ts2 (expression_front ts2) tt (expression_sound ts2)
+    (λ e last h3.
+    let a2 = join (mark (codes "<<") ∷ []) (expression_tokens e) ts1 ts2 last (placeless kind.Mark (codes "<<") shift [] ts1 ts2 h2) h3 in
+    let a1 = join (word (codes "cout") ∷ []) (mark (codes "<<") ∷ expression_tokens e) ts ts1 last (placeless kind.Name (codes "cout") cout [] ts ts1 h1) a2 in
+    ((named, text_is (codes "std") t std, tt), join (mark (codes "::") ∷ []) (printed_tokens e) colons ts last h a1)))))
+    tt
+
+named_sound : (t : Lexeme) (ts : List Lexeme) → kind.Name ≡ t.kind → Front item_tokens (t ∷ ts) (named_front (record { text = t.text; place = t.place }) ts)
+unfolding named_front
+named_sound t ts named = go (mark_front (codes "::") ts) (mark_sound (codes "::") ts)
+  where
+    x : Named
+    x = record { text = t.text; place = t.place }
+
+    go : (r : Read Place) → Front (one_mark (codes "::")) ts r → Front item_tokens (t ∷ ts) (or_assign x ts r)
+    go (Some (colons, rest)) h = print_sound t ts rest named (placeless kind.Mark (codes "::") colons [] ts rest h)
+    go None h =
+        let P : Read Item → Type 0 = Front item_tokens (t ∷ ts) in
+        behind assigned_tokens _ P ts (assigned_front ts) tt (assigned_sound ts) (λ y rest k. ((named, refl, refl), k))
+
 pub item_sound : (ts : List Lexeme) → Front item_tokens ts (item_front ts)
 unfolding item_front
 item_sound [] = tt
@@ -174,11 +205,13 @@ item_sound (t ∷ ts) =
     (chosen P (is_mark (codes "}") t) _ _ (λ h. (a_mark (codes "}") t h, refl))
     (chosen P (is_keyword (codes "int") t) _ _ (λ h. let m = a_keyword (codes "int") t h in declaration_sound t ts (m.0, m.1, tt))
     (chosen P (is_keyword (codes "return") t) _ _ (λ h. behind value_tokens _ P ts (value_front ts) tt (value_sound ts) (λ e rest k. (a_keyword (codes "return") t h, k)))
-    (chosen P (is_name_kind t.kind) _ _ (λ h. behind assigned_tokens _ P ts (assigned_front ts) tt (assigned_sound ts) (λ y rest k. ((name_kind t.kind h, refl, refl), k)))
+    (chosen P (is_name_kind t.kind) _ _ (λ h. named_sound t ts (name_kind t.kind h))
     (chosen P (is_mark (codes "*") t) _ _ (λ h. behind one_name _ P ts (name_front ts) tt (name_sound ts)
     (λ x rest k. behind assigned_tokens _ P rest (assigned_front rest) tt (assigned_sound rest)
     (λ y last m. (a_mark (codes "*") t h, join (one_name x) (assigned_tokens y) ts rest last k m))))
-    tt)))))
+    (chosen P (is_mark (codes "<<") t) _ _ (λ h. let m = a_mark (codes "<<") t h in behind expression_tokens _ P ts (expression_front ts) tt (expression_sound ts) (λ e rest k. ((m.0, m.1, tt), k)))
+    (chosen P (is_mark (codes ";") t) _ _ (λ h. let m = a_mark (codes ";") t h in ((m.0, m.1, tt), refl))
+    tt)))))))
 
 -- ---- the head
 
@@ -190,7 +223,7 @@ unfolding head_front
 head_sound ts =
     let P : Read Place → Type 0 = Front head_tokens ts in
     behind (one_keyword (codes "int")) _ P ts (keyword_front (codes "int") ts) tt (keyword_sound (codes "int") ts)
-    (λ int ts1 h1. behind main_token _ P ts1 (main_front ts1) tt (main_sound ts1)
+    (λ int ts1 h1. behind (one_word (codes "main")) _ P ts1 (word_front (codes "main") ts1) tt (word_sound (codes "main") ts1)
     (λ main ts2 h2. behind (one_mark (codes "(")) _ P ts2 (mark_front (codes "(") ts2) tt (mark_sound (codes "(") ts2)
     (λ left ts3 h3. behind (one_mark (codes ")")) _ P ts3 (mark_front (codes ")") ts3) tt (mark_sound (codes ")") ts3)
     (λ right ts4 h4. behind (one_mark (codes "{")) _ P ts4 (mark_front (codes "{") ts4) tt (mark_sound (codes "{") ts4)
@@ -198,6 +231,6 @@ head_sound ts =
     let a4 = placeless kind.Mark (codes "{") brace [] ts4 ts5 h5 in
     let a3 = join (mark (codes ")") ∷ []) (mark (codes "{") ∷ []) ts3 ts4 ts5 (placeless kind.Mark (codes ")") right [] ts3 ts4 h4) a4 in
     let a2 = join (mark (codes "(") ∷ []) (mark (codes ")") ∷ mark (codes "{") ∷ []) ts2 ts3 ts5 (placeless kind.Mark (codes "(") left [] ts2 ts3 h3) a3 in
-    let a1 = join (main_token main) (mark (codes "(") ∷ mark (codes ")") ∷ mark (codes "{") ∷ []) ts1 ts2 ts5 h2 a2 in
+    let a1 = join (one_word (codes "main") main) (mark (codes "(") ∷ mark (codes ")") ∷ mark (codes "{") ∷ []) ts1 ts2 ts5 h2 a2 in
     join (keyword (codes "int") ∷ []) (name (record { text = codes "main"; place = main }) ∷ mark (codes "(") ∷ mark (codes ")") ∷ mark (codes "{") ∷ [])
     ts ts1 ts5 (placeless kind.Keyword (codes "int") int [] ts ts1 h1) a1)))))

@@ -6,7 +6,7 @@ use Rattle.life_lex.specs.Cursors.{Cursor, start, advance, rest_of}
 use Rattle.life_lex.specs.Readings.{Lexeme, Lexes, Piece, gap, token, Ending, whole, IsPieces, lexemes_of}
 use Rattle.life_lex.specs.Tokens.{is_token}
 use Rattle.life_front.specs.Form.{AreWanted, Wanted, item_tokens, source_tokens}
-use Rattle.life_front.specs.Source.{Item, Open, Close, Declare, Assign, Store, Return, Source}
+use Rattle.life_front.specs.Source.{Item, Open, Close, Declare, Assign, Store, Return, Print, Insert, Semicolon, Source}
 
 -- a token has a byte
 some_bytes : (n : ℕ) (bytes : List ℕ) → is_token (take n bytes) ≡ true → 0 < n
@@ -35,6 +35,9 @@ some_token (Declare pointer x e) = omega arith
 some_token (Assign x equals e) = omega arith
 some_token (Store star x equals e) = omega arith
 some_token (Return place e) = omega arith
+some_token (Print e) = omega arith
+some_token (Insert e) = omega arith
+some_token Semicolon = omega arith
 
 item_count : (items : List Item) → length items ≤ length (flat_map item_tokens items)
 item_count [] = omega arith

@@ -1,4 +1,4 @@
--- Which files are of the first form: int main() with int and int* locals, blocks, assignments and returns.
+-- Which files are of the first form: int main() with int and int* locals, blocks, assignments, printing and returns.
 use Rattle.std.specs.Prelude.{◌≡◌, ℕ, Bool, true, false, List, [], ◌∷◌, ◌++◌, Option, Some, None, codes}
 use Rattle.std.specs.List.{flat_map, list_any}
 use Rattle.std.specs.Str.{bytes_eq}
@@ -10,7 +10,7 @@ use Rattle.life_lex.specs.declared.fault.LexFault.{LexFault}
 use Rattle.life_lex.specs.declared.token.TokenKind.{TokenKind}
 use Rattle.life_lex.specs.declared.token.TokenKind.TheVariants as kind
 use Rattle.life_pset.specs.Elements.{IsWithinLimits}
-use Rattle.life_front.specs.Source.{Named, Expression, Number, Null, Variable, Pointee, Address, Item, Open, Close, Declare, Assign, Store, Return, Source, is_nested}
+use Rattle.life_front.specs.Source.{Named, Expression, Number, Null, Variable, Pointee, Address, Item, Open, Close, Declare, Assign, Store, Return, Print, Insert, Semicolon, Source, is_nested, is_printed}
 use Rattle.life_front.specs.Translation.{translate}
 
 -- ---- the tokens of a source
@@ -35,6 +35,9 @@ keyword_at text place = record { kind = kind.Keyword; text = text; place = Some 
 
 abbrev pub name : Named → Wanted
 name x = record { kind = kind.Name; text = x.text; place = Some x.place }
+
+abbrev pub word : List ℕ → Wanted
+word text = record { kind = kind.Name; text = text; place = None }
 
 abbrev pub digits_at : List ℕ → Place → Wanted
 digits_at digits place = record { kind = kind.Number; text = digits; place = Some place }
@@ -64,6 +67,9 @@ item_tokens (Declare pointer x e) = keyword (codes "int") ∷ (star_if pointer +
 item_tokens (Assign x equals e) = name x ∷ mark_at (codes "=") equals ∷ (expression_tokens e ++ semicolon)
 item_tokens (Store star x equals e) = mark_at (codes "*") star ∷ name x ∷ mark_at (codes "=") equals ∷ (expression_tokens e ++ semicolon)
 item_tokens (Return place e) = keyword_at (codes "return") place ∷ (expression_tokens e ++ semicolon)
+item_tokens (Print e) = word (codes "std") ∷ mark (codes "::") ∷ word (codes "cout") ∷ mark (codes "<<") ∷ expression_tokens e
+item_tokens (Insert e) = mark (codes "<<") ∷ expression_tokens e
+item_tokens Semicolon = semicolon
 
 abbrev pub source_tokens : Source → List Wanted
 source_tokens source =
@@ -107,16 +113,20 @@ item_names (Declare pointer x e) = x.text ∷ initial_names e
 item_names (Assign x equals e) = x.text ∷ expression_names e
 item_names (Store star x equals e) = x.text ∷ expression_names e
 item_names (Return keyword e) = expression_names e
+item_names (Print e) = expression_names e
+item_names (Insert e) = expression_names e
+item_names Semicolon = []
 
 abbrev pub has_reserved : List Item → Bool
 has_reserved items = list_any is_reserved (flat_map item_names items)
 
 -- ---- the whole
 
--- the tokens are those of the source, whose braces pair and whose names are free
+-- the tokens are those of the source, whose braces pair, whose print statements are whole and whose names are free
 pub record IsSpelled (ts : List Lexeme) (source : Source) : Type 0 where
   pub tokens : AreWanted (source_tokens source) ts
   pub nested : is_nested 1 source.items ≡ true
+  pub printed : is_printed false source.items ≡ true
   pub free : has_reserved source.items ≡ false
 
 abbrev pub AllWithinLimits : Types → List Function → Type 0

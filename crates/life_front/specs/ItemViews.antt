@@ -1,6 +1,6 @@
 -- What is read, as definitions see it.
 use Rattle.std.specs.Prelude.{map, option_map}
-use Rattle.life_front.specs.Source.{Named, Expression, Number, Null, Variable, Pointee, Address, Item, Open, Close, Declare, Assign, Store, Return, Source}
+use Rattle.life_front.specs.Source.{Named, Expression, Number, Null, Variable, Pointee, Address, Item, Open, Close, Declare, Assign, Store, Return, Print, Insert, Semicolon, Source}
 use Rattle.life_front.specs.declared.item.Named.{Named as NamedText}
 use Rattle.life_front.specs.declared.item.Expression.{Expression as ReadExpression}
 use Rattle.life_front.specs.declared.item.Expression.TheVariants as expression
@@ -25,6 +25,9 @@ item_of (item.Declare pointer x e) = Declare pointer (named_of x) (option_map ex
 item_of (item.Assign x equals e) = Assign (named_of x) equals (expression_of e)
 item_of (item.Store star x equals e) = Store star (named_of x) equals (expression_of e)
 item_of (item.Return place e) = Return place (expression_of e)
+item_of (item.Print e) = Print (expression_of e)
+item_of (item.Insert e) = Insert (expression_of e)
+item_of item.Semicolon = Semicolon
 
 abbrev pub source_of : ParsedSource → Source
 source_of p = record { main = p.main; items = map item_of p.items.items }

@@ -1,6 +1,6 @@
 -- The numbers of a source fit 63 bits.
 use Rattle.std.specs.Prelude.{◌<◌, ◌^◌, Option, Some, None}
-use Rattle.life_front.specs.Source.{Expression, Number, Null, Variable, Pointee, Address, Item, Open, Close, Declare, Assign, Store, Return}
+use Rattle.life_front.specs.Source.{Expression, Number, Null, Variable, Pointee, Address, Item, Open, Close, Declare, Assign, Store, Return, Print, Insert, Semicolon}
 use Rattle.life_front.specs.Translation.{value_of}
 
 -- what the lexer takes as a number fits 63 bits
@@ -22,3 +22,6 @@ ItemFits (Declare pointer x e) = InitialFits e
 ItemFits (Assign x equals e) = ExpressionFits e
 ItemFits (Store star x equals e) = ExpressionFits e
 ItemFits (Return place e) = ExpressionFits e
+ItemFits (Print e) = ExpressionFits e
+ItemFits (Insert e) = ExpressionFits e
+ItemFits Semicolon = Unit {0}

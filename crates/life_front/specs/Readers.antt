@@ -5,7 +5,7 @@ use Rattle.life_types.specs.declared.place.Place.{Place}
 use Rattle.life_lex.specs.Readings.{Lexeme}
 use Rattle.life_lex.specs.declared.token.TokenKind.{TokenKind}
 use Rattle.life_lex.specs.declared.token.TokenKind.TheVariants as kind
-use Rattle.life_front.specs.Source.{Named, Expression, Number, Null, Variable, Pointee, Address, Item, Open, Close, Declare, Assign, Store, Return}
+use Rattle.life_front.specs.Source.{Named, Expression, Number, Null, Variable, Pointee, Address, Item, Open, Close, Declare, Assign, Store, Return, Print, Insert, Semicolon}
 
 -- ---- one token
 
@@ -56,6 +56,11 @@ keyword_front text (t ∷ ts) = cond (is_keyword text t) (Some (t.place, ts)) No
 abbrev pub name_front : List Lexeme → Read Named
 name_front [] = None
 name_front (t ∷ ts) = cond (is_name_kind t.kind) (Some (named t, ts)) None
+
+-- a name with this text
+abbrev pub word_front : List ℕ → List Lexeme → Read Place
+word_front text [] = None
+word_front text (t ∷ ts) = cond (is_name_kind t.kind && bytes_eq t.text text) (Some (t.place, ts)) None
 
 -- ---- expressions
 
@@ -113,6 +118,26 @@ assign_front x ts = and_then (λ y rest. Some (Assign x y.0 y.1, rest)) (assigne
 abbrev pub store_front : Place → List Lexeme → Read Item
 store_front star ts = and_then (λ x rest. and_then (λ y last. Some (Store star x y.0 y.1, last)) (assigned_front rest)) (name_front ts)
 
+-- the rest of `std::cout << e` behind `std::`, where x is that `std`
+unfoldable pub print_front : Named → List Lexeme → Read Item
+print_front x ts =
+    cond (bytes_eq x.text (codes "std"))
+    (and_then (λ cout ts1. and_then (λ shift ts2. and_then (λ e rest. Some (Print e, rest)) (expression_front ts2)) (mark_front (codes "<<") ts1)) (word_front (codes "cout") ts))
+    None
+
+-- an assignment where no `::` was read
+abbrev pub or_assign : Named → List Lexeme → Read Place → Read Item
+or_assign x ts (Some (colons, rest)) = print_front x rest
+or_assign x ts None = assign_front x ts
+
+-- an item that begins with a name, behind that
+unfoldable pub named_front : Named → List Lexeme → Read Item
+named_front x ts = or_assign x ts (mark_front (codes "::") ts)
+
+-- `<< e` behind its mark
+abbrev pub insert_front : List Lexeme → Read Item
+insert_front ts = and_then (λ e rest. Some (Insert e, rest)) (expression_front ts)
+
 unfoldable pub item_front : List Lexeme → Read Item
 item_front [] = None
 item_front (t ∷ ts) =
@@ -120,19 +145,16 @@ item_front (t ∷ ts) =
     (cond (is_mark (codes "}") t) (Some (Close t.place, ts))
     (cond (is_keyword (codes "int") t) (declaration_front ts)
     (cond (is_keyword (codes "return") t) (and_then (λ e rest. Some (Return t.place e, rest)) (value_front ts))
-    (cond (is_name_kind t.kind) (assign_front (named t) ts)
+    (cond (is_name_kind t.kind) (named_front (named t) ts)
     (cond (is_mark (codes "*") t) (store_front t.place ts)
-    None)))))
+    (cond (is_mark (codes "<<") t) (insert_front ts)
+    (cond (is_mark (codes ";") t) (Some (Semicolon, ts))
+    None)))))))
 
 -- ---- the head
-
--- `main`, for its place
-abbrev pub main_front : List Lexeme → Read Place
-main_front [] = None
-main_front (t ∷ ts) = cond (is_name_kind t.kind && bytes_eq t.text (codes "main")) (Some (t.place, ts)) None
 
 -- `int main() {`, for the place of `main`
 unfoldable pub head_front : List Lexeme → Read Place
 head_front ts =
     and_then (λ int ts1. and_then (λ main ts2. and_then (λ left ts3. and_then (λ right ts4. and_then (λ brace ts5. Some (main, ts5))
-    (mark_front (codes "{") ts4)) (mark_front (codes ")") ts3)) (mark_front (codes "(") ts2)) (main_front ts1)) (keyword_front (codes "int") ts)
+    (mark_front (codes "{") ts4)) (mark_front (codes ")") ts3)) (mark_front (codes "(") ts2)) (word_front (codes "main") ts1)) (keyword_front (codes "int") ts)

@@ -1,5 +1,5 @@
 -- The core program of a source, or none where it isn't typed.
-use Rattle.std.specs.Prelude.{ℕ, ◌+◌, ◌-◌, ◌*◌, Bool, true, false, cond, ◌||◌, nat_eq, nat_lt, List, [], ◌∷◌, ◌++◌, map, fold, length, Option, Some, None, option_map, option_and_then, codes, find, position, is_some, unwrap_or}
+use Rattle.std.specs.Prelude.{ℕ, ◌+◌, ◌-◌, ◌*◌, Bool, true, false, cond, not, ◌||◌, nat_eq, nat_lt, List, [], ◌∷◌, ◌++◌, map, fold, length, Option, Some, None, option_map, option_and_then, codes, find, position, is_some, unwrap_or}
 use Rattle.std.specs.List.{flat_map}
 use Rattle.std.specs.Str.{bytes_eq}
 use Rattle.life_types.specs.Types.{Types}
@@ -8,7 +8,7 @@ use Rattle.life_types.specs.declared.ty.NameId.{NameId}
 use Rattle.life_types.specs.declared.ty.Ty.TheVariants.{Int, Long, Raw}
 use Rattle.life_types.specs.declared.ty.TyId.{TyId}
 use Rattle.life_core.specs.Function.{Function, Program}
-use Rattle.life_core.specs.Step.{Step, Live, End, Eval, Load, Save, Aim, Repoint}
+use Rattle.life_core.specs.Step.{Step, Live, End, Eval, Load, Save, Aim, Repoint, Port}
 use Rattle.life_core.specs.Tree.{Tree, Acts, Returns, trees}
 use Rattle.life_core.specs.declared.instr.Form.TheVariants.{Plain}
 use Rattle.life_core.specs.declared.instr.Operand.{Operand}
@@ -17,7 +17,7 @@ use Rattle.life_core.specs.declared.instr.Operation.TheVariants as operation
 use Rattle.life_core.specs.declared.instr.Source.TheVariants as source
 use Rattle.life_core.specs.declared.program.Local.{Local}
 use Rattle.life_core.specs.declared.program.LocalKind.TheVariants.{Object, Register}
-use Rattle.life_front.specs.Source.{Named, Expression, Number, Null, Variable, Pointee, Address, Item, Open, Close, Declare, Assign, Store, Return, Source}
+use Rattle.life_front.specs.Source.{Named, Expression, Number, Null, Variable, Pointee, Address, Item, Open, Close, Declare, Assign, Store, Return, Print, Insert, Semicolon, Source}
 
 -- ---- the types, by their numbers
 
@@ -143,9 +143,13 @@ convert from r = Eval r (operation.Convert from)
 abbrev pub with_long : Place → ℕ → State → State
 with_long place value s = with_code place (number value (next_local s)) (with_register long_type s)
 
+-- a literal is an int where it fits one, and else a long
+abbrev pub fits_int : ℕ → Bool
+fits_int value = nat_lt value 2147483648
+
 abbrev pub literal : Bool → Place → ℕ → State → State
 literal own place value s =
-    cond (nat_lt value 2147483648) (write own place (number value) s) (write own place (convert (next_local s)) (with_long place value s))
+    cond (fits_int value) (write own place (number value) s) (write own place (convert (next_local s)) (with_long place value s))
 
 abbrev pub load : Operand → ℕ → Step
 load from r = Load r from
@@ -232,6 +236,30 @@ assign x equals e s = option_and_then (λ v. assign_to v equals e s) (lookup s x
 abbrev pub store : Named → Place → Expression → State → Option State
 store p equals e s = option_and_then (λ n. option_map (save (Through n) equals) (value true e s)) (variable s true p)
 
+-- ---- printing
+
+-- the place of what an expression reads
+abbrev pub expression_place : Expression → Place
+expression_place (Number place digits) = place
+expression_place (Null place) = place
+expression_place (Variable x) = x.place
+expression_place (Pointee star p) = star
+expression_place (Address ampersand x) = ampersand
+
+-- what is printed is an int as it is: a long isn't converted
+abbrev pub is_converted : Expression → Bool
+is_converted (Number place digits) = not (fits_int (value_of digits))
+is_converted (Null place) = false
+is_converted (Variable x) = false
+is_converted (Pointee star p) = false
+is_converted (Address ampersand x) = false
+
+abbrev pub port : Place → State → State
+port place s = with_code place (Port (last_register s)) s
+
+abbrev pub print : Expression → State → Option State
+print e s = cond (is_converted e) None (option_map (port (expression_place e)) (value true e s))
+
 -- ---- blocks and returns
 
 abbrev pub locals_of : List Bound → List ℕ
@@ -274,6 +302,9 @@ translate_item (Declare pointer x e) s = option_map (with_returned false) (decla
 translate_item (Assign x equals e) s = option_map (with_returned false) (assign x equals e s)
 translate_item (Store star x equals e) s = option_map (with_returned false) (store x equals e s)
 translate_item (Return keyword e) s = option_map (return keyword) (value false e s)
+translate_item (Print e) s = option_map (with_returned false) (print e s)
+translate_item (Insert e) s = option_map (with_returned false) (print e s)
+translate_item Semicolon s = Some s
 
 abbrev pub translate_items : List Item → State → Option State
 translate_items [] s = Some s

@@ -79,9 +79,19 @@ pub(crate) fn name<'t, 'a>(tokens: &'t [Token<'a>]) -> Front<'t, 'a, Named<'a>>
     }
 }
 
+/// A name with this text, for its place.
+pub(crate) fn word<'t, 'a>(tokens: &'t [Token<'a>], text: &[u8]) -> Front<'t, 'a, Place>
+    ensures { option_map (λ r. (r.0, map lexeme r.1.now)) result ≡ spec.word_front text.now (map lexeme tokens.now) }
+{
+    match tokens {
+        [first, rest @ ..] if is_name(first) && first.text == text => Some((first.place, rest)),
+        _ => None,
+    }
+}
+
 /// An expression.
 #[tactic(auto, unfolding(crate::specs::Readers::expression_front))]
-fn expression<'t, 'a>(tokens: &'t [Token<'a>]) -> Front<'t, 'a, Expression<'a>>
+pub(crate) fn expression<'t, 'a>(tokens: &'t [Token<'a>]) -> Front<'t, 'a, Expression<'a>>
     ensures { option_map (λ r. (expression_of r.0, map lexeme r.1.now)) result ≡ spec.expression_front (map lexeme tokens.now) }
 {
     let [first, rest @ ..] = tokens else {

@@ -35,7 +35,8 @@ pub(crate) enum Expression<'a> {
     },
 }
 
-/// A statement without its parts, or a brace: a block's items stand between its own.
+/// A statement without its parts, a brace, or a part of a print statement: a block's items stand
+/// between its own, and a print statement's in turn.
 #[derive(Clone, Copy, Debug)]
 pub(crate) enum Item<'a> {
     /// `{`.
@@ -66,4 +67,10 @@ pub(crate) enum Item<'a> {
         keyword: Place,
         value: Expression<'a>,
     },
+    /// `std::cout` and the first that is inserted into it.
+    Print(Expression<'a>),
+    /// A further one.
+    Insert(Expression<'a>),
+    /// The end of a print statement.
+    Semicolon,
 }

@@ -1,11 +1,13 @@
 // An item from the front of a list of tokens.
 ghost use Rattle.std.specs.Prelude.{◌≡◌, option_map, map};
 ghost use Rattle.life_lex.specs.Answers.{lexeme};
-ghost use Rattle.life_front.specs.ItemViews.{expression_of, item_of};
+ghost use Rattle.life_front.specs.ItemViews.{expression_of, item_of, named_of};
 ghost use Rattle.life_front.specs.Readers as spec;
 
-use crate::front::{Front, assigned, is_keyword, is_mark, is_name, mark, name, named, value};
-use crate::item::{Expression, Item};
+use crate::front::{
+    Front, assigned, expression, is_keyword, is_mark, is_name, mark, name, named, value, word,
+};
+use crate::item::{Expression, Item, Named};
 use life_lex::Token;
 
 /// Whether `*` stands in front, and what stands behind it.
@@ -47,6 +49,38 @@ fn declaration<'t, 'a>(tokens: &'t [Token<'a>]) -> Front<'t, 'a, Item<'a>>
     Some((declaration, rest))
 }
 
+/// The rest of `std::cout << e` behind `std::`, where the name is that `std`
+/// (ISO/IEC 14882:2017 [iostream.objects], [ostream.inserters]).
+#[tactic(auto, unfolding(crate::specs::Readers::print_front))]
+fn print<'t, 'a>(name: Named<'a>, tokens: &'t [Token<'a>]) -> Front<'t, 'a, Item<'a>>
+    ensures { option_map (λ r. (item_of r.0, map lexeme r.1.now)) result ≡ spec.print_front (named_of name.entry) (map lexeme tokens.now) }
+{
+    if name.text != b"std".as_slice() {
+        return None;
+    }
+    let (_, rest) = word(tokens, b"cout")?;
+    let (_, rest) = mark(rest, b"<<")?;
+    let (value, rest) = expression(rest)?;
+    Some((Item::Print(value), rest))
+}
+
+/// An item that begins with a name, behind that.
+#[tactic(auto, unfolding(crate::specs::Readers::named_front))]
+fn named_item<'t, 'a>(variable: Named<'a>, tokens: &'t [Token<'a>]) -> Front<'t, 'a, Item<'a>>
+    ensures { option_map (λ r. (item_of r.0, map lexeme r.1.now)) result ≡ spec.named_front (named_of variable.entry) (map lexeme tokens.now) }
+{
+    if let Some((_, rest)) = mark(tokens, b"::") {
+        return print(variable, rest);
+    }
+    let ((equals, value), rest) = assigned(tokens)?;
+    let assignment = Item::Assign {
+        variable,
+        equals,
+        value,
+    };
+    Some((assignment, rest))
+}
+
 /// An item.
 #[tactic(auto, unfolding(crate::specs::Readers::item_front))]
 pub(crate) fn item<'t, 'a>(tokens: &'t [Token<'a>]) -> Front<'t, 'a, Item<'a>>
@@ -73,13 +107,7 @@ pub(crate) fn item<'t, 'a>(tokens: &'t [Token<'a>]) -> Front<'t, 'a, Item<'a>>
         return Some((item, rest));
     }
     if is_name(first) {
-        let ((equals, value), rest) = assigned(rest)?;
-        let assignment = Item::Assign {
-            variable: named(first),
-            equals,
-            value,
-        };
-        return Some((assignment, rest));
+        return named_item(named(first), rest);
     }
     if is_mark(first, b"*") {
         let (pointer, rest) = name(rest)?;
@@ -91,6 +119,13 @@ pub(crate) fn item<'t, 'a>(tokens: &'t [Token<'a>]) -> Front<'t, 'a, Item<'a>>
             value,
         };
         return Some((store, rest));
+    }
+    if is_mark(first, b"<<") {
+        let (value, rest) = expression(rest)?;
+        return Some((Item::Insert(value), rest));
+    }
+    if is_mark(first, b";") {
+        return Some((Item::Semicolon, rest));
     }
     None
 }

@@ -9,6 +9,7 @@ mod names;
 mod nesting;
 mod number;
 mod parse;
+mod printing;
 mod program;
 mod translate;
 mod translator;

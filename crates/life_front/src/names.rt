@@ -33,7 +33,7 @@ fn item_has_reserved(item: &Item) -> bool
     ensures { result ≡ list_any spec.is_reserved (spec.item_names (item_of item.now)) }
 {
     match item {
-        Item::Open | Item::Close(_) => false,
+        Item::Open | Item::Close(_) | Item::Semicolon => false,
         Item::Declare {
             name,
             initial: None,
@@ -54,7 +54,9 @@ fn item_has_reserved(item: &Item) -> bool
             value,
             ..
         } => is_reserved(name) || expression_has_reserved(value),
-        Item::Return { value, .. } => expression_has_reserved(value),
+        Item::Return { value, .. } | Item::Print(value) | Item::Insert(value) => {
+            expression_has_reserved(value)
+        }
     }
 }
 

@@ -26,13 +26,15 @@ fn item_opens(item: &Item) -> usize
 {
     match item {
         Item::Open | Item::Store { .. } => 1,
-        Item::Close(_) | Item::Declare { initial: None, .. } => 0,
+        Item::Close(_) | Item::Semicolon | Item::Declare { initial: None, .. } => 0,
         Item::Declare {
             initial: Some(value),
             ..
         }
         | Item::Assign { value, .. }
-        | Item::Return { value, .. } => expression_opens(value),
+        | Item::Return { value, .. }
+        | Item::Print(value)
+        | Item::Insert(value) => expression_opens(value),
     }
 }
 

@@ -5,11 +5,12 @@ ghost use Rattle.life_front.specs.ItemViews.{item_of};
 ghost use Rattle.life_front.specs.Parses.{Parses, ParsesItems};
 ghost use Rattle.life_front.specs.Readers as spec;
 
-use crate::front::{Front, is_name, keyword, mark};
+use crate::front::{Front, keyword, mark, word};
 use crate::item::{Item, MAIN};
 use crate::item_front::item;
 use crate::names::has_reserved;
 use crate::nesting::is_nested;
+use crate::printing::is_printed;
 use life_lex::Token;
 use life_types::{NoMemory, Place};
 use std::alloc::Global;
@@ -22,23 +23,13 @@ pub(crate) struct ParsedSource<'a> {
     pub items: Vec<Item<'a>>,
 }
 
-/// `main`, for its place.
-fn main_name<'t, 'a>(tokens: &'t [Token<'a>]) -> Front<'t, 'a, Place>
-    ensures { option_map (λ r. (r.0, map lexeme r.1.now)) result ≡ spec.main_front (map lexeme tokens.now) }
-{
-    match tokens {
-        [first, rest @ ..] if is_name(first) && first.text == MAIN => Some((first.place, rest)),
-        _ => None,
-    }
-}
-
 /// `int main() {`, for the place of `main`.
 #[tactic(auto, unfolding(crate::specs::Readers::head_front))]
 fn head<'t, 'a>(tokens: &'t [Token<'a>]) -> Front<'t, 'a, Place>
     ensures { option_map (λ r. (r.0, map lexeme r.1.now)) result ≡ spec.head_front (map lexeme tokens.now) }
 {
     let (_, rest) = keyword(tokens, b"int")?;
-    let (main, rest) = main_name(rest)?;
+    let (main, rest) = word(rest, MAIN)?;
     let (_, rest) = mark(rest, b"(")?;
     let (_, rest) = mark(rest, b")")?;
     let (_, rest) = mark(rest, b"{")?;
@@ -90,6 +81,9 @@ pub(crate) fn parse<'a>(
     let Some(items) = items(alloc, rest)? else {
         return Ok(None);
     };
+    if !is_printed(&items) {
+        return Ok(None);
+    }
     if !is_nested(&items) || has_reserved(&items) {
         return Ok(None);
     }

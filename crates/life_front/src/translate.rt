@@ -28,7 +28,7 @@ impl<'a> Translator<'a> {
         requires { HasRoom 2 (state_of self.old) }
         ensures { OnOk result (state_of self.new ≡ spec.literal own place value (state_of self.old)) }
     {
-        if value < 2147483648 {
+        if fits_int(value) {
             let into = self.target(own)?;
             return self.emit(
                 place,
@@ -191,6 +191,9 @@ impl<'a> Translator<'a> {
                 self.leave(*keyword)?;
                 return Ok(());
             }
+            Item::Print(value) => self.print(value)?,
+            Item::Insert(value) => self.print(value)?,
+            Item::Semicolon => return Ok(()),
         }
         self.set_returned(false);
         Ok(())
@@ -296,6 +299,20 @@ impl<'a> Translator<'a> {
         Ok(())
     }
 
+    /// Prints an int ([ostream.inserters.arithmetic]).
+    fn print(&mut self, item: &Expression) -> Result<(), FrontFault>
+        requires room { HasRoom 3 (state_of self.old) }
+        requires fits { ExpressionFits (expression_of item.now) }
+        ensures { Translates result (spec.print (expression_of item.now) (state_of self.old)) (state_of self.new) }
+    {
+        if is_converted(item) {
+            return Err(FrontFault::Refused);
+        }
+        let register = self.own_value(item)?;
+        self.emit(place_of(item), Instr::Port { item: register })?;
+        Ok(())
+    }
+
     /// An expression as an int in a register of its own, whose number it gives.
     fn own_value(&mut self, expression: &Expression) -> Result<u32, FrontFault>
         requires room { HasRoom 2 (state_of self.old) }
@@ -305,6 +322,36 @@ impl<'a> Translator<'a> {
     {
         self.value(true, expression)?;
         Ok(self.last_register())
+    }
+}
+
+// Whether a literal is an int, and no long ([lex.icon]).
+fn fits_int(value: u64) -> bool
+    ensures { result ≡ spec.fits_int value }
+{
+    value < 2147483648
+}
+
+// Whether an expression is a literal of type long.
+fn is_converted(expression: &Expression) -> bool
+    requires { ExpressionFits (expression_of expression.now) }
+    ensures { result ≡ spec.is_converted (expression_of expression.now) }
+{
+    match expression {
+        Expression::Number { digits, .. } => !fits_int(value_of(digits)),
+        _ => false,
+    }
+}
+
+// The place of what an expression reads.
+fn place_of(expression: &Expression) -> Place
+    ensures { result ≡ spec.expression_place (expression_of expression.now) }
+{
+    match expression {
+        Expression::Number { place, .. } | Expression::Null(place) => *place,
+        Expression::Variable(name) => name.place,
+        Expression::Pointee { star, .. } => *star,
+        Expression::Address { ampersand, .. } => *ampersand,
     }
 }
 
