@@ -1,0 +1,9 @@
+pub mod Bodies
+pub mod CellLemmas
+pub mod CodeLemmas
+pub mod Found
+pub mod Going
+pub mod Housing
+pub mod NeverLost
+pub mod Onward
+pub mod Settling

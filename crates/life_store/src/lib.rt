@@ -1,10 +1,12 @@
 //! The store of a run: objects in memory, and what programs mean over it.
 #![tactic(auto)]
 
+mod laws;
 mod object;
 mod run;
 mod store;
 
+pub use laws::proper_runs_are_never_lost;
 pub use object::{BirthFault, Dead, ObjRef, Shape};
 pub use run::{FaultKind, Growth, Limits, TrapKind};
 pub use store::Store;
