@@ -2,9 +2,13 @@
 #![tactic(auto)]
 
 mod object;
+mod plain;
+mod plain_object;
+mod plain_rows;
 mod run;
 mod store;
 
 pub use object::{BirthFault, Dead, ObjRef, Shape};
+pub use plain::PlainStore;
 pub use run::{FaultKind, Growth, Limits, TrapKind};
 pub use store::Store;
