@@ -1,4 +1,4 @@
-pub mod CellLemmas
+pub mod MapLemmas
 pub mod LaidOut
 pub mod RowLemmas
 pub mod SlotLemmas

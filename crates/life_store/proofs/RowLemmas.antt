@@ -9,7 +9,7 @@ use Rattle.life_store.specs.PlainRows.{Row, objects_in, rows_in, cost_in, IsAbse
 use Rattle.life_store.specs.References.{object_of, IsFreeRow}
 use Rattle.life_store.specs.declared.object.ObjRef.{ObjRef}
 use Rattle.life_store.specs.declared.plain_rows.Entry.{Entry}
-use Rattle.life_store.proofs.CellLemmas.{one_or_apart, set_apart, unset-set, unset_apart, sum-none, sum-set_fresh}
+use Rattle.life_store.proofs.MapLemmas.{one_or_apart, set_apart, unset-set, unset_apart, sum-none, sum-set_fresh}
 
 -- ---- what is absent, and what is found
 

@@ -12,7 +12,7 @@ use Rattle.life_store.specs.References.{object_of, IsFreeRow}
 use Rattle.life_store.specs.declared.object.ObjRef.{ObjRef}
 use Rattle.life_store.specs.declared.plain.PlainStore.TheInside.{Inside}
 use Rattle.life_store.specs.declared.plain_rows.Entry.{Entry}
-use Rattle.life_store.proofs.CellLemmas.{set-unset, set_back}
+use Rattle.life_store.proofs.MapLemmas.{set-unset, set_back}
 use Rattle.life_store.proofs.RowLemmas.{new_absent, numbered_below, vacant_free, entry_there, entry_number, object_is, row_is, live_is, emptied_objects, emptied_rows, emptied_cost, emptied_absent, emptied_there, numbered_emptied, taken_emptied, filled_objects, filled_rows, filled_cost, taken_cost, numbered_filled, numbered_later, taken_filled, taken_and_filled, pushed_objects, pushed_rows, pushed_cost, numbered_pushed, taken_and_pushed}
 
 -- ---- what a table says
