@@ -1,5 +1,5 @@
 -- Proper functions: on every way through the text each local is ready where it is used, each operand is of its sort, and no way runs past the end.
-use Rattle.std.specs.Prelude.{◌≡◌, ◌⊎◌, ℕ, ◌+◌, List, [], ◌∷◌, Option, Some, None, IsSome, Contains, map, slice_get, slice_set}
+use Rattle.std.specs.Prelude.{◌≡◌, ◌⊎◌, ℕ, ◌+◌, List, [], ◌∷◌, Option, Some, None, IsSome, IsTrue, Contains, map, slice_get, slice_set}
 use Rattle.life_types.specs.Types.{Types, class_at}
 use Rattle.life_types.specs.declared.ty.Class.{Class}
 use Rattle.life_types.specs.declared.ty.Class.TheVariants.{Value, Pointer}
@@ -16,6 +16,7 @@ use Rattle.life_core.specs.declared.program.LocalKind.{LocalKind}
 use Rattle.life_core.specs.declared.program.LocalKind.TheVariants.{Object, Register}
 use Rattle.life_core.specs.Function.{Function, Program}
 use Rattle.life_core.specs.Linked.{Lead, Linked, code_of, enter, no_exits, numbered}
+use Rattle.life_core.specs.Shape.{is_statement, tests_straight}
 use Rattle.life_core.specs.Step.{Step, Live, End, Eval, Load, Save, Aim, Repoint, Port}
 use Rattle.life_core.specs.Tree.{Node, Action, Question, Return, Stop}
 
@@ -110,12 +111,13 @@ abbrev pub IsTestReady : Holdings → Test → Type 0
 IsTestReady hs (test.NonZero r) = Holds hs r ANumber
 IsTestReady hs (test.NotNull p) = Holds hs p APointer
 
--- main may return without a result, which is then 0 (ISO/IEC 14882:2017 [basic.start.main])
+-- main may return without a result, which is then 0 (ISO/IEC 14882:2017 [basic.start.main]); no
+-- assertion is built so far, so no way comes to a stop
 abbrev pub IsNodeReady : Types → Function → Holdings → Node → Type 0
 IsNodeReady types f hs (Action i) = IsStepReady types f hs i
 IsNodeReady types f hs (Question t) = IsTestReady hs t
 IsNodeReady types f hs Return = Unit {0}
-IsNodeReady types f hs Stop = Unit {0}
+IsNodeReady types f hs Stop = ⊥
 
 -- some way from the entry comes to the point with these holdings
 pub data Reaches (types : Types) (f : Function) : ℕ → Holdings → Type 0 where
@@ -131,6 +133,8 @@ LeadOn [] = Unit {0}
 LeadOn (l ∷ ls) = IsSome l.to × LeadOn ls
 
 pub record IsProper (types : Types) (f : Function) : Type 0 where
+  pub statement : IsTrue (is_statement f.body)
+  pub straight : IsTrue (tests_straight f.body)
   pub begins : IsSome (enter f.body 1 no_exits)
   pub ready : (p : ℕ) (hs : Holdings) (l : Linked) → Reaches types f p hs → numbered (code_of f) p ≡ Some l → IsNodeReady types f hs l.spot.node
   pub leads_on : (p : ℕ) (hs : Holdings) (l : Linked) → Reaches types f p hs → numbered (code_of f) p ≡ Some l → LeadOn l.leads

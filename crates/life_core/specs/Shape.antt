@@ -34,3 +34,51 @@ abbrev mutual
   is_condition Continues = false
   is_condition (Returns place) = false
   is_condition (Stops place) = false
+
+-- control leaves it at its end alone: it has no loop, and neither breaks, continues nor returns
+abbrev pub is_straight : Tree → Bool
+is_straight Skip = true
+is_straight (Then a b) = is_straight a && is_straight b
+is_straight (Acts place i) = true
+is_straight (Asks place t) = false
+is_straight (Both a b) = false
+is_straight (Either a b) = false
+is_straight (Negated a) = false
+is_straight (Choice t a b) = is_straight a && is_straight b
+is_straight (Turns t body step) = false
+is_straight Breaks = false
+is_straight Continues = false
+is_straight (Returns place) = false
+is_straight (Stops place) = true
+
+-- what conditions compute before their tests is straight, in a statement and in a condition
+abbrev mutual
+  pub tests_straight : Tree → Bool
+  tests_straight Skip = true
+  tests_straight (Then a b) = tests_straight a && tests_straight b
+  tests_straight (Acts place i) = true
+  tests_straight (Asks place t) = true
+  tests_straight (Both a b) = true
+  tests_straight (Either a b) = true
+  tests_straight (Negated a) = true
+  tests_straight (Choice t a b) = test_straight t && (tests_straight a && tests_straight b)
+  tests_straight (Turns t body step) = test_straight t && (tests_straight body && tests_straight step)
+  tests_straight Breaks = true
+  tests_straight Continues = true
+  tests_straight (Returns place) = true
+  tests_straight (Stops place) = true
+
+  pub test_straight : Tree → Bool
+  test_straight Skip = true
+  test_straight (Then a b) = is_straight a && (tests_straight a && test_straight b)
+  test_straight (Acts place i) = true
+  test_straight (Asks place t) = true
+  test_straight (Both a b) = test_straight a && test_straight b
+  test_straight (Either a b) = test_straight a && test_straight b
+  test_straight (Negated a) = test_straight a
+  test_straight (Choice t a b) = true
+  test_straight (Turns t body step) = true
+  test_straight Breaks = true
+  test_straight Continues = true
+  test_straight (Returns place) = true
+  test_straight (Stops place) = true

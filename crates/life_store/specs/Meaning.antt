@@ -1,5 +1,5 @@
 -- What a function and a program do with so many steps.
-use Rattle.std.specs.Prelude.{◌≡◌, ℕ, ℤ, pos, zero, suc, Bool, true, false, List, [], ◌∷◌, Option, Some, None, map, slice_get, length}
+use Rattle.std.specs.Prelude.{ℕ, ℤ, pos, zero, suc, List, [], ◌∷◌, Option, Some, None, map, slice_get}
 use Rattle.life_types.specs.Types.{Types}
 use Rattle.life_types.specs.declared.place.Place.{Place}
 use Rattle.life_core.specs.declared.instr.Test.{Test}
@@ -218,6 +218,14 @@ pub data Outcome : Type 0 where
   Fault : FaultKind → Place → Outcome
   OutOfSteps : Content → Outcome
   Lost : Outcome
+
+-- it is no stray step that ended the run
+abbrev pub IsFound : Outcome → Type 0
+IsFound (Ended value content) = Unit {0}
+IsFound (Trap kind place) = Unit {0}
+IsFound (Fault kind place) = Unit {0}
+IsFound (OutOfSteps content) = Unit {0}
+IsFound Lost = ⊥
 
 -- how a run ends, and all that it writes
 pub record Run : Type 0 where

@@ -1,0 +1,58 @@
+-- An operand that is ready has a position of an object, or what is wrong with it is a fault.
+use Rattle.std.proofs.Common.{◌≡◌, ℕ, ◌<◌, length, Option, Some, None, Bool, true, false, refl, sym, ap, subst, ◌∙◌}
+use Rattle.std.proofs.lemmas.Bool.{lt-ltb, false≢true}
+use Rattle.life_core.specs.Proper.{IsOperandReady}
+use Rattle.life_core.specs.declared.instr.Operand.{Operand}
+use Rattle.life_core.specs.declared.instr.Operand.TheVariants.{Name, Through}
+use Rattle.life_store.specs.Cells.{at}
+use Rattle.life_store.specs.Content.{Object, Content, is_valid_in}
+use Rattle.life_store.specs.Doing.{Found, Here, Wrong, Astray, Effect, Faults, here_if, found_in, found_at, is_valid, found_if, behind, behind_cell, named_by, resolve, on_found}
+use Rattle.life_store.specs.State.{Target, Pointer, Null, Wild, To, Points, State, holdings_of}
+use Rattle.life_store.specs.declared.run.FaultKind.{FaultKind}
+use Rattle.life_store.proofs.CellLemmas.{named_cell, pointer_cell}
+use Rattle.life_store.proofs.Housing.{Housed, Aims}
+
+-- what was found is there
+abbrev pub IsThere : Content → Found → Type 0
+IsThere c (Here n i o) = (at c.objects n ≡ Some o) × (i < length o.slots)
+IsThere c (Wrong kind) = Unit {0}
+IsThere c Astray = ⊥
+
+pub found_here : (c : Content) (n i : ℕ) (o : Object) → at c.objects n ≡ Some o → i < length o.slots → found_at c n i ≡ Here n i o
+found_here c n i o there within = ap (λ x. found_in x n i) there ∙ ap (λ b. here_if b n i o) (lt-ltb i (length o.slots) within)
+
+target_there : (c : Content) (t : Target) → Aims c t → IsThere c (found_if (is_valid c t) c t)
+target_there c t aims = go (is_valid c t) refl
+  where
+    living : (o : Option Object) → at c.objects t.object ≡ o → is_valid_in t.index 1 t.moment o ≡ true → IsThere c (found_in o t.object t.index)
+    living None e v = absurd (false≢true v)
+    living (Some o) e v =
+        let within = aims.slot o e in
+        subst (λ b. IsThere c (here_if b t.object t.index o)) (sym (lt-ltb t.index (length o.slots) within)) (e, within)
+
+    go : (b : Bool) → is_valid c t ≡ b → IsThere c (found_if b c t)
+    go true e = living (at c.objects t.object) refl e
+    go false e = tt
+
+behind_there : (c : Content) (v : Pointer) → ((t : Target) → v ≡ To t → Aims c t) → IsThere c (behind c v)
+behind_there c Null aims = tt
+behind_there c Wild aims = tt
+behind_there c (To t) aims = target_there c t (aims t refl)
+
+pub operand_there : (st : State) (o : Operand) → Housed st.world.content st.cells → IsOperandReady (holdings_of st) o → IsThere st.world.content (resolve o st)
+operand_there st (Name x) h ready =
+    let cell = named_cell st.cells x ready in
+    let l = h.lives x cell.0 cell.1 in
+    let c = st.world.content in
+    subst (λ v. IsThere c (named_by c v)) (sym cell.1) (subst (IsThere c) (sym (found_here c cell.0 0 l.object l.there l.slot)) (l.there, l.slot))
+operand_there st (Through p) h ready =
+    let cell = pointer_cell st.cells p ready in
+    let c = st.world.content in
+    subst (λ v. IsThere c (behind_cell c v)) (sym cell.1) (behind_there c cell.0 (λ t e. h.aims p t (cell.1 ∙ ap (λ v. Some (Points v)) e)))
+
+-- what is done with a position that was found, or with what is wrong
+pub on_found_good : (P : Effect → Type 0) (c : Content) (r : Found) (go : ℕ → ℕ → Object → Effect) → IsThere c r → ((kind : FaultKind) → P (Faults kind))
+    → ((n i : ℕ) (o : Object) → at c.objects n ≡ Some o → i < length o.slots → P (go n i o)) → P (on_found r go)
+on_found_good P c (Here n i o) go there wrong each = each n i o there.0 there.1
+on_found_good P c (Wrong kind) go there wrong each = wrong kind
+on_found_good P c Astray go there wrong each = absurd there
