@@ -28,7 +28,7 @@ pub fn edges(alloc: Global, f: &CoreFn) -> Result<Vec<Edge>, NoMemory>
 
 /// Where control goes to a statement.
 #[cycle(entries)]
-fn entry_of(s: &Stmt) -> Entry
+pub(crate) fn entry_of(s: &Stmt) -> Entry
     ensures { result ≡ entry_of (tree_of s.now) }
 {
     match s {
@@ -44,7 +44,7 @@ fn entry_of(s: &Stmt) -> Entry
 
 /// Where control goes to statements in a row.
 #[cycle(entries)]
-fn entry_of_all(items: &[Stmt]) -> Entry
+pub(crate) fn entry_of_all(items: &[Stmt]) -> Entry
     ensures { result ≡ entry_of (trees (map tree_of items.now)) }
 {
     for item in items {
@@ -58,7 +58,7 @@ fn entry_of_all(items: &[Stmt]) -> Entry
 
 /// Where control goes to a condition.
 #[cycle(entries)]
-fn entry_of_condition(condition: &Condition) -> Entry
+pub(crate) fn entry_of_condition(condition: &Condition) -> Entry
     ensures { result ≡ entry_of (condition_tree condition.now) }
 {
     match condition {

@@ -4,6 +4,8 @@
 mod edge_list;
 mod exits;
 mod instr;
+mod link;
+mod link_list;
 mod node;
 mod point_count;
 mod point_lookup;
@@ -16,6 +18,8 @@ mod tests;
 pub use edge_list::edges;
 pub use exits::{Entry, Exits};
 pub use instr::{Form, Instr, Operand, Operation, Source, Test};
+pub use link::{Leads, LinkRef};
+pub use link_list::links;
 pub use node::{NodeRef, SpotRef};
 pub use point_count::points;
 pub use point_lookup::{instr_at, place_at, returns_at, test_at};

@@ -4,6 +4,11 @@ pub mod CodeLemmas
 pub mod Found
 pub mod Going
 pub mod Housing
+pub mod LaidOut
+pub mod MapLemmas
 pub mod NeverLost
 pub mod Onward
+pub mod RowLemmas
 pub mod Settling
+pub mod SlotLemmas
+pub mod StoreLemmas

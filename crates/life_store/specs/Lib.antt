@@ -1,7 +1,10 @@
 pub mod Cells
 pub mod Content
 pub mod Doing
+pub mod Layout
 pub mod Meaning
 pub mod NoFault
+pub mod PlainRows
+pub mod PlainStore
 pub mod References
 pub mod State

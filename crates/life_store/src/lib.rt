@@ -3,10 +3,14 @@
 
 mod laws;
 mod object;
+mod plain;
+mod plain_object;
+mod plain_rows;
 mod run;
 mod store;
 
 pub use laws::proper_runs_are_never_lost;
 pub use object::{BirthFault, Dead, ObjRef, Shape};
+pub use plain::PlainStore;
 pub use run::{FaultKind, Growth, Limits, TrapKind};
 pub use store::Store;

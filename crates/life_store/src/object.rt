@@ -1,5 +1,8 @@
 // References to objects, and what is asked of them.
-use life_types::TyId;
+ghost use Rattle.std.specs.Prelude.{◌≡◌};
+ghost use Rattle.life_store.specs.declared.object.BirthFault.TheVariants as birth_fault;
+
+use life_types::{NoMemory, TyId};
 use thiserror::Error;
 
 /// A reference to an object of a store: the row in which the object lies while it lives, and the
@@ -33,4 +36,12 @@ pub enum BirthFault {
     /// Memory was wanted and not had.
     #[error("no memory")]
     NoMemory,
+}
+
+impl From<NoMemory> for BirthFault {
+    ghost from_gives = { λ _ fault. fault ≡ birth_fault.NoMemory };
+
+    fn from(_: NoMemory) -> Self {
+        BirthFault::NoMemory
+    }
 }
