@@ -1,8 +1,8 @@
 -- A list of diagnostics is unique: what is wrong decides which they are, and their lines in which order.
-use Rattle.std.proofs.Common.{◌≡◌, ℕ, ◌+◌, ◌<◌, ◌⊎◌, zero, suc, refl, ap, sym, ◌∙◌, inl, inr, Bool, true, false, arith, subst, List, [], ◌∷◌, length, get_or, map, Contains, nat_eq, rules}
+use Rattle.std.proofs.Common.{◌≡◌, ℕ, ◌<◌, suc, refl, ap, sym, ◌∙◌, inl, inr, true, arith, subst, List, [], ◌∷◌, length, get_or, map, Contains, nat_eq, rules}
 use Rattle.std.specs.Cmp.{IsTotalOrder}
 use Rattle.std.specs.List.Sorted.{IsStrictlySortedBy}
-use Rattle.std.specs.Ordering.{eq_by_cmp, is_eq, is_le, ordering_reverse, ordering_then, nat_cmp}
+use Rattle.std.specs.Ordering.{is_eq, is_le, ordering_reverse}
 use Rattle.std.specs.declared.cmp.Ordering.{Ordering}
 use Rattle.std.specs.declared.cmp.Ordering.TheVariants.{Less, Equal, Greater}
 use Rattle.std.proofs.lemmas.Bool.{and_parts, eqb-true}

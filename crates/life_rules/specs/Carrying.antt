@@ -1,5 +1,5 @@
 -- What is carried along an edge: facts that come from none, from one, and from two.
-use Rattle.std.specs.Prelude.{ℕ, Bool, true, false, cond, not, ◌&&◌, ◌||◌, nat_eq, List, [], ◌∷◌, ◌++◌, map, Option, Some, None, Contains, slice_get}
+use Rattle.std.specs.Prelude.{ℕ, Bool, true, false, cond, ◌&&◌, ◌||◌, nat_eq, List, [], ◌∷◌, ◌++◌, map, Option, Some, None, Contains, slice_get}
 use Rattle.std.specs.List.{list_any}
 use Rattle.life_types.specs.Types.{Types, class_at}
 use Rattle.life_types.specs.declared.place.Place.{Place}
@@ -9,7 +9,6 @@ use Rattle.life_core.specs.Step.{Step, Live, End, Eval, Load, Save, Aim, Repoint
 use Rattle.life_core.specs.Tree.{Node, Action, Question, Return, Stop, Spot}
 use Rattle.life_core.specs.declared.instr.Form.{Form}
 use Rattle.life_core.specs.declared.instr.Form.TheVariants as form
-use Rattle.life_core.specs.declared.instr.Operand.{Operand}
 use Rattle.life_core.specs.declared.instr.Operand.TheVariants as operand
 use Rattle.life_core.specs.declared.instr.Source.{Source}
 use Rattle.life_core.specs.declared.instr.Source.TheVariants as source

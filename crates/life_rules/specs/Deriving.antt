@@ -1,5 +1,5 @@
 -- The facts that are derived at each point.
-use Rattle.std.specs.Prelude.{ℕ, List, [], Contains}
+use Rattle.std.specs.Prelude.{List, [], Contains}
 use Rattle.life_types.specs.Types.{Types}
 use Rattle.life_core.specs.Function.{Function}
 use Rattle.life_core.specs.Linked.{edges_of}

@@ -1,11 +1,11 @@
 -- The list of diagnostics: in the order of their lines, each line once.
-use Rattle.std.specs.Prelude.{◌≡◌, ℕ, List, Contains, map, true}
+use Rattle.std.specs.Prelude.{◌≡◌, ℕ, List, [], Option, Some, None, Contains, map, slice_get, true}
 use Rattle.std.specs.List.Sorted.{IsStrictlySortedBy}
 use Rattle.std.specs.Ordering.{is_le}
 use Rattle.life_types.specs.Types.{Types}
-use Rattle.life_core.specs.Function.{Function}
+use Rattle.life_core.specs.Function.{Function, Program}
 use Rattle.life_rules.specs.Diagnosing.{IsDiagnosed}
-use Rattle.life_rules.specs.Lines.{Line, line_of, line_cmp}
+use Rattle.life_rules.specs.Lines.{Line, kind_number, line_of, line_cmp}
 use Rattle.life_rules.specs.contracts.diag.DiagOrd.TheImpl.{ghosts as diag}
 use Rattle.life_rules.specs.declared.diag.Diag.{Diag}
 
@@ -23,3 +23,20 @@ pub record IsListing (IsWrong : Diag → Type 0) (line : Diag → Line) (ds : Li
 -- the diagnostics of the function with this number
 abbrev pub AreDiagnostics : List (List ℕ) → Types → ℕ → Function → List Diag → Type 0
 AreDiagnostics names types function f ds = IsListing (IsDiagnosed types function f) (line_of names types f) ds
+
+-- ---- the diagnostics of a whole program
+
+-- the diagnostic is one of the function that it names
+abbrev pub IsProgramDiagnosed : Program → Diag → Type 0
+IsProgramDiagnosed p d = (f : Function) × ((slice_get p.functions d.function ≡ Some f) × IsDiagnosed p.types d.function f d)
+
+-- its line in that function
+abbrev pub line_in : Program → Option Function → Diag → Line
+line_in p None d = record { line = d.place.line; column = d.place.column; kind = kind_number d.kind; name = []; why = [] }
+line_in p (Some f) d = line_of p.names p.types f d
+
+abbrev pub program_line : Program → Diag → Line
+program_line p d = line_in p (slice_get p.functions d.function) d
+
+abbrev pub AreProgramDiagnostics : Program → List Diag → Type 0
+AreProgramDiagnostics p ds = IsListing (IsProgramDiagnosed p) (program_line p) ds

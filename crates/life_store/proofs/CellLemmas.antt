@@ -91,7 +91,7 @@ some_same e = cc
 pub none_some : {A : Type 0} {a : A} → ◌≡◌ {A = Option A} None (Some a) → ⊥
 none_some e = cc
 
-pub cell_cases : (cells : List Cell) (x y : ℕ) (v w : Cell) → slice_get (slice_set cells x v) y ≡ Some w → ((x ≡ y) × (v ≡ w)) ⊎ ((x ≢ y) × (slice_get cells y ≡ Some w))
+pub cell_cases : {A : Type 0} (cells : List A) (x y : ℕ) (v w : A) → slice_get (slice_set cells x v) y ≡ Some w → ((x ≡ y) × (v ≡ w)) ⊎ ((x ≢ y) × (slice_get cells y ≡ Some w))
 cell_cases [] x y v w e = absurd (none_some e)
 cell_cases (c ∷ cs) zero zero v w e = inl (refl, some_same e)
 cell_cases (c ∷ cs) zero (suc y) v w e = inr (clash, e)
@@ -110,6 +110,13 @@ cell_cases (c ∷ cs) (suc x) (suc y) v w e = further (cell_cases cs x y v w e)
     further : ((x ≡ y) × (v ≡ w)) ⊎ ((x ≢ y) × (slice_get cs y ≡ Some w)) → ((suc x ≡ suc y) × (v ≡ w)) ⊎ ((suc x ≢ suc y) × (slice_get cs y ≡ Some w))
     further (inl h) = inl (ap suc h.0, h.1)
     further (inr h) = inr ((λ k. h.0 (less k)), h.1)
+
+pub cell_other : {A : Type 0} (cells : List A) (x y : ℕ) (v : A) → x ≢ y → slice_get (slice_set cells x v) y ≡ slice_get cells y
+cell_other [] x y v ne = refl
+cell_other (c ∷ cs) zero zero v ne = absurd (ne refl)
+cell_other (c ∷ cs) zero (suc y) v ne = refl
+cell_other (c ∷ cs) (suc x) zero v ne = refl
+cell_other (c ∷ cs) (suc x) (suc y) v ne = cell_other cs x y v (λ k. ne (ap suc k))
 
 -- a finite map one of whose numbers was set, or taken out
 pub set_cases : {A : Type 0} (m : Cells A) (k j : ℕ) (v : A) → ((k ≡ j) × (at (set m k v) j ≡ Some v)) ⊎ ((k ≢ j) × (at (set m k v) j ≡ at m j))

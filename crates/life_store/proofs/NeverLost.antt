@@ -107,7 +107,7 @@ module _ (types : Types) (f : Function) where
 
 -- ---- the entry
 
-empty_cells : (ls : List Local) (x : ℕ) (v : Cell) → slice_get (map empty_cell ls) x ≡ Some v → Empty ≡ v
+pub empty_cells : (ls : List Local) (x : ℕ) (v : Cell) → slice_get (map empty_cell ls) x ≡ Some v → Empty ≡ v
 empty_cells [] x v e = absurd (none_some e)
 empty_cells (l ∷ ls) zero v e = some_same e
 empty_cells (l ∷ ls) (suc x) v e = empty_cells ls x v e

@@ -1,0 +1,69 @@
+-- A pointer that is aimed or repointed gets the set of what it points to.
+use Rattle.std.proofs.Common.{ℕ, [], true, refl, sym, ap, subst}
+use Rattle.std.specs.Prelude.{Contains, ◌&&◌}
+use Rattle.life_types.specs.Types.{Types}
+use Rattle.life_types.specs.declared.place.Place.{Place}
+use Rattle.life_core.specs.Function.{Function}
+use Rattle.life_core.specs.Proper.{IsStepReady}
+use Rattle.life_core.specs.Step.{Aim, Repoint}
+use Rattle.life_core.specs.declared.instr.Operand.{Operand}
+use Rattle.life_core.specs.declared.instr.Operand.TheVariants.{Name, Through}
+use Rattle.life_core.specs.declared.instr.Source.{Source}
+use Rattle.life_core.specs.declared.instr.Source.TheVariants as source
+use Rattle.life_pset.specs.Elements.{local_place}
+use Rattle.life_pset.specs.declared.element.Element.TheVariants as element
+use Rattle.life_pset.specs.declared.element.Fact.{Fact}
+use Rattle.life_rules.specs.Carrying.{fact_at, named_target}
+use Rattle.life_rules.proofs.Giving.{at_head}
+use Rattle.life_store.specs.Doing.{Setting, Next, put_cell, on_pointer, on_found, pointer_to, aimed, does}
+use Rattle.life_store.specs.State.{Null, Points, State, holdings_of}
+use Rattle.life_store.proofs.CellLemmas.{pointer_cell}
+use Rattle.life_store.proofs.Housing.{Housed}
+use Rattle.life_sound.proofs.Covering.{Known, valid_one}
+use Rattle.life_sound.proofs.Facts.{pointer_location, null_element, object_element, fact_of, element_in, Closed, made, if_given, Clean}
+use Rattle.life_sound.proofs.Places.{same_location, other_location}
+use Rattle.life_sound.proofs.Reaching.{Sees, reached}
+use Rattle.life_sound.proofs.Sorts.{IsSorted, named_sort}
+use Rattle.life_sound.proofs.Writing.{IsSafe, pointer_known}
+use Rattle.life_pset.specs.Table.{IsOf, table_of}
+use Rattle.life_rules.specs.Carrying.{aimed_facts}
+
+module _ (n : ℕ) (types : Types) (f : Function) (place : Place) (S S' : Fact → Type 0) (st : State) (h : Housed st.world.content st.cells) (sorted : IsSorted types f (holdings_of st)) (k : Known S st) where
+  pub aim_known : (p : ℕ) (source : Source) → IsStepReady types f (holdings_of st) (Aim p source) → Clean n place (Aim p source) S → Closed types f place (Aim p source) S S' → IsSafe S' (aimed p source st)
+  aim_known p source.Null ready clean cl = pointer_known types f place S S' st h sorted k (Aim p source.Null) cl p Null ready.0 (λ q e ne. other_location p q ne) record {
+    known = element.Null;
+    holds = cl.none _ (fact_of types f (local_place p) element.Null (pointer_location types f p ready.0) (null_element f)) (at_head _ []);
+    covers = tt;
+  }
+  aim_known p (source.Place o) ready clean cl =
+      let at = reached n place (Aim p (source.Place o)) S clean st h k o (λ q used. used) ready.1 in
+      subst (λ found. IsSafe S' (on_found found (λ m i object. Next (put_cell p (Points (pointer_to st.world.content m i)) st)))) (sym at.here)
+      (pointer_known types f place S S' st h sorted k (Aim p (source.Place o)) cl p (pointer_to st.world.content at.number at.index) ready.0 (λ q e ne. other_location p q ne) record {
+        known = element.At (local_place at.local);
+        holds = holds o at.local at.seen cl (fact_of types f (local_place p) _ (pointer_location types f p ready.0) (object_element types f at.local (named_sort types f st.cells at.local at.number sorted at.named)));
+        covers = record {
+          local = at.local;
+          place_is = refl;
+          named = at.named;
+          valid = valid_one _ at.object at.index st.world.content.clock at.there (k.timely at.number at.object at.there at.index at.within);
+        };
+      })
+    where
+      holds : (o : Operand) (y : ℕ) → Sees S o y → Closed types f place (Aim p (source.Place o)) S S' → IsOf (table_of types f) (fact_at (local_place p) (element.At (local_place y))) → S' (fact_at (local_place p) (element.At (local_place y)))
+      holds (Name x) y seen cl of =
+          cl.none _ of (subst (λ z. Contains (aimed_facts p (named_target (source.Place (Name x)))) (fact_at (local_place p) (element.At (local_place z)))) seen (at_head _ []))
+      holds (Through q) y seen cl of =
+          made types f place (Aim p (source.Place (Through q))) S S' cl (fact_at (local_place q) (element.At (local_place y))) (fact_at (local_place p) (element.At (local_place y))) seen of
+          (if_given _ _ (ap (λ b. b && true) (same_location q)))
+
+  pub repoint_known : (p q : ℕ) → IsStepReady types f (holdings_of st) (Repoint p q) → Closed types f place (Repoint p q) S S' → (s : Setting) → IsSafe S' (does s types f (Repoint p q) st)
+  repoint_known p q ready cl s =
+      let cell = pointer_cell st.cells q ready.1 in
+      let c = k.covered q cell.0 cell.1 in
+      subst (λ o. IsSafe S' (on_pointer o (λ v. Next (put_cell p (Points v) st)))) (sym cell.1)
+      (pointer_known types f place S S' st h sorted k (Repoint p q) cl p cell.0 ready.0 (λ y e ne. other_location p y ne) record {
+        known = c.known;
+        holds = made types f place (Repoint p q) S S' cl (fact_at (local_place q) c.known) (fact_at (local_place p) c.known) c.holds
+            (fact_of types f (local_place p) c.known (pointer_location types f p ready.0) (element_in types f _ (cl.of _ c.holds))) (if_given _ _ (same_location q));
+        covers = c.covers;
+      })

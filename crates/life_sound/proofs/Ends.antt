@@ -1,0 +1,91 @@
+-- Locals that end make the pointers to them invalid, and keep the rest.
+use Rattle.std.proofs.Common.{◌≡◌, ℕ, List, [], Some, Bool, true, false, refl, sym, ap, subst, ◌∙◌, inl, inr, ◌⊎◌}
+use Rattle.std.specs.Prelude.{Contains, slice_get, cond, nat_eq, ◌||◌}
+use Rattle.std.specs.List.{list_any}
+use Rattle.life_types.specs.Types.{Types}
+use Rattle.life_types.specs.declared.place.Place.{Place}
+use Rattle.life_core.specs.Function.{Function}
+use Rattle.life_core.specs.Proper.{AnObject, sort_of, IsStepReady}
+use Rattle.life_core.specs.Step.{End}
+use Rattle.life_core.specs.declared.program.LocalKind.{LocalKind}
+use Rattle.life_pset.specs.Elements.{local_place, ended_local, end_if, end_causes, causes_of_end}
+use Rattle.life_pset.specs.declared.element.Cause.{Cause}
+use Rattle.life_pset.specs.declared.element.Element.{Element}
+use Rattle.life_pset.specs.declared.element.Element.TheVariants as element
+use Rattle.life_pset.specs.declared.element.Fact.{Fact}
+use Rattle.life_rules.specs.Carrying.{fact_at, points_among, drops, invalid_facts, ended_element}
+use Rattle.life_rules.proofs.Giving.{at_head, flat_map_into}
+use Rattle.life_store.specs.Content.{is_settled, is_valid_in}
+use Rattle.life_store.specs.Doing.{is_valid, end_locals}
+use Rattle.life_store.specs.State.{Target, Pointer, Null, Wild, To, Empty, Named, Points, State, holdings_of}
+use Rattle.life_store.proofs.Housing.{Housed}
+use Rattle.life_sound.proofs.Covering.{Covers, Cover, Known}
+use Rattle.life_sound.proofs.Ending.{AfterEnds, ends_are}
+use Rattle.life_sound.proofs.Facts.{object_local, cause_element, fact_of, Closed, kept, made, among}
+use Rattle.life_sound.proofs.Sorts.{IsSorted, named_sort}
+use Rattle.life_sound.proofs.Writing.{IsSafe}
+use Rattle.life_sound.proofs.Facts.{map_into}
+use Rattle.life_pset.proofs.Numbers.{is_of_iff}
+
+module _ (types : Types) (f : Function) (place : Place) (xs : List ℕ) (S S' : Fact → Type 0) (st st' : State) (sorted : IsSorted types f (holdings_of st)) (k : Known S st) (cl : Closed types f place (End xs) S S') (after : AfterEnds xs st st') where
+  stays : (q : ℕ) (e : Element) → list_any (λ z. nat_eq z q) xs ≡ false → points_among xs e ≡ false → drops (End xs) (fact_at (local_place q) e) ≡ false
+  stays q e out none = ap (λ b. b || points_among xs e) out ∙ none
+
+  -- what ended makes a pointer to it invalid
+  ended_holds : (q y : ℕ) → list_any (λ z. nat_eq z q) xs ≡ false → list_any (λ z. nat_eq z y) xs ≡ true → sort_of types f y ≡ AnObject → S (fact_at (local_place q) (element.At (local_place y)))
+      → (c : Cause) × S' (fact_at (local_place q) (element.Invalid c))
+  ended_holds q y out inside sort s =
+      let l = object_local types f y sort in
+      let c = ended_local place y l.0 in
+      let causes : Contains (causes_of_end f place y) c =
+      subst (λ o. Contains (end_causes place y o) c) (sym l.1.0) (subst (λ (kind : LocalKind). Contains (end_if kind c) c) (sym l.1.1) (at_head c [])) in
+      let location = ((is_of_iff types f (fact_at (local_place q) (element.At (local_place y)))).0 (cl.of _ s)).0 in
+      let of = fact_of types f (local_place q) (element.Invalid c) location (cause_element f c (cl.causes c (flat_map_into (causes_of_end f place) xs y c (among xs y inside) causes))) in (
+        c,
+        made types f place (End xs) S S' cl (fact_at (local_place q) (element.At (local_place y))) (fact_at (local_place q) (element.Invalid c)) s of
+            (subst (λ b. Contains (cond b [] (ended_element f place xs (local_place q) (element.At (local_place y)))) (fact_at (local_place q) (element.Invalid c))) (sym out)
+            (subst (λ b. Contains (cond b (invalid_facts (local_place q) (causes_of_end f place y)) []) (fact_at (local_place q) (element.Invalid c))) (sym inside)
+            (map_into (λ d. fact_at (local_place q) (element.Invalid d)) (causes_of_end f place y) c causes))),
+      )
+
+  pointed : (q : ℕ) (t : Target) → list_any (λ z. nat_eq z q) xs ≡ false → (y : ℕ) → slice_get st.cells y ≡ Some (Named t.object) → is_valid st.world.content t ≡ true → S (fact_at (local_place q) (element.At (local_place y)))
+      → (b : Bool) → list_any (λ z. nat_eq z y) xs ≡ b → Cover S' st'.world.content st'.cells q (To t)
+  pointed q t out y named valid s true e = let made = ended_holds q y out e (named_sort types f st.cells y t.object sorted named) s in record { known = element.Invalid made.0; holds = made.1; covers = tt }
+  pointed q t out y named valid s false e =
+      let still = after.named y t.object e named in record {
+        known = element.At (local_place y);
+        holds = kept types f place (End xs) S S' cl _ s (stays q (element.At (local_place y)) out e);
+        covers = record { local = y; place_is = refl; named = still.0; valid = ap (is_valid_in t.index 1 t.moment) still.1 ∙ valid };
+      }
+
+  cover : (q : ℕ) (v : Pointer) (e : Element) → list_any (λ z. nat_eq z q) xs ≡ false → S (fact_at (local_place q) e) → Covers st.world.content st.cells e v → Cover S' st'.world.content st'.cells q v
+  cover q Null element.Null out s cov = record { known = element.Null; holds = kept types f place (End xs) S S' cl _ s (stays q element.Null out refl); covers = tt }
+  cover q Wild element.Null out s cov = absurd cov
+  cover q (To t) element.Null out s cov = absurd cov
+  cover q v (element.Invalid c) out s cov = record { known = element.Invalid c; holds = kept types f place (End xs) S S' cl _ s (stays q (element.Invalid c) out refl); covers = tt }
+  cover q v (element.Moved c) out s cov = absurd cov
+  cover q v element.Own out s cov = absurd cov
+  cover q v element.Static out s cov = absurd cov
+  cover q Null (element.At b) out s cov = absurd cov
+  cover q Wild (element.At b) out s cov = absurd cov
+  cover q (To t) (element.At b) out s cov =
+      pointed q t out cov.local cov.named cov.valid (subst (λ l. S (fact_at (local_place q) (element.At l))) cov.place_is s) (list_any (λ z. nat_eq z cov.local) xs) refl
+
+  covered : (q : ℕ) (v : Pointer) → (Empty ≡ Points v) ⊎ ((list_any (λ z. nat_eq z q) xs ≡ false) × (slice_get st.cells q ≡ Some (Points v))) → Cover S' st'.world.content st'.cells q v
+  covered q v (inl e) = absurd (clash e)
+    where
+      clash : Empty ≡ Points v → ⊥
+      clash e = cc
+  covered q v (inr o) = let c = k.covered q v o.1 in cover q v c.known o.0 c.holds c.covers
+
+  known : Known S' st'
+  known = record {
+    covered = λ q v e. covered q v (after.cells q (Points v) e);
+    timely = λ m o e i within. subst (λ moment. is_settled o i moment ≡ true) (sym after.clock) (k.timely m o (after.older m o e) i within);
+  }
+
+pub end_known : (types : Types) (f : Function) (place : Place) (xs : List ℕ) (S S' : Fact → Type 0) (st : State) → Housed st.world.content st.cells → IsSorted types f (holdings_of st) → Known S st
+    → IsStepReady types f (holdings_of st) (End xs) → Closed types f place (End xs) S S' → IsSafe S' (end_locals xs st)
+end_known types f place xs S S' st h sorted k ready cl =
+    let after = ends_are xs st h ready in
+    subst (IsSafe S') (sym after.1.0) (known types f place xs S S' st after.0 sorted k cl after.1.1)

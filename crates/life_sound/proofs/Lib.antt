@@ -1,0 +1,15 @@
+mod Aiming
+mod Births
+mod Covering
+mod Edges
+mod Ending
+mod Ends
+mod Facts
+mod Places
+mod Reaching
+mod Sorts
+mod Soundness
+mod Steps
+mod Tests
+mod Values
+mod Writing
