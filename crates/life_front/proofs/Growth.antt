@@ -1,14 +1,17 @@
 -- What one item adds to a translation.
-use Rattle.std.proofs.Common.{◌≡◌, ◌≤◌, ◌+◌, ℕ, refl, sym, ◌∙◌, ap, subst, Bool, true, false, cond, List, [], ◌∷◌, ◌++◌, length, Option, Some, None, option_map, option_and_then, position, bytes_eq, is_some, nat_eq, nat_lt, le_refl, le_trans, length-append, add_assoc, arith}
+use Rattle.std.proofs.Common.{◌≡◌, ◌≤◌, ◌+◌, ℕ, refl, sym, ◌∙◌, ap, subst, Bool, true, false, cond, ◌&&◌, List, [], ◌∷◌, ◌++◌, length, Option, Some, None, option_map, option_and_then, position, bytes_eq, is_some, nat_eq, nat_lt, le_refl, le_trans, length-append, add_assoc, arith}
 use Rattle.life_types.specs.declared.place.Place.{Place}
 use Rattle.life_types.specs.declared.ty.TyId.{TyId}
+use Rattle.life_core.specs.Shape.{is_statement, tests_straight}
 use Rattle.life_core.specs.Step.{Step, End, Save, Aim, Repoint, Port}
-use Rattle.life_core.specs.Tree.{Tree, Acts, Returns, trees, size}
+use Rattle.life_core.specs.Tree.{Tree, Skip, Then, Acts, Returns, trees, size}
 use Rattle.life_core.specs.declared.instr.Operand.{Operand}
 use Rattle.life_core.specs.declared.instr.Operand.TheVariants.{Name, Through}
 use Rattle.life_core.specs.declared.instr.Source.TheVariants as source
 use Rattle.life_core.specs.declared.program.Local.{Local}
 use Rattle.life_front.specs.Source.{Named, Expression, Number, Null, Variable, Pointee, Address, Item, Open, Close, Declare, Assign, Store, Return, Print, Insert, Semicolon}
+use Rattle.life_front.proofs.Kept.{IsFront, Keeps, front_more, front_self, keeps_self, keeps_then}
+use Rattle.life_front.proofs.Sound.{both_true}
 use Rattle.life_front.specs.Translation.{Bound, State, nameless, int_type, long_type, lookup, visible, variable, is_taken, with_local, with_code, next_local, last_register, with_register, value_of, with_target, write, with_long, number, convert, load, literal, value, aim, with_name, with_names, with_blocks, with_variable, live, declared, aimed, declare_new, declare, save, assign_to, assign, store, expression_place, is_converted, port, print, locals_of, end, leave, with_returned, return, finish, end_block, close_block, translate_item, translate_items}
 
 -- what one item adds at most
@@ -17,9 +20,11 @@ pub record Grows (s t : State) : Type 0 where
   pub names : length t.names ≤ length s.names + 1
   pub points : length s.code ≤ length t.code
 
--- each piece of code has one point
-abbrev pub IsPointed : State → Type 0
-IsPointed s = size (trees s.code) ≡ length s.code
+-- each piece of code is one point, an action or a return
+pub record IsFlat (s : State) : Type 0 where
+  pub points : size (trees s.code) ≡ length s.code
+  pub statement : is_statement (trees s.code) ≡ true
+  pub straight : tests_straight (trees s.code) ≡ true
 
 -- ---- what a step of the translation adds at most
 
@@ -27,7 +32,8 @@ record Adds (l n : ℕ) (s t : State) : Type 0 where
   locals : length t.locals ≤ length s.locals + l
   names : length t.names ≤ length s.names + n
   points : length s.code ≤ length t.code
-  pointed : IsPointed s → IsPointed t
+  flat : IsFlat s → IsFlat t
+  keeps : Keeps s t
 
 -- .. where it gives a state
 abbrev MayAdd : ℕ → ℕ → State → Option State → Type 0
@@ -44,7 +50,8 @@ adds_then l n m k s t u p q = record {
   locals = sum_then (length s.locals) (length t.locals) (length u.locals) l m p.locals q.locals;
   names = sum_then (length s.names) (length t.names) (length u.names) n k p.names q.names;
   points = le_trans p.points q.points;
-  pointed = (λ h. q.pointed (p.pointed h));
+  flat = (λ h. q.flat (p.flat h));
+  keeps = keeps_then s t u p.keeps q.keeps;
 }
 
 -- a bound may be larger
@@ -57,7 +64,8 @@ adds_wider l n m k s t p q a = record {
   locals = wider (length s.locals) (length t.locals) l m p a.locals;
   names = wider (length s.names) (length t.names) n k q a.names;
   points = a.points;
-  pointed = a.pointed;
+  flat = a.flat;
+  keeps = a.keeps;
 }
 
 -- a number is at most itself with another
@@ -70,7 +78,8 @@ adds_none l n s = record {
   locals = at_most (length s.locals) l;
   names = at_most (length s.names) n;
   points = le_refl (length s.code);
-  pointed = (λ h. h);
+  flat = (λ h. h);
+  keeps = keeps_self s;
 }
 
 -- of two steps the one that is taken
@@ -125,6 +134,21 @@ pointed_more ts t one is =
     let counted = one_more ts t in
     omega arith
 
+-- .. and passes a test of each piece
+passes_more : (p : Tree → Bool) → p Skip ≡ true → ((a b : Tree) → p (Then a b) ≡ (p a && p b)) → (ts : List Tree) (t : Tree) → p t ≡ true → p (trees ts) ≡ true → p (trees (ts ++ t ∷ [])) ≡ true
+passes_more p skip both [] t one is = rw (both t Skip, one, skip) refl
+passes_more p skip both (u ∷ ts) t one is =
+    let parts = both_true (p u) (p (trees ts)) (sym (both u (trees ts)) ∙ is) in
+    rw (both u (trees (ts ++ t ∷ [])), parts.0, passes_more p skip both ts t one parts.1) refl
+
+-- .. and so for an action or a return
+flat_more : (s : State) (t : Tree) → size t ≡ 1 → is_statement t ≡ true → tests_straight t ≡ true → IsFlat s → IsFlat (record s { code = s.code ++ t ∷ [] })
+flat_more s t one statement straight is = record {
+  points = pointed_more s.code t one is.points;
+  statement = passes_more is_statement refl (λ a b. refl) s.code t statement is.statement;
+  straight = passes_more tests_straight refl (λ a b. refl) s.code t straight is.straight;
+}
+
 -- one more item is at most one more
 at_most_more : {A : Type 0} → (xs : List A) (x : A) → length (xs ++ x ∷ []) ≤ length xs + 1
 at_most_more xs x = let counted = one_more xs x in omega arith
@@ -135,13 +159,22 @@ no_fewer xs x = let counted = one_more xs x in omega arith
 
 -- ---- the basic steps
 
+-- the same code
+as_flat : (s t : State) → s.code ≡ t.code → IsFlat s → IsFlat t
+as_flat s t is h = record {
+  points = subst (λ (c : List Tree). size (trees c) ≡ length c) is h.points;
+  statement = subst (λ (c : List Tree). is_statement (trees c) ≡ true) is h.statement;
+  straight = subst (λ (c : List Tree). tests_straight (trees c) ≡ true) is h.straight;
+}
+
 -- a new local
 local_adds : (l : Local) (s : State) → Adds 1 0 s (with_local l s)
 local_adds l s = record {
   locals = at_most_more s.locals l;
   names = at_most (length s.names) 0;
   points = le_refl (length s.code);
-  pointed = (λ h. h);
+  flat = as_flat s (with_local l s) refl;
+  keeps = record { main = refl; locals = front_more s.locals (l ∷ []); names = front_self s.names; code = front_self s.code };
 }
 
 -- a new register
@@ -149,21 +182,22 @@ register_adds : (ty : TyId) (s : State) → Adds 1 0 s (with_register ty s)
 register_adds ty s = local_adds (nameless s.main ty) s
 
 -- a piece of code of one point
-tree_adds : (t : Tree) (s : State) → size t ≡ 1 → Adds 0 0 s (record s { code = s.code ++ t ∷ [] })
-tree_adds t s one = record {
+tree_adds : (t : Tree) (s : State) → size t ≡ 1 → is_statement t ≡ true → tests_straight t ≡ true → Adds 0 0 s (record s { code = s.code ++ t ∷ [] })
+tree_adds t s one statement straight = record {
   locals = at_most (length s.locals) 0;
   names = at_most (length s.names) 0;
   points = no_fewer s.code t;
-  pointed = pointed_more s.code t one;
+  flat = flat_more s t one statement straight;
+  keeps = record { main = refl; locals = front_self s.locals; names = front_self s.names; code = front_more s.code (t ∷ []) };
 }
 
 -- an instruction
 code_adds : (place : Place) (i : Step) (s : State) → Adds 0 0 s (with_code place i s)
-code_adds place i s = tree_adds (Acts place i) s refl
+code_adds place i s = tree_adds (Acts place i) s refl refl refl
 
 -- a return
 leave_adds : (place : Place) (s : State) → Adds 0 0 s (leave place s)
-leave_adds place s = tree_adds (Returns place) s refl
+leave_adds place s = tree_adds (Returns place) s refl refl refl
 
 -- the ends of variables
 end_adds : (xs : List ℕ) (place : Place) (s : State) → Adds 0 0 s (end xs place s)
@@ -176,7 +210,8 @@ blocks_adds blocks s = record {
   locals = at_most (length s.locals) 0;
   names = at_most (length s.names) 0;
   points = le_refl (length s.code);
-  pointed = (λ h. h);
+  flat = as_flat s (with_blocks blocks s) refl;
+  keeps = record { main = refl; locals = front_self s.locals; names = front_self s.names; code = front_self s.code };
 }
 
 -- whether the last statement returns
@@ -185,7 +220,8 @@ returned_adds returned s = record {
   locals = at_most (length s.locals) 0;
   names = at_most (length s.names) 0;
   points = le_refl (length s.code);
-  pointed = (λ h. h);
+  flat = as_flat s (with_returned returned s) refl;
+  keeps = record { main = refl; locals = front_self s.locals; names = front_self s.names; code = front_self s.code };
 }
 
 -- a name that may be new
@@ -193,20 +229,37 @@ name_or_more : (known : Bool) (text : List ℕ) (names : List (List ℕ)) → le
 name_or_more true text names = at_most (length names) 1
 name_or_more false text names = at_most_more names text
 
+-- .. behind the others
+front_cond : (known : Bool) (text : List ℕ) (names : List (List ℕ)) → IsFront names (cond known names (names ++ text ∷ []))
+front_cond true text names = front_self names
+front_cond false text names = front_more names (text ∷ [])
+
 -- .. in a state
 names_adds : (text : List ℕ) (s : State) → Adds 0 1 s (with_names (with_name text s.names) s)
 names_adds text s = record {
   locals = at_most (length s.locals) 0;
   names = name_or_more (is_some (position (bytes_eq text) s.names)) text s.names;
   points = le_refl (length s.code);
-  pointed = (λ h. h);
+  flat = as_flat s (with_names (with_name text s.names) s) refl;
+  keeps = record {
+    main = refl;
+    locals = front_self s.locals;
+    names = front_cond (is_some (position (bytes_eq text) s.names)) text s.names;
+    code = front_self s.code;
+  };
 }
 
 -- a step, then an instruction
 then_code : (l n : ℕ) (s t : State) (place : Place) (i : Step) → Adds l n s t → Adds l n s (with_code place i t)
 then_code l n s t place i p =
     let q = code_adds place i t in
-    record { locals = p.locals; names = p.names; points = le_trans p.points q.points; pointed = (λ h. q.pointed (p.pointed h)) }
+    record {
+      locals = p.locals;
+      names = p.names;
+      points = le_trans p.points q.points;
+      flat = (λ h. q.flat (p.flat h));
+      keeps = keeps_then s t (with_code place i t) p.keeps q.keeps;
+    }
 
 -- ---- expressions
 
@@ -387,14 +440,14 @@ item_given i s t is = may_given 3 1 s t (translate_item i s) is (item_adds i s)
 pub item_grows : (i : Item) (s t : State) → translate_item i s ≡ Some t → Grows s t
 item_grows i s t is = let a = item_given i s t is in record { locals = a.locals; names = a.names; points = a.points }
 
--- behind an item each piece of code has one point
-pub item_pointed : (i : Item) (s t : State) → translate_item i s ≡ Some t → IsPointed s → IsPointed t
-item_pointed i s t is = (item_given i s t is).pointed
+-- it leaves the rest as it was
+pub item_keeps : (i : Item) (s t : State) → translate_item i s ≡ Some t → Keeps s t
+item_keeps i s t is = (item_given i s t is).keeps
 
 -- ---- all items
 
 -- both steps of a sequence give something
-both_give : {A B : Type 0} → (f : A → Option B) (o : Option A) (t : B) → option_and_then f o ≡ Some t → (x : A) × (o ≡ Some x) × (f x ≡ Some t)
+pub both_give : {A B : Type 0} → (f : A → Option B) (o : Option A) (t : B) → option_and_then f o ≡ Some t → (x : A) × (o ≡ Some x) × (f x ≡ Some t)
 both_give f None t is = absurd (cc is)
 both_give f (Some x) t is = (x, refl, is)
 
@@ -404,7 +457,7 @@ some_or s None = s
 some_or s (Some t) = t
 
 -- no items give the state itself
-same_state : (s t : State) → Some s ≡ Some t → s ≡ t
+pub same_state : (s t : State) → Some s ≡ Some t → s ≡ t
 unfolding some_or
 same_state s t is = ap (some_or s) is
 
@@ -415,9 +468,16 @@ items_points (i ∷ is) s t h =
     let both = both_give (translate_items is) (translate_item i s) t h in
     le_trans (item_grows i s both.0 both.1).points (items_points is both.0 t both.2)
 
--- behind all items each piece of code has one point
-pub items_pointed : (is : List Item) (s t : State) → translate_items is s ≡ Some t → IsPointed s → IsPointed t
-items_pointed [] s t h p = subst IsPointed (same_state s t h) p
-items_pointed (i ∷ is) s t h p =
+-- behind all items each piece of code is one point
+pub items_flat : (is : List Item) (s t : State) → translate_items is s ≡ Some t → IsFlat s → IsFlat t
+items_flat [] s t h p = subst IsFlat (same_state s t h) p
+items_flat (i ∷ is) s t h p =
     let both = both_give (translate_items is) (translate_item i s) t h in
-    items_pointed is both.0 t both.2 (item_pointed i s both.0 both.1 p)
+    items_flat is both.0 t both.2 ((item_given i s both.0 both.1).flat p)
+
+-- nothing that was there has changed
+pub items_keep : (is : List Item) (s t : State) → translate_items is s ≡ Some t → Keeps s t
+items_keep [] s t h = subst (Keeps s) (same_state s t h) (keeps_self s)
+items_keep (i ∷ is) s t h =
+    let both = both_give (translate_items is) (translate_item i s) t h in
+    keeps_then s both.0 t (item_keeps i s both.0 both.1) (items_keep is both.0 t both.2)

@@ -124,7 +124,7 @@ the_source ts rest main items is only nested printed free = record {
 
 -- ---- how many tokens an item is
 
-item_length : (i : Item) → 0 < length (item_tokens i)
+pub item_length : (i : Item) → 0 < length (item_tokens i)
 item_length Open = omega arith
 item_length (Close place) = omega arith
 item_length (Declare pointer x e) = omega arith

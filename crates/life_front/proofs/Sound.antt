@@ -7,13 +7,13 @@ use Rattle.life_lex.specs.Readings.{Lexeme}
 use Rattle.life_lex.specs.declared.token.TokenKind.{TokenKind}
 use Rattle.life_lex.specs.declared.token.TokenKind.TheVariants as kind
 use Rattle.life_front.specs.Form.{Wanted, IsWanted, mark, mark_at, keyword, keyword_at, name, word, expression_tokens, star_if, initial_tokens, semicolon, item_tokens}
-use Rattle.life_front.specs.Readers.{is_name_kind, is_keyword_kind, is_number_kind, is_mark_kind, is_mark, is_keyword, Read, and_then, mark_front, keyword_front, name_front, word_front, expression_front, value_front, assigned_front, or_assigned, initial_front, star_front, declared_front, declaration_front, print_front, or_assign, named_front, item_front, head_front}
+use Rattle.life_front.specs.Readers.{is_name_kind, is_keyword_kind, is_number_kind, is_mark_kind, is_mark, is_keyword, named, Read, and_then, mark_front, keyword_front, name_front, word_front, expression_front, value_front, assigned_front, or_assigned, initial_front, star_front, declared_front, declaration_front, print_front, or_assign, named_front, item_front, head_front}
 use Rattle.life_front.specs.Source.{Named, Expression, Item}
 use Rattle.life_front.proofs.Spelling.{Spells, join}
 
 -- ---- one token
 
-both_true : (a b : Bool) → (a && b) ≡ true → (a ≡ true) × (b ≡ true)
+pub both_true : (a b : Bool) → (a && b) ≡ true → (a ≡ true) × (b ≡ true)
 both_true true true h = (refl, refl)
 both_true true false h = absurd cc
 both_true false b h = absurd cc
@@ -169,9 +169,9 @@ declaration_sound t ts int = go (star_front ts).0 (star_front ts).1 (star_sound 
 abbrev printed_tokens : Expression → List Wanted
 printed_tokens e = word (codes "cout") ∷ mark (codes "<<") ∷ expression_tokens e
 
-print_sound : (t : Lexeme) (colons ts : List Lexeme) → kind.Name ≡ t.kind → Spells (mark (codes "::") ∷ []) colons ts → Front item_tokens (t ∷ colons) (print_front (record { text = t.text; place = t.place }) ts)
+print_sound : (t : Lexeme) (colons ts : List Lexeme) → kind.Name ≡ t.kind → Spells (mark (codes "::") ∷ []) colons ts → Front item_tokens (t ∷ colons) (print_front (named t) ts)
 unfolding print_front
-print_sound t colons ts named h =
+print_sound t colons ts is_name h =
     let P : Read Item → Type 0 = Front item_tokens (t ∷ colons) in
     chosen P (bytes_eq t.text (codes "std")) _ None
     (λ std. behind (one_word (codes "cout")) _ P ts (word_front (codes "cout") ts) tt (word_sound (codes "cout") ts)
@@ -180,21 +180,18 @@ print_sound t colons ts named h =
     (λ e last h3.
     let a2 = join (mark (codes "<<") ∷ []) (expression_tokens e) ts1 ts2 last (placeless kind.Mark (codes "<<") shift [] ts1 ts2 h2) h3 in
     let a1 = join (word (codes "cout") ∷ []) (mark (codes "<<") ∷ expression_tokens e) ts ts1 last (placeless kind.Name (codes "cout") cout [] ts ts1 h1) a2 in
-    ((named, text_is (codes "std") t std, tt), join (mark (codes "::") ∷ []) (printed_tokens e) colons ts last h a1)))))
+    ((is_name, text_is (codes "std") t std, tt), join (mark (codes "::") ∷ []) (printed_tokens e) colons ts last h a1)))))
     tt
 
-named_sound : (t : Lexeme) (ts : List Lexeme) → kind.Name ≡ t.kind → Front item_tokens (t ∷ ts) (named_front (record { text = t.text; place = t.place }) ts)
+named_sound : (t : Lexeme) (ts : List Lexeme) → kind.Name ≡ t.kind → Front item_tokens (t ∷ ts) (named_front (named t) ts)
 unfolding named_front
-named_sound t ts named = go (mark_front (codes "::") ts) (mark_sound (codes "::") ts)
+named_sound t ts is_name = go (mark_front (codes "::") ts) (mark_sound (codes "::") ts)
   where
-    x : Named
-    x = record { text = t.text; place = t.place }
-
-    go : (r : Read Place) → Front (one_mark (codes "::")) ts r → Front item_tokens (t ∷ ts) (or_assign x ts r)
-    go (Some (colons, rest)) h = print_sound t ts rest named (placeless kind.Mark (codes "::") colons [] ts rest h)
+    go : (r : Read Place) → Front (one_mark (codes "::")) ts r → Front item_tokens (t ∷ ts) (or_assign (named t) ts r)
+    go (Some (colons, rest)) h = print_sound t ts rest is_name (placeless kind.Mark (codes "::") colons [] ts rest h)
     go None h =
         let P : Read Item → Type 0 = Front item_tokens (t ∷ ts) in
-        behind assigned_tokens _ P ts (assigned_front ts) tt (assigned_sound ts) (λ y rest k. ((named, refl, refl), k))
+        behind assigned_tokens _ P ts (assigned_front ts) tt (assigned_sound ts) (λ y rest k. ((is_name, refl, refl), k))
 
 pub item_sound : (ts : List Lexeme) → Front item_tokens ts (item_front ts)
 unfolding item_front

@@ -5,8 +5,9 @@ use Rattle.std.specs.List.{flat_map}
 use Rattle.life_lex.specs.Cursors.{Cursor, start, advance, rest_of}
 use Rattle.life_lex.specs.Readings.{Lexeme, Lexes, Piece, gap, token, Ending, whole, IsPieces, lexemes_of}
 use Rattle.life_lex.specs.Tokens.{is_token}
+use Rattle.life_front.proofs.Items.{item_length}
 use Rattle.life_front.specs.Form.{AreWanted, Wanted, item_tokens, source_tokens}
-use Rattle.life_front.specs.Source.{Item, Open, Close, Declare, Assign, Store, Return, Print, Insert, Semicolon, Source}
+use Rattle.life_front.specs.Source.{Item, Source}
 
 -- a token has a byte
 some_bytes : (n : ℕ) (bytes : List ℕ) → is_token (take n bytes) ≡ true → 0 < n
@@ -28,22 +29,11 @@ same_count [] (t ∷ ts) h = absurd h
 same_count (w ∷ ws) [] h = absurd h
 same_count (w ∷ ws) (t ∷ ts) h = let rest = same_count ws ts h.1 in omega arith
 
-some_token : (i : Item) → 0 < length (item_tokens i)
-some_token Open = omega arith
-some_token (Close place) = omega arith
-some_token (Declare pointer x e) = omega arith
-some_token (Assign x equals e) = omega arith
-some_token (Store star x equals e) = omega arith
-some_token (Return place e) = omega arith
-some_token (Print e) = omega arith
-some_token (Insert e) = omega arith
-some_token Semicolon = omega arith
-
 item_count : (items : List Item) → length items ≤ length (flat_map item_tokens items)
 item_count [] = omega arith
 item_count (i ∷ is) =
     let rest = item_count is in
-    let some = some_token i in
+    let some = item_length i in
     let sum = length-append (item_tokens i) (flat_map item_tokens is) in
     omega arith
 

@@ -6,7 +6,7 @@ use Rattle.life_core.specs.Tree.{size, trees}
 use Rattle.life_lex.specs.Answers.{FaultsOnly, LexesOnly}
 use Rattle.life_lex.specs.Readings.{Ending, Lexeme, broken, whole}
 use Rattle.life_lex.specs.declared.fault.LexFault.{LexFault}
-use Rattle.life_front.proofs.Growth.{items_pointed}
+use Rattle.life_front.proofs.Growth.{items_flat}
 use Rattle.life_front.proofs.LexedNumbers.{numbers_fit}
 use Rattle.life_front.proofs.TokenCount.{few_items}
 use Rattle.life_front.specs.Form.{AllWithinLimits, Faulty, Foreign, IsProgramOf, IsReading, IsSpelled, Reading, ReadsOnlyAs, Whole}
@@ -19,7 +19,7 @@ use Rattle.life_front.specs.declared.fault.FrontFault.TheVariants as fault
 -- ---- from a source
 
 -- the state that a program is made of
-given_state : (o : Option State) (p : Program) → option_map program_from o ≡ Some p → (s : State) × (o ≡ Some s) × (program_from s ≡ p)
+pub given_state : (o : Option State) (p : Program) → option_map program_from o ≡ Some p → (s : State) × (o ≡ Some s) × (program_from s ≡ p)
 given_state None p is = absurd (cc is)
 given_state (Some s) p is = (s, refl, cc)
 
@@ -36,7 +36,7 @@ no_program source (fault.Lex lexical) given = given
 no_program source fault.Refused given =
     λ p is within.
     let state = given_state (translate_items source.items (first_state source.main)) p is in
-    too_many_points state.0 p state.2 (items_pointed source.items (first_state source.main) state.0 state.1 refl) (given state.0 state.1) within
+    too_many_points state.0 p state.2 (items_flat source.items (first_state source.main) state.0 state.1 (record { points = refl; statement = refl; straight = refl })).points (given state.0 state.1) within
 no_program source fault.NoMemory given = tt
 
 -- ---- from tokens

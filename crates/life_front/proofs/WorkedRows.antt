@@ -1,8 +1,8 @@
 -- Bodies whose instructions were written out by hand.
-use Rattle.std.proofs.Common.{◌≡◌, ℕ, Bool, true, false, List, [], ◌∷◌, map, Option, Some, None, option_map, refl, codes}
+use Rattle.std.proofs.Common.{◌≡◌, ℕ, true, false, List, [], ◌∷◌, Option, Some, option_map, refl, codes}
 use Rattle.life_types.specs.declared.place.Place.{Place}
 use Rattle.life_core.specs.Step.{Step, Live, End, Eval, Load, Save, Aim, Port}
-use Rattle.life_core.specs.Tree.{Node, Action, Return as Leave, Spot, spots, trees}
+use Rattle.life_core.specs.Tree.{Action, Return as Leave, Spot, spots, trees}
 use Rattle.life_core.specs.declared.instr.Form.TheVariants.{Plain}
 use Rattle.life_core.specs.declared.instr.Operand.TheVariants.{Name, Through}
 use Rattle.life_core.specs.declared.instr.Operation.TheVariants.{Number as Digits}

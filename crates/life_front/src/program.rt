@@ -1,9 +1,11 @@
 // The program of a file.
 ghost use Rattle.std.specs.Prelude.{◌≡◌, ◌+◌, ◌≤◌, ◌<◌, ◌^◌, ◌∷◌, [], length, map, IfOk};
 ghost use Rattle.life_core.specs.Function.{function_of, name_bytes, program_of};
+ghost use Rattle.life_core.specs.Proper.{IsProperProgram};
 ghost use Rattle.life_lex.specs.Answers.{lexeme};
 ghost use Rattle.life_front.specs.Answers.{HasRoom, ItemFits};
 ghost use Rattle.life_front.specs.ItemViews.{item_of, source_of};
+ghost use Rattle.life_front.specs.Main.{HasMain};
 ghost use Rattle.life_front.specs.Reads.{GivesProgram, GivesState, GivesStep, IsTranslatable, Reads, ReadsTokens, SpellTranslatable};
 ghost use Rattle.life_front.specs.Translation as spec;
 ghost use Rattle.life_front.specs.Views.{state_of};
@@ -19,7 +21,8 @@ use life_pset::{POINT_LIMIT, is_within_limits};
 use life_types::{NoMemory, TypeTable};
 use std::alloc::Global;
 
-/// The core program of a file, where it is of the first form.
+/// The core program of a file, where it is of the first form. It is proper: it has `int main()` alone,
+/// and on each way through it every local is ready where it is used.
 ///
 /// # Errors
 ///
@@ -27,7 +30,9 @@ use std::alloc::Global;
 /// none and isn't of the first form; `NoMemory` for want of memory.
 pub fn read_program(alloc: Global, bytes: &[u8]) -> Result<CoreProgram, FrontFault>
     requires { length bytes.now < 2 ^ 28 }
-    ensures { Reads bytes.now result }
+    ensures reads { Reads bytes.now result }
+    ensures proper { IfOk result (λ p. IsProperProgram (program_of p)) }
+    ensures single { IfOk result (λ p. HasMain bytes.now (program_of p)) }
 {
     match tokens_of_file(alloc, bytes) {
         Ok(tokens) => read_tokens(alloc, &tokens),
