@@ -1,0 +1,29 @@
+// What a local holds while the machine runs.
+use life_store::ObjRef;
+
+/// Where a pointer leads.
+#[derive(Clone, Copy, Debug)]
+pub(crate) enum Pointer {
+    Null,
+    /// It never pointed to anything.
+    Wild,
+    /// To a position of an object; the moment is the store's clock when the pointer was made.
+    To {
+        object: ObjRef,
+        index: u32,
+        moment: u64,
+    },
+}
+
+/// What a local holds.
+#[derive(Clone, Copy, Debug)]
+pub(crate) enum Cell {
+    /// Nothing: it isn't alive, or a register that was not written yet.
+    Empty,
+    /// Its object.
+    Object(ObjRef),
+    /// A value.
+    Number(i64),
+    /// A pointer.
+    Points(Pointer),
+}
