@@ -157,7 +157,8 @@ ready_variable f s hs pointer x place i r front ready after =
     below : length s.locals < length (s.locals ++ new_local pointer x s ∷ [])
     below = let is = one_longer s.locals (new_local pointer x s) in omega arith
 
-either_sort : (types_sort : Holding) (pointer : Bool) → types_sort ≡ holding_of pointer → (types_sort ≡ AnObject) ⊎ (types_sort ≡ APointer)
+-- what is of the sort of a variable comes to life
+either_sort : (h : Holding) (pointer : Bool) → h ≡ holding_of pointer → (h ≡ AnObject) ⊎ (h ≡ APointer)
 either_sort h true is = inr is
 either_sort h false is = inl is
 
