@@ -11,9 +11,10 @@ use Rattle.life_core.specs.declared.instr.Operand.TheVariants.{Name, Through}
 use Rattle.life_core.specs.declared.instr.Source.{Source}
 use Rattle.life_core.specs.declared.instr.Source.TheVariants as source
 use Rattle.life_pset.specs.Elements.{local_place}
+use Rattle.life_pset.specs.Table.{IsOf, table_of}
 use Rattle.life_pset.specs.declared.element.Element.TheVariants as element
 use Rattle.life_pset.specs.declared.element.Fact.{Fact}
-use Rattle.life_rules.specs.Carrying.{fact_at, named_target}
+use Rattle.life_rules.specs.Carrying.{fact_at, named_target, aimed_facts}
 use Rattle.life_rules.proofs.Giving.{at_head}
 use Rattle.life_store.specs.Doing.{Setting, Next, put_cell, on_pointer, on_found, pointer_to, aimed, does}
 use Rattle.life_store.specs.State.{Null, Points, State, holdings_of}
@@ -25,8 +26,6 @@ use Rattle.life_sound.proofs.Places.{same_location, other_location}
 use Rattle.life_sound.proofs.Reaching.{Sees, reached}
 use Rattle.life_sound.proofs.Sorts.{IsSorted, named_sort}
 use Rattle.life_sound.proofs.Writing.{IsSafe, pointer_known}
-use Rattle.life_pset.specs.Table.{IsOf, table_of}
-use Rattle.life_rules.specs.Carrying.{aimed_facts}
 
 module _ (n : ℕ) (types : Types) (f : Function) (place : Place) (S S' : Fact → Type 0) (st : State) (h : Housed st.world.content st.cells) (sorted : IsSorted types f (holdings_of st)) (k : Known S st) where
   pub aim_known : (p : ℕ) (source : Source) → IsStepReady types f (holdings_of st) (Aim p source) → Clean n place (Aim p source) S → Closed types f place (Aim p source) S S' → IsSafe S' (aimed p source st)

@@ -20,7 +20,7 @@ use Rattle.life_rules.specs.declared.diag.Diag.{Diag}
 use Rattle.life_rules.proofs.Giving.{none_in_empty, at_head, cons_cases}
 use Rattle.life_store.proofs.CellLemmas.{none_some, some_same}
 use Rattle.life_sound.proofs.Facts.{point_causes, Closed, Clean}
-use Rattle.life_sound.proofs.Tests.{Passes}
+use Rattle.life_sound.proofs.Branches.{Passes}
 
 -- ---- the edges out of a point are the function's
 

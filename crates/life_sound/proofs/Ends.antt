@@ -13,6 +13,7 @@ use Rattle.life_pset.specs.declared.element.Cause.{Cause}
 use Rattle.life_pset.specs.declared.element.Element.{Element}
 use Rattle.life_pset.specs.declared.element.Element.TheVariants as element
 use Rattle.life_pset.specs.declared.element.Fact.{Fact}
+use Rattle.life_pset.proofs.Numbers.{is_of_iff}
 use Rattle.life_rules.specs.Carrying.{fact_at, points_among, drops, invalid_facts, ended_element}
 use Rattle.life_rules.proofs.Giving.{at_head, flat_map_into}
 use Rattle.life_store.specs.Content.{is_settled, is_valid_in}
@@ -21,11 +22,9 @@ use Rattle.life_store.specs.State.{Target, Pointer, Null, Wild, To, Empty, Named
 use Rattle.life_store.proofs.Housing.{Housed}
 use Rattle.life_sound.proofs.Covering.{Covers, Cover, Known}
 use Rattle.life_sound.proofs.Ending.{AfterEnds, ends_are}
-use Rattle.life_sound.proofs.Facts.{object_local, cause_element, fact_of, Closed, kept, made, among}
+use Rattle.life_sound.proofs.Facts.{object_local, cause_element, fact_of, Closed, kept, made, among, map_into}
 use Rattle.life_sound.proofs.Sorts.{IsSorted, named_sort}
 use Rattle.life_sound.proofs.Writing.{IsSafe}
-use Rattle.life_sound.proofs.Facts.{map_into}
-use Rattle.life_pset.proofs.Numbers.{is_of_iff}
 
 module _ (types : Types) (f : Function) (place : Place) (xs : List ℕ) (S S' : Fact → Type 0) (st st' : State) (sorted : IsSorted types f (holdings_of st)) (k : Known S st) (cl : Closed types f place (End xs) S S') (after : AfterEnds xs st st') where
   stays : (q : ℕ) (e : Element) → list_any (λ z. nat_eq z q) xs ≡ false → points_among xs e ≡ false → drops (End xs) (fact_at (local_place q) e) ≡ false

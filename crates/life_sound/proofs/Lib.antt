@@ -1,5 +1,6 @@
 mod Aiming
 mod Births
+mod Branches
 mod Covering
 mod Edges
 mod Ending
@@ -10,6 +11,6 @@ mod Reaching
 mod Sorts
 mod Soundness
 mod Steps
-mod Tests
 mod Values
+mod WorkedPrograms
 mod Writing

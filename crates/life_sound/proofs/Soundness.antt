@@ -29,7 +29,7 @@ use Rattle.life_sound.proofs.Covering.{Known}
 use Rattle.life_sound.proofs.Edges.{FactsAt, closed_at, held_passes, failed_passes, clean_at}
 use Rattle.life_sound.proofs.Sorts.{reached_sorted}
 use Rattle.life_sound.proofs.Steps.{step_safe}
-use Rattle.life_sound.proofs.Tests.{IsKnownBy, Passes, test_known}
+use Rattle.life_sound.proofs.Branches.{IsKnownBy, Passes, test_known}
 use Rattle.life_sound.proofs.Writing.{IsSafe}
 
 -- ---- what each point asks of a state, and which stops are allowed
