@@ -6,6 +6,7 @@ pub mod HeldVariables
 pub mod Items
 pub mod Kept
 pub mod LexedNumbers
+pub mod LongCode
 pub mod Positions
 pub mod ProperPrograms
 pub mod ReadyItems

@@ -5,6 +5,7 @@ ghost use Rattle.life_core.specs.Proper.{IsProperProgram};
 ghost use Rattle.life_lex.specs.Answers.{lexeme};
 ghost use Rattle.life_front.specs.Answers.{HasRoom, ItemFits};
 ghost use Rattle.life_front.specs.ItemViews.{item_of, source_of};
+ghost use Rattle.life_front.specs.LongNumbers.{HaveLongs};
 ghost use Rattle.life_front.specs.Main.{HasMain};
 ghost use Rattle.life_front.specs.Reads.{GivesProgram, GivesState, GivesStep, IsTranslatable, Reads, ReadsTokens, SpellTranslatable};
 ghost use Rattle.life_front.specs.Translation as spec;
@@ -22,7 +23,7 @@ use life_types::{NoMemory, TypeTable};
 use std::alloc::Global;
 
 /// The core program of a file, where it is of the first form. It is proper: it has `int main()` alone,
-/// and on each way through it every local is ready where it is used.
+/// on each way through it every local is ready where it is used, and its numbers are longs.
 ///
 /// # Errors
 ///
@@ -33,6 +34,7 @@ pub fn read_program(alloc: Global, bytes: &[u8]) -> Result<CoreProgram, FrontFau
     ensures reads { Reads bytes.now result }
     ensures proper { IfOk result (λ p. IsProperProgram (program_of p)) }
     ensures single { IfOk result (λ p. HasMain bytes.now (program_of p)) }
+    ensures longs { IfOk result (λ p. HaveLongs (program_of p).functions) }
 {
     match tokens_of_file(alloc, bytes) {
         Ok(tokens) => read_tokens(alloc, &tokens),

@@ -1,6 +1,7 @@
 use Rattle.std.proofs.Common.{map, subst, sym}
 use Rattle.life_lex.specs.Answers.{lexeme, LexesOnly}
 use Rattle.life_front.specs.Reads.{SpellTranslatable}
+use Rattle.life_front.proofs.LongCode.{reads_long}
 use Rattle.life_front.proofs.ProperPrograms.{reads_main, reads_proper}
 use Rattle.life_front.proofs.Wholes.{lexed_translatable, reads_faulty, reads_file}
 use Rattle.life_front.proofs.program.read_program.Goals as goal
@@ -18,6 +19,7 @@ returns-in-Ok c =
       reads = reads;
       proper = reads_proper c.args.bytes.now c.read_tokens.result reads;
       single = reads_main c.args.bytes.now c.read_tokens.result reads;
+      longs = reads_long c.args.bytes.now c.read_tokens.result reads;
     }
 
 pub returns-in-Err-Fault-clause-reads : goal.returns-in-Err-Fault-clause-reads
