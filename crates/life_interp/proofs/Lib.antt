@@ -1,1 +1,4 @@
+pub mod FitLemmas
+pub mod LocalLemmas
+pub mod StepLemmas
 pub mod Walks

@@ -1,2 +1,4 @@
 pub mod Cells
+pub mod Fits
+pub mod Steps
 pub mod Walk
