@@ -1,4 +1,5 @@
 pub mod FitLemmas
 pub mod LocalLemmas
 pub mod StepLemmas
+pub mod WalkLemmas
 pub mod Walks

@@ -2,3 +2,4 @@ pub mod Cells
 pub mod Fits
 pub mod Steps
 pub mod Walk
+pub mod Walking

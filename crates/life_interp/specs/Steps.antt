@@ -7,7 +7,7 @@ use Rattle.life_core.specs.declared.instr.Operand.TheVariants.{Name, Through}
 use Rattle.life_core.specs.declared.instr.Operation.{Operation}
 use Rattle.life_core.specs.declared.instr.Operation.TheVariants as operation
 use Rattle.life_store.specs.Content.{Content, Object, word_at}
-use Rattle.life_store.specs.Doing.{Effect, Next, Traps, Faults, Strays, Found, Here, Wrong, Astray, named_by, behind_cell, on_found, on_number, on_pointer, saved, put_cell, number_in_word, resolve, cell}
+use Rattle.life_store.specs.Doing.{Effect, Next, Traps, Faults, Strays, Found, Here, Wrong, Astray, named_by, behind_cell, on_found, on_number, on_pointer, saved, put_cell, number_in_word, resolve, cell, ported}
 use Rattle.life_store.specs.References.{Rows, HasWord, object_of}
 use Rattle.life_store.specs.State as state
 use Rattle.life_store.specs.State.{State}
@@ -83,3 +83,7 @@ LeavesCells effect c cells new = Leaves (λ output input. effect (state_of c cel
 -- .. and one that changes the store besides
 abbrev pub LeavesBoth : {A : Type 0} → (State → Effect) → Content → List Cell → Content → List Cell → Result A Ending → Type 0
 LeavesBoth effect c cells d new = Leaves (λ output input. effect (state_of c cells output input)) (state_of d new)
+
+-- a register's value is written out
+abbrev pub ported_from : ℕ → State → Effect
+ported_from r st = on_number (cell st r) (λ z. Next (ported z st))
