@@ -1,5 +1,6 @@
 pub mod FitLemmas
 pub mod LocalLemmas
+pub mod PointLemmas
 pub mod StepLemmas
 pub mod WalkLemmas
 pub mod Walks

@@ -48,3 +48,8 @@ pub record Grows (c d : Content) : Type 0 where
 pub record CanStep (c : Content) : Type 0 where
   pub births : c.births < 2 ^ 62
   pub clock : c.clock < 2 ^ 62
+
+-- so many steps can be counted
+pub record CanWalk (steps : ℕ) (c : Content) : Type 0 where
+  pub births : c.births + steps < 2 ^ 62
+  pub clock : c.clock + steps < 2 ^ 62

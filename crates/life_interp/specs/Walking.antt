@@ -1,5 +1,5 @@
 -- What the machine's loop answers of the walk over points.
-use Rattle.std.specs.Prelude.{◌≡◌, ℕ, ℤ, List, [], ◌++◌, Option, Some, None, Bool, true, false, Result, MatchResult, MatchOption}
+use Rattle.std.specs.Prelude.{◌≡◌, ℕ, ℤ, List, [], ◌∷◌, ◌++◌, Option, Some, None, Bool, true, false, Result, MatchResult, MatchOption}
 use Rattle.std.specs.Io.KnownBytes.{Appends}
 use Rattle.life_base.specs.Causes.{Rose}
 use Rattle.life_base.specs.Edges.{AppendsFront}
@@ -99,6 +99,11 @@ NodeHasLong (Action i) = HasLong i
 NodeHasLong (Question t) = Unit {0}
 NodeHasLong Return = Unit {0}
 NodeHasLong Stop = Unit {0}
+
+-- .. at each point
+abbrev pub HaveLongs : List Linked → Type 0
+HaveLongs [] = Unit {0}
+HaveLongs (l ∷ ls) = NodeHasLong l.spot.node × HaveLongs ls
 
 -- why the machine stops at this place
 abbrev pub halt_of : Place → Ending → Halt

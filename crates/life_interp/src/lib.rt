@@ -11,5 +11,6 @@ mod pointers;
 mod steps;
 mod value;
 mod values;
+mod walk;
 
 pub use life_store::{FaultKind, Growth, Limits, TrapKind};

@@ -27,7 +27,7 @@ pub(crate) fn pass<S: Store, O: Sink>(
     cells: &mut Vec<Cell>,
     out: &mut O,
 ) -> Result<Option<u32>, Halt>
-    requires long { NodeHasLong (link_seen link.entry).spot.node }
+    requires long { NodeHasLong (link_seen link).spot.node }
     requires fits { IsFit (S.content store.old) (S.rows store.old) cells.old.items }
     requires countable { CanStep (S.content store.old) }
     ensures step { (s : Setting) → s.cells ≡ S.limit store.old → PointLeads s types.now (function_of f.now) (link_seen link.entry)
