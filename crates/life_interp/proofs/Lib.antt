@@ -4,3 +4,5 @@ pub mod PointLemmas
 pub mod StepLemmas
 pub mod WalkLemmas
 pub mod Walks
+pub mod WholeWalks
+pub mod Written

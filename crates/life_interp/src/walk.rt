@@ -1,5 +1,5 @@
 // The walk over the points of a function.
-ghost use Rattle.std.specs.Prelude.{◌≡◌, ◌+◌, ◌<◌, ◌^◌, [], map, option_and_then, option_map};
+ghost use Rattle.std.specs.Prelude.{◌≡◌, ◌+◌, ◌<◌, ◌^◌, [], map, option_and_then, option_map, slice_get};
 ghost use Rattle.life_core.specs.Function.{function_of};
 ghost use Rattle.life_core.specs.Link.{link_seen};
 ghost use Rattle.life_core.specs.Linked.{numbered};
@@ -57,9 +57,20 @@ pub(crate) fn walk<S: Store, O: Sink>(
 fn link_at<'a>(code: &[LinkRef<'a>], point: Option<u32>) -> Option<LinkRef<'a>>
     ensures { option_map link_seen result ≡ option_and_then (numbered (map link_seen code.now)) point }
 {
-    let number = point?;
-    if number == 0 {
-        return None;
+    match point {
+        None => None,
+        Some(number) => {
+            if number == 0 {
+                None
+            } else {
+                nth(code, number - 1)
+            }
+        }
     }
-    code.get(number as usize - 1).copied()
+}
+
+fn nth<'a>(code: &[LinkRef<'a>], index: u32) -> Option<LinkRef<'a>>
+    ensures { result ≡ slice_get code.now index }
+{
+    code.get(index as usize).copied()
 }
