@@ -82,11 +82,11 @@ fit_born c rows r cells h number objects clock others =
     record {
       housed = record {
         placed = λ n e. ⊎_elim (λ t. absurd (none-some r.row (sym e ∙ at-set_same rows r.birth n r.row t.1)))
-          (λ t. others n (λ same. t.1 (number ∙ same)) ∙ h.housed.placed n (sym (at-set_other rows r.birth n r.row t.1) ∙ e)) (eqb_tells r.birth n);
+            (λ t. others n (λ same. t.1 (number ∙ same)) ∙ h.housed.placed n (sym (at-set_other rows r.birth n r.row t.1) ∙ e)) (eqb_tells r.birth n);
         unborn = λ n le. at-set_other rows r.birth n r.row (λ same. absurd (omega (arith, le, same, number))) ∙ h.housed.unborn n (omega (arith, le));
       };
       held = cells_later c (record { objects = objects; births = c.births + 1; clock = clock }) rows (set rows r.birth r.row)
-        (record { births = omega arith; row = λ n k lt e. sym (at-set_other rows r.birth n r.row (λ same. absurd (omega (arith, lt, same, number)))) ∙ e }) cells h.held;
+          (record { births = omega arith; row = λ n k lt e. sym (at-set_other rows r.birth n r.row (λ same. absurd (omega (arith, lt, same, number)))) ∙ e }) cells h.held;
     }
 
 -- .. and its reference fits
@@ -101,8 +101,8 @@ fit_ended c rows n cells h = record {
     unborn = λ m le. ⊎_elim (λ t. at-unset_same rows n m t.1) (λ t. at-unset_other rows n m t.1 ∙ h.housed.unborn m le) (eqb_tells n m);
   };
   held = cells_later c (record { objects = unset c.objects n; births = c.births; clock = c.clock }) rows (unset rows n)
-    (record {
-      births = omega arith;
-      row = λ m k lt e. ⊎_elim (λ t. absurd (none-some k (sym (at-unset_same rows n m t.1) ∙ e))) (λ t. sym (at-unset_other rows n m t.1) ∙ e) (eqb_tells n m);
-    }) cells h.held;
+      (record {
+        births = omega arith;
+        row = λ m k lt e. ⊎_elim (λ t. absurd (none-some k (sym (at-unset_same rows n m t.1) ∙ e))) (λ t. sym (at-unset_other rows n m t.1) ∙ e) (eqb_tells n m);
+      }) cells h.held;
 }

@@ -1,6 +1,7 @@
 pub mod FitLemmas
 pub mod LocalLemmas
 pub mod PointLemmas
+pub mod RunLemmas
 pub mod StepLemmas
 pub mod WalkLemmas
 pub mod Walks

@@ -83,17 +83,28 @@ module _ (s : Setting) (types : Types) (f : Function) (code : List Linked) where
       → Takes (record { old = a; new = b; faults = m; later = o }) text → ((input : List ℤ) → walked input ≡ walk s types f code n to (state_of c cells text input))
       → PointEnds s types f l c cells d new (record { old = b; new = e; faults = o; later = p }) h
       → WalkEnds f walked d new (record { old = a; new = e; faults = m; later = p }) h
-  ends_there walked n to l c d cells new halt.Returned a b e m o p text lt at took is h =
-      (text, subst (Takes (record { old = a; new = e; faults = m; later = p })) (append-nil text) (takes_on a b e m o p text [] took h.0), λ input.
-      (n - 1, is input ∙ a_point n to l c cells text input lt at ∙ h.3 (walk s types f code (n - 1)) (n - 1) text input
-      ∙ ap (λ x. Back (n - 1) (world_of x text input) (results f (state_of x cells text input))) (sym h.1)
-      ∙ ap (λ x. Back (n - 1) (world_of d text input) (results f (state_of d x text input))) (sym h.2)))
-  ends_there walked n to l c d cells new (halt.Trap kind place) a b e m o p text lt at took is h =
-      (text, subst (Takes (record { old = a; new = e; faults = m; later = p })) (append-nil text) (takes_on a b e m o p text [] took h.0), λ input.
-      (c, is input ∙ a_point n to l c cells text input lt at ∙ h.1 (walk s types f code (n - 1)) (n - 1) text input))
-  ends_there walked n to l c d cells new (halt.Fault kind place) a b e m o p text lt at took is h =
-      (text, subst (Takes (record { old = a; new = e; faults = m; later = p })) (append-nil text) (takes_on a b e m o p text [] took h.0), λ input.
-      (c, is input ∙ a_point n to l c cells text input lt at ∙ h.1 (walk s types f code (n - 1)) (n - 1) text input))
+  ends_there walked n to l c d cells new halt.Returned a b e m o p text lt at took is h = (
+    text,
+    subst (Takes (record { old = a; new = e; faults = m; later = p })) (append-nil text) (takes_on a b e m o p text [] took h.0),
+    λ input. (
+      n - 1,
+      is input ∙ a_point n to l c cells text input lt at ∙ h.3 (walk s types f code (n - 1)) (n - 1) text input
+          ∙ ap (λ x. Back (n - 1) (world_of x text input) (results f (state_of x cells text input))) (sym h.1)
+          ∙ ap (λ x. Back (n - 1) (world_of d text input) (results f (state_of d x text input))) (sym h.2),
+    ),
+  )
+  ends_there walked n to l c d cells new (halt.Trap kind place) a b e m o p text lt at took is h = (
+    text,
+    subst (Takes (record { old = a; new = e; faults = m; later = p })) (append-nil text) (takes_on a b e m o p text [] took h.0),
+    λ input.
+        (c, is input ∙ a_point n to l c cells text input lt at ∙ h.1 (walk s types f code (n - 1)) (n - 1) text input),
+  )
+  ends_there walked n to l c d cells new (halt.Fault kind place) a b e m o p text lt at took is h = (
+    text,
+    subst (Takes (record { old = a; new = e; faults = m; later = p })) (append-nil text) (takes_on a b e m o p text [] took h.0),
+    λ input.
+        (c, is input ∙ a_point n to l c cells text input lt at ∙ h.1 (walk s types f code (n - 1)) (n - 1) text input),
+  )
   ends_there walked n to l c d cells new halt.OutOfSteps a b e m o p text lt at took is h = absurd h
   ends_there walked n to l c d cells new halt.Stray a b e m o p text lt at took is h = λ input.
       (_, is input ∙ a_point n to l c cells text input lt at ∙ h.1 (walk s types f code (n - 1)) (n - 1) text input)
@@ -102,7 +113,9 @@ module _ (s : Setting) (types : Types) (f : Function) (code : List Linked) where
       let begins = walk_begins s types f code (n - 1) h.1 (state_of c cells (text ++ h.0) input) in
       subst (λ x. TakesPart (record { old = a; new = e; faults = m; later = p }) (output_of x)) (sym went) (part_on a b e m o p text h.0 _ took h.2 begins)
   ends_there walked n to l c d cells new halt.NoMemory a b e m o p text lt at took is h =
-      let kept = takes_on a b e m o p text [] took h in
-      ((λ input.
-      let begins = walk_begins s types f code n to (state_of c cells text input) in
-      front_of a e (text ++ []) begins.0 _ kept.taken (ap output_of (is input) ∙ begins.1 ∙ ap (λ x. x ++ begins.0) (sym (append-nil text)))), kept.quiet)
+      let kept = takes_on a b e m o p text [] took h in (
+        (λ input.
+            let begins = walk_begins s types f code n to (state_of c cells text input) in
+            front_of a e (text ++ []) begins.0 _ kept.taken (ap output_of (is input) ∙ begins.1 ∙ ap (λ x. x ++ begins.0) (sym (append-nil text)))),
+        kept.quiet,
+      )

@@ -3,3 +3,4 @@ pub mod Fits
 pub mod Steps
 pub mod Walk
 pub mod Walking
+pub mod Runs

@@ -62,12 +62,7 @@ fn born_pointer(form: Form) -> Pointer
 }
 
 // A new object of one slot for the local.
-fn born<S: Store>(
-    store: &mut S,
-    cells: &mut Vec<Cell>,
-    ty: TyId,
-    local: u32,
-) -> Result<(), Ending>
+fn born<S: Store>(store: &mut S, cells: &mut Vec<Cell>, ty: TyId, local: u32) -> Result<(), Ending>
     requires fits { IsFit (S.content store.old) (S.rows store.old) cells.old.items }
     requires countable { CanStep (S.content store.old) }
     ensures step { (s : Setting) → s.cells ≡ S.limit store.old → LeavesBoth (born_object s ty local) (S.content store.old) cells.old.items (S.content store.new) cells.new.items result }

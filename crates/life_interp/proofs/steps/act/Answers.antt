@@ -56,4 +56,3 @@ returns-in-Repoint-clause-fits g c =
     let content = g.S.Store.content c.args.store.now in
     let rows = g.S.Store.rows c.args.store.now in
     fit_where_ok content rows c.repoint.new.cells.items c.repoint.result c.requires.fits.housed (c.repoint.ensures.fits content rows c.requires.fits.held)
-

@@ -1,4 +1,4 @@
-use Rattle.std.proofs.Common.{◌≡◌,  ◌+◌, ℕ, List, Option, Some, None, IfSome, drop, ap, subst, refl, rules, sym, ◌∙◌, arith, append-nil}
+use Rattle.std.proofs.Common.{◌≡◌, ◌+◌, ℕ, List, Option, Some, None, IfSome, drop, ap, subst, refl, rules, sym, ◌∙◌, arith, append-nil}
 use Rattle.std.proofs.lemmas.Int.{to_z-of_z}
 use mir.Val.{SFits}
 use Rattle.std.specs.Int.{cast_signed, w64}

@@ -64,17 +64,18 @@ loop-left-preserved g c =
       countable = record { births = omega (arith, h.countable.births, grows.births, c.loop-left-test.true); clock = omega (arith, h.countable.clock, grows.clock, c.loop-left-test.true) };
       limit = c.in-Ok.ensures.limit ∙ h.limit;
       walked = λ s e.
-        let code = map link_seen c.args.code.now in
-        let types = c.args.types.now in
-        let f = function_of c.args.f.now in
-        let content = g.S.Store.content c.loop-left.store in
-        let went = h.walked s e in
-        let did = c.in-Ok.ensures.step s (e ∙ sym h.limit) in
-        (went.0 ++ did.0,
-        takes_on (taken c.args.out.now) (taken c.loop-left.out) (taken c.pass.new.out) (faults c.args.out.now) (faults c.loop-left.out) (faults c.pass.new.out) went.0 did.0 went.1 did.1,
-        λ input. went.2 input
-        ∙ a_point s types f code c.loop-left.left c.loop-left.point (link_seen c.in-Some.link) content c.loop-left.cells.items went.0 input c.loop-left-test.true (sym c.in-Some.ensures)
-        ∙ did.2 (walk s types f code (c.loop-left.left - 1)) (c.loop-left.left - 1) went.0 input);
+          let code = map link_seen c.args.code.now in
+          let types = c.args.types.now in
+          let f = function_of c.args.f.now in
+          let content = g.S.Store.content c.loop-left.store in
+          let went = h.walked s e in
+          let did = c.in-Ok.ensures.step s (e ∙ sym h.limit) in (
+            went.0 ++ did.0,
+            takes_on (taken c.args.out.now) (taken c.loop-left.out) (taken c.pass.new.out) (faults c.args.out.now) (faults c.loop-left.out) (faults c.pass.new.out) went.0 did.0 went.1 did.1,
+            λ input. went.2 input
+                ∙ a_point s types f code c.loop-left.left c.loop-left.point (link_seen c.in-Some.link) content c.loop-left.cells.items went.0 input c.loop-left-test.true (sym c.in-Some.ensures)
+                ∙ did.2 (walk s types f code (c.loop-left.left - 1)) (c.loop-left.left - 1) went.0 input,
+          );
     }
 
 pub returns : goal.returns

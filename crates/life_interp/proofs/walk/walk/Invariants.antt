@@ -27,5 +27,5 @@ invariant-loop-left g l =
       walked : (s : Setting) → s.cells ≡ g.S.Store.limit l.initial.store → (text : List ℕ)
           × Takes (record { old = taken l.initial.out; new = taken l.out; faults = faults l.initial.out; later = faults l.out }) text
           × ((input : List ℤ) → walk s l.types f code l.fn.steps l.fn.start (state_of (content l.initial.store) l.initial.cells.items [] input)
-              ≡ walk s l.types f code l.left l.point (state_of (content l.store) l.cells.items text input));
+          ≡ walk s l.types f code l.left l.point (state_of (content l.store) l.cells.items text input));
     }
