@@ -1,1 +1,9 @@
+pub mod FitLemmas
+pub mod LocalLemmas
+pub mod PointLemmas
+pub mod RunLemmas
+pub mod StepLemmas
+pub mod WalkLemmas
 pub mod Walks
+pub mod WholeWalks
+pub mod Written

@@ -1,5 +1,5 @@
 -- What the machine's cells stand for.
-use Rattle.std.specs.Prelude.{ℕ, ℤ, List, map}
+use Rattle.std.specs.Prelude.{ℕ, ℤ, List, Option, Some, None, map}
 use Rattle.life_interp.specs.declared.value.Cell.{Cell}
 use Rattle.life_interp.specs.declared.value.Cell.TheVariants as held
 use Rattle.life_interp.specs.declared.value.Pointer.{Pointer}
@@ -27,3 +27,18 @@ world_of content output input = record { content = content; output = output; inp
 
 abbrev pub state_of : Content → List Cell → List ℕ → List ℤ → state.State
 state_of content cells output input = record { world = world_of content output input; cells = cells_seen cells }
+
+-- the value of a cell that holds one, and the pointer of one that holds that
+abbrev pub number_in : Option state.Cell → Option ℤ
+number_in None = None
+number_in (Some state.Empty) = None
+number_in (Some (state.Named n)) = None
+number_in (Some (state.Number z)) = Some z
+number_in (Some (state.Points p)) = None
+
+abbrev pub pointer_in : Option state.Cell → Option state.Pointer
+pointer_in None = None
+pointer_in (Some state.Empty) = None
+pointer_in (Some (state.Named n)) = None
+pointer_in (Some (state.Number z)) = None
+pointer_in (Some (state.Points p)) = Some p

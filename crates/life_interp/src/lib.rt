@@ -1,6 +1,23 @@
 //! The machine that runs core programs over a store.
 #![tactic(auto)]
 
+mod ask;
+mod ending;
+mod entry;
+mod frame;
+mod locals;
+mod machine;
+mod outcome;
+mod places;
+mod point;
+mod pointers;
+mod run;
+mod steps;
 mod value;
+mod values;
+mod walk;
 
 pub use life_store::{FaultKind, Growth, Limits, TrapKind};
+pub use machine::Machine;
+pub use outcome::Outcome;
+pub use run::MOST_STEPS;

@@ -1,0 +1,98 @@
+-- What the machine's functions do is what the steps of the meaning do.
+use Rattle.std.proofs.Common.{◌≡◌, ◌<◌, ◌^◌, ℕ, List, Option, Some, None, Result, Ok, Err, map, refl, sym, ap, subst, ◌∙◌, arith}
+use Rattle.std.proofs.lemmas.Int.{ints}
+use Rattle.std.proofs.lemmas.List.{map-set}
+use Rattle.std.proofs.lemmas.Option.{none-some, same_Some, slice_get-map}
+use Rattle.std.specs.Int.{cast_signed, cast_unsigned, w64}
+use Rattle.std.specs.Prelude.{ℤ, pos, slice_get, slice_set, option_map, MatchResult}
+use Rattle.life_core.specs.declared.instr.Operand.{Operand}
+use Rattle.life_core.specs.declared.instr.Operand.TheVariants.{Name, Through}
+use Rattle.life_store.specs.Content.{Content, Object, word_at, with_object, with_word}
+use Rattle.life_store.specs.Doing.{Effect, Next, Traps, Faults, Strays, Found, Here, Wrong, Astray, named_by, behind_cell, on_found, on_number, on_pointer, put_cell, number_in_word, word_of_number, resolve, cell, pointer_to}
+use Rattle.life_store.specs.References.{Rows, object_of, asked_of}
+use Rattle.life_store.specs.State as state
+use Rattle.life_store.specs.State.{State}
+use Rattle.life_store.specs.declared.object.Dead.{Dead}
+use Rattle.life_interp.specs.Cells.{cell_seen, cells_seen, state_of, number_in, pointer_in}
+use Rattle.life_interp.specs.Steps.{IsPosition, TellsMiss, TellsEnd, place_in, loaded, stored}
+use Rattle.life_interp.specs.declared.ending.Ending.{Ending}
+use Rattle.life_interp.specs.declared.ending.Ending.TheVariants as ending
+use Rattle.life_interp.specs.declared.places.Position.{Position}
+use Rattle.life_interp.specs.declared.value.Cell.{Cell}
+use Rattle.life_interp.specs.declared.value.Cell.TheVariants as held
+
+-- ---- numbers
+
+-- a long as 64 bits is itself
+pub cast_small : (n : ℕ) → n < 2 ^ 63 → cast_signed w64 n ≡ pos n
+cast_small n lt = omega (arith, ints)
+
+-- ---- cells
+
+pub seen : (cells : List Cell) (x : ℕ) (o : Option Cell) → o ≡ slice_get cells x → slice_get (cells_seen cells) x ≡ option_map cell_seen o
+seen cells x o e = slice_get-map cell_seen cells x ∙ ap (option_map cell_seen) (sym e)
+
+-- a cell that is written
+pub put_now : (c : Content) (cells new : List Cell) (x : ℕ) (v : Cell) (output : List ℕ) (input : List ℤ) → new ≡ slice_set cells x v
+    → put_cell x (cell_seen v) (state_of c cells output input) ≡ state_of c new output input
+put_now c cells new x v output input e =
+    let with_cells : List state.Cell → State = λ cs. record { world = record { content = c; output = output; input = input }; cells = cs } in
+    ap with_cells (sym (map-set cell_seen cells x v) ∙ ap cells_seen (sym e))
+
+pub no_number : (o : Option state.Cell) (go : ℤ → Effect) → None ≡ number_in o → on_number o go ≡ Strays
+no_number None go e = refl
+no_number (Some state.Empty) go e = refl
+no_number (Some (state.Named n)) go e = refl
+no_number (Some (state.Number z)) go e = absurd (none-some z e)
+no_number (Some (state.Points p)) go e = refl
+
+pub a_number : (o : Option state.Cell) (go : ℤ → Effect) (z : ℤ) → Some z ≡ number_in o → on_number o go ≡ go z
+a_number None go z e = absurd (none-some z (sym e))
+a_number (Some state.Empty) go z e = absurd (none-some z (sym e))
+a_number (Some (state.Named n)) go z e = absurd (none-some z (sym e))
+a_number (Some (state.Number y)) go z e = ap go (sym (same_Some z y e))
+a_number (Some (state.Points p)) go z e = absurd (none-some z (sym e))
+
+pub no_pointer : (o : Option state.Cell) (go : state.Pointer → Effect) → None ≡ pointer_in o → on_pointer o go ≡ Strays
+no_pointer None go e = refl
+no_pointer (Some state.Empty) go e = refl
+no_pointer (Some (state.Named n)) go e = refl
+no_pointer (Some (state.Number z)) go e = refl
+no_pointer (Some (state.Points p)) go e = absurd (none-some p e)
+
+pub a_pointer : (o : Option state.Cell) (go : state.Pointer → Effect) (p : state.Pointer) → Some p ≡ pointer_in o → on_pointer o go ≡ go p
+a_pointer None go p e = absurd (none-some p (sym e))
+a_pointer (Some state.Empty) go p e = absurd (none-some p (sym e))
+a_pointer (Some (state.Named n)) go p e = absurd (none-some p (sym e))
+a_pointer (Some (state.Number z)) go p e = absurd (none-some p (sym e))
+a_pointer (Some (state.Points q)) go p e = ap go (sym (same_Some p q e))
+
+-- ---- places
+
+pub resolve_is : (o : Operand) (c : Content) (cells : List Cell) (output : List ℕ) (input : List ℤ) → resolve o (state_of c cells output input) ≡ place_in c cells o
+resolve_is (Name x) c cells output input = ap (named_by c) (slice_get-map cell_seen cells x)
+resolve_is (Through p) c cells output input = ap (behind_cell c) (slice_get-map cell_seen cells p)
+
+missed : (found : Found) (e : Ending) (go : ℕ → ℕ → Object → Effect) → TellsMiss found e → TellsEnd (on_found found go) e
+missed found (ending.Trap kind) go h = absurd h
+missed found (ending.Fault kind) go h = ap (λ x. on_found x go) h
+missed found ending.Stray go h = ap (λ x. on_found x go) h
+missed found ending.NoMemory go h = absurd h
+missed found ending.WriteFault go h = absurd h
+
+-- what isn't found ends the step
+pub place_missed : (o : Operand) (c : Content) (cells : List Cell) (e : Ending) (go : ℕ → ℕ → Object → Effect) (output : List ℕ) (input : List ℤ) → TellsMiss (place_in c cells o) e
+    → TellsEnd (on_found (resolve o (state_of c cells output input)) go) e
+place_missed o c cells e go output input h = subst (λ x. TellsEnd (on_found x go) e) (sym (resolve_is o c cells output input)) (missed (place_in c cells o) e go h)
+
+-- .. and what is found is at hand
+pub place_found : (o : Operand) (c : Content) (rows : Rows) (cells : List Cell) (p : Position) (go : ℕ → ℕ → Object → Effect) (output : List ℕ) (input : List ℤ) → (h : IsPosition c rows (place_in c cells o) p)
+    → on_found (resolve o (state_of c cells output input)) go ≡ go p.object.birth p.index h.object
+place_found o c rows cells p go output input h = ap (λ x. on_found x go) (resolve_is o c cells output input ∙ h.here)
+
+-- what is asked of an object that lives
+pub asked_here : {A : Type 0} (c : Content) (rows : Rows) (found : Found) (p : Position) (h : IsPosition c rows found p) (ask : Object → A) (a : A) → ◌≡◌ {A = Result A Dead} (Ok a) (asked_of (object_of c rows p.object) ask) → a ≡ ask h.object
+asked_here c rows found p h ask a e = same_ok a (ask h.object) (e ∙ ap (λ o. asked_of o ask) h.lives)
+  where
+    same_ok : {A : Type 0} (x y : A) → ◌≡◌ {A = Result A Dead} (Ok x) (Ok y) → x ≡ y
+    same_ok x y r = cc

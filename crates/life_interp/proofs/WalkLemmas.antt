@@ -1,0 +1,48 @@
+-- From instructions to points, and from points to whole walks.
+use Rattle.std.proofs.Common.{◌≡◌, ℕ, zero, suc, ◌+◌, ◌≤◌, List, [], ◌∷◌, ◌++◌, length, take, Option, Some, None, Result, Ok, Err, OnOk, refl, sym, ap, subst, ◌∙◌, arith, append-nil, append_assoc}
+use Rattle.std.proofs.KnownBytes.{Appends-nil, Appends-trans}
+use Rattle.std.specs.Io.KnownBytes.{Appends}
+use Rattle.std.specs.Prelude.{ℤ}
+use Rattle.life_base.specs.Edges.{AppendsFront}
+use Rattle.life_core.specs.declared.instr.Instr.{Instr}
+use Rattle.life_core.specs.declared.instr.Instr.TheVariants as instrs
+use Rattle.life_core.specs.Step.{step_of}
+use Rattle.life_store.specs.Content.{Content}
+use Rattle.life_store.specs.Doing.{Effect, Next}
+use Rattle.life_store.specs.References.{Rows}
+use Rattle.life_store.specs.State.{State}
+use Rattle.life_interp.specs.Cells.{state_of}
+use Rattle.life_interp.specs.Fits.{IsHoused, CellsFit, IsFit}
+use Rattle.life_interp.specs.Steps.{LeavesBoth}
+use Rattle.life_interp.specs.Walking.{IsQuiet, Sunk, Takes, TakesPart, Performs}
+use Rattle.life_interp.specs.declared.ending.Ending.{Ending}
+use Rattle.life_interp.specs.declared.ending.Ending.TheVariants as ending
+use Rattle.life_interp.specs.declared.value.Cell.{Cell}
+
+pub fit_where_ok : {A E : Type 0} (c : Content) (rows : Rows) (cells : List Cell) (result : Result A E) → IsHoused c rows → OnOk result (CellsFit c rows cells) → OnOk result (IsFit c rows cells)
+fit_where_ok c rows cells (Ok a) h held = record { housed = h; held = held }
+fit_where_ok c rows cells (Err e) h held = tt
+
+-- a sink that was left alone
+pub untouched : (known : Option (List ℕ)) (n : ℕ) → Takes (record { old = known; new = known; faults = n; later = n }) []
+untouched known n = record { taken = Appends-nil known; quiet = refl }
+
+-- a step that writes nothing out
+pub performs_quiet : {A : Type 0} (effect : State → Effect) (c d : Content) (cells new : List Cell) (k : Sunk) (result : Result A Ending) → Takes k [] → LeavesBoth effect c cells d new result → Performs effect c cells d new k result
+performs_quiet effect c d cells new k (Ok a) takes h = ([], takes, λ output input. h output input ∙ ap (λ o. Next (state_of d new o input)) (sym (append-nil output)))
+performs_quiet effect c d cells new k (Err (ending.Trap kind)) takes h = (takes, h)
+performs_quiet effect c d cells new k (Err (ending.Fault kind)) takes h = (takes, h)
+performs_quiet effect c d cells new k (Err ending.Stray) takes h = (takes, h)
+performs_quiet effect c d cells new k (Err ending.NoMemory) takes h = takes
+performs_quiet effect c d cells new k (Err ending.WriteFault) takes h = absurd (h [] [])
+
+-- what isn't the one kind that writes
+pub quiet_else : (i : Instr) → ((item : ℕ) → i ≡ instrs.Port item → ⊥) → IsQuiet (step_of i)
+quiet_else (instrs.Live x form) h = tt
+quiet_else (instrs.End xs) h = tt
+quiet_else (instrs.Eval r operation) h = tt
+quiet_else (instrs.Load r o) h = tt
+quiet_else (instrs.Save o r) h = tt
+quiet_else (instrs.Aim p s) h = tt
+quiet_else (instrs.Repoint p q) h = tt
+quiet_else (instrs.Port r) h = h r refl

@@ -1,0 +1,66 @@
+// The points of all functions, and the run of one of them.
+ghost use Rattle.std.specs.Prelude.{◌≡◌, ◌≤◌, ◌<◌, List, ℤ, IfOk, IfSome, length, map, slice_get};
+ghost use Rattle.life_core.specs.Function.{program_of};
+ghost use Rattle.life_core.specs.Linked.{code_of};
+ghost use Rattle.life_core.specs.Proper.{IsProperProgram};
+ghost use Rattle.life_interp.specs.Runs.{links_seen, HaveFewPoints, HaveLongNumbers, RunEnds};
+ghost use Rattle.life_store.specs.Meaning.{run_of};
+ghost use Rattle.life_store.specs.declared.run.Growth.{Growth as AnyGrowth};
+
+use crate::outcome::Outcome;
+use crate::run::{MOST_STEPS, run_on};
+use life_base::Sink;
+use life_core::{CoreProgram, FnId, LinkRef, links};
+use life_store::{Limits, PlainStore, TrapKind};
+use life_types::NoMemory;
+use std::alloc::Global;
+
+/// The points of each function, each with its ways on.
+pub(crate) fn all_links(alloc: Global, p: &CoreProgram) -> Result<Vec<Vec<LinkRef>>, NoMemory>
+    requires { HaveFewPoints (program_of p.now).functions }
+    ensures { IfOk result (λ code. map links_seen code.items ≡ map code_of (program_of p.now).functions) }
+{
+    let mut code = Vec::new(alloc);
+    for f in &p.functions {
+        code.push(links(alloc, f)?)?;
+    }
+    Ok(code)
+}
+
+/// Runs a function of the program in a store of its own.
+pub(crate) fn run_entry<O: Sink>(
+    alloc: Global,
+    program: &CoreProgram,
+    code: &[Vec<LinkRef>],
+    entry: FnId,
+    limits: Limits,
+    steps: u64,
+    out: &mut O,
+) -> Outcome
+    requires linked { map links_seen code.now ≡ map code_of (program_of program.now).functions }
+    requires proper { IsProperProgram (program_of program.now) }
+    requires long { HaveLongNumbers (program_of program.now).functions }
+    requires entry { entry.0 < length (program_of program.now).functions }
+    requires steps { steps ≤ MOST_STEPS }
+    ensures { (growth : AnyGrowth) (input : List ℤ) → IfSome (slice_get (program_of program.now).functions entry.0) (λ f.
+        RunEnds (run_of (record { growth = growth; cells = limits.cells; depth = limits.depth }) (program_of program.now) entry.0 f input steps)
+        (record { old = O.taken out.old; new = O.taken out.new; faults = O.faults out.old; later = O.faults out.new }) result) }
+{
+    let number = entry.0 as usize;
+    let f = &program.functions[number];
+    if limits.depth == 0 {
+        return Outcome::Trap(TrapKind::Depth, f.place);
+    }
+    let mut store = PlainStore::new(alloc, limits.cells);
+    run_on(
+        alloc,
+        program,
+        f,
+        &code[number],
+        entry,
+        limits,
+        steps,
+        &mut store,
+        out,
+    )
+}

@@ -1,0 +1,78 @@
+// The machine that runs a core program.
+ghost use Rattle.std.specs.Prelude.{◌≡◌, ◌≤◌, ◌<◌, IfOk, IfSome, length, map, slice_get};
+ghost use Rattle.life_core.specs.Function.{program_of};
+ghost use Rattle.life_core.specs.Linked.{code_of};
+ghost use Rattle.life_core.specs.Proper.{IsProperProgram};
+ghost use Rattle.life_interp.specs.Runs.{links_seen, HaveFewPoints, HaveLongNumbers, RunEnds};
+ghost use Rattle.life_store.specs.Meaning.{run_of};
+
+use crate::entry::{all_links, run_entry};
+use crate::outcome::Outcome;
+use crate::run::MOST_STEPS;
+use life_base::Sink;
+use life_core::{CoreProgram, FnId, LinkRef};
+use life_store::{Growth, Limits};
+use life_types::NoMemory;
+use std::alloc::Global;
+
+/// A program, its points each with its ways on, and the limits of its runs.
+#[derive(Drop)]
+pub struct Machine<'p> {
+    pub program: &'p CoreProgram,
+    pub limits: Limits,
+    alloc: Global,
+    code: Vec<Vec<LinkRef<'p>>>,
+    ghost linked: { map links_seen code.items ≡ map code_of (program_of program.now).functions },
+}
+
+impl<'p> Machine<'p> {
+    /// A machine for the program. `NoMemory` says that memory was wanted.
+    pub fn prepare(
+        alloc: Global,
+        p: &'p CoreProgram,
+        limits: Limits,
+    ) -> Result<Machine<'p>, NoMemory>
+        requires { HaveFewPoints (program_of p.now).functions }
+        ensures program { IfOk result (λ machine. machine.program.now ≡ p.now) }
+        ensures limits { IfOk result (λ machine. machine.limits ≡ limits) }
+    {
+        let code = all_links(alloc, p)?;
+        Ok(Machine {
+            program: p,
+            limits,
+            alloc,
+            code,
+        })
+    }
+
+    /// Runs a function of the program from an empty store: at most so many steps, each point taking
+    /// one. The function has no parameters, since no call is built so far.
+    pub fn run<O: Sink>(
+        &mut self,
+        entry: FnId,
+        input: &[i64],
+        policy: Growth,
+        steps: u64,
+        out: &mut O,
+    ) -> Outcome
+        requires proper { IsProperProgram (program_of self.old.program.now) }
+        requires long { HaveLongNumbers (program_of self.old.program.now).functions }
+        requires entry { entry.0 < length (program_of self.old.program.now).functions }
+        requires steps { steps ≤ MOST_STEPS }
+        ensures run { IfSome (slice_get (program_of self.old.program.now).functions entry.0) (λ f.
+            RunEnds (run_of (record { growth = policy; cells = self.old.limits.cells; depth = self.old.limits.depth }) (program_of self.old.program.now) entry.0 f input.now steps)
+            (record { old = O.taken out.old; new = O.taken out.new; faults = O.faults out.old; later = O.faults out.new }) result) }
+        ensures program { self.new.program.now ≡ self.old.program.now }
+        ensures limits { self.new.limits ≡ self.old.limits }
+    {
+        run_entry(
+            self.alloc,
+            self.program,
+            &self.code,
+            entry,
+            self.limits,
+            steps,
+            out,
+        )
+    }
+}

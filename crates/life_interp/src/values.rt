@@ -1,0 +1,124 @@
+// Instructions that compute, read and write values.
+ghost use Rattle.std.specs.Prelude.{◌≡◌, ◌<◌, ◌^◌, pos, OnOk};
+ghost use Rattle.life_core.specs.Function.{function_of};
+ghost use Rattle.life_interp.specs.Fits.{CellsFit, IsFit};
+ghost use Rattle.life_interp.specs.Steps.{loaded, stored, FitsLong, LeavesBoth, LeavesCells};
+ghost use Rattle.life_store.specs.Content.{Content};
+ghost use Rattle.life_store.specs.References.{Rows};
+ghost use Rattle.life_store.specs.Doing.{as_int, converted, evaluated, type_of};
+
+use crate::ending::Ending;
+use crate::frame::{number_at, put_cell};
+use crate::places::resolve;
+use crate::value::Cell;
+use life_core::{CoreFn, Operand, Operation};
+use life_store::Store;
+use life_types::{Ty, TypeTable};
+
+/// Gives a register a value.
+pub(crate) fn evaluate(
+    types: &TypeTable,
+    f: &CoreFn,
+    into: u32,
+    operation: Operation,
+    cells: &mut Vec<Cell>,
+) -> Result<(), Ending>
+    requires { FitsLong operation }
+    ensures step { (c : Content) → LeavesCells (evaluated types.now (function_of f.now) into operation) c cells.old.items cells.new.items result }
+    ensures fits { (c : Content) (rows : Rows) → CellsFit c rows cells.old.items → OnOk result (CellsFit c rows cells.new.items) }
+{
+    match operation {
+        Operation::Number(n) => {
+            put_cell(cells, into, Cell::Number(n as i64));
+            Ok(())
+        }
+        Operation::Convert(from) => match number_at(cells, from) {
+            None => Err(Ending::Stray),
+            Some(value) => {
+                let value = converted(type_at(types, f, into), value);
+                put_cell(cells, into, Cell::Number(value));
+                Ok(())
+            }
+        },
+    }
+}
+
+// The type of a local.
+fn type_at(types: &TypeTable, f: &CoreFn, local: u32) -> Option<Ty>
+    ensures { result ≡ type_of types.now (function_of f.now) local }
+{
+    match f.locals.get(local as usize) {
+        None => None,
+        Some(local) => types.get(local.ty),
+    }
+}
+
+// The value as one of the type.
+fn converted(ty: Option<Ty>, value: i64) -> i64
+    ensures { result ≡ converted ty value }
+{
+    match ty {
+        Some(Ty::Int) => as_int(value),
+        Some(Ty::Void | Ty::Long | Ty::Raw { .. }) | None => value,
+    }
+}
+
+// Modulo 2^32, with a sign.
+fn as_int(value: i64) -> i64
+    ensures { result ≡ as_int value }
+{
+    let low = (value.cast_unsigned() % (1 << 32)) as u32;
+    low.cast_signed() as i64
+}
+
+/// Reads a value into a register.
+pub(crate) fn load<S: Store>(
+    store: &S,
+    cells: &mut Vec<Cell>,
+    into: u32,
+    from: Operand,
+) -> Result<(), Ending>
+    requires { IsFit (S.content store.now) (S.rows store.now) cells.old.items }
+    ensures step { LeavesCells (loaded into from) (S.content store.now) cells.old.items cells.new.items result }
+    ensures fits { OnOk result (IsFit (S.content store.now) (S.rows store.now) cells.new.items) }
+{
+    match resolve(store, cells, from) {
+        Err(ending) => Err(ending),
+        Ok(position) => match store.get(position.object, position.index, 0) {
+            Err(_) => unreachable!(),
+            Ok(word) => {
+                put_cell(cells, into, Cell::Number(word.cast_signed()));
+                Ok(())
+            }
+        },
+    }
+}
+
+/// Writes a register's value to a place.
+pub(crate) fn save<S: Store>(
+    store: &mut S,
+    cells: &[Cell],
+    to: Operand,
+    from: u32,
+) -> Result<(), Ending>
+    requires { IsFit (S.content store.old) (S.rows store.old) cells.now }
+    ensures step { LeavesBoth (stored to from) (S.content store.old) cells.now (S.content store.new) cells.now result }
+    ensures fits { OnOk result (IsFit (S.content store.new) (S.rows store.new) cells.now) }
+    ensures births { OnOk result ((S.content store.new).births ≡ (S.content store.old).births) }
+    ensures clock { OnOk result ((S.content store.new).clock ≡ (S.content store.old).clock) }
+    ensures limit { S.limit store.new ≡ S.limit store.old }
+{
+    match number_at(cells, from) {
+        None => Err(Ending::Stray),
+        Some(value) => match resolve(store, cells, to) {
+            Err(ending) => Err(ending),
+            Ok(position) => {
+                let word = value.cast_unsigned();
+                match store.put(position.object, position.index, 0, word) {
+                    Err(_) => unreachable!(),
+                    Ok(()) => Ok(()),
+                }
+            }
+        },
+    }
+}
