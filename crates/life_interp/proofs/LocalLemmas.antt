@@ -1,25 +1,23 @@
 -- Locals come to life and end as the meaning says.
-use Rattle.std.proofs.Common.{◌≡◌, ◌≢◌, ℕ, suc, ◌+◌, ◌<◌, ◌≤◌, List, [], ◌∷◌, Option, Some, None, Result, Ok, Err, true, false, cond, refl, sym, ap, subst, ◌∙◌, arith, ⊎_elim, IfSome, IsSome}
+use Rattle.std.proofs.Common.{◌≡◌, ℕ, suc, ◌+◌, ◌<◌, List, Option, Some, None, Result, Ok, Err, cond, refl, sym, ap, subst, ◌∙◌, ⊎_elim, IfSome, IsSome}
 use Rattle.std.proofs.lemmas.Bool.Decides.{eqb_tells, leb_tells}
-use Rattle.std.proofs.lemmas.Option.{none-some, same_Some}
-use Rattle.std.specs.Prelude.{ℤ, slice_get, nat_eq, nat_lt, option_and_then}
+use Rattle.std.specs.Prelude.{ℤ, slice_get, nat_eq, option_and_then}
 use Rattle.life_types.specs.Types.{Types, class_at}
 use Rattle.life_types.specs.declared.ty.Class.{Class}
 use Rattle.life_types.specs.declared.ty.TyId.{TyId}
 use Rattle.life_core.specs.declared.instr.Form.{Form}
 use Rattle.life_core.specs.declared.program.Local.{Local}
-use Rattle.life_core.specs.declared.program.LocalKind.{LocalKind}
 use Rattle.life_core.specs.Function.{Function}
 use Rattle.life_core.specs.Proper.{held_if, held_by, sort_of}
-use Rattle.life_store.specs.Cells.{Cells, at, set, unset, at-set_same, at-set_other}
+use Rattle.life_store.specs.Cells.{at, set, unset, at-set_same}
 use Rattle.life_store.specs.Content.{Content, Object, newborn, with_birth, with_resize, live_words_of}
-use Rattle.life_store.specs.Doing.{Setting, born_pointer, Effect, Next, Traps, Faults, Strays, put_cell, born_object, with_value_object, live_as, live_over, live_local, on_next, end_object, end_cell, end_locals, cell}
+use Rattle.life_store.specs.Doing.{Setting, born_pointer, Effect, Next, Traps, Strays, put_cell, born_object, with_value_object, live_as, live_over, live_local, on_next, end_object, end_cell, cell}
 use Rattle.life_store.specs.References.{Rows, object_of}
 use Rattle.life_store.specs.State as state
 use Rattle.life_store.specs.State.{State}
 use Rattle.life_store.specs.declared.object.ObjRef.{ObjRef}
 use Rattle.life_store.specs.declared.run.TrapKind.TheVariants as trap
-use Rattle.life_interp.specs.Cells.{cell_seen, pointer_seen, state_of}
+use Rattle.life_interp.specs.Cells.{pointer_seen, state_of}
 use Rattle.life_interp.specs.Fits.{IsHoused, IsRef, PointerFits}
 use Rattle.life_interp.specs.Steps.{Leaves, TellsEnd}
 use Rattle.life_interp.specs.declared.ending.Ending.{Ending}
@@ -28,9 +26,7 @@ use Rattle.life_core.specs.declared.instr.Form.TheVariants as forms
 use Rattle.life_interp.specs.declared.value.Pointer.{Pointer}
 use Rattle.life_interp.specs.declared.value.Pointer.TheVariants as leads
 use Rattle.life_interp.specs.declared.value.Cell.{Cell}
-use Rattle.life_interp.specs.declared.value.Cell.TheVariants as held
 use Rattle.life_interp.proofs.FitLemmas.{object_at}
-use Rattle.life_interp.proofs.StepLemmas.{put_now}
 
 pub ok_err : {A B : Type 0} (a : A) (b : B) → ◌≡◌ {A = Result A B} (Ok a) (Err b) → ⊥
 ok_err a b e = cc

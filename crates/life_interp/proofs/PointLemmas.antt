@@ -1,18 +1,18 @@
 -- What is done at a point is what the walk does there.
-use Rattle.std.proofs.Common.{◌≡◌, ℕ, List, [], ◌++◌, Option, Some, None, true, false, refl, sym, ap, ◌∙◌, append-nil}
+use Rattle.std.proofs.Common.{◌≡◌, ℕ, List, [], ◌++◌, Option, true, false, sym, ap, ◌∙◌, append-nil}
 use Rattle.std.specs.Prelude.{ℤ}
 use Rattle.life_types.specs.Types.{Types}
 use Rattle.life_core.specs.declared.instr.Test.{Test}
 use Rattle.life_core.specs.Function.{Function}
 use Rattle.life_core.specs.Linked.{Linked}
 use Rattle.life_core.specs.Step.{Step}
-use Rattle.life_core.specs.Tree.{Node, Action, Question}
+use Rattle.life_core.specs.Tree.{Action, Question}
 use Rattle.life_store.specs.Content.{Content}
-use Rattle.life_store.specs.Doing.{Setting, Effect, Next, does}
-use Rattle.life_store.specs.Meaning.{Stray, Cut, test_at, Called, Quit}
+use Rattle.life_store.specs.Doing.{Setting, Next, does}
+use Rattle.life_store.specs.Meaning.{Stray, Cut, test_at, Quit}
 use Rattle.life_interp.specs.Cells.{state_of, world_of}
 use Rattle.life_interp.specs.Walk.{Go, first_way, second_way, moved, chosen, at_node}
-use Rattle.life_interp.specs.Walking.{Sunk, Takes, StepEnds, verdict, at_link, halt_of, PointEnds}
+use Rattle.life_interp.specs.Walking.{Sunk, StepEnds, verdict, at_link, halt_of, PointEnds}
 use Rattle.life_interp.specs.declared.ending.Ending.{Ending}
 use Rattle.life_interp.specs.declared.ending.Ending.TheVariants as ending
 use Rattle.life_interp.specs.declared.value.Cell.{Cell}

@@ -1,27 +1,27 @@
 -- The run of the meaning is the walk over the points of the entry.
-use Rattle.std.proofs.Common.{◌≡◌, ℕ, zero, suc, ◌≤◌, ◌<◌, ◌^◌, List, [], ◌∷◌, ◌++◌, map, replicate, length, Option, Some, None, IsSome, refl, sym, ap, subst, ◌∙◌, arith}
+use Rattle.std.proofs.Common.{◌≡◌, ℕ, zero, suc, ◌≤◌, ◌<◌, ◌^◌, List, [], ◌∷◌, map, replicate, length, Option, Some, None, IsSome, refl, sym, ap, subst, ◌∙◌, arith}
 use Rattle.std.proofs.lemmas.Option.{none-some, same_Some, slice_get-map}
 use Rattle.std.proofs.lemmas.List.{length-map}
 use Rattle.std.specs.declared.alloc.Global.{Global}
 use Rattle.std.specs.declared.vec.Vec.{Vec}
 use Rattle.life_core.specs.declared.link.LinkRef.{LinkRef}
 use Rattle.life_core.specs.declared.program.CoreFn.{CoreFn}
-use Rattle.std.specs.Prelude.{ℤ, pos, slice_get, option_map, IsTrue}
+use Rattle.std.specs.Prelude.{ℤ, slice_get, option_map}
 use Rattle.life_types.specs.declared.place.Place.{Place}
 use Rattle.life_core.specs.declared.exits.Entry.{Entry}
 use Rattle.life_core.specs.declared.exits.Entry.TheVariants as entries
 use Rattle.life_core.specs.declared.program.Local.{Local}
 use Rattle.life_core.specs.Function.{Function, Program, function_of}
-use Rattle.life_core.specs.Linked.{Linked, points_of, code_of, enter, entry_of, target_of, no_exits}
-use Rattle.life_core.specs.Proper.{IsProper, IsProperProgram}
+use Rattle.life_core.specs.Linked.{Linked, points_of, code_of, entry_of, target_of, no_exits}
+use Rattle.life_core.specs.Proper.{IsProperProgram}
 use Rattle.life_store.specs.Cells.{none, at-none}
 use Rattle.life_store.specs.Content.{Content, empty_content}
 use Rattle.life_store.specs.Doing.{Setting}
-use Rattle.life_store.specs.Meaning.{Ended, Answer, Normal, Broke, Continued, Returned, Stopped, Trapped, Faulted, Stray, Exhausted, Called, Back, TooDeep, Quit, exec, frame, finish, entered, calls, results, value_in, empty_cell, first_world, run_from, run_of, IsFound, Run}
+use Rattle.life_store.specs.Meaning.{Ended, Answer, Normal, Broke, Continued, Returned, Stopped, Trapped, Faulted, Stray, Exhausted, Called, Back, TooDeep, Quit, exec, frame, finish, entered, calls, value_in, empty_cell, first_world, run_from, run_of, IsFound, Run}
 use Rattle.life_store.specs.State as state
 use Rattle.life_store.proofs.NeverLost.{never_lost, proper_at}
-use Rattle.life_interp.specs.Cells.{cells_seen, number_in, state_of}
-use Rattle.life_interp.specs.Fits.{IsHoused, CellsFit, IsFit}
+use Rattle.life_interp.specs.Cells.{cells_seen, state_of}
+use Rattle.life_interp.specs.Fits.{CellsFit, IsFit}
 use Rattle.life_interp.specs.Walk.{walk}
 use Rattle.life_interp.specs.Runs.{RunEnds, TakesFront, HaveFewPoints, HaveLongNumbers, links_seen}
 use Rattle.life_interp.specs.Walking.{HaveLongs, Sunk, Takes, TakesPart, output_of}

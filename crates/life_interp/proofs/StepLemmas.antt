@@ -1,25 +1,24 @@
 -- What the machine's functions do is what the steps of the meaning do.
-use Rattle.std.proofs.Common.{◌≡◌, ◌<◌, ◌^◌, ℕ, List, Option, Some, None, Result, Ok, Err, map, refl, sym, ap, subst, ◌∙◌, arith}
+use Rattle.std.proofs.Common.{◌≡◌, ◌<◌, ◌^◌, ℕ, List, Option, Some, None, Result, Ok, refl, sym, ap, subst, ◌∙◌, arith}
 use Rattle.std.proofs.lemmas.Int.{ints}
 use Rattle.std.proofs.lemmas.List.{map-set}
 use Rattle.std.proofs.lemmas.Option.{none-some, same_Some, slice_get-map}
-use Rattle.std.specs.Int.{cast_signed, cast_unsigned, w64}
-use Rattle.std.specs.Prelude.{ℤ, pos, slice_get, slice_set, option_map, MatchResult}
+use Rattle.std.specs.Int.{cast_signed, w64}
+use Rattle.std.specs.Prelude.{ℤ, pos, slice_get, slice_set, option_map}
 use Rattle.life_core.specs.declared.instr.Operand.{Operand}
 use Rattle.life_core.specs.declared.instr.Operand.TheVariants.{Name, Through}
-use Rattle.life_store.specs.Content.{Content, Object, word_at, with_object, with_word}
-use Rattle.life_store.specs.Doing.{Effect, Next, Traps, Faults, Strays, Found, Here, Wrong, Astray, named_by, behind_cell, on_found, on_number, on_pointer, put_cell, number_in_word, word_of_number, resolve, cell, pointer_to}
+use Rattle.life_store.specs.Content.{Content, Object}
+use Rattle.life_store.specs.Doing.{Effect, Strays, Found, named_by, behind_cell, on_found, on_number, on_pointer, put_cell, resolve}
 use Rattle.life_store.specs.References.{Rows, object_of, asked_of}
 use Rattle.life_store.specs.State as state
 use Rattle.life_store.specs.State.{State}
 use Rattle.life_store.specs.declared.object.Dead.{Dead}
 use Rattle.life_interp.specs.Cells.{cell_seen, cells_seen, state_of, number_in, pointer_in}
-use Rattle.life_interp.specs.Steps.{IsPosition, TellsMiss, TellsEnd, place_in, loaded, stored}
+use Rattle.life_interp.specs.Steps.{IsPosition, TellsMiss, TellsEnd, place_in}
 use Rattle.life_interp.specs.declared.ending.Ending.{Ending}
 use Rattle.life_interp.specs.declared.ending.Ending.TheVariants as ending
 use Rattle.life_interp.specs.declared.places.Position.{Position}
 use Rattle.life_interp.specs.declared.value.Cell.{Cell}
-use Rattle.life_interp.specs.declared.value.Cell.TheVariants as held
 
 -- ---- numbers
 

@@ -1,9 +1,6 @@
 -- From instructions to points, and from points to whole walks.
-use Rattle.std.proofs.Common.{◌≡◌, ℕ, zero, suc, ◌+◌, ◌≤◌, List, [], ◌∷◌, ◌++◌, length, take, Option, Some, None, Result, Ok, Err, OnOk, refl, sym, ap, subst, ◌∙◌, arith, append-nil, append_assoc}
-use Rattle.std.proofs.KnownBytes.{Appends-nil, Appends-trans}
-use Rattle.std.specs.Io.KnownBytes.{Appends}
-use Rattle.std.specs.Prelude.{ℤ}
-use Rattle.life_base.specs.Edges.{AppendsFront}
+use Rattle.std.proofs.Common.{◌≡◌, ℕ, List, [], Option, Result, Ok, Err, OnOk, refl, sym, ap, ◌∙◌, append-nil}
+use Rattle.std.proofs.KnownBytes.{Appends-nil}
 use Rattle.life_core.specs.declared.instr.Instr.{Instr}
 use Rattle.life_core.specs.declared.instr.Instr.TheVariants as instrs
 use Rattle.life_core.specs.Step.{step_of}
@@ -14,7 +11,7 @@ use Rattle.life_store.specs.State.{State}
 use Rattle.life_interp.specs.Cells.{state_of}
 use Rattle.life_interp.specs.Fits.{IsHoused, CellsFit, IsFit}
 use Rattle.life_interp.specs.Steps.{LeavesBoth}
-use Rattle.life_interp.specs.Walking.{IsQuiet, Sunk, Takes, TakesPart, Performs}
+use Rattle.life_interp.specs.Walking.{IsQuiet, Sunk, Takes, Performs}
 use Rattle.life_interp.specs.declared.ending.Ending.{Ending}
 use Rattle.life_interp.specs.declared.ending.Ending.TheVariants as ending
 use Rattle.life_interp.specs.declared.value.Cell.{Cell}

@@ -1,5 +1,5 @@
 -- The machine goes where a body goes, but where a step strays.
-use Rattle.std.proofs.Common.{◌≡◌, ℕ, zero, suc, ◌+◌, ◌<◌, ◌≤◌, List, [], ◌∷◌, ◌++◌, Option, Some, None, refl, sym, ap, subst, ◌∙◌, arith}
+use Rattle.std.proofs.Common.{◌≡◌, ℕ, zero, suc, ◌+◌, ◌<◌, ◌≤◌, List, [], ◌++◌, Option, Some, None, refl, ap, ◌∙◌, arith}
 use Rattle.std.proofs.lemmas.Bool.{and_parts, false≢true}
 use Rattle.std.specs.Prelude.{ℤ, pos, negsuc, IsTrue, ◌&&◌}
 use Rattle.life_types.specs.Types.{Types}
@@ -8,7 +8,7 @@ use Rattle.life_core.specs.declared.exits.Exits.{Exits}
 use Rattle.life_core.specs.declared.instr.Test.{Test}
 use Rattle.life_core.specs.declared.instr.Test.TheVariants.{NonZero, NotNull}
 use Rattle.life_core.specs.Function.{Function}
-use Rattle.life_core.specs.Linked.{Lead, Linked, goes, parts, spot_at, enter, with_next, with_true, with_false, turned, body_exits, linked, code_of, no_exits, numbered}
+use Rattle.life_core.specs.Linked.{Linked, goes, parts, spot_at, enter, with_next, with_true, with_false, turned, body_exits, linked, code_of, no_exits, numbered}
 use Rattle.life_core.specs.Shape.{is_statement, is_condition}
 use Rattle.life_core.specs.Step.{Step}
 use Rattle.life_core.specs.Tree.{Tree, Skip, Then, Acts, Asks, Both, Either, Negated, Choice, Turns, Breaks, Continues, Returns, Stops, size, Action, Question, Return}
@@ -18,7 +18,7 @@ use Rattle.life_store.specs.Doing.{Setting, Effect, Next, Traps, Faults, Strays,
 use Rattle.life_store.specs.Meaning.{Stop, Trapped, Faulted, Stray, Exhausted, Answer, Normal, Broke, Continued, Returned, Stopped, Verdict, Holds, Fails, Cut, Called, Back, TooDeep, Quit, Callee, paid, perform, by_number, by_pointer, number_test, pointer_test, test_at, ask, leave, then_do, then_ask, choose, decide, after_body, turns, exec, test, results, finish}
 use Rattle.life_store.specs.State.{Pointer, Null, Wild, To, Cell, Empty, Named, Number, Points, World, State}
 use Rattle.life_store.proofs.CodeLemmas.{HasAt, has_front, has_back, has_all}
-use Rattle.life_interp.specs.Walk.{walk, at_node, at_point, moved, chosen, first_way, second_way}
+use Rattle.life_interp.specs.Walk.{walk, at_node, at_point, moved, chosen}
 
 -- what a stop says of how the machine ends: of a step that strays nothing
 abbrev EndsAt : Stop → World → Called → Type 0

@@ -1,6 +1,6 @@
 -- From one point to the whole walk.
-use Rattle.std.proofs.Common.{◌≡◌, ℕ, zero, suc, ◌+◌, ◌-◌, ◌≤◌, ◌<◌, List, [], ◌∷◌, ◌++◌, length, map, take, drop, Option, Some, None, refl, sym, ap, subst, ◌∙◌, arith, append-nil, append_assoc}
-use Rattle.std.proofs.KnownBytes.{Appends-nil, Appends-trans}
+use Rattle.std.proofs.Common.{◌≡◌, ℕ, zero, suc, ◌-◌, ◌<◌, List, [], ◌∷◌, ◌++◌, length, map, take, drop, Option, Some, None, refl, sym, ap, subst, ◌∙◌, arith, append-nil, append_assoc}
+use Rattle.std.proofs.KnownBytes.{Appends-trans}
 use Rattle.std.proofs.lemmas.List.{take-append-drop, take_at}
 use Rattle.std.proofs.lemmas.Option.{none-some, same_Some, slice_get-map}
 use Rattle.std.specs.Io.KnownBytes.{Appends}
@@ -17,8 +17,8 @@ use Rattle.life_store.specs.Doing.{Setting}
 use Rattle.life_store.specs.Meaning.{Stray, Called, Back, Quit, results}
 use Rattle.life_store.specs.State.{State}
 use Rattle.life_interp.specs.Cells.{state_of, world_of}
-use Rattle.life_interp.specs.Walk.{walk, at_node, at_point}
-use Rattle.life_interp.specs.Walking.{Sunk, Takes, TakesPart, HaveLongs, NodeHasLong, at_link, PointEnds, WalkEnds, output_of}
+use Rattle.life_interp.specs.Walk.{walk, at_point}
+use Rattle.life_interp.specs.Walking.{Takes, TakesPart, HaveLongs, NodeHasLong, at_link, PointEnds, WalkEnds, output_of}
 use Rattle.life_interp.specs.declared.ending.Halt.{Halt}
 use Rattle.life_interp.specs.declared.ending.Halt.TheVariants as halt
 use Rattle.life_interp.specs.declared.value.Cell.{Cell}

@@ -1,6 +1,5 @@
 -- The walk only adds to what was written.
-use Rattle.std.proofs.Common.{◌≡◌, ℕ, zero, suc, ◌+◌, ◌*◌, List, [], ◌∷◌, ◌++◌, length, take, drop, Option, Some, None, Bool, true, false, cond, refl, sym, ap, subst, ◌∙◌, append-nil, append_assoc}
-use Rattle.std.proofs.lemmas.List.{take-append-drop, take_at}
+use Rattle.std.proofs.Common.{◌≡◌, ℕ, zero, suc, ◌+◌, ◌*◌, List, [], ◌∷◌, ◌++◌, Option, Some, None, Bool, true, false, cond, refl, sym, ap, subst, ◌∙◌, append-nil, append_assoc}
 use Rattle.std.specs.Prelude.{ℤ, pos, negsuc, nat_lt}
 use Rattle.std.specs.Fmt.{signed_decimal}
 use Rattle.life_types.specs.Types.{Types}
@@ -21,8 +20,8 @@ use Rattle.life_core.specs.Step.{Step, Live, End, Eval, Load, Save, Aim, Repoint
 use Rattle.life_core.specs.Tree.{Node, Action, Question, Return, Stop}
 use Rattle.life_store.specs.Cells.{at}
 use Rattle.life_store.specs.Content.{Object, live_words_of}
-use Rattle.life_store.specs.Doing.{Setting, put_cell, put_content, with_value_object, Effect, Next, Traps, Faults, Strays, Found, Here, Wrong, Astray, does, cell, on_found, on_number, on_pointer, born_object, live_as, live_over, live_local, on_next, end_object, end_cell, end_locals, evaluated, aimed, resolve}
-use Rattle.life_store.specs.Meaning.{Verdict, Holds, Fails, Cut, by_number, by_pointer, number_test, pointer_test, test_at, Called, Back, TooDeep, Quit, results}
+use Rattle.life_store.specs.Doing.{Setting, put_cell, put_content, with_value_object, Effect, Next, Traps, Faults, Strays, Found, Here, Wrong, Astray, does, cell, on_found, on_number, on_pointer, live_as, live_over, live_local, on_next, end_object, end_cell, end_locals, evaluated, aimed, resolve}
+use Rattle.life_store.specs.Meaning.{Verdict, Holds, Fails, Cut, by_number, by_pointer, number_test, pointer_test, test_at, Called}
 use Rattle.life_store.specs.State.{Pointer, Null, Wild, To, Cell, Empty, Named, Number, Points, World, State}
 use Rattle.life_store.specs.declared.run.TrapKind.TheVariants as trap
 use Rattle.life_interp.specs.Walk.{Go, walk, at_node, at_point, moved, chosen, first_way, second_way}

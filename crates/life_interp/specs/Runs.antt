@@ -1,9 +1,9 @@
 -- How a run of the machine ends, beside the run that the meaning gives.
-use Rattle.std.specs.Prelude.{◌≡◌, ◌<◌, ◌^◌, ℕ, ℤ, List, [], ◌∷◌, map}
+use Rattle.std.specs.Prelude.{◌≡◌, ◌<◌, ◌^◌, ℕ, List, [], ◌∷◌, map}
 use Rattle.std.specs.declared.alloc.Global.{Global}
 use Rattle.std.specs.declared.vec.Vec.{Vec}
 use Rattle.life_base.specs.Edges.{AppendsFront}
-use Rattle.life_core.specs.Function.{Function, Program}
+use Rattle.life_core.specs.Function.{Function}
 use Rattle.life_core.specs.Link.{link_seen}
 use Rattle.life_core.specs.Linked.{Linked, code_of, points_of}
 use Rattle.life_core.specs.declared.link.LinkRef.{LinkRef}

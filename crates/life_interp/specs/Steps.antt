@@ -1,7 +1,5 @@
 -- What the machine's functions answer of the steps of the meaning.
-use Rattle.std.specs.Prelude.{◌≡◌, ◌<◌, ◌^◌, ℕ, ℤ, List, Option, Some, None, Bool, true, false, Result, MatchResult, option_map, slice_get}
-use Rattle.life_types.specs.Types.{Types}
-use Rattle.life_core.specs.declared.instr.Form.{Form}
+use Rattle.std.specs.Prelude.{◌≡◌, ◌<◌, ◌^◌, ℕ, ℤ, List, Some, Result, MatchResult, option_map, slice_get}
 use Rattle.life_core.specs.declared.instr.Operand.{Operand}
 use Rattle.life_core.specs.declared.instr.Operand.TheVariants.{Name, Through}
 use Rattle.life_core.specs.declared.instr.Operation.{Operation}
@@ -11,7 +9,6 @@ use Rattle.life_store.specs.Doing.{Effect, Next, Traps, Faults, Strays, Found, H
 use Rattle.life_store.specs.References.{Rows, HasWord, object_of}
 use Rattle.life_store.specs.State as state
 use Rattle.life_store.specs.State.{State}
-use Rattle.life_store.specs.declared.object.ObjRef.{ObjRef}
 use Rattle.life_interp.specs.Cells.{cell_seen, state_of}
 use Rattle.life_interp.specs.Fits.{IsRef}
 use Rattle.life_interp.specs.declared.ending.Ending.{Ending}

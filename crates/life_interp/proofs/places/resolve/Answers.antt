@@ -1,6 +1,5 @@
-use Rattle.std.proofs.Common.{◌≡◌, Some, ap, sym, ◌∙◌}
+use Rattle.std.proofs.Common.{◌≡◌, Some}
 use Rattle.std.specs.Prelude.{slice_get}
-use Rattle.life_interp.specs.declared.value.Cell.{Cell}
 use Rattle.life_interp.specs.declared.value.Cell.TheVariants as held
 use Rattle.life_interp.proofs.FitLemmas.{cell_fits}
 use Rattle.life_interp.proofs.places.resolve.Goals as goal

@@ -1,4 +1,4 @@
-use Rattle.std.proofs.Common.{◌≡◌, ℕ, List, [], Bool, Option, Some, ap, subst, refl, sym, ◌∙◌}
+use Rattle.std.proofs.Common.{List, [], Bool, Option, Some, ap, subst, sym, ◌∙◌}
 use Rattle.life_core.specs.Function.{function_of}
 use Rattle.life_core.specs.Link.{link_seen}
 use Rattle.life_core.specs.Node.{node_seen}

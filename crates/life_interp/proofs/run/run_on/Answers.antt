@@ -1,4 +1,4 @@
-use Rattle.std.proofs.Common.{◌≡◌, ℕ, List, [], Some, map, replicate, ap, subst, refl, rules, sym, ◌∙◌, arith}
+use Rattle.std.proofs.Common.{List, [], Some, map, replicate, ap, rules, sym, ◌∙◌}
 use Rattle.std.proofs.lemmas.Int.{to_z-of_z}
 use Rattle.std.specs.Int.{w64}
 use Rattle.std.specs.Prelude.{ℤ}
@@ -10,7 +10,6 @@ use Rattle.life_store.specs.Meaning.{results, run_of, value_in}
 use Rattle.life_store.specs.declared.run.Growth.TheVariants.{Always}
 use Rattle.life_store.proofs.NeverLost.{never_lost}
 use Rattle.life_interp.specs.Cells.{state_of, world_of}
-use Rattle.life_interp.specs.Fits.{IsFit}
 use Rattle.life_interp.specs.Walk.{walk}
 use Rattle.life_interp.specs.Walking.{Sunk}
 use Rattle.life_interp.specs.declared.value.Cell.TheVariants as held

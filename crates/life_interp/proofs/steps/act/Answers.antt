@@ -1,13 +1,11 @@
-use Rattle.std.proofs.Common.{◌≡◌, ℕ, List, Option, Some, None, ap, subst, refl, sym, ◌∙◌}
+use Rattle.std.proofs.Common.{ℕ, List, subst, sym}
 use Rattle.life_core.specs.declared.instr.Instr.{Instr}
 use Rattle.life_core.specs.Function.{function_of}
 use Rattle.life_core.specs.Step.{step_of}
-use Rattle.life_store.specs.Content.{Content}
-use Rattle.life_store.specs.Doing.{does, end_locals, evaluated}
-use Rattle.life_interp.specs.Steps.{stored, LeavesBoth, ported_from}
-use Rattle.life_interp.specs.Walking.{Performs, Sunk}
+use Rattle.life_store.specs.Doing.{does, end_locals}
+use Rattle.life_interp.specs.Steps.{stored, LeavesBoth}
 use Rattle.life_interp.specs.declared.value.Cell.{Cell}
-use Rattle.life_interp.proofs.WalkLemmas.{fit_where_ok, performs_quiet, quiet_else, untouched}
+use Rattle.life_interp.proofs.WalkLemmas.{fit_where_ok}
 use Rattle.life_interp.proofs.steps.act.Goals as goal
 
 pub returns-in-Live-clause-step : goal.returns-in-Live-clause-step

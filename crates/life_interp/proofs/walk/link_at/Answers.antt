@@ -1,4 +1,4 @@
-use Rattle.std.proofs.Common.{◌≡◌, sym, ap, ◌∙◌, map}
+use Rattle.std.proofs.Common.{sym, ap, ◌∙◌, map}
 use Rattle.std.specs.Prelude.{option_and_then}
 use Rattle.life_core.specs.Link.{link_seen}
 use Rattle.life_core.specs.Linked.{numbered}

@@ -1,9 +1,6 @@
-use Rattle.std.proofs.Common.{◌≡◌, ◌+◌, ◌-◌, ◌<◌, ℕ, List, [], ◌++◌, Option, Some, map, ap, subst, refl, sym, ◌∙◌, arith}
-use Rattle.std.specs.Prelude.{ℤ, option_map, option_and_then}
+use Rattle.std.proofs.Common.{◌≡◌, ◌-◌, [], ◌++◌, map, ap, refl, sym, ◌∙◌, arith}
 use Rattle.life_core.specs.Function.{function_of}
 use Rattle.life_core.specs.Link.{link_seen}
-use Rattle.life_core.specs.Linked.{Linked, numbered}
-use Rattle.life_core.specs.declared.link.LinkRef.{LinkRef}
 use Rattle.life_interp.specs.Cells.{state_of}
 use Rattle.life_interp.specs.Walk.{walk}
 use Rattle.life_interp.proofs.WholeWalks.{takes_on, long_to, no_point, a_point, ends_there}

@@ -1,4 +1,4 @@
-use Rattle.std.proofs.Common.{◌≡◌, ◌+◌, ◌<◌, ◌^◌, ℕ, List, [], map}
+use Rattle.std.proofs.Common.{◌≡◌, ℕ, List, [], map}
 use Rattle.std.specs.Prelude.{ℤ}
 use Rattle.life_core.specs.Function.{function_of}
 use Rattle.life_core.specs.Link.{link_seen}
