@@ -1,5 +1,5 @@
 -- How the work and the text on err come to an ending.
-use Rattle.std.proofs.Common.{◌≡◌, ℕ, Option, None, IfOk, Result, Ok, Err, sym, ◌∙◌, subst, inl, inr}
+use Rattle.std.proofs.Common.{◌≡◌, ℕ, Option, IfOk, Result, Ok, Err, sym, ◌∙◌, subst, inl, inr}
 use Rattle.std.proofs.lemmas.Option.{IfSome_then}
 use Rattle.std.specs.Io.KnownBytes.{Appends}
 use Rattle.life_base.specs.Causes.{Rose}
@@ -10,7 +10,7 @@ use Rattle.life_cli.specs.Ends.{Closes, Ends, EndsWell, GainsFront, GainsSomeTex
 use Rattle.life_cli.specs.Question.{Question}
 use Rattle.life_cli.specs.Status.{IsSettled}
 use Rattle.life_cli.specs.declared.status.Status.{Status}
-use Rattle.life_cli.specs.declared.status.Status.TheVariants.{NoMemory, ReadFault, Usage, WriteFault}
+use Rattle.life_cli.specs.declared.status.Status.TheVariants.{NoMemory, ReadFault, WriteFault}
 use Rattle.life_cli.specs.declared.stop.Stop.{Stop}
 use Rattle.life_cli.specs.declared.stop.Stop.TheVariants as stop
 use Rattle.life_cli.specs.declared.stop.Ending.{Ending}
@@ -56,10 +56,16 @@ module _ (asked : Option Question) (reads reads' : ℕ) (out out' err err' : Por
     | inr e ↦ ends_as status WriteFault e.0 (cut_off e.1 work.front (record { gained = inr (inr (inr e.2)) }))
   ]
 
--- a command that ends in Usage had no job
-pub ends_no_job : (err err' : Port) {A : Type 0} (job : Option A) (ended : Result Ending Stop) (status : Status) → IfOk ended (λ ending. ending.status ≡ Usage → job ≡ None)
-    → Closes err err' (text_of ended) (status_of ended) status → status ≡ Usage → job ≡ None
-ends_no_job err err' job (Ok ending) status none close usage = elim close.ends [ inl e ↦ none (sym e.0 ∙ usage) | inr e ↦ cc ]
-ends_no_job err err' job (Err stop.NoMemory) status none close usage = elim close.ends [ inl e ↦ cc | inr e ↦ cc ]
-ends_no_job err err' job (Err stop.ReadFault) status none close usage = elim close.ends [ inl e ↦ cc | inr e ↦ cc ]
-ends_no_job err err' job (Err stop.WriteFault) status none close usage = elim close.ends [ inl e ↦ cc | inr e ↦ cc ]
+-- what a settled status of the work tells, that of the command tells too
+pub ends_settled : (err err' : Port) (settled : Status) {P : Type 0} (ended : Result Ending Stop) (status : Status) → IsSettled settled
+    → IfOk ended (λ ending. ending.status ≡ settled → P) → Closes err err' (text_of ended) (status_of ended) status → status ≡ settled → P
+ends_settled err err' settled ended status is told close same = elim close.ends [
+  | inl e ↦ by_work ended told (sym e.0 ∙ same)
+  | inr e ↦ absurd (subst IsSettled (sym (sym e.0 ∙ same)) is)
+]
+  where
+    by_work : {P : Type 0} (ended : Result Ending Stop) → IfOk ended (λ ending. ending.status ≡ settled → P) → status_of ended ≡ settled → P
+    by_work (Ok ending) told same = told same
+    by_work (Err stop.NoMemory) told same = absurd (subst IsSettled (sym same) is)
+    by_work (Err stop.ReadFault) told same = absurd (subst IsSettled (sym same) is)
+    by_work (Err stop.WriteFault) told same = absurd (subst IsSettled (sym same) is)

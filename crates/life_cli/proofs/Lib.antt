@@ -1,7 +1,11 @@
 pub mod CheckedFile
 pub mod Endings
+pub mod FewSteps
 pub mod Fronts
 pub mod Functions
 pub mod Leaves
+pub mod Machines
+pub mod Numbers
 pub mod Questions
+pub mod Served
 pub mod Sizes

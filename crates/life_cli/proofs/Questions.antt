@@ -10,9 +10,9 @@ use Rattle.life_cli.specs.Question.{Absent, Bytes, IsAnswer, NoJob, Question, Th
 pub same_answer : (question : Question) (a b : Answer) → IsAnswer question a → IsAnswer question b → a ≡ b
 same_answer NoJob a b p q = p ∙ sym q
 same_answer (Absent name) a b p q = p ∙ sym q
-same_answer (Bytes bytes) a b p q = elim (cases_lt most_bytes (length bytes)) [
+same_answer (Bytes command bytes) a b p q = elim (cases_lt most_bytes (length bytes)) [
   | inl beyond ↦ p.too_many beyond ∙ sym (q.too_many beyond)
-  | inr within ↦ one_answer bytes a b (p.checked within) (q.checked within)
+  | inr within ↦ one_answer command bytes a b (p.read within) (q.read within)
 ]
 
 -- what is known of one answer is known of the only one

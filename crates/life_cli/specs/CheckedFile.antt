@@ -1,28 +1,35 @@
 -- The answer to the bytes of a file.
-use Rattle.std.specs.Prelude.{◌≡◌, ◌++◌, ℕ, List, [], ◌∷◌, codes}
+use Rattle.std.specs.Prelude.{◌≡◌, ◌++◌, ℕ, Bool, true, false, List, [], ◌∷◌, codes}
 use Rattle.life_types.specs.Places.{position_text}
 use Rattle.life_lex.specs.declared.fault.LexFault.{LexFault}
 use Rattle.life_lex.specs.declared.fault.LexFaultKind.{LexFaultKind}
 use Rattle.life_lex.specs.declared.fault.LexFaultKind.TheVariants.{BadByte, UnclosedText, UnclosedComment, NumberTooLarge}
 use Rattle.life_core.specs.Function.{Function, Program}
+use Rattle.life_core.specs.Proper.{IsProperProgram}
 use Rattle.life_pset.specs.Elements.{IsWithinLimits}
-use Rattle.life_rules.specs.Listing.{AreDiagnostics}
+use Rattle.life_rules.specs.Listing.{AreProgramDiagnostics}
 use Rattle.life_rules.specs.declared.diag.Diag.{Diag}
 use Rattle.life_report.specs.Reports.{report_text}
 use Rattle.life_front.specs.Form.{Reading, Faulty, Foreign, Whole, ReadsOnlyAs}
+use Rattle.life_front.specs.LongNumbers.{HaveLongs}
+use Rattle.life_store.specs.NoFault.{NoFault}
 use Rattle.life_cli.specs.Answer.{Answer, refusal}
+use Rattle.life_cli.specs.Runs.{Ran}
+use Rattle.life_cli.specs.declared.job.Command.{Command}
+use Rattle.life_cli.specs.declared.job.Command.TheVariants.{Check, Run}
+use Rattle.life_cli.specs.declared.job.RunOptions.{RunOptions}
 use Rattle.life_cli.specs.declared.status.Status.{Status}
 use Rattle.life_cli.specs.declared.status.Status.TheVariants.{Done, Diagnosed, Syntax}
 
 -- what a lexical fault is called
-abbrev pub fault_name : LexFaultKind → List ℕ
-fault_name BadByte = codes "bad byte"
-fault_name UnclosedText = codes "unclosed text"
-fault_name UnclosedComment = codes "unclosed comment"
-fault_name NumberTooLarge = codes "number too large"
+abbrev pub lex_fault_name : LexFaultKind → List ℕ
+lex_fault_name BadByte = codes "bad byte"
+lex_fault_name UnclosedText = codes "unclosed text"
+lex_fault_name UnclosedComment = codes "unclosed comment"
+lex_fault_name NumberTooLarge = codes "number too large"
 
-abbrev pub fault_text : LexFault → List ℕ
-fault_text fault = position_text fault.place ++ codes ": " ++ fault_name fault.kind
+abbrev pub lex_fault_text : LexFault → List ℕ
+lex_fault_text fault = position_text fault.place ++ codes ": " ++ lex_fault_name fault.kind
 
 -- a program is accepted where there is nothing to list
 abbrev pub verdict : List Diag → Status
@@ -33,28 +40,47 @@ verdict (d ∷ ds) = Diagnosed
 abbrev pub reported : Program → List Diag → Answer
 reported p ds = record { status = verdict ds; out = report_text p ds; err = [] }
 
--- the program has one function, which passes no limit
-pub record HasOneFunction (p : Program) : Type 0 where
-  pub function : Function
-  pub only : p.functions ≡ function ∷ []
-  pub within : IsWithinLimits p.types function
+-- .. or on err, where the program isn't run for its diagnostics
+abbrev pub not_run : Program → List Diag → Answer
+not_run p ds = record { status = Diagnosed; out = []; err = report_text p ds }
 
--- the answer is the report of the program's one function and its list of diagnostics
-pub record AnswersProgram (p : Program) (answer : Answer) : Type 0 where
-  pub function : Function
+-- a program with diagnostics is run where it is to be run unchecked
+abbrev pub RunsDiagnosed : Bool → RunOptions → Program → Function → List Diag → Answer → Type 0
+RunsDiagnosed true options p main ds answer = Ran options p main answer
+RunsDiagnosed false options p main ds answer = answer ≡ not_run p ds
+
+-- the answer is that of the command to a program and its diagnostics
+abbrev pub Concludes : Command → Program → Function → List Diag → Answer → Type 0
+Concludes Check p main ds answer = answer ≡ reported p ds
+Concludes (Run options) p main [] answer = Ran options p main answer
+Concludes (Run options) p main (d ∷ ds) answer = RunsDiagnosed options.unchecked options p main (d ∷ ds) answer
+
+-- the program has one function, which passes no limit and is proper, and its numbers are longs
+pub record IsWholeProgram (p : Program) : Type 0 where
+  pub main : Function
+  pub only : p.functions ≡ main ∷ []
+  pub within : IsWithinLimits p.types main
+  pub proper : IsProperProgram p
+  pub longs : HaveLongs p.functions
+
+-- the answer is the command's to the program's list of diagnostics; where that is empty, no run of the program, on whatever input,
+-- with whatever limits, growth and number of steps, uses a null, dangling or moved-from place
+pub record AnswersProgram (command : Command) (p : Program) (answer : Answer) : Type 0 where
+  pub main : Function
   pub diagnostics : List Diag
-  pub only_function : p.functions ≡ function ∷ []
-  pub listed : AreDiagnostics p.names p.types 0 function diagnostics
-  pub report : answer ≡ reported p diagnostics
+  pub only_function : p.functions ≡ main ∷ []
+  pub listed : AreProgramDiagnostics p diagnostics
+  pub safe : diagnostics ≡ [] → NoFault p
+  pub concluded : Concludes command p main diagnostics answer
 
 -- the answer is one to what a file reads as
-abbrev pub AnswersReading : Reading → Answer → Type 0
-AnswersReading (Faulty fault) answer = answer ≡ refusal Syntax (fault_text fault)
-AnswersReading Foreign answer = answer ≡ refusal Syntax (codes "syntax")
-AnswersReading (Whole p) answer = AnswersProgram p answer
+abbrev pub AnswersReading : Command → Reading → Answer → Type 0
+AnswersReading command (Faulty fault) answer = answer ≡ refusal Syntax (lex_fault_text fault)
+AnswersReading command Foreign answer = answer ≡ refusal Syntax (codes "syntax")
+AnswersReading command (Whole p) answer = AnswersProgram command p answer
 
--- the answer is the one to the only reading of these bytes
-pub record AnswersFile (bytes : List ℕ) (answer : Answer) : Type 0 where
+-- the answer is the command's to the only reading of these bytes
+pub record AnswersFile (command : Command) (bytes : List ℕ) (answer : Answer) : Type 0 where
   pub reading : Reading
   pub read : ReadsOnlyAs bytes reading
-  pub answered : AnswersReading reading answer
+  pub answered : AnswersReading command reading answer

@@ -62,12 +62,16 @@ Works asked reads reads' out out' (Err stop.NoMemory) = WorksWithoutMemory asked
 Works asked reads reads' out out' (Err stop.ReadFault) = WorksToReadFault reads reads' out out'
 Works asked reads reads' out out' (Err stop.WriteFault) = WorksToWriteFault asked reads reads' out out'
 
--- the work ended in a line for err, or memory for the line was not had
-abbrev pub Refuses : Status → List ℕ → Result Ending Stop → Type 0
-Refuses status text (Ok ending) = (ending.status ≡ status) × (ending.err.items ≡ line text)
-Refuses status text (Err stop.NoMemory) = Unit {0}
-Refuses status text (Err stop.ReadFault) = ⊥
-Refuses status text (Err stop.WriteFault) = ⊥
+-- the work ended in a text for err, or memory for the text was not had
+abbrev pub Reports : Status → List ℕ → Result Ending Stop → Type 0
+Reports status text (Ok ending) = (ending.status ≡ status) × (ending.err.items ≡ text)
+Reports status text (Err stop.NoMemory) = Unit {0}
+Reports status text (Err stop.ReadFault) = ⊥
+Reports status text (Err stop.WriteFault) = ⊥
+
+-- .. in a line
+abbrev pub Tells : Status → List ℕ → Result Ending Stop → Type 0
+Tells status text result = Reports status (line text) result
 
 -- out has gained the reply's text and what is left of the reply is at hand, or out's count rose
 abbrev pub HandsOut : Reply → Port → Port → Result Ending Stop → Type 0
@@ -77,6 +81,33 @@ HandsOut reply out out' (Err stop.NoMemory) = ⊥
 HandsOut reply out out' (Err stop.ReadFault) = ⊥
 HandsOut reply out out' (Err stop.WriteFault) =
     Rose out.faults out'.faults × AppendsFront out.taken out'.taken reply.out.items
+
+-- ---- the work where no file is read any more: the answers are those that are such
+
+-- out has gained the text of such an answer, and err's is at hand
+pub record ServesWell (IsSuch : Answer → Type 0) (out out' : Port) (ending : Ending) : Type 0 where
+  pub out_faults : out'.faults ≡ out.faults
+  pub answer : Answer
+  pub is_such : IsSuch answer
+  pub ready : IsReady out out' ending answer
+
+-- out has gained a front of the text of each such answer
+abbrev pub ServesFront : (Answer → Type 0) → Port → Port → Type 0
+ServesFront IsSuch out out' = (answer : Answer) → IsSuch answer → AppendsFront out.taken out'.taken answer.out
+
+pub record ServesWithoutMemory (IsSuch : Answer → Type 0) (out out' : Port) : Type 0 where
+  pub out_faults : out'.faults ≡ out.faults
+  pub front : ServesFront IsSuch out out'
+
+pub record ServesToWriteFault (IsSuch : Answer → Type 0) (out out' : Port) : Type 0 where
+  pub out_faults : Rose out.faults out'.faults
+  pub front : ServesFront IsSuch out out'
+
+abbrev pub Serves : (Answer → Type 0) → Port → Port → Result Ending Stop → Type 0
+Serves IsSuch out out' (Ok ending) = ServesWell IsSuch out out' ending
+Serves IsSuch out out' (Err stop.NoMemory) = ServesWithoutMemory IsSuch out out'
+Serves IsSuch out out' (Err stop.ReadFault) = ⊥
+Serves IsSuch out out' (Err stop.WriteFault) = ServesToWriteFault IsSuch out out'
 
 -- ---- the text on err
 

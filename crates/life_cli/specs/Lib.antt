@@ -2,6 +2,8 @@ pub mod Status
 pub mod Stops
 pub mod Words
 pub mod Answer
+pub mod Runs
 pub mod CheckedFile
 pub mod Question
 pub mod Ends
+pub mod Told

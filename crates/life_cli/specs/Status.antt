@@ -1,7 +1,7 @@
 -- The statuses, their numbers, and which of them come where.
 use Rattle.std.specs.Prelude.{ℕ}
 use Rattle.life_cli.specs.declared.status.Status.{Status}
-use Rattle.life_cli.specs.declared.status.Status.TheVariants.{Done, Diagnosed, Syntax, Limit, Usage, NoFile, NoMemory, ReadFault, WriteFault}
+use Rattle.life_cli.specs.declared.status.Status.TheVariants.{Done, Diagnosed, Syntax, Limit, Trap, Fault, Steps, Usage, NoFile, NoMemory, ReadFault, WriteFault}
 
 -- the exit status of the program
 abbrev pub code_of : Status → ℕ
@@ -9,6 +9,9 @@ code_of Done = 0
 code_of Diagnosed = 1
 code_of Syntax = 2
 code_of Limit = 4
+code_of Trap = 5
+code_of Fault = 6
+code_of Steps = 7
 code_of Usage = 64
 code_of NoFile = 66
 code_of NoMemory = 71
@@ -28,4 +31,7 @@ IsOfBytes Done = Unit {0}
 IsOfBytes Diagnosed = Unit {0}
 IsOfBytes Syntax = Unit {0}
 IsOfBytes Limit = Unit {0}
+IsOfBytes Trap = Unit {0}
+IsOfBytes Fault = Unit {0}
+IsOfBytes Steps = Unit {0}
 IsOfBytes _ = ⊥

@@ -1,11 +1,12 @@
-// The diagnostics of a function, by one solver.
+// The diagnostics of a program, by one solver.
 ghost use Rattle.std.specs.Prelude.{◌≡◌, ◌<◌, IfOk, map};
-ghost use Rattle.life_core.specs.Function.{function_of, name_bytes};
+ghost use Rattle.life_core.specs.Function.{function_of, name_bytes, program_of};
 ghost use Rattle.life_pset.specs.Elements.{IsWithinLimits};
-ghost use Rattle.life_rules.specs.Listing.{AreDiagnostics};
+ghost use Rattle.life_rules.specs.Listing.{AreDiagnostics, AreProgramDiagnostics};
+ghost use Rattle.life_cli.specs.CheckedFile.{IsWholeProgram};
 
 use life_base::Steps;
-use life_core::{CoreFn, FnId, Names};
+use life_core::{CoreFn, CoreProgram, FnId, Names};
 use life_fix::{diagnostics, solve};
 use life_pset::SetRows;
 use life_rules::Diag;
@@ -14,8 +15,16 @@ use std::alloc::Global;
 use std::marker::Brand;
 use std::sync::ledger::{Blank, Ledger};
 
-/// The diagnostics of a program's first function, in the order of their lines, each line once.
-pub fn function_diagnostics(
+/// The diagnostics of a program with one function, in the order of their lines, each line once.
+pub fn program_diagnostics(alloc: Global, program: &CoreProgram) -> Result<Vec<Diag>, NoMemory>
+    requires { IsWholeProgram (program_of program.now) }
+    ensures { IfOk result (λ ds. AreProgramDiagnostics (program_of program.now) ds.items) }
+{
+    function_diagnostics(alloc, &program.functions[0], &program.types, &program.names)
+}
+
+// The diagnostics of the program's first function.
+fn function_diagnostics(
     alloc: Global,
     f: &CoreFn,
     types: &TypeTable,

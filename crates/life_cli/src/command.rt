@@ -2,8 +2,8 @@
 ghost use Rattle.std.specs.Prelude.{◌≡◌, None, map, string_bytes};
 ghost use Rattle.life_cli.specs.Ends.{Closes, Ends, status_of, text_of};
 ghost use Rattle.life_cli.specs.Question.{asked};
-ghost use Rattle.life_cli.specs.Words.{job_of};
-ghost use Rattle.life_cli.specs.declared.status.Status.TheVariants.{Usage};
+ghost use Rattle.life_cli.specs.Words.{job_of, AsksUnchecked};
+ghost use Rattle.life_cli.specs.declared.status.Status.TheVariants.{Fault, Usage};
 
 use crate::Status;
 use crate::stop::{Ending, Stop};
@@ -27,8 +27,9 @@ pub fn run_command<F: Files, O: Sink, E: Sink>(
         (record { taken = E.taken err.old; faults = E.faults err.old })
         (record { taken = E.taken err.new; faults = E.faults err.new }) result }
 
-    // This holds of files that don't tell what they hold, too.
+    // These hold of files that don't tell what they hold, too.
     ensures no_job { result ≡ Usage → job_of (map string_bytes words.now) ≡ None }
+    ensures faults_unchecked { result ≡ Fault → AsksUnchecked (job_of (map string_bytes words.now)) }
 {
     let ended = work(alloc, words, files, out);
     close(ended, err)

@@ -1,10 +1,14 @@
 //! The program's one call: words, files and two sinks in, a status out.
 #![tactic(auto)]
 
-mod check;
 mod checker;
 mod command;
+mod execute;
+mod job;
+mod number;
+mod refusal;
 mod reply;
+mod serve;
 mod status;
 mod stop;
 mod words;

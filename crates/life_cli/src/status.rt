@@ -13,6 +13,12 @@ pub enum Status {
     Syntax,
     /// A count passed its limit.
     Limit,
+    /// The run was stopped by a trap.
+    Trap,
+    /// The run used something null or dangling.
+    Fault,
+    /// The run was still going on after its steps.
+    Steps,
     /// The words are no job.
     Usage,
     /// There is no file of the name.
@@ -35,6 +41,9 @@ impl Status {
             Status::Diagnosed => 1,
             Status::Syntax => 2,
             Status::Limit => 4,
+            Status::Trap => 5,
+            Status::Fault => 6,
+            Status::Steps => 7,
             Status::Usage => 64,
             Status::NoFile => 66,
             Status::NoMemory => 71,

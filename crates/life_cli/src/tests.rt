@@ -13,6 +13,10 @@ const UNINITIALISED: &str = "int main() { int* p; return *p; }";
 const DANGLING: &str =
     "int main() {\n  int* p = nullptr;\n  {\n    int x = 1;\n    p = &x;\n  }\n  return *p;\n}\n";
 
+const PRINTING: &str = "int main() { int x = 4; int* p = &x; std::cout << *p << x; return *p; }";
+
+const NULL: &str = "int main() { int* p = nullptr; return *p; }";
+
 const USAGE: &str = "usage: lifecheck COMMAND FILE [OPTIONS]\n";
 
 // A call with this number is never reached.
@@ -125,6 +129,135 @@ fn answers_and_faults(rt: HostRuntime) -> Result<(), Fail> {
             64,
             "",
             USAGE,
+        ),
+        // Runs: of what is accepted, and of what is diagnosed only where that is asked for.
+        (
+            "lifecheck run row2.cpp",
+            ACCEPTED,
+            [NEVER, NEVER, NEVER],
+            Status::Done,
+            0,
+            "",
+            "value 4\n",
+        ),
+        (
+            "lifecheck run row2.cpp",
+            PRINTING,
+            [NEVER, NEVER, NEVER],
+            Status::Done,
+            0,
+            "44",
+            "value 4\n",
+        ),
+        (
+            "lifecheck run row2.cpp",
+            DANGLING,
+            [NEVER, NEVER, NEVER],
+            Status::Diagnosed,
+            1,
+            "",
+            "7:10: dangling-use: p: x ended at 6:3\ndiagnosed: 1\n",
+        ),
+        (
+            "lifecheck run row2.cpp --unchecked",
+            DANGLING,
+            [NEVER, NEVER, NEVER],
+            Status::Fault,
+            6,
+            "",
+            "fault dangling at 7:10\n",
+        ),
+        (
+            "lifecheck run row2.cpp --steps 9 --unchecked --cells 3",
+            NULL,
+            [NEVER, NEVER, NEVER],
+            Status::Fault,
+            6,
+            "",
+            "fault null at 1:39\n",
+        ),
+        (
+            "lifecheck run row2.cpp --steps 11",
+            PRINTING,
+            [NEVER, NEVER, NEVER],
+            Status::Done,
+            0,
+            "44",
+            "value 4\n",
+        ),
+        (
+            "lifecheck run row2.cpp --steps 10",
+            PRINTING,
+            [NEVER, NEVER, NEVER],
+            Status::Steps,
+            7,
+            "44",
+            "steps 10\n",
+        ),
+        (
+            "lifecheck run row2.cpp --cells 2",
+            PRINTING,
+            [NEVER, NEVER, NEVER],
+            Status::Trap,
+            5,
+            "",
+            "trap cells at 1:18\n",
+        ),
+        // Options that are none, that stand twice, or out of their range.
+        (
+            "lifecheck run row2.cpp --steps",
+            ACCEPTED,
+            [NEVER, NEVER, NEVER],
+            Status::Usage,
+            64,
+            "",
+            USAGE,
+        ),
+        (
+            "lifecheck run row2.cpp --steps 1000000001",
+            ACCEPTED,
+            [NEVER, NEVER, NEVER],
+            Status::Usage,
+            64,
+            "",
+            USAGE,
+        ),
+        (
+            "lifecheck run row2.cpp --cells 00000000001",
+            ACCEPTED,
+            [NEVER, NEVER, NEVER],
+            Status::Usage,
+            64,
+            "",
+            USAGE,
+        ),
+        (
+            "lifecheck run row2.cpp --cells 5 --cells 5",
+            ACCEPTED,
+            [NEVER, NEVER, NEVER],
+            Status::Usage,
+            64,
+            "",
+            USAGE,
+        ),
+        (
+            "lifecheck check row2.cpp --unchecked",
+            ACCEPTED,
+            [NEVER, NEVER, NEVER],
+            Status::Usage,
+            64,
+            "",
+            USAGE,
+        ),
+        // A write of the running program fails.
+        (
+            "lifecheck run row2.cpp",
+            PRINTING,
+            [NEVER, 1, NEVER],
+            write,
+            74,
+            "4",
+            "write fault\n",
         ),
         // The file isn't started, its first read fails, or a later one.
         (

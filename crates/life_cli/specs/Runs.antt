@@ -1,0 +1,71 @@
+-- What a run comes to, as an answer.
+use Rattle.std.specs.Prelude.{◌≡◌, ℕ, ℤ, List, [], ◌∷◌, ◌++◌, Option, Some, None, codes, decimal}
+use Rattle.std.specs.Fmt.{signed_decimal}
+use Rattle.life_types.specs.Places.{position_text}
+use Rattle.life_types.specs.declared.place.Place.{Place}
+use Rattle.life_core.specs.Function.{Function, Program}
+use Rattle.life_store.specs.Doing.{Setting}
+use Rattle.life_store.specs.Meaning as meaning
+use Rattle.life_store.specs.Meaning.{Outcome, run_of}
+use Rattle.life_store.specs.declared.run.FaultKind.{FaultKind}
+use Rattle.life_store.specs.declared.run.FaultKind.TheVariants.{Null, Dangling}
+use Rattle.life_store.specs.declared.run.Growth.TheVariants.{Always}
+use Rattle.life_store.specs.declared.run.TrapKind.{TrapKind}
+use Rattle.life_store.specs.declared.run.TrapKind.TheVariants.{Cells, Depth}
+use Rattle.life_cli.specs.Answer.{Answer, line}
+use Rattle.life_cli.specs.declared.job.RunOptions.{RunOptions}
+use Rattle.life_cli.specs.declared.status.Status.{Status}
+use Rattle.life_cli.specs.declared.status.Status.TheVariants as status
+
+abbrev pub trap_name : TrapKind → List ℕ
+trap_name Cells = codes "cells"
+trap_name Depth = codes "depth"
+
+abbrev pub fault_name : FaultKind → List ℕ
+fault_name Null = codes "null"
+fault_name Dangling = codes "dangling"
+
+-- the status of each end, and the line on err
+abbrev pub value_end : ℤ → Status × List ℕ
+value_end value = (status.Done, codes "value " ++ signed_decimal value)
+
+abbrev pub trap_end : TrapKind → Place → Status × List ℕ
+trap_end kind place = (status.Trap, codes "trap " ++ trap_name kind ++ codes " at " ++ position_text place)
+
+abbrev pub fault_end : FaultKind → Place → Status × List ℕ
+fault_end kind place = (status.Fault, codes "fault " ++ fault_name kind ++ codes " at " ++ position_text place)
+
+abbrev pub steps_end : ℕ → Status × List ℕ
+steps_end steps = (status.Steps, codes "steps " ++ decimal steps)
+
+-- how a run may end by its meaning
+abbrev pub ended_as : ℕ → Outcome → Option (Status × List ℕ)
+ended_as steps (meaning.Ended value content) = Some (value_end value)
+ended_as steps (meaning.Trap kind place) = Some (trap_end kind place)
+ended_as steps (meaning.Fault kind place) = Some (fault_end kind place)
+ended_as steps (meaning.OutOfSteps content) = Some (steps_end steps)
+ended_as steps meaning.Lost = None
+
+abbrev pub with_output : List ℕ → Status × List ℕ → Answer
+with_output output ended = record { status = ended.0; out = output; err = line ended.1 }
+
+-- growth and depth have their defaults
+abbrev pub setting_of : RunOptions → Setting
+setting_of options = record { growth = Always; cells = options.cells; depth = 1000 }
+
+-- a run of the program from its first function, without input
+abbrev pub run_with : RunOptions → Program → Function → meaning.Run
+run_with options p main = run_of (setting_of options) p 0 main [] options.steps
+
+-- .. written whole on out, with the line on err
+abbrev pub IsEnd : List ℕ → Option (Status × List ℕ) → Answer → Type 0
+IsEnd output None answer = ⊥
+IsEnd output (Some ended) answer = answer ≡ with_output output ended
+
+-- the answer is the run's: all that it writes, and how it ended
+abbrev pub Ran : RunOptions → Program → Function → Answer → Type 0
+Ran options p main answer = IsEnd (run_with options p main).output (ended_as options.steps (run_with options p main).outcome) answer
+
+-- .. of the program's one function
+abbrev pub RanMain : RunOptions → Program → Answer → Type 0
+RanMain options p answer = (main : Function) × ((p.functions ≡ main ∷ []) × Ran options p main answer)

@@ -1,0 +1,112 @@
+// The run of a program.
+ghost use Rattle.std.specs.Prelude.{◌≡◌, ◌≤◌, ◌++◌, codes};
+ghost use Rattle.life_types.specs.Places.{position_text};
+ghost use Rattle.life_core.specs.Function.{program_of};
+ghost use Rattle.life_cli.specs.CheckedFile.{IsWholeProgram};
+ghost use Rattle.life_cli.specs.Ends.{Serves, Tells};
+ghost use Rattle.life_cli.specs.Runs.{fault_name, trap_name, RanMain};
+ghost use Rattle.life_cli.specs.Told.{TellsRun};
+ghost use Rattle.life_cli.specs.Words.{most_steps};
+
+use crate::Status;
+use crate::job::RunOptions;
+use crate::refusal::tell;
+use crate::stop::{Ending, Stop};
+use life_base::Sink;
+use life_core::{CoreProgram, FnId};
+use life_interp::{FaultKind, Growth, Limits, Machine, Outcome, TrapKind};
+use life_types::Place;
+use std::alloc::Global;
+
+/// The frames that may stand at once.
+const DEPTH: u32 = 1_000;
+
+/// Runs the program from its first function, without input: what it writes goes to out, and how it
+/// ended is told on err.
+#[tactic(auto, using(crate::proofs::Machines::machine_longs, crate::proofs::Machines::machine_points))]
+pub fn execute<O: Sink>(
+    alloc: Global,
+    program: &CoreProgram,
+    options: RunOptions,
+    out: &mut O,
+) -> Result<Ending, Stop>
+    requires whole { IsWholeProgram (program_of program.now) }
+    requires few { options.steps ≤ most_steps }
+    ensures { Serves (RanMain options (program_of program.now))
+        (record { taken = O.taken out.old; faults = O.faults out.old })
+        (record { taken = O.taken out.new; faults = O.faults out.new }) result }
+{
+    let limits = Limits {
+        cells: options.cells,
+        depth: DEPTH,
+    };
+    let mut machine = Machine::prepare(alloc, program, limits)?;
+    let outcome = machine.run(FnId(0), &[], Growth::Always, options.steps, out);
+    tell_outcome(alloc, outcome, options.steps)
+}
+
+// How the run ended.
+fn tell_outcome(alloc: Global, outcome: Outcome, steps: u64) -> Result<Ending, Stop>
+    ensures { TellsRun steps outcome result }
+{
+    match outcome {
+        Outcome::Value(value) => {
+            let text = format!(in alloc; "value {value}")?;
+            tell(alloc, Status::Done, text.as_str())
+        }
+        Outcome::Trap(kind, place) => tell_stop(
+            alloc,
+            Status::Trap,
+            "trap",
+            trap_name(kind),
+            place,
+        ),
+        Outcome::Fault(kind, place) => tell_stop(
+            alloc,
+            Status::Fault,
+            "fault",
+            fault_name(kind),
+            place,
+        ),
+        Outcome::OutOfSteps => {
+            let text = format!(in alloc; "steps {steps}")?;
+            tell(alloc, Status::Steps, text.as_str())
+        }
+        Outcome::WriteFault => Err(Stop::WriteFault),
+        Outcome::NoMemory => Err(Stop::NoMemory),
+    }
+}
+
+// That the run was stopped, why and where.
+fn tell_stop(
+    alloc: Global,
+    status: Status,
+    what: &str,
+    name: &str,
+    place: Place,
+) -> Result<Ending, Stop>
+    ensures { Tells status (what.now ++ codes " " ++ name.now ++ codes " at " ++ position_text place) result }
+{
+    let line = place.line;
+    let column = place.column;
+    let text = format!(in alloc; "{what} {name} at {line}:{column}")?;
+    tell(alloc, status, text.as_str())
+}
+
+fn trap_name(kind: TrapKind) -> &'static str
+    ensures { result.now ≡ trap_name kind }
+{
+    match kind {
+        TrapKind::Cells => "cells",
+        TrapKind::Depth => "depth",
+    }
+}
+
+fn fault_name(kind: FaultKind) -> &'static str
+    ensures { result.now ≡ fault_name kind }
+{
+    match kind {
+        FaultKind::Null => "null",
+        FaultKind::Dangling => "dangling",
+    }
+}

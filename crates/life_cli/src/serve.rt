@@ -1,0 +1,160 @@
+// What a command makes of the bytes of its file.
+ghost use Rattle.std.specs.Prelude.{◌≡◌, ◌≢◌, ◌≤◌, [], length};
+ghost use Rattle.life_core.specs.Function.{program_of};
+ghost use Rattle.life_report.specs.Reports.{report_text, HaveFunctions};
+ghost use Rattle.life_rules.specs.Listing.{AreProgramDiagnostics};
+ghost use Rattle.life_store.specs.NoFault.{NoFault};
+ghost use Rattle.life_cli.specs.CheckedFile.{reported, verdict, AnswersFile, AnswersProgram, IsWholeProgram};
+ghost use Rattle.life_cli.specs.Ends.{Reports, Serves};
+ghost use Rattle.life_cli.specs.Question.{most_bytes};
+ghost use Rattle.life_cli.specs.Words.{HasFewSteps};
+ghost use Rattle.life_cli.specs.declared.status.Status.TheVariants.{Diagnosed};
+
+use crate::Status;
+use crate::checker::program_diagnostics;
+use crate::execute::execute;
+use crate::job::Command;
+use crate::refusal::{refuse_lexical, tell};
+use crate::reply::{Reply, hand_out};
+use crate::stop::{Ending, Stop};
+use life_base::Sink;
+use life_core::CoreProgram;
+use life_front::{FrontFault, read_program};
+use life_report::text_report;
+use life_rules::Diag;
+use life_sound::accept;
+use std::alloc::Global;
+
+/// Serves a file of these bytes: what it reads as decides.
+#[tactic(auto, using(crate::proofs::Served::lexical_serves, crate::proofs::Served::foreign_serves, crate::proofs::Served::whole_serves))]
+pub fn serve_bytes<O: Sink>(
+    alloc: Global,
+    command: Command,
+    bytes: &[u8],
+    out: &mut O,
+) -> Result<Ending, Stop>
+    requires short { length bytes.now ≤ most_bytes }
+    requires few { HasFewSteps command }
+    ensures { Serves (AnswersFile command bytes.now)
+        (record { taken = O.taken out.old; faults = O.faults out.old })
+        (record { taken = O.taken out.new; faults = O.faults out.new }) result }
+{
+    match read_program(alloc, bytes) {
+        Ok(program) => serve_program(alloc, command, program, out),
+        Err(FrontFault::Lex(fault)) => refuse_lexical(alloc, fault),
+        Err(FrontFault::Refused) => tell(alloc, Status::Syntax, "syntax"),
+        Err(FrontFault::NoMemory) => Err(Stop::NoMemory),
+    }
+}
+
+// Serves a program: it is accepted, or what is diagnosed decides.
+fn serve_program<O: Sink>(
+    alloc: Global,
+    command: Command,
+    program: CoreProgram,
+    out: &mut O,
+) -> Result<Ending, Stop>
+    requires whole { IsWholeProgram (program_of program) }
+    requires few { HasFewSteps command }
+    ensures { Serves (AnswersProgram command (program_of program))
+        (record { taken = O.taken out.old; faults = O.faults out.old })
+        (record { taken = O.taken out.new; faults = O.faults out.new }) result }
+{
+    let found = program_diagnostics(alloc, &program)?;
+    match accept(program, found) {
+        Ok(accepted) => serve_accepted(alloc, command, accepted.program(), out),
+        Err(rejected) => serve_rejected(
+            alloc,
+            command,
+            &rejected.program,
+            &rejected.diagnostics,
+            out,
+        ),
+    }
+}
+
+// Serves a program of which nothing is diagnosed.
+fn serve_accepted<O: Sink>(
+    alloc: Global,
+    command: Command,
+    program: &CoreProgram,
+    out: &mut O,
+) -> Result<Ending, Stop>
+    requires whole { IsWholeProgram (program_of program.now) }
+    requires listed { AreProgramDiagnostics (program_of program.now) [] }
+    requires safe { NoFault (program_of program.now) }
+    requires few { HasFewSteps command }
+    ensures { Serves (AnswersProgram command (program_of program.now))
+        (record { taken = O.taken out.old; faults = O.faults out.old })
+        (record { taken = O.taken out.new; faults = O.faults out.new }) result }
+{
+    match command {
+        Command::Check => report(alloc, program, &[], out),
+        Command::Run(options) => execute(alloc, program, options, out),
+    }
+}
+
+// Serves a program with diagnostics.
+fn serve_rejected<O: Sink>(
+    alloc: Global,
+    command: Command,
+    program: &CoreProgram,
+    found: &[Diag],
+    out: &mut O,
+) -> Result<Ending, Stop>
+    requires whole { IsWholeProgram (program_of program.now) }
+    requires listed { AreProgramDiagnostics (program_of program.now) found.now }
+    requires some { found.now ≢ [] }
+    requires few { HasFewSteps command }
+    ensures { Serves (AnswersProgram command (program_of program.now))
+        (record { taken = O.taken out.old; faults = O.faults out.old })
+        (record { taken = O.taken out.new; faults = O.faults out.new }) result }
+{
+    match command {
+        Command::Check => report(alloc, program, found, out),
+        Command::Run(options) if options.unchecked => execute(alloc, program, options, out),
+        Command::Run(_) => report_instead(alloc, program, found),
+    }
+}
+
+// The report on out.
+fn report<O: Sink>(
+    alloc: Global,
+    program: &CoreProgram,
+    found: &[Diag],
+    out: &mut O,
+) -> Result<Ending, Stop>
+    requires { HaveFunctions (program_of program.now) found.now }
+    ensures { Serves (λ answer. answer ≡ reported (program_of program.now) found.now)
+        (record { taken = O.taken out.old; faults = O.faults out.old })
+        (record { taken = O.taken out.new; faults = O.faults out.new }) result }
+{
+    let text = text_report(alloc, program, found)?;
+    let reply = Reply {
+        status: verdict(found),
+        out: text,
+        err: Vec::new(alloc),
+    };
+    hand_out(reply, out)
+}
+
+fn verdict(found: &[Diag]) -> Status
+    ensures { result ≡ verdict found.now }
+{
+    match found {
+        [] => Status::Done,
+        [_, ..] => Status::Diagnosed,
+    }
+}
+
+// The report on err, in place of a run.
+fn report_instead(alloc: Global, program: &CoreProgram, found: &[Diag]) -> Result<Ending, Stop>
+    requires { HaveFunctions (program_of program.now) found.now }
+    ensures { Reports Diagnosed (report_text (program_of program.now) found.now) result }
+{
+    let err = text_report(alloc, program, found)?;
+    Ok(Ending {
+        status: Status::Diagnosed,
+        err,
+    })
+}
