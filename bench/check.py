@@ -8,17 +8,12 @@ carries over to another machine. clang++ stops at its first error, and is left o
 """
 import os
 import shutil
-import subprocess
-import sys
 import tempfile
-import time
+
+from timing import least_time, program_to_time
 
 RUNS = 7
-# A program that takes longer than this, in seconds, is run once.
-SLOW = 2
 FILE_LIMIT = 1_048_576
-HERE = os.path.dirname(os.path.abspath(__file__))
-DEFAULT = os.path.join(HERE, "..", "crates", "lifecheck", "out", "lifecheck")
 
 
 def comment_file():
@@ -72,20 +67,8 @@ FILES = [
 ]
 
 
-def least_time(words):
-    best = None
-    for _ in range(RUNS):
-        begin = time.perf_counter()
-        done = subprocess.run(words, stdout=subprocess.PIPE, stderr=subprocess.PIPE)
-        taken = time.perf_counter() - begin
-        best = taken if best is None else min(best, taken)
-        if taken > SLOW:
-            break
-    return best * 1000, done.returncode, done.stdout
-
-
 def main():
-    program = os.path.abspath(sys.argv[1] if len(sys.argv) > 1 else DEFAULT)
+    program = program_to_time()
     clang = shutil.which("clang++")
     print(f"{'file':30} {'bytes':>9} {'status':>6} {'lifecheck':>12} {'clang++':>12} {'ratio':>7}")
     with tempfile.TemporaryDirectory() as folder:
@@ -94,11 +77,11 @@ def main():
             text = make()
             with open(path, "wb") as handle:
                 handle.write(text)
-            ours, status, _ = least_time([program, "check", path])
-            row = f"{name:30} {len(text):9} {status:6} {ours:9.1f} ms"
+            ours, status = least_time([program, "check", path], RUNS)
+            row = f"{name:30} {len(text):9} {status:6} {ours * 1000:9.1f} ms"
             if clang:
-                theirs, _, _ = least_time([clang, "-std=c++17", "-fsyntax-only", "-ferror-limit=1", path])
-                row += f" {theirs:9.1f} ms {ours / theirs:7.2f}"
+                theirs, _ = least_time([clang, "-std=c++17", "-fsyntax-only", "-ferror-limit=1", path], RUNS)
+                row += f" {theirs * 1000:9.1f} ms {ours / theirs:7.2f}"
             print(row)
 
 

@@ -8,13 +8,11 @@ run took beside the check, in nanoseconds a step. No loop is built yet, so a run
 """
 import os
 import subprocess
-import sys
 import tempfile
-import time
+
+from timing import least_time, program_to_time
 
 RUNS = 25
-HERE = os.path.dirname(os.path.abspath(__file__))
-DEFAULT = os.path.join(HERE, "..", "crates", "lifecheck", "out", "lifecheck")
 
 
 def empty_file():
@@ -53,16 +51,6 @@ FILES = [
 ]
 
 
-def least_time(words):
-    best = None
-    for _ in range(RUNS):
-        begin = time.perf_counter()
-        done = subprocess.run(words, stdout=subprocess.PIPE, stderr=subprocess.PIPE)
-        taken = time.perf_counter() - begin
-        best = taken if best is None else min(best, taken)
-    return best, done.returncode
-
-
 def steps_of(program, path):
     """The least number of steps with which the run ends, by halving."""
     low, high = 0, 2048
@@ -77,7 +65,7 @@ def steps_of(program, path):
 
 
 def main():
-    program = os.path.abspath(sys.argv[1] if len(sys.argv) > 1 else DEFAULT)
+    program = program_to_time()
     print(f"{'file':20} {'steps':>6} {'status':>6} {'check':>10} {'run':>10} {'a step':>10}")
     with tempfile.TemporaryDirectory() as folder:
         for name, make in FILES:
@@ -85,8 +73,8 @@ def main():
             with open(path, "w") as handle:
                 handle.write(make())
             steps = steps_of(program, path)
-            check, _ = least_time([program, "check", path])
-            ran, status = least_time([program, "run", path])
+            check, _ = least_time([program, "check", path], RUNS)
+            ran, status = least_time([program, "run", path], RUNS)
             step = (ran - check) * 1e9 / steps
             print(f"{name:20} {steps:6} {status:6} {check * 1000:7.2f} ms {ran * 1000:7.2f} ms {step:7.0f} ns")
 
