@@ -5,8 +5,8 @@ ghost use Rattle.life_core.specs.Linked.{points_of};
 ghost use Rattle.life_core.specs.Tree.{condition_tree, size, tree_of};
 
 use crate::{
-    Condition, CoreFn, Edge, Form, Instr, Names, NodeRef, Point, Stmt, Test, edges, instr_at,
-    place_at, points, returns_at, spots, test_at,
+    Condition, CoreFn, Edge, Form, Instr, Leads, Names, NodeRef, Point, Stmt, Test, edges,
+    instr_at, links, place_at, points, returns_at, spots, test_at,
 };
 use life_types::{NameId, NoMemory, Place, TyId};
 use std::alloc::Global;
@@ -156,6 +156,29 @@ fn reads_a_loop(rt: HostRuntime) -> Result<(), Fail> {
             branch,
         };
         assert_eq!(rt; *edge, want);
+    }
+
+    let linked = links(rt.alloc(), &f)?;
+    let leads = [
+        Leads::Parts {
+            held: Some(2),
+            failed: Some(6),
+        },
+        Leads::Parts {
+            held: Some(3),
+            failed: Some(6),
+        },
+        Leads::On(Some(4)),
+        Leads::Parts {
+            held: Some(6),
+            failed: Some(5),
+        },
+        Leads::On(Some(1)),
+        Leads::Nowhere,
+    ];
+    assert_eq!(rt; linked.len(), leads.len());
+    for (link, want) in linked.iter().zip(leads) {
+        assert_eq!(rt; link.leads, want);
     }
 
     let mut texts = Vec::new(rt.alloc());
