@@ -1,5 +1,5 @@
 -- Parts that are written one after the other are those of the list.
-use Rattle.std.proofs.Common.{◌≡◌, true, false, List, [], ◌∷◌, ◌++◌, refl, ap, sym, ◌∙◌, append_assoc}
+use Rattle.std.proofs.Common.{◌≡◌, true, false, List, [], ◌∷◌, ◌++◌, refl, ap}
 use Rattle.life_tree.specs.Separated.{separated_keys}
 use Rattle.life_tree.specs.Tree.{Tree, keys_of}
 use Rattle.life_tree.specs.Views.{comma_tree, later_tree, separated_tree}

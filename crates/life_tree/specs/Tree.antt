@@ -1,5 +1,5 @@
 -- Trees as plain data: what a rule of the grammar derives, with its tokens as leaves.
-use Rattle.std.specs.Prelude.{ℕ, ◌+◌, max, Bool, true, false, ◌&&◌, ◌||◌, List, [], ◌∷◌, ◌++◌}
+use Rattle.std.specs.Prelude.{ℕ, ◌+◌, max, Bool, true, false, ◌&&◌, List, [], ◌∷◌, ◌++◌}
 use Rattle.life_types.specs.declared.place.Place.{Place}
 use Rattle.life_tree.specs.Rules.{Rule}
 use Rattle.life_tree.specs.declared.key.TokenKey.{TokenKey}
