@@ -1,0 +1,5 @@
+pub mod Grammar
+pub mod Rules
+pub mod Separated
+pub mod Tree
+pub mod Views

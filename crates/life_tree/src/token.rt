@@ -1,0 +1,13 @@
+// Tokens of trees, where they stand.
+use crate::key::TokenKey;
+use life_types::Place;
+
+/// A token by its kind and value, and where it stands. Of a comma trees do not keep that: a comma's
+/// place is in line 0 and column 0.
+#[derive(Clone, Copy, Debug, PartialEq, Eq)]
+pub struct TreeToken {
+    /// Its kind and value.
+    pub key: TokenKey,
+    /// Where it stands.
+    pub place: Place,
+}
