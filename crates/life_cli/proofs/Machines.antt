@@ -2,13 +2,10 @@
 use Rattle.std.proofs.Common.{◌≡◌, ◌≤◌, ◌<◌, ◌^◌, ℕ, List, [], ◌∷◌, Option, None, Some, Result, Ok, Err, IfSome, slice_get, refl, sym, ap, subst, arith}
 use Rattle.life_base.specs.Edges.{AppendsFront}
 use Rattle.life_core.specs.Function.{Function, Program}
-use Rattle.life_core.specs.Linked.{Linked, code_of, points_of}
-use Rattle.life_core.specs.Step.{Live, End, Eval, Load, Save, Aim, Repoint, Port as Ports}
-use Rattle.life_core.specs.Tree.{Node, Action, Question, Return, Stop as Stops}
-use Rattle.life_core.specs.declared.instr.Operation.TheVariants as operation
-use Rattle.life_front.specs.LongNumbers.{AreLong, HaveLongs, IsLongNode}
-use Rattle.life_interp.specs.Runs.{HaveFewPoints, HaveLongNumbers, RunEnds}
-use Rattle.life_interp.specs.Walking.{HaveLongs as MachineLongs, NodeHasLong, Sunk, Takes}
+use Rattle.life_core.specs.Limits.{HaveFewPoints, HaveLongNumbers}
+use Rattle.life_core.specs.Linked.{points_of}
+use Rattle.life_interp.specs.Runs.{RunEnds}
+use Rattle.life_interp.specs.Walking.{Sunk, Takes}
 use Rattle.life_interp.specs.declared.outcome.Outcome.{Outcome}
 use Rattle.life_interp.specs.declared.outcome.Outcome.TheVariants as outcome
 use Rattle.life_store.specs.Meaning as meaning
@@ -27,30 +24,8 @@ use Rattle.life_cli.specs.declared.stop.Stop.TheVariants as stop
 
 -- ---- what the machine asks of a whole program
 
-step_long : (n : Node) → IsLongNode n → NodeHasLong n
-step_long (Action (Eval r (operation.Number n))) h = h
-step_long (Action (Eval r (operation.Convert s))) h = tt
-step_long (Action (Live x form)) h = tt
-step_long (Action (End xs)) h = tt
-step_long (Action (Load r o)) h = tt
-step_long (Action (Save o r)) h = tt
-step_long (Action (Aim p s)) h = tt
-step_long (Action (Repoint p q)) h = tt
-step_long (Action (Ports r)) h = tt
-step_long (Question t) h = tt
-step_long Return h = tt
-step_long Stops h = tt
-
-code_long : (ls : List Linked) → AreLong ls → MachineLongs ls
-code_long [] h = tt
-code_long (l ∷ ls) h = (step_long l.spot.node h.0, code_long ls h.1)
-
-long_numbers : (fs : List Function) → HaveLongs fs → HaveLongNumbers fs
-long_numbers [] h = tt
-long_numbers (f ∷ fs) h = (code_long (code_of f) h.0, long_numbers fs h.1)
-
 pub machine_longs : (p : Program) → IsWholeProgram p → HaveLongNumbers p.functions
-machine_longs p whole = long_numbers p.functions whole.longs
+machine_longs p whole = whole.longs
 
 pub machine_points : (p : Program) → IsWholeProgram p → HaveFewPoints p.functions
 machine_points p whole = subst HaveFewPoints (sym whole.only) (few (points_of whole.main) whole.within.points, tt)

@@ -5,13 +5,13 @@ use Rattle.life_lex.specs.declared.fault.LexFault.{LexFault}
 use Rattle.life_lex.specs.declared.fault.LexFaultKind.{LexFaultKind}
 use Rattle.life_lex.specs.declared.fault.LexFaultKind.TheVariants.{BadByte, UnclosedText, UnclosedComment, NumberTooLarge}
 use Rattle.life_core.specs.Function.{Function, Program}
+use Rattle.life_core.specs.Limits.{HaveLongNumbers}
 use Rattle.life_core.specs.Proper.{IsProperProgram}
 use Rattle.life_pset.specs.Elements.{IsWithinLimits}
 use Rattle.life_rules.specs.Listing.{AreProgramDiagnostics}
 use Rattle.life_rules.specs.declared.diag.Diag.{Diag}
 use Rattle.life_report.specs.Reports.{report_text}
 use Rattle.life_front.specs.Form.{Reading, Faulty, Foreign, Whole, ReadsOnlyAs}
-use Rattle.life_front.specs.LongNumbers.{HaveLongs}
 use Rattle.life_store.specs.NoFault.{NoFault}
 use Rattle.life_cli.specs.Answer.{Answer, refusal}
 use Rattle.life_cli.specs.Runs.{Ran}
@@ -61,7 +61,7 @@ pub record IsWholeProgram (p : Program) : Type 0 where
   pub only : p.functions ≡ main ∷ []
   pub within : IsWithinLimits p.types main
   pub proper : IsProperProgram p
-  pub longs : HaveLongs p.functions
+  pub longs : HaveLongNumbers p.functions
 
 -- the answer is the command's to the program's list of diagnostics; where that is empty, no run of the program, on whatever input,
 -- with whatever limits, growth and number of steps, uses a null, dangling or moved-from place

@@ -129,14 +129,24 @@ fn reads_a_loop(rt: HostRuntime) -> Result<(), Fail> {
         assert_eq!(rt; returns_at(&f, point), returns, "at {number}");
         assert_eq!(rt; place_at(&f, point), place, "at {number}");
     }
+    Ok(())
+}
 
+#[test]
+fn lists_the_spots_of_a_loop(rt: HostRuntime) -> Result<(), Fail> {
+    let f = breaking(rt.alloc())?;
     let found = spots(rt.alloc(), &f)?;
     assert_eq!(rt; found.len(), 6);
     for (k, spot) in found.iter().enumerate() {
         assert_eq!(rt; spot.place.line as usize, k + 1);
         assert_eq!(rt; matches!(spot.node, NodeRef::Return), k == 5);
     }
+    Ok(())
+}
 
+#[test]
+fn lists_the_edges_of_a_loop(rt: HostRuntime) -> Result<(), Fail> {
+    let f = breaking(rt.alloc())?;
     let ways = [
         (1, 2, Some(true)),
         (1, 6, Some(false)),
@@ -157,7 +167,12 @@ fn reads_a_loop(rt: HostRuntime) -> Result<(), Fail> {
         };
         assert_eq!(rt; *edge, want);
     }
+    Ok(())
+}
 
+#[test]
+fn links_the_points_of_a_loop(rt: HostRuntime) -> Result<(), Fail> {
+    let f = breaking(rt.alloc())?;
     let linked = links(rt.alloc(), &f)?;
     let leads = [
         Leads::Parts {
@@ -180,7 +195,11 @@ fn reads_a_loop(rt: HostRuntime) -> Result<(), Fail> {
     for (link, want) in linked.iter().zip(leads) {
         assert_eq!(rt; link.leads, want);
     }
+    Ok(())
+}
 
+#[test]
+fn tells_names(rt: HostRuntime) -> Result<(), Fail> {
     let mut texts = Vec::new(rt.alloc());
     texts.push(b"f".to_vec(rt.alloc())?)?;
     texts.push(b"x1".to_vec(rt.alloc())?)?;

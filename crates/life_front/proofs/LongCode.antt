@@ -4,6 +4,7 @@ use Rattle.std.proofs.lemmas.List.Elements.{All-head, All-tail}
 use Rattle.std.specs.Prelude.{All}
 use Rattle.life_types.specs.declared.place.Place.{Place}
 use Rattle.life_core.specs.Function.{Program, program_of}
+use Rattle.life_core.specs.Limits.{HasLong, HaveLongNumbers, HaveLongs}
 use Rattle.life_core.specs.Linked.{linked, no_exits}
 use Rattle.life_core.specs.Step.{Step, Aim, Repoint}
 use Rattle.life_core.specs.Tree.{Tree, Acts, Returns, trees}
@@ -11,7 +12,6 @@ use Rattle.life_core.specs.declared.instr.Operand.{Operand}
 use Rattle.life_core.specs.declared.instr.Operand.TheVariants.{Name, Through}
 use Rattle.life_core.specs.declared.instr.Source.TheVariants as source
 use Rattle.life_core.specs.declared.program.CoreProgram.{CoreProgram}
-use Rattle.life_front.specs.LongNumbers.{AreLong, GivesLong, HaveLongs}
 use Rattle.life_front.specs.NumbersFit.{ExpressionFits, InitialFits, ItemFits}
 use Rattle.life_front.specs.Reads.{Reads}
 use Rattle.life_front.specs.Source.{Named, Expression, Number, Null, Variable, Pointee, Address, Item, Open, Close, Declare, Assign, Store, Return, Print, Insert, Semicolon, Source}
@@ -25,7 +25,7 @@ use Rattle.life_front.proofs.Wholes.{given_state}
 
 -- an action whose number is a long, or a return
 abbrev TreeFits : Tree → Type 0
-TreeFits (Acts place i) = GivesLong i
+TreeFits (Acts place i) = HasLong i
 TreeFits (Returns place) = Unit {0}
 TreeFits _ = ⊥
 
@@ -68,7 +68,7 @@ fits_cond false x y p q = q
 
 -- ---- expressions
 
-write_fits : (own : Bool) (place : Place) (step : ℕ → Step) (s : State) → ((r : ℕ) → GivesLong (step r)) → Fits s → Fits (write own place step s)
+write_fits : (own : Bool) (place : Place) (step : ℕ → Step) (s : State) → ((r : ℕ) → HasLong (step r)) → Fits s → Fits (write own place step s)
 write_fits true place step s long h = more s.code _ h (long (target true s))
 write_fits false place step s long h = more s.code _ h (long (target false s))
 
@@ -169,19 +169,19 @@ items_fit (i ∷ is) s t given f h =
 
 -- ---- the code that is linked
 
-linked_long : (ts : List Tree) (p : ℕ) → CodeFits ts → AreLong (linked (trees ts) p no_exits)
+linked_long : (ts : List Tree) (p : ℕ) → CodeFits ts → HaveLongs (linked (trees ts) p no_exits)
 linked_long [] p h = tt
 linked_long (Acts place i ∷ ts) p h = (h.0, linked_long ts (p + 1) h.1)
 linked_long (Returns place ∷ ts) p h = (tt, linked_long ts (p + 1) h.1)
 linked_long (_ ∷ ts) p h = absurd h.0
 
-translated_long : (source : Source) (p : Program) → translate source ≡ Some p → All ItemFits source.items → HaveLongs p.functions
+translated_long : (source : Source) (p : Program) → translate source ≡ Some p → All ItemFits source.items → HaveLongNumbers p.functions
 translated_long source p is fit =
     let state = given_state (translate_items source.items (first_state source.main)) p is in
-    subst (λ (q : Program). HaveLongs q.functions) state.2
+    subst (λ (q : Program). HaveLongNumbers q.functions) state.2
     (linked_long state.0.code 1 (items_fit source.items (first_state source.main) state.0 state.1 fit tt), tt)
 
-pub reads_long : (bytes : List ℕ) (r : Result CoreProgram FrontFault) → Reads bytes r → IfOk r (λ p. HaveLongs (program_of p).functions)
+pub reads_long : (bytes : List ℕ) (r : Result CoreProgram FrontFault) → Reads bytes r → IfOk r (λ p. HaveLongNumbers (program_of p).functions)
 reads_long bytes (Ok program) reads =
     let is = reads.is in
     translated_long is.source (program_of program) is.translated (numbers_fit bytes is.tokens is.source is.lexed is.spelled.tokens)

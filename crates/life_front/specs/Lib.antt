@@ -1,7 +1,6 @@
 pub mod Answers
 pub mod Form
 pub mod ItemViews
-pub mod LongNumbers
 pub mod Main
 pub mod NumbersFit
 pub mod Parses

@@ -1,11 +1,11 @@
 // The program of a file.
 ghost use Rattle.std.specs.Prelude.{◌≡◌, ◌+◌, ◌≤◌, ◌<◌, ◌^◌, ◌∷◌, [], length, map, IfOk};
 ghost use Rattle.life_core.specs.Function.{function_of, name_bytes, program_of};
+ghost use Rattle.life_core.specs.Limits.{HaveLongNumbers};
 ghost use Rattle.life_core.specs.Proper.{IsProperProgram};
 ghost use Rattle.life_lex.specs.Answers.{lexeme};
 ghost use Rattle.life_front.specs.Answers.{HasRoom, ItemFits};
 ghost use Rattle.life_front.specs.ItemViews.{item_of, source_of};
-ghost use Rattle.life_front.specs.LongNumbers.{HaveLongs};
 ghost use Rattle.life_front.specs.Main.{HasMain};
 ghost use Rattle.life_front.specs.Reads.{GivesProgram, GivesState, GivesStep, IsTranslatable, Reads, ReadsTokens, SpellTranslatable};
 ghost use Rattle.life_front.specs.Translation as spec;
@@ -34,7 +34,7 @@ pub fn read_program(alloc: Global, bytes: &[u8]) -> Result<CoreProgram, FrontFau
     ensures reads { Reads bytes.now result }
     ensures proper { IfOk result (λ p. IsProperProgram (program_of p)) }
     ensures single { IfOk result (λ p. HasMain bytes.now (program_of p)) }
-    ensures longs { IfOk result (λ p. HaveLongs (program_of p).functions) }
+    ensures longs { IfOk result (λ p. HaveLongNumbers (program_of p).functions) }
 {
     match tokens_of_file(alloc, bytes) {
         Ok(tokens) => read_tokens(alloc, &tokens),

@@ -23,8 +23,10 @@ use Rattle.life_store.proofs.NeverLost.{never_lost, proper_at}
 use Rattle.life_interp.specs.Cells.{cells_seen, state_of}
 use Rattle.life_interp.specs.Fits.{CellsFit, IsFit}
 use Rattle.life_interp.specs.Walk.{walk}
-use Rattle.life_interp.specs.Runs.{RunEnds, TakesFront, HaveFewPoints, HaveLongNumbers, links_seen}
-use Rattle.life_interp.specs.Walking.{HaveLongs, Sunk, Takes, TakesPart, output_of}
+use Rattle.life_interp.specs.Runs.{RunEnds, TakesFront, links_seen}
+use Rattle.life_core.specs.Limits.{HaveFewPoints, HaveLongNumbers}
+use Rattle.life_interp.specs.Walking.{Sunk, Takes, TakesPart, output_of}
+use Rattle.life_core.specs.Limits.{HaveLongs}
 use Rattle.life_interp.specs.declared.outcome.Outcome.TheVariants as outcome
 use Rattle.life_base.specs.Edges.{AppendsFront}
 use Rattle.life_store.specs.declared.run.FaultKind.{FaultKind}

@@ -18,7 +18,8 @@ use Rattle.life_store.specs.Meaning.{Stray, Called, Back, Quit, results}
 use Rattle.life_store.specs.State.{State}
 use Rattle.life_interp.specs.Cells.{state_of, world_of}
 use Rattle.life_interp.specs.Walk.{walk, at_point}
-use Rattle.life_interp.specs.Walking.{Takes, TakesPart, HaveLongs, NodeHasLong, at_link, PointEnds, WalkEnds, output_of}
+use Rattle.life_interp.specs.Walking.{Takes, TakesPart, at_link, PointEnds, WalkEnds, output_of}
+use Rattle.life_core.specs.Limits.{HaveLongs, NodeHasLong}
 use Rattle.life_interp.specs.declared.ending.Halt.{Halt}
 use Rattle.life_interp.specs.declared.ending.Halt.TheVariants as halt
 use Rattle.life_interp.specs.declared.value.Cell.{Cell}

@@ -1,16 +1,15 @@
 -- How a run of the machine ends, beside the run that the meaning gives.
-use Rattle.std.specs.Prelude.{◌≡◌, ◌<◌, ◌^◌, ℕ, List, [], ◌∷◌, map}
+use Rattle.std.specs.Prelude.{◌≡◌, ℕ, List, map}
 use Rattle.std.specs.declared.alloc.Global.{Global}
 use Rattle.std.specs.declared.vec.Vec.{Vec}
 use Rattle.life_base.specs.Edges.{AppendsFront}
-use Rattle.life_core.specs.Function.{Function}
 use Rattle.life_core.specs.Link.{link_seen}
-use Rattle.life_core.specs.Linked.{Linked, code_of, points_of}
+use Rattle.life_core.specs.Linked.{Linked}
 use Rattle.life_core.specs.declared.link.LinkRef.{LinkRef}
 use Rattle.life_store.specs.Content.{Content}
 use Rattle.life_store.specs.Meaning as meaning
 use Rattle.life_store.specs.Meaning.{Run}
-use Rattle.life_interp.specs.Walking.{HaveLongs, Sunk, Takes, TakesPart}
+use Rattle.life_interp.specs.Walking.{Sunk, Takes, TakesPart}
 use Rattle.life_interp.specs.declared.outcome.Outcome.{Outcome}
 use Rattle.life_interp.specs.declared.outcome.Outcome.TheVariants as outcome
 
@@ -27,16 +26,6 @@ RunEnds run k (outcome.Fault kind place) = Takes k run.output × (run.outcome �
 RunEnds run k outcome.OutOfSteps = Takes k run.output × ((c : Content) × (run.outcome ≡ meaning.OutOfSteps c))
 RunEnds run k outcome.WriteFault = TakesPart k run.output
 RunEnds run k outcome.NoMemory = TakesFront k run.output
-
--- each function has so few points that they can be numbered
-abbrev pub HaveFewPoints : List Function → Type 0
-HaveFewPoints [] = Unit {0}
-HaveFewPoints (f ∷ fs) = (points_of f < 2 ^ 31) × HaveFewPoints fs
-
--- the numbers of literals are longs
-abbrev pub HaveLongNumbers : List Function → Type 0
-HaveLongNumbers [] = Unit {0}
-HaveLongNumbers (f ∷ fs) = HaveLongs (code_of f) × HaveLongNumbers fs
 
 abbrev pub links_seen : Vec LinkRef Global → List Linked
 links_seen links = map link_seen links.items

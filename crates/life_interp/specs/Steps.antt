@@ -1,9 +1,7 @@
 -- What the machine's functions answer of the steps of the meaning.
-use Rattle.std.specs.Prelude.{◌≡◌, ◌<◌, ◌^◌, ℕ, ℤ, List, Some, Result, MatchResult, option_map, slice_get}
+use Rattle.std.specs.Prelude.{◌≡◌, ℕ, ℤ, List, Some, Result, MatchResult, option_map, slice_get}
 use Rattle.life_core.specs.declared.instr.Operand.{Operand}
 use Rattle.life_core.specs.declared.instr.Operand.TheVariants.{Name, Through}
-use Rattle.life_core.specs.declared.instr.Operation.{Operation}
-use Rattle.life_core.specs.declared.instr.Operation.TheVariants as operation
 use Rattle.life_store.specs.Content.{Content, Object, word_at}
 use Rattle.life_store.specs.Doing.{Effect, Next, Traps, Faults, Strays, Found, Here, Wrong, Astray, named_by, behind_cell, on_found, on_number, on_pointer, saved, put_cell, number_in_word, resolve, cell, ported}
 use Rattle.life_store.specs.References.{Rows, HasWord, object_of}
@@ -43,11 +41,6 @@ place_in c cells (Name x) = named_by c (option_map cell_seen (slice_get cells x)
 place_in c cells (Through p) = behind_cell c (option_map cell_seen (slice_get cells p))
 
 -- ---- steps
-
--- a number of a literal is a long
-abbrev pub FitsLong : Operation → Type 0
-FitsLong (operation.Number n) = n < 2 ^ 63
-FitsLong (operation.Convert r) = Unit {0}
 
 -- why a step doesn't come to a next state
 abbrev pub TellsEnd : Effect → Ending → Type 0

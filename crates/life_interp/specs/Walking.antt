@@ -1,5 +1,5 @@
 -- What the machine's loop answers of the walk over points.
-use Rattle.std.specs.Prelude.{◌≡◌, ℕ, ℤ, List, [], ◌∷◌, ◌++◌, Option, Bool, true, false, Result, MatchResult, MatchOption}
+use Rattle.std.specs.Prelude.{◌≡◌, ℕ, ℤ, List, [], ◌++◌, Option, Bool, true, false, Result, MatchResult, MatchOption}
 use Rattle.std.specs.Io.KnownBytes.{Appends}
 use Rattle.life_base.specs.Causes.{Rose}
 use Rattle.life_base.specs.Edges.{AppendsFront}
@@ -7,7 +7,6 @@ use Rattle.life_types.specs.Types.{Types}
 use Rattle.life_core.specs.Function.{Function}
 use Rattle.life_core.specs.Linked.{Linked}
 use Rattle.life_core.specs.Step.{Step, Live, End, Eval, Load, Save, Aim, Repoint, Port}
-use Rattle.life_core.specs.Tree.{Node, Action, Question, Return, Stop}
 use Rattle.life_types.specs.declared.place.Place.{Place}
 use Rattle.life_core.specs.declared.instr.Test.{Test}
 use Rattle.life_store.specs.Content.{Content}
@@ -15,7 +14,7 @@ use Rattle.life_store.specs.Doing.{Setting, Effect, Next}
 use Rattle.life_store.specs.Meaning.{Trapped, Faulted, Stray, Exhausted, Verdict, Holds, Fails, Cut, test_at, Called, Back, TooDeep, Quit, results}
 use Rattle.life_store.specs.State.{World, State}
 use Rattle.life_interp.specs.Cells.{state_of, world_of}
-use Rattle.life_interp.specs.Steps.{FitsLong, TellsEnd}
+use Rattle.life_interp.specs.Steps.{TellsEnd}
 use Rattle.life_interp.specs.Walk.{Go, at_node}
 use Rattle.life_interp.specs.declared.ending.Ending.{Ending}
 use Rattle.life_interp.specs.declared.ending.Ending.TheVariants as ending
@@ -35,17 +34,6 @@ IsQuiet (Load r o) = Unit {0}
 IsQuiet (Save o r) = Unit {0}
 IsQuiet (Aim p s) = Unit {0}
 IsQuiet (Repoint p q) = Unit {0}
-
--- its number is a long
-abbrev pub HasLong : Step → Type 0
-HasLong (Eval r operation) = FitsLong operation
-HasLong (Live x form) = Unit {0}
-HasLong (End xs) = Unit {0}
-HasLong (Load r o) = Unit {0}
-HasLong (Save o r) = Unit {0}
-HasLong (Aim p s) = Unit {0}
-HasLong (Repoint p q) = Unit {0}
-HasLong (Port r) = Unit {0}
 
 -- what the sink has taken, and its count of faults, before and after
 pub record Sunk : Type 0 where
@@ -93,17 +81,6 @@ Asks t cells result =
     (λ b. (c : Content) (n : ℕ) (output : List ℕ) (input : List ℤ) → test_at t n (state_of c cells output input) ≡ verdict b n (state_of c cells output input))
 
 -- ---- points
-
-abbrev pub NodeHasLong : Node → Type 0
-NodeHasLong (Action i) = HasLong i
-NodeHasLong (Question t) = Unit {0}
-NodeHasLong Return = Unit {0}
-NodeHasLong Stop = Unit {0}
-
--- .. at each point
-abbrev pub HaveLongs : List Linked → Type 0
-HaveLongs [] = Unit {0}
-HaveLongs (l ∷ ls) = NodeHasLong l.spot.node × HaveLongs ls
 
 -- why the machine stops at this place
 abbrev pub halt_of : Place → Ending → Halt

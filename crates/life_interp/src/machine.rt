@@ -3,7 +3,8 @@ ghost use Rattle.std.specs.Prelude.{◌≡◌, ◌≤◌, ◌<◌, IfOk, IfSome,
 ghost use Rattle.life_core.specs.Function.{program_of};
 ghost use Rattle.life_core.specs.Linked.{code_of};
 ghost use Rattle.life_core.specs.Proper.{IsProperProgram};
-ghost use Rattle.life_interp.specs.Runs.{links_seen, HaveFewPoints, HaveLongNumbers, RunEnds};
+ghost use Rattle.life_interp.specs.Runs.{links_seen, RunEnds};
+ghost use Rattle.life_core.specs.Limits.{HaveFewPoints, HaveLongNumbers};
 ghost use Rattle.life_store.specs.Meaning.{run_of};
 
 use crate::entry::{all_links, run_entry};

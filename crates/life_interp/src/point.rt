@@ -4,7 +4,8 @@ ghost use Rattle.life_core.specs.Function.{function_of};
 ghost use Rattle.life_core.specs.Link.{leads_seen, link_seen};
 ghost use Rattle.life_interp.specs.Fits.{CanStep, Grows, IsFit};
 ghost use Rattle.life_interp.specs.Walk.{first_way, second_way};
-ghost use Rattle.life_interp.specs.Walking.{halt_of, NodeHasLong, PointLeads};
+ghost use Rattle.life_interp.specs.Walking.{halt_of, PointLeads};
+ghost use Rattle.life_core.specs.Limits.{NodeHasLong};
 ghost use Rattle.life_store.specs.Doing.{Setting};
 
 use crate::ask::ask;

@@ -6,7 +6,7 @@ ghost use Rattle.life_core.specs.Linked.{code_of};
 ghost use Rattle.life_core.specs.Proper.{IsProperProgram};
 ghost use Rattle.life_interp.specs.Cells.{state_of};
 ghost use Rattle.life_interp.specs.Runs.{RunEnds};
-ghost use Rattle.life_interp.specs.Walking.{HaveLongs};
+ghost use Rattle.life_core.specs.Limits.{HaveLongs};
 ghost use Rattle.life_interp.specs.declared.value.Cell.TheVariants as held;
 ghost use Rattle.life_store.specs.Cells.{none};
 ghost use Rattle.life_store.specs.Content.{empty_content, Content};

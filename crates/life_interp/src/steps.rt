@@ -4,7 +4,8 @@ ghost use Rattle.life_core.specs.Function.{function_of};
 ghost use Rattle.life_core.specs.Step.{step_of};
 ghost use Rattle.life_interp.specs.Fits.{CanStep, Grows, IsFit};
 ghost use Rattle.life_interp.specs.Steps.{ported_from, LeavesBoth};
-ghost use Rattle.life_interp.specs.Walking.{HasLong, IsQuiet, Performs};
+ghost use Rattle.life_interp.specs.Walking.{IsQuiet, Performs};
+ghost use Rattle.life_core.specs.Limits.{HasLong};
 ghost use Rattle.life_store.specs.Content.{Content};
 ghost use Rattle.life_store.specs.Doing.{does, Setting};
 

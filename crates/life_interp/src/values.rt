@@ -2,7 +2,8 @@
 ghost use Rattle.std.specs.Prelude.{◌≡◌, ◌<◌, ◌^◌, pos, OnOk};
 ghost use Rattle.life_core.specs.Function.{function_of};
 ghost use Rattle.life_interp.specs.Fits.{CellsFit, IsFit};
-ghost use Rattle.life_interp.specs.Steps.{loaded, stored, FitsLong, LeavesBoth, LeavesCells};
+ghost use Rattle.life_interp.specs.Steps.{loaded, stored, LeavesBoth, LeavesCells};
+ghost use Rattle.life_core.specs.Limits.{FitsLong};
 ghost use Rattle.life_store.specs.Content.{Content};
 ghost use Rattle.life_store.specs.References.{Rows};
 ghost use Rattle.life_store.specs.Doing.{as_int, converted, evaluated, type_of};

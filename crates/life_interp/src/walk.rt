@@ -6,7 +6,8 @@ ghost use Rattle.life_core.specs.Linked.{numbered};
 ghost use Rattle.life_interp.specs.Cells.{state_of};
 ghost use Rattle.life_interp.specs.Fits.{CanWalk, IsFit};
 ghost use Rattle.life_interp.specs.Walk.{walk};
-ghost use Rattle.life_interp.specs.Walking.{HaveLongs, WalkEnds};
+ghost use Rattle.life_interp.specs.Walking.{WalkEnds};
+ghost use Rattle.life_core.specs.Limits.{HaveLongs};
 ghost use Rattle.life_store.specs.Doing.{Setting};
 
 use crate::ending::Halt;

@@ -8,7 +8,7 @@ use Rattle.life_store.specs.Doing.{Next, evaluated, put_cell, converted}
 use Rattle.life_store.specs.State as state
 use Rattle.life_interp.specs.Cells.{cells_seen, number_in, state_of}
 use Rattle.life_interp.specs.Fits.{CellsFit}
-use Rattle.life_interp.specs.Steps.{FitsLong}
+use Rattle.life_core.specs.Limits.{FitsLong}
 use Rattle.life_interp.specs.declared.value.Cell.{Cell}
 use Rattle.life_interp.specs.declared.value.Cell.TheVariants as held
 use Rattle.life_interp.proofs.FitLemmas.{set_fits}
