@@ -1,8 +1,10 @@
 pub mod Beginnings
 pub mod Lists
 pub mod LongestToken
+pub mod NumbersFit
 pub mod OneReading
 pub mod Positions
 pub mod Slices
 pub mod Steps
+pub mod TokenCount
 pub mod WorkedRows

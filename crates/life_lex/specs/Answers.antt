@@ -1,15 +1,21 @@
 -- What the lexer's answers say of a file.
-use Rattle.std.specs.Prelude.{◌≡◌, ℕ, ◌↔◌, List, [], ◌∷◌, ◌++◌, Option, Some, None, Result, Ok, Err}
+use Rattle.std.specs.Prelude.{◌≡◌, ℕ, ◌<◌, ◌^◌, ◌↔◌, List, [], ◌∷◌, ◌++◌, Option, Some, None, Result, Ok, Err}
 use Rattle.life_lex.specs.Cursors.{Cursor, start}
+use Rattle.life_lex.specs.Numbers.{value_of}
 use Rattle.life_lex.specs.Readings.{Lexeme, Ending, whole, broken, Reads}
 use Rattle.life_lex.specs.declared.fault.LexFault.{LexFault}
 use Rattle.life_lex.specs.declared.fault.LexStop.{LexStop}
 use Rattle.life_lex.specs.declared.fault.LexStop.TheVariants.{Fault, NoMemory}
 use Rattle.life_lex.specs.declared.token.Token.{Token}
+use Rattle.life_lex.specs.declared.token.TokenKind.TheVariants.{Number}
 
 -- a token as the definitions have it
 abbrev pub lexeme : Token → Lexeme
 lexeme t = record { kind = t.kind; text = t.text.now; offset = t.offset; place = t.place }
+
+-- A number is a long: at most 2^63 - 1.
+abbrev pub NumberFits : Lexeme → Type 0
+NumberFits t = t.kind ≡ Number → value_of t.text < 2 ^ 63
 
 -- From both points on the file reads alike.
 abbrev pub ReadsAlike : Cursor → Cursor → Type 0

@@ -1,7 +1,7 @@
 //! All tokens of a file.
 
-ghost use Rattle.std.specs.Prelude.{◌<◌, ◌^◌, length, map, IfOk, IfErr};
-ghost use Rattle.life_lex.specs.Answers.{lexeme, LexesOnly, StopsOnly};
+ghost use Rattle.std.specs.Prelude.{◌<◌, ◌≤◌, ◌^◌, length, map, All, IfOk, IfErr};
+ghost use Rattle.life_lex.specs.Answers.{lexeme, LexesOnly, NumberFits, StopsOnly};
 ghost use Rattle.life_lex.specs.Slices.{AreSlices};
 
 use crate::fault::LexStop;
@@ -19,6 +19,8 @@ use std::vec::Vec;
 pub fn tokens_of_file<'a>(alloc: Global, source: &'a [u8]) -> Result<Vec<Token<'a>>, LexStop>
     requires { length source.now < 2 ^ 32 }
     ensures tokens { IfOk result (λ tokens. LexesOnly source.now (map lexeme tokens.items)) }
+    ensures numbers { IfOk result (λ tokens. All NumberFits (map lexeme tokens.items)) }
+    ensures count { IfOk result (λ tokens. length tokens.items ≤ length source.now) }
     ensures slices { IfOk result (λ tokens. AreSlices 0 source.now (map lexeme tokens.items)) }
     ensures fault { IfErr result (λ stop. StopsOnly source.now stop) }
 {
