@@ -1,3 +1,4 @@
+pub mod Branches
 pub mod Grammar
 pub mod Rules
 pub mod Separated

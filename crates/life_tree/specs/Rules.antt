@@ -10,22 +10,28 @@ pub data Rule : Type 0 where
   attribute : Rule
   word : Rule
   type_name : Rule
+  unqualified : Rule
   base : Rule
   argument : Rule
   block : Rule
+  block_item : Rule
   statement : Rule
   plain : Rule
   branches : Rule
-  branch : Rule
-  else_if : Rule
-  last_else : Rule
+  else_part : Rule
+  condition : Rule
+  for_head : Rule
+  for_clauses : Rule
+  for_rest : Rule
+  sentence : Rule
+  print_part : Rule
   item : Rule
   declaration : Rule
   declared_type : Rule
+  initializer : Rule
   initial : Rule
   list : Rule
   simple : Rule
-  call : Rule
   target : Rule
   expr : Rule
   both : Rule
@@ -35,5 +41,6 @@ pub data Rule : Type 0 where
   term : Rule
   unary : Rule
   postfix : Rule
+  part : Rule
   primary : Rule
   args : Rule

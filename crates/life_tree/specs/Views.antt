@@ -3,7 +3,7 @@ use Rattle.std.specs.Prelude.{ℕ, List, [], ◌∷◌, Option, Some, None, map}
 use Rattle.life_types.specs.declared.place.Place.{Place}
 use Rattle.life_tree.specs.Grammar.{nowhere}
 use Rattle.life_tree.specs.Rules as rules
-use Rattle.life_tree.specs.Tree.{Tree, nothing, token, ◌⨾◌, construct, node}
+use Rattle.life_tree.specs.Tree.{Tree, nothing, without_else, token, ◌⨾◌, construct, node}
 use Rattle.life_tree.specs.declared.fixed.TheConstants as fixed
 use Rattle.life_tree.specs.declared.key.TokenKey.TheVariants as keys
 use Rattle.life_tree.specs.declared.identifier.Identifier.{Identifier}
@@ -128,16 +128,21 @@ separated_tree [] = nothing
 separated_tree (t ∷ ts) = t ⨾ later_tree ts
 
 abbrev pub parenthesized_tree : Place → Tree → Place → Tree
-parenthesized_tree opening t closing = construct (at fixed.LEFT_PAREN opening ⨾ t ⨾ at fixed.RIGHT_PAREN closing)
+parenthesized_tree opening t closing = construct fixed.LEFT_PAREN opening (t ⨾ at fixed.RIGHT_PAREN closing)
 
 abbrev pub braced_tree : Place → Tree → Place → Tree
-braced_tree opening t closing = construct (at fixed.LEFT_BRACE opening ⨾ t ⨾ at fixed.RIGHT_BRACE closing)
+braced_tree opening t closing = construct fixed.LEFT_BRACE opening (t ⨾ at fixed.RIGHT_BRACE closing)
 
 abbrev pub name_tree : Identifier → Tree
 name_tree name = token (keys.Name name.id) name.place
 
-abbrev pub qualified_tree : ℕ → ℕ → Qualified → Tree
-qualified_tree namespace word name = at namespace name.namespace ⨾ at fixed.SCOPE name.scope ⨾ at word name.word
+-- a word of a namespace, and what follows it
+abbrev pub qualified_tree : ℕ → ℕ → Qualified → Tree → Tree
+qualified_tree namespace word name t = at namespace name.namespace ⨾ at fixed.SCOPE name.scope ⨾ at word name.word ⨾ t
+
+-- .. alone
+abbrev pub qualified_word_tree : ℕ → ℕ → Qualified → Tree
+qualified_word_tree namespace word name = at namespace name.namespace ⨾ at fixed.SCOPE name.scope ⨾ at word name.word
 
 -- ---- operators, by the numbers of their tokens
 
@@ -190,44 +195,58 @@ iterator_number Constant = fixed.CONST_ITERATOR
 abbrev pub iterator_tree : IteratorName → Tree
 iterator_tree name = at fixed.SCOPE name.scope ⨾ at (iterator_number name.kind) name.word
 
+-- a type: its `const`, and what follows that
+pub record TypeView : Type 0 where
+  pub constant : Option Place
+  pub unqualified : Tree
+
+abbrev pub whole_type : TypeView → Tree
+whole_type t = node rules.type_name (optional_tree (at fixed.CONST) t.constant ⨾ t.unqualified)
+
 -- one level of a value, with what is inside already seen as trees
-abbrev pub base_form : type_open.Base-F Tree Tree Tree → Tree
+abbrev pub base_form : type_open.Base-F Tree Tree TypeView → Tree
 base_form (type_open.Bool place) = at fixed.BOOL place
 base_form (type_open.Char place) = at fixed.CHAR place
 base_form (type_open.Int place) = at fixed.INT place
 base_form (type_open.Long place) = at fixed.LONG place
 base_form (type_open.Named name) = name_tree name
-base_form (type_open.SizeT name) = qualified_tree fixed.STD fixed.SIZE_T name
-base_form (type_open.Text name) = qualified_tree fixed.STD fixed.STRING name
-base_form (type_open.View name) = qualified_tree fixed.STD fixed.STRING_VIEW name
-base_form (type_open.Vector name element iterator) = qualified_tree fixed.STD fixed.VECTOR name ⨾ element ⨾ optional_tree iterator_tree iterator
-base_form (type_open.UniquePtr name element) = qualified_tree fixed.STD fixed.UNIQUE_PTR name ⨾ element
-base_form (type_open.Span name element) = qualified_tree fixed.GSL fixed.SPAN name ⨾ element
+base_form (type_open.SizeT name) = qualified_word_tree fixed.STD fixed.SIZE_T name
+base_form (type_open.Text name) = qualified_word_tree fixed.STD fixed.STRING name
+base_form (type_open.View name) = qualified_word_tree fixed.STD fixed.STRING_VIEW name
+base_form (type_open.Vector name element iterator) = qualified_tree fixed.STD fixed.VECTOR name (element ⨾ optional_tree iterator_tree iterator)
+base_form (type_open.UniquePtr name element) = qualified_tree fixed.STD fixed.UNIQUE_PTR name element
+base_form (type_open.Span name element) = qualified_tree fixed.GSL fixed.SPAN name element
 
-abbrev pub base_step : type_open.Base-F Tree Tree Tree → Tree
+abbrev pub base_step : type_open.Base-F Tree Tree TypeView → Tree
 base_step b = node rules.base (base_form b)
 
-abbrev pub argument_step : type_open.TypeArgument-F Tree Tree Tree → Tree
-argument_step a = node rules.argument (construct (at fixed.LESS a.opening ⨾ a.ty.value ⨾ at fixed.GREATER a.closing))
+abbrev pub argument_step : type_open.TypeArgument-F Tree Tree TypeView → Tree
+argument_step a = node rules.argument (construct fixed.LESS a.opening (whole_type a.ty.value ⨾ at fixed.GREATER a.closing))
 
-abbrev pub type_step : type_open.TypeName-F Tree Tree Tree → Tree
-type_step t = node rules.type_name (optional_tree (at fixed.CONST) t.constant ⨾ t.base ⨾ optional_tree suffix_tree t.suffix)
+abbrev pub type_step : type_open.TypeName-F Tree Tree TypeView → TypeView
+type_step t = record { constant = t.constant; unqualified = node rules.unqualified (t.base ⨾ optional_tree suffix_tree t.suffix) }
 
 abbrev pub base_tree : Base → Tree
-base_tree = fold-Base Tree Tree Tree base_step argument_step type_step
+base_tree = fold-Base Tree Tree TypeView base_step argument_step type_step
 
 abbrev pub argument_tree : TypeArgument → Tree
-argument_tree = fold-TypeArgument Tree Tree Tree base_step argument_step type_step
+argument_tree = fold-TypeArgument Tree Tree TypeView base_step argument_step type_step
+
+abbrev pub type_view : TypeName → TypeView
+type_view = fold-TypeName Tree Tree TypeView base_step argument_step type_step
 
 abbrev pub type_tree : TypeName → Tree
-type_tree = fold-TypeName Tree Tree Tree base_step argument_step type_step
+type_tree t = whole_type (type_view t)
 
 -- ---- expressions
 
 abbrev pub part_form : open_expr.PostfixPart-F Tree Tree Tree Tree Tree Tree Tree Tree Tree Tree Tree Tree Tree Tree Tree Tree Tree Tree → Tree
 part_form (open_expr.Member dot name arguments) = at fixed.DOT dot ⨾ name_tree name ⨾ optional_tree (λ a. a) arguments
 part_form (open_expr.Arrow arrow name arguments) = at fixed.ARROW arrow ⨾ name_tree name ⨾ optional_tree (λ a. a) arguments
-part_form (open_expr.Index opening index closing) = construct (at fixed.LEFT_BRACKET opening ⨾ index.value ⨾ at fixed.RIGHT_BRACKET closing)
+part_form (open_expr.Index opening index closing) = construct fixed.LEFT_BRACKET opening (index.value ⨾ at fixed.RIGHT_BRACKET closing)
+
+abbrev pub part_step : open_expr.PostfixPart-F Tree Tree Tree Tree Tree Tree Tree Tree Tree Tree Tree Tree Tree Tree Tree Tree Tree Tree → Tree
+part_step p = node rules.part (part_form p)
 
 abbrev pub primary_form : open_expr.Primary-F Tree Tree Tree Tree Tree Tree Tree Tree Tree Tree Tree Tree Tree Tree Tree Tree Tree Tree → Tree
 primary_form (open_expr.Number value place) = token (keys.Number value) place
@@ -236,20 +255,20 @@ primary_form (open_expr.Text number place) = token (keys.Text number) place
 primary_form (open_expr.True place) = at fixed.TRUE place
 primary_form (open_expr.False place) = at fixed.FALSE place
 primary_form (open_expr.Null place) = at fixed.NULLPTR place
-primary_form (open_expr.Name name) = name_tree name
+primary_form (open_expr.Name name) = name_tree name ⨾ nothing
 primary_form (open_expr.Call name arguments) = name_tree name ⨾ arguments
 primary_form (open_expr.Construct name elements) = name_tree name ⨾ elements
 primary_form (open_expr.Paren opening inner closing) = parenthesized_tree opening inner.value closing
-primary_form (open_expr.Move name opening variable closing) = qualified_tree fixed.STD fixed.MOVE name ⨾ parenthesized_tree opening (name_tree variable) closing
-primary_form (open_expr.MakeUnique name element arguments) = qualified_tree fixed.STD fixed.MAKE_UNIQUE name ⨾ argument_tree element ⨾ arguments
-primary_form (open_expr.TextOf name opening inner closing) = qualified_tree fixed.STD fixed.STRING name ⨾ parenthesized_tree opening inner.value closing
-primary_form (open_expr.Input name opening closing) = qualified_tree fixed.LIFE fixed.INPUT name ⨾ construct (at fixed.LEFT_PAREN opening ⨾ at fixed.RIGHT_PAREN closing)
+primary_form (open_expr.Move name opening variable closing) = qualified_tree fixed.STD fixed.MOVE name (parenthesized_tree opening (name_tree variable) closing)
+primary_form (open_expr.MakeUnique name element arguments) = qualified_tree fixed.STD fixed.MAKE_UNIQUE name (argument_tree element ⨾ arguments)
+primary_form (open_expr.TextOf name opening inner closing) = qualified_tree fixed.STD fixed.STRING name (parenthesized_tree opening inner.value closing)
+primary_form (open_expr.Input name opening closing) = qualified_tree fixed.LIFE fixed.INPUT name (construct fixed.LEFT_PAREN opening (at fixed.RIGHT_PAREN closing))
 
 abbrev pub primary_step : open_expr.Primary-F Tree Tree Tree Tree Tree Tree Tree Tree Tree Tree Tree Tree Tree Tree Tree Tree Tree Tree → Tree
 primary_step p = node rules.primary (primary_form p)
 
 abbrev pub unary_form : open_expr.Unary-F Tree Tree Tree Tree Tree Tree Tree Tree Tree Tree Tree Tree Tree Tree Tree Tree Tree Tree → Tree
-unary_form (open_expr.Prefix operator place operand) = construct (at (prefix_number operator) place ⨾ operand.value)
+unary_form (open_expr.Prefix operator place operand) = construct (prefix_number operator) place operand.value
 unary_form (open_expr.Plain operand) = operand
 
 abbrev pub unary_step : open_expr.Unary-F Tree Tree Tree Tree Tree Tree Tree Tree Tree Tree Tree Tree Tree Tree Tree Tree Tree Tree → Tree
@@ -303,101 +322,101 @@ postfix_step p = node rules.postfix (p.primary ⨾ list_tree p.parts.items)
 abbrev pub postfix_part_tree : PostfixPart → Tree
 postfix_part_tree =
     fold-PostfixPart Tree Tree Tree Tree Tree Tree Tree Tree Tree Tree Tree Tree Tree Tree Tree Tree Tree Tree
-    part_form primary_step unary_step additive_step additive_part multiplicative_step multiplicative_part equality_step equality_part relational_step relational_part and_part arguments_step expr_step init_list_step logical_and_step or_part postfix_step
+    part_step primary_step unary_step additive_step additive_part multiplicative_step multiplicative_part equality_step equality_part relational_step relational_part and_part arguments_step expr_step init_list_step logical_and_step or_part postfix_step
 
 abbrev pub primary_tree : Primary → Tree
 primary_tree =
     fold-Primary Tree Tree Tree Tree Tree Tree Tree Tree Tree Tree Tree Tree Tree Tree Tree Tree Tree Tree
-    part_form primary_step unary_step additive_step additive_part multiplicative_step multiplicative_part equality_step equality_part relational_step relational_part and_part arguments_step expr_step init_list_step logical_and_step or_part postfix_step
+    part_step primary_step unary_step additive_step additive_part multiplicative_step multiplicative_part equality_step equality_part relational_step relational_part and_part arguments_step expr_step init_list_step logical_and_step or_part postfix_step
 
 abbrev pub unary_tree : Unary → Tree
 unary_tree =
     fold-Unary Tree Tree Tree Tree Tree Tree Tree Tree Tree Tree Tree Tree Tree Tree Tree Tree Tree Tree
-    part_form primary_step unary_step additive_step additive_part multiplicative_step multiplicative_part equality_step equality_part relational_step relational_part and_part arguments_step expr_step init_list_step logical_and_step or_part postfix_step
+    part_step primary_step unary_step additive_step additive_part multiplicative_step multiplicative_part equality_step equality_part relational_step relational_part and_part arguments_step expr_step init_list_step logical_and_step or_part postfix_step
 
 abbrev pub additive_tree : Additive → Tree
 additive_tree =
     fold-Additive Tree Tree Tree Tree Tree Tree Tree Tree Tree Tree Tree Tree Tree Tree Tree Tree Tree Tree
-    part_form primary_step unary_step additive_step additive_part multiplicative_step multiplicative_part equality_step equality_part relational_step relational_part and_part arguments_step expr_step init_list_step logical_and_step or_part postfix_step
+    part_step primary_step unary_step additive_step additive_part multiplicative_step multiplicative_part equality_step equality_part relational_step relational_part and_part arguments_step expr_step init_list_step logical_and_step or_part postfix_step
 
 abbrev pub additive_part_tree : AdditivePart → Tree
 additive_part_tree =
     fold-AdditivePart Tree Tree Tree Tree Tree Tree Tree Tree Tree Tree Tree Tree Tree Tree Tree Tree Tree Tree
-    part_form primary_step unary_step additive_step additive_part multiplicative_step multiplicative_part equality_step equality_part relational_step relational_part and_part arguments_step expr_step init_list_step logical_and_step or_part postfix_step
+    part_step primary_step unary_step additive_step additive_part multiplicative_step multiplicative_part equality_step equality_part relational_step relational_part and_part arguments_step expr_step init_list_step logical_and_step or_part postfix_step
 
 abbrev pub multiplicative_tree : Multiplicative → Tree
 multiplicative_tree =
     fold-Multiplicative Tree Tree Tree Tree Tree Tree Tree Tree Tree Tree Tree Tree Tree Tree Tree Tree Tree Tree
-    part_form primary_step unary_step additive_step additive_part multiplicative_step multiplicative_part equality_step equality_part relational_step relational_part and_part arguments_step expr_step init_list_step logical_and_step or_part postfix_step
+    part_step primary_step unary_step additive_step additive_part multiplicative_step multiplicative_part equality_step equality_part relational_step relational_part and_part arguments_step expr_step init_list_step logical_and_step or_part postfix_step
 
 abbrev pub multiplicative_part_tree : MultiplicativePart → Tree
 multiplicative_part_tree =
     fold-MultiplicativePart Tree Tree Tree Tree Tree Tree Tree Tree Tree Tree Tree Tree Tree Tree Tree Tree Tree Tree
-    part_form primary_step unary_step additive_step additive_part multiplicative_step multiplicative_part equality_step equality_part relational_step relational_part and_part arguments_step expr_step init_list_step logical_and_step or_part postfix_step
+    part_step primary_step unary_step additive_step additive_part multiplicative_step multiplicative_part equality_step equality_part relational_step relational_part and_part arguments_step expr_step init_list_step logical_and_step or_part postfix_step
 
 abbrev pub equality_tree : Equality → Tree
 equality_tree =
     fold-Equality Tree Tree Tree Tree Tree Tree Tree Tree Tree Tree Tree Tree Tree Tree Tree Tree Tree Tree
-    part_form primary_step unary_step additive_step additive_part multiplicative_step multiplicative_part equality_step equality_part relational_step relational_part and_part arguments_step expr_step init_list_step logical_and_step or_part postfix_step
+    part_step primary_step unary_step additive_step additive_part multiplicative_step multiplicative_part equality_step equality_part relational_step relational_part and_part arguments_step expr_step init_list_step logical_and_step or_part postfix_step
 
 abbrev pub equality_part_tree : EqualityPart → Tree
 equality_part_tree =
     fold-EqualityPart Tree Tree Tree Tree Tree Tree Tree Tree Tree Tree Tree Tree Tree Tree Tree Tree Tree Tree
-    part_form primary_step unary_step additive_step additive_part multiplicative_step multiplicative_part equality_step equality_part relational_step relational_part and_part arguments_step expr_step init_list_step logical_and_step or_part postfix_step
+    part_step primary_step unary_step additive_step additive_part multiplicative_step multiplicative_part equality_step equality_part relational_step relational_part and_part arguments_step expr_step init_list_step logical_and_step or_part postfix_step
 
 abbrev pub relational_tree : Relational → Tree
 relational_tree =
     fold-Relational Tree Tree Tree Tree Tree Tree Tree Tree Tree Tree Tree Tree Tree Tree Tree Tree Tree Tree
-    part_form primary_step unary_step additive_step additive_part multiplicative_step multiplicative_part equality_step equality_part relational_step relational_part and_part arguments_step expr_step init_list_step logical_and_step or_part postfix_step
+    part_step primary_step unary_step additive_step additive_part multiplicative_step multiplicative_part equality_step equality_part relational_step relational_part and_part arguments_step expr_step init_list_step logical_and_step or_part postfix_step
 
 abbrev pub relational_part_tree : RelationalPart → Tree
 relational_part_tree =
     fold-RelationalPart Tree Tree Tree Tree Tree Tree Tree Tree Tree Tree Tree Tree Tree Tree Tree Tree Tree Tree
-    part_form primary_step unary_step additive_step additive_part multiplicative_step multiplicative_part equality_step equality_part relational_step relational_part and_part arguments_step expr_step init_list_step logical_and_step or_part postfix_step
+    part_step primary_step unary_step additive_step additive_part multiplicative_step multiplicative_part equality_step equality_part relational_step relational_part and_part arguments_step expr_step init_list_step logical_and_step or_part postfix_step
 
 abbrev pub and_part_tree : AndPart → Tree
 and_part_tree =
     fold-AndPart Tree Tree Tree Tree Tree Tree Tree Tree Tree Tree Tree Tree Tree Tree Tree Tree Tree Tree
-    part_form primary_step unary_step additive_step additive_part multiplicative_step multiplicative_part equality_step equality_part relational_step relational_part and_part arguments_step expr_step init_list_step logical_and_step or_part postfix_step
+    part_step primary_step unary_step additive_step additive_part multiplicative_step multiplicative_part equality_step equality_part relational_step relational_part and_part arguments_step expr_step init_list_step logical_and_step or_part postfix_step
 
 abbrev pub arguments_tree : Arguments → Tree
 arguments_tree =
     fold-Arguments Tree Tree Tree Tree Tree Tree Tree Tree Tree Tree Tree Tree Tree Tree Tree Tree Tree Tree
-    part_form primary_step unary_step additive_step additive_part multiplicative_step multiplicative_part equality_step equality_part relational_step relational_part and_part arguments_step expr_step init_list_step logical_and_step or_part postfix_step
+    part_step primary_step unary_step additive_step additive_part multiplicative_step multiplicative_part equality_step equality_part relational_step relational_part and_part arguments_step expr_step init_list_step logical_and_step or_part postfix_step
 
 abbrev pub expr_tree : Expr → Tree
 expr_tree =
     fold-Expr Tree Tree Tree Tree Tree Tree Tree Tree Tree Tree Tree Tree Tree Tree Tree Tree Tree Tree
-    part_form primary_step unary_step additive_step additive_part multiplicative_step multiplicative_part equality_step equality_part relational_step relational_part and_part arguments_step expr_step init_list_step logical_and_step or_part postfix_step
+    part_step primary_step unary_step additive_step additive_part multiplicative_step multiplicative_part equality_step equality_part relational_step relational_part and_part arguments_step expr_step init_list_step logical_and_step or_part postfix_step
 
 abbrev pub init_list_tree : InitList → Tree
 init_list_tree =
     fold-InitList Tree Tree Tree Tree Tree Tree Tree Tree Tree Tree Tree Tree Tree Tree Tree Tree Tree Tree
-    part_form primary_step unary_step additive_step additive_part multiplicative_step multiplicative_part equality_step equality_part relational_step relational_part and_part arguments_step expr_step init_list_step logical_and_step or_part postfix_step
+    part_step primary_step unary_step additive_step additive_part multiplicative_step multiplicative_part equality_step equality_part relational_step relational_part and_part arguments_step expr_step init_list_step logical_and_step or_part postfix_step
 
 abbrev pub logical_and_tree : LogicalAnd → Tree
 logical_and_tree =
     fold-LogicalAnd Tree Tree Tree Tree Tree Tree Tree Tree Tree Tree Tree Tree Tree Tree Tree Tree Tree Tree
-    part_form primary_step unary_step additive_step additive_part multiplicative_step multiplicative_part equality_step equality_part relational_step relational_part and_part arguments_step expr_step init_list_step logical_and_step or_part postfix_step
+    part_step primary_step unary_step additive_step additive_part multiplicative_step multiplicative_part equality_step equality_part relational_step relational_part and_part arguments_step expr_step init_list_step logical_and_step or_part postfix_step
 
 abbrev pub or_part_tree : OrPart → Tree
 or_part_tree =
     fold-OrPart Tree Tree Tree Tree Tree Tree Tree Tree Tree Tree Tree Tree Tree Tree Tree Tree Tree Tree
-    part_form primary_step unary_step additive_step additive_part multiplicative_step multiplicative_part equality_step equality_part relational_step relational_part and_part arguments_step expr_step init_list_step logical_and_step or_part postfix_step
+    part_step primary_step unary_step additive_step additive_part multiplicative_step multiplicative_part equality_step equality_part relational_step relational_part and_part arguments_step expr_step init_list_step logical_and_step or_part postfix_step
 
 abbrev pub postfix_tree : Postfix → Tree
 postfix_tree =
     fold-Postfix Tree Tree Tree Tree Tree Tree Tree Tree Tree Tree Tree Tree Tree Tree Tree Tree Tree Tree
-    part_form primary_step unary_step additive_step additive_part multiplicative_step multiplicative_part equality_step equality_part relational_step relational_part and_part arguments_step expr_step init_list_step logical_and_step or_part postfix_step
+    part_step primary_step unary_step additive_step additive_part multiplicative_step multiplicative_part equality_step equality_part relational_step relational_part and_part arguments_step expr_step init_list_step logical_and_step or_part postfix_step
 
 -- ---- declarations and simple statements
 
 abbrev pub auto_tree : AutoType → Tree
-auto_tree t = optional_tree (at fixed.CONST) t.constant ⨾ at fixed.AUTO t.keyword ⨾ optional_tree (at fixed.AMPERSAND) t.reference
+auto_tree t = at fixed.AUTO t.keyword ⨾ optional_tree (at fixed.AMPERSAND) t.reference
 
 abbrev pub declared_type_form : DeclaredType → Tree
-declared_type_form (declared_type.Written ty) = type_tree ty
-declared_type_form (declared_type.Auto ty) = auto_tree ty
+declared_type_form (declared_type.Written ty) = optional_tree (at fixed.CONST) (type_view ty).constant ⨾ (type_view ty).unqualified
+declared_type_form (declared_type.Auto ty) = optional_tree (at fixed.CONST) ty.constant ⨾ auto_tree ty
 
 abbrev pub declared_type_tree : DeclaredType → Tree
 declared_type_tree ty = node rules.declared_type (declared_type_form ty)
@@ -409,15 +428,18 @@ initial_form (initial_value.List elements) = init_list_tree elements
 abbrev pub initial_tree : InitialValue → Tree
 initial_tree value = node rules.initial (initial_form value)
 
-abbrev pub initializer_tree : Initializer → Tree
-initializer_tree (initializer.Equals equals value) = at fixed.ASSIGN equals ⨾ initial_tree value
-initializer_tree (initializer.List elements) = init_list_tree elements
+abbrev pub initializer_form : Initializer → Tree
+initializer_form (initializer.Equals equals value) = at fixed.ASSIGN equals ⨾ initial_tree value
+initializer_form (initializer.List elements) = init_list_tree elements
+
+abbrev pub initializer_tree : Option Initializer → Tree
+initializer_tree i = node rules.initializer (optional_tree initializer_form i)
 
 abbrev pub declaration_tree : Declaration → Tree
-declaration_tree d = node rules.declaration (declared_type_tree d.ty ⨾ name_tree d.name ⨾ optional_tree initializer_tree d.initializer)
+declaration_tree d = node rules.declaration (declared_type_tree d.ty ⨾ name_tree d.name ⨾ initializer_tree d.initializer)
 
 abbrev pub target_form : open_target.Target-F Tree → Tree
-target_form (open_target.Dereference star operand) = construct (at fixed.STAR star ⨾ operand.value)
+target_form (open_target.Dereference star operand) = construct fixed.STAR star operand.value
 target_form (open_target.Plain operand) = postfix_tree operand
 
 abbrev pub target_step : open_target.Target-F Tree → Tree
@@ -426,135 +448,170 @@ target_step t = node rules.target (target_form t)
 abbrev pub target_tree : Target → Tree
 target_tree = fold-Target Tree target_step
 
+-- .. of a target without a star
+abbrev pub plain_target : Postfix → Tree
+plain_target operand = node rules.target (postfix_tree operand)
+
 abbrev pub simple_form : Simple → Tree
 simple_form (simple.Assign target equals value) = target_tree target ⨾ at fixed.ASSIGN equals ⨾ initial_tree value
 simple_form (simple.Compound target operator place value) = target_tree target ⨾ at (compound_number operator) place ⨾ expr_tree value
-simple_form (simple.PrefixStep operator place target) = construct (at (step_number operator) place ⨾ target_tree target)
-simple_form (simple.PostfixStep target operator place) = postfix_tree target ⨾ at (step_number operator) place
-simple_form (simple.Call call) = node rules.call (postfix_tree call)
+simple_form (simple.PrefixStep operator place target) = construct (step_number operator) place (target_tree target)
+simple_form (simple.PostfixStep target operator place) = plain_target target ⨾ at (step_number operator) place
+simple_form (simple.Call call) = plain_target call ⨾ nothing
 
 abbrev pub simple_tree : Simple → Tree
 simple_tree s = node rules.simple (simple_form s)
 
 -- ---- statements
 
-abbrev pub start_tree : ForStart → Tree
-start_tree (for_start.Declaration d) = declaration_tree d
-start_tree (for_start.Simple s) = simple_tree s
+abbrev pub condition_tree : Place → Expr → Place → Tree
+condition_tree opening condition closing = node rules.condition (parenthesized_tree opening (expr_tree condition) closing)
 
 abbrev pub print_item_form : PrintItem → Tree
 print_item_form (print_item.Value value) = additive_tree value
-print_item_form (print_item.EndLine name) = qualified_tree fixed.STD fixed.ENDL name
+print_item_form (print_item.EndLine name) = qualified_word_tree fixed.STD fixed.ENDL name
 
 abbrev pub print_item_tree : PrintItem → Tree
 print_item_tree item = node rules.item (print_item_form item)
 
 abbrev pub print_part_tree : PrintPart → Tree
-print_part_tree part = at fixed.SHIFT_LEFT part.place ⨾ print_item_tree part.item
+print_part_tree part = node rules.print_part (at fixed.SHIFT_LEFT part.place ⨾ print_item_tree part.item)
 
-abbrev pub block_item_form : open_stmt.BlockItem-F Tree Tree Tree Tree Tree Tree Tree Tree Tree Tree → Tree
+-- a branch: its `if`, and what follows that
+pub record BranchView : Type 0 where
+  pub keyword : Place
+  pub condition : Tree
+  pub body : Tree
+
+-- .. behind an `else`
+pub record ElseIfView : Type 0 where
+  pub keyword : Place
+  pub branch : BranchView
+
+-- what follows the first branch
+abbrev pub else_part_tree : List ElseIfView → Option Tree → Tree
+else_part_tree [] None = node rules.else_part without_else
+else_part_tree [] (Some last) = node rules.else_part last
+else_part_tree (e ∷ es) last =
+    node rules.else_part (at fixed.ELSE e.keyword ⨾ at fixed.IF e.branch.keyword ⨾ e.branch.condition ⨾ e.branch.body ⨾ else_part_tree es last)
+
+-- what follows the start of a `for`
+abbrev pub for_rest_tree : Place → Option Expr → Place → Option Simple → Tree
+for_rest_tree first condition second step =
+    node rules.for_rest (at fixed.SEMICOLON first ⨾ optional_tree expr_tree condition ⨾ at fixed.SEMICOLON second ⨾ optional_tree simple_tree step)
+
+abbrev pub for_clauses_form : Option ForStart → Tree → Tree
+for_clauses_form None rest = nothing ⨾ rest
+for_clauses_form (Some (for_start.Declaration d)) rest = declared_type_tree d.ty ⨾ name_tree d.name ⨾ initializer_tree d.initializer ⨾ rest
+for_clauses_form (Some (for_start.Simple s)) rest = simple_tree s ⨾ rest
+
+abbrev pub for_head_tree : Place → Tree → Place → Tree
+for_head_tree opening clauses closing = node rules.for_head (parenthesized_tree opening (node rules.for_clauses clauses) closing)
+
+abbrev pub block_item_form : open_stmt.BlockItem-F Tree Tree Tree Tree BranchView Tree ElseIfView Tree Tree Tree → Tree
 block_item_form (open_stmt.Declare declaration semicolon) = declaration_tree declaration ⨾ at fixed.SEMICOLON semicolon
 block_item_form (open_stmt.Stmt s) = s
 
-abbrev pub plain_form : open_stmt.PlainStmt-F Tree Tree Tree Tree Tree Tree Tree Tree Tree Tree → Tree
+abbrev pub block_item_step : open_stmt.BlockItem-F Tree Tree Tree Tree BranchView Tree ElseIfView Tree Tree Tree → Tree
+block_item_step i = node rules.block_item (block_item_form i)
+
+abbrev pub plain_form : open_stmt.PlainStmt-F Tree Tree Tree Tree BranchView Tree ElseIfView Tree Tree Tree → Tree
 plain_form (open_stmt.Block b) = b
 plain_form (open_stmt.Empty place) = at fixed.SEMICOLON place
-plain_form (open_stmt.Simple s semicolon) = simple_tree s ⨾ at fixed.SEMICOLON semicolon
-plain_form (open_stmt.While keyword opening condition closing body) =
-    construct (at fixed.WHILE keyword ⨾ parenthesized_tree opening (expr_tree condition) closing ⨾ body.value)
+plain_form (open_stmt.Simple s semicolon) = node rules.sentence (simple_tree s ⨾ at fixed.SEMICOLON semicolon)
+plain_form (open_stmt.While keyword opening condition closing body) = construct fixed.WHILE keyword (condition_tree opening condition closing ⨾ body.value)
 plain_form (open_stmt.For loop) = loop
 plain_form (open_stmt.RangeFor loop) = loop
 plain_form (open_stmt.Break keyword semicolon) = at fixed.BREAK keyword ⨾ at fixed.SEMICOLON semicolon
 plain_form (open_stmt.Continue keyword semicolon) = at fixed.CONTINUE keyword ⨾ at fixed.SEMICOLON semicolon
 plain_form (open_stmt.Return keyword value semicolon) = at fixed.RETURN keyword ⨾ optional_tree expr_tree value ⨾ at fixed.SEMICOLON semicolon
 plain_form (open_stmt.Print name parts semicolon) =
-    qualified_tree fixed.STD fixed.COUT name ⨾ list_tree (map print_part_tree parts.items) ⨾ at fixed.SEMICOLON semicolon
+    node rules.sentence (qualified_tree fixed.STD fixed.COUT name (list_tree (map print_part_tree parts.items) ⨾ at fixed.SEMICOLON semicolon))
 plain_form (open_stmt.Assert keyword opening condition closing semicolon) =
-    at fixed.ASSERT keyword ⨾ parenthesized_tree opening (expr_tree condition) closing ⨾ at fixed.SEMICOLON semicolon
+    at fixed.ASSERT keyword ⨾ condition_tree opening condition closing ⨾ at fixed.SEMICOLON semicolon
 
-abbrev pub plain_step : open_stmt.PlainStmt-F Tree Tree Tree Tree Tree Tree Tree Tree Tree Tree → Tree
+abbrev pub plain_step : open_stmt.PlainStmt-F Tree Tree Tree Tree BranchView Tree ElseIfView Tree Tree Tree → Tree
 plain_step s = node rules.plain (plain_form s)
 
-abbrev pub stmt_form : open_stmt.Stmt-F Tree Tree Tree Tree Tree Tree Tree Tree Tree Tree → Tree
+abbrev pub stmt_form : open_stmt.Stmt-F Tree Tree Tree Tree BranchView Tree ElseIfView Tree Tree Tree → Tree
 stmt_form (open_stmt.If i) = i
 stmt_form (open_stmt.Plain s) = s
 
-abbrev pub stmt_step : open_stmt.Stmt-F Tree Tree Tree Tree Tree Tree Tree Tree Tree Tree → Tree
+abbrev pub stmt_step : open_stmt.Stmt-F Tree Tree Tree Tree BranchView Tree ElseIfView Tree Tree Tree → Tree
 stmt_step s = node rules.statement (stmt_form s)
 
-abbrev pub block_step : open_stmt.Block-F Tree Tree Tree Tree Tree Tree Tree Tree Tree Tree → Tree
+abbrev pub block_step : open_stmt.Block-F Tree Tree Tree Tree BranchView Tree ElseIfView Tree Tree Tree → Tree
 block_step b = node rules.block (braced_tree b.opening (list_tree b.items.items) b.closing)
 
-abbrev pub branch_step : open_stmt.Branch-F Tree Tree Tree Tree Tree Tree Tree Tree Tree Tree → Tree
-branch_step b = node rules.branch (at fixed.IF b.keyword ⨾ parenthesized_tree b.opening (expr_tree b.condition) b.closing ⨾ b.body.value)
+abbrev pub branch_step : open_stmt.Branch-F Tree Tree Tree Tree BranchView Tree ElseIfView Tree Tree Tree → BranchView
+branch_step b = record { keyword = b.keyword; condition = condition_tree b.opening b.condition b.closing; body = b.body.value }
 
-abbrev pub else_step : open_stmt.Else-F Tree Tree Tree Tree Tree Tree Tree Tree Tree Tree → Tree
+abbrev pub else_step : open_stmt.Else-F Tree Tree Tree Tree BranchView Tree ElseIfView Tree Tree Tree → Tree
 else_step e = at fixed.ELSE e.keyword ⨾ e.body.value
 
-abbrev pub else_if_step : open_stmt.ElseIf-F Tree Tree Tree Tree Tree Tree Tree Tree Tree Tree → Tree
-else_if_step e = node rules.else_if (at fixed.ELSE e.keyword ⨾ e.branch)
+abbrev pub else_if_step : open_stmt.ElseIf-F Tree Tree Tree Tree BranchView Tree ElseIfView Tree Tree Tree → ElseIfView
+else_if_step e = record { keyword = e.keyword; branch = e.branch }
 
-abbrev pub for_step : open_stmt.For-F Tree Tree Tree Tree Tree Tree Tree Tree Tree Tree → Tree
+abbrev pub for_step : open_stmt.For-F Tree Tree Tree Tree BranchView Tree ElseIfView Tree Tree Tree → Tree
 for_step f =
-    construct (at fixed.FOR f.keyword ⨾ parenthesized_tree f.opening (optional_tree start_tree f.start ⨾ at fixed.SEMICOLON f.first_semicolon
-    ⨾ optional_tree expr_tree f.condition ⨾ at fixed.SEMICOLON f.second_semicolon ⨾ optional_tree simple_tree f.step) f.closing ⨾ f.body.value)
+    construct fixed.FOR f.keyword (for_head_tree f.opening (for_clauses_form f.start (for_rest_tree f.first_semicolon f.condition f.second_semicolon f.step)) f.closing ⨾ f.body.value)
 
-abbrev pub if_step : open_stmt.If-F Tree Tree Tree Tree Tree Tree Tree Tree Tree Tree → Tree
-if_step i = node rules.branches (construct (i.first ⨾ list_tree i.more.items ⨾ node rules.last_else (optional_tree (λ t. t) i.last)))
+abbrev pub if_step : open_stmt.If-F Tree Tree Tree Tree BranchView Tree ElseIfView Tree Tree Tree → Tree
+if_step i = node rules.branches (construct fixed.IF i.first.keyword (i.first.condition ⨾ i.first.body ⨾ else_part_tree i.more.items i.last))
 
-abbrev pub range_for_step : open_stmt.RangeFor-F Tree Tree Tree Tree Tree Tree Tree Tree Tree Tree → Tree
+abbrev pub range_for_step : open_stmt.RangeFor-F Tree Tree Tree Tree BranchView Tree ElseIfView Tree Tree Tree → Tree
 range_for_step f =
-    construct (at fixed.FOR f.keyword ⨾ parenthesized_tree f.opening (declared_type_tree f.ty ⨾ name_tree f.name ⨾ at fixed.COLON f.colon ⨾ expr_tree f.range) f.closing ⨾ f.body.value)
+    construct fixed.FOR f.keyword (for_head_tree f.opening (declared_type_tree f.ty ⨾ name_tree f.name ⨾ at fixed.COLON f.colon ⨾ expr_tree f.range) f.closing ⨾ f.body.value)
 
 abbrev pub block_item_tree : BlockItem → Tree
 block_item_tree =
-    fold-BlockItem Tree Tree Tree Tree Tree Tree Tree Tree Tree Tree
-    block_item_form plain_step stmt_step block_step branch_step else_step else_if_step for_step if_step range_for_step
+    fold-BlockItem Tree Tree Tree Tree BranchView Tree ElseIfView Tree Tree Tree
+    block_item_step plain_step stmt_step block_step branch_step else_step else_if_step for_step if_step range_for_step
 
 abbrev pub plain_stmt_tree : PlainStmt → Tree
 plain_stmt_tree =
-    fold-PlainStmt Tree Tree Tree Tree Tree Tree Tree Tree Tree Tree
-    block_item_form plain_step stmt_step block_step branch_step else_step else_if_step for_step if_step range_for_step
+    fold-PlainStmt Tree Tree Tree Tree BranchView Tree ElseIfView Tree Tree Tree
+    block_item_step plain_step stmt_step block_step branch_step else_step else_if_step for_step if_step range_for_step
 
 abbrev pub stmt_tree : Stmt → Tree
 stmt_tree =
-    fold-Stmt Tree Tree Tree Tree Tree Tree Tree Tree Tree Tree
-    block_item_form plain_step stmt_step block_step branch_step else_step else_if_step for_step if_step range_for_step
+    fold-Stmt Tree Tree Tree Tree BranchView Tree ElseIfView Tree Tree Tree
+    block_item_step plain_step stmt_step block_step branch_step else_step else_if_step for_step if_step range_for_step
 
 abbrev pub block_tree : Block → Tree
 block_tree =
-    fold-Block Tree Tree Tree Tree Tree Tree Tree Tree Tree Tree
-    block_item_form plain_step stmt_step block_step branch_step else_step else_if_step for_step if_step range_for_step
+    fold-Block Tree Tree Tree Tree BranchView Tree ElseIfView Tree Tree Tree
+    block_item_step plain_step stmt_step block_step branch_step else_step else_if_step for_step if_step range_for_step
 
-abbrev pub branch_tree : Branch → Tree
-branch_tree =
-    fold-Branch Tree Tree Tree Tree Tree Tree Tree Tree Tree Tree
-    block_item_form plain_step stmt_step block_step branch_step else_step else_if_step for_step if_step range_for_step
+abbrev pub branch_view : Branch → BranchView
+branch_view =
+    fold-Branch Tree Tree Tree Tree BranchView Tree ElseIfView Tree Tree Tree
+    block_item_step plain_step stmt_step block_step branch_step else_step else_if_step for_step if_step range_for_step
 
 abbrev pub else_tree : Else → Tree
 else_tree =
-    fold-Else Tree Tree Tree Tree Tree Tree Tree Tree Tree Tree
-    block_item_form plain_step stmt_step block_step branch_step else_step else_if_step for_step if_step range_for_step
+    fold-Else Tree Tree Tree Tree BranchView Tree ElseIfView Tree Tree Tree
+    block_item_step plain_step stmt_step block_step branch_step else_step else_if_step for_step if_step range_for_step
 
-abbrev pub else_if_tree : ElseIf → Tree
-else_if_tree =
-    fold-ElseIf Tree Tree Tree Tree Tree Tree Tree Tree Tree Tree
-    block_item_form plain_step stmt_step block_step branch_step else_step else_if_step for_step if_step range_for_step
+abbrev pub else_if_view : ElseIf → ElseIfView
+else_if_view =
+    fold-ElseIf Tree Tree Tree Tree BranchView Tree ElseIfView Tree Tree Tree
+    block_item_step plain_step stmt_step block_step branch_step else_step else_if_step for_step if_step range_for_step
 
 abbrev pub for_tree : For → Tree
 for_tree =
-    fold-For Tree Tree Tree Tree Tree Tree Tree Tree Tree Tree
-    block_item_form plain_step stmt_step block_step branch_step else_step else_if_step for_step if_step range_for_step
+    fold-For Tree Tree Tree Tree BranchView Tree ElseIfView Tree Tree Tree
+    block_item_step plain_step stmt_step block_step branch_step else_step else_if_step for_step if_step range_for_step
 
 abbrev pub if_tree : If → Tree
 if_tree =
-    fold-If Tree Tree Tree Tree Tree Tree Tree Tree Tree Tree
-    block_item_form plain_step stmt_step block_step branch_step else_step else_if_step for_step if_step range_for_step
+    fold-If Tree Tree Tree Tree BranchView Tree ElseIfView Tree Tree Tree
+    block_item_step plain_step stmt_step block_step branch_step else_step else_if_step for_step if_step range_for_step
 
 abbrev pub range_for_tree : RangeFor → Tree
 range_for_tree =
-    fold-RangeFor Tree Tree Tree Tree Tree Tree Tree Tree Tree Tree
-    block_item_form plain_step stmt_step block_step branch_step else_step else_if_step for_step if_step range_for_step
+    fold-RangeFor Tree Tree Tree Tree BranchView Tree ElseIfView Tree Tree Tree
+    block_item_step plain_step stmt_step block_step branch_step else_step else_if_step for_step if_step range_for_step
 
 -- ---- functions
 

@@ -1,7 +1,7 @@
 // The tokens of declarations, assignments, steps and calls.
 ghost use Rattle.std.specs.Prelude.{◌≡◌, ◌++◌, OnOk};
 ghost use Rattle.life_tree.specs.Tree.{keys_of};
-ghost use Rattle.life_tree.specs.Views.{declaration_tree, declared_type_tree, initial_tree, initializer_tree, optional_tree, simple_tree, target_tree};
+ghost use Rattle.life_tree.specs.Views.{declaration_tree, declared_type_tree, initial_tree, initializer_tree, simple_tree, target_tree};
 
 use crate::declaration::{Declaration, DeclaredType, InitialValue, Initializer};
 use crate::fixed;
@@ -42,7 +42,7 @@ fn write_initializer(
     initializer: &Option<Initializer>,
     keys: &mut Vec<TokenKey>,
 ) -> Result<(), NoMemory>
-    ensures { OnOk result (keys.new.items ≡ keys.old.items ++ keys_of (optional_tree initializer_tree initializer.now)) }
+    ensures { OnOk result (keys.new.items ≡ keys.old.items ++ keys_of (initializer_tree initializer.now)) }
 {
     match initializer {
         Some(Initializer::Equals { value, .. }) => {

@@ -1,7 +1,8 @@
 // The tokens of statements.
 ghost use Rattle.std.specs.Prelude.{◌≡◌, ◌++◌, ◌∷◌, [], OnOk, map};
+ghost use Rattle.life_tree.specs.Branches.{branch_keys, start_tree};
 ghost use Rattle.life_tree.specs.Tree.{keys_of};
-ghost use Rattle.life_tree.specs.Views.{block_item_tree, block_tree, branch_tree, declared_type_tree, expr_tree, for_tree, if_tree, list_tree, name_tree, optional_tree, plain_stmt_tree, print_part_tree, range_for_tree, simple_tree, start_tree, stmt_tree};
+ghost use Rattle.life_tree.specs.Views.{block_item_tree, block_tree, branch_view, declared_type_tree, expr_tree, for_tree, if_tree, list_tree, name_tree, optional_tree, plain_stmt_tree, print_part_tree, range_for_tree, simple_tree, stmt_tree};
 ghost use Rattle.life_tree.specs.declared.fixed.TheConstants.{COLON, LEFT_PAREN, RIGHT_PAREN, SEMICOLON};
 ghost use Rattle.life_tree.specs.declared.key.TokenKey.TheVariants.{Fixed};
 
@@ -154,7 +155,7 @@ fn write_if(stmt: &If, keys: &mut Vec<TokenKey>) -> Result<(), NoMemory>
 
 #[cycle(stmts)]
 fn write_branch(branch: &Branch, keys: &mut Vec<TokenKey>) -> Result<(), NoMemory>
-    ensures { OnOk result (keys.new.items ≡ keys.old.items ++ keys_of (branch_tree branch.now)) }
+    ensures { OnOk result (keys.new.items ≡ keys.old.items ++ branch_keys (branch_view branch.now)) }
 {
     write_fixed(fixed::IF, keys)?;
     write_fixed(fixed::LEFT_PAREN, keys)?;
@@ -164,7 +165,7 @@ fn write_branch(branch: &Branch, keys: &mut Vec<TokenKey>) -> Result<(), NoMemor
 }
 
 fn write_for_start(start: &Option<ForStart>, keys: &mut Vec<TokenKey>) -> Result<(), NoMemory>
-    ensures { OnOk result (keys.new.items ≡ keys.old.items ++ keys_of (optional_tree start_tree start.now)) }
+    ensures { OnOk result (keys.new.items ≡ keys.old.items ++ keys_of (start_tree start.now)) }
 {
     match start {
         Some(ForStart::Declaration(declaration)) => write_declaration(declaration, keys),
@@ -191,7 +192,7 @@ fn write_for_head(
 ) -> Result<(), NoMemory>
     ensures { OnOk result
         (keys.new.items
-        ≡ keys.old.items ++ Fixed LEFT_PAREN ∷ ((keys_of (optional_tree start_tree start.now) ++ Fixed SEMICOLON ∷ (keys_of (optional_tree expr_tree condition.now)
+        ≡ keys.old.items ++ Fixed LEFT_PAREN ∷ ((keys_of (start_tree start.now) ++ Fixed SEMICOLON ∷ (keys_of (optional_tree expr_tree condition.now)
         ++ Fixed SEMICOLON ∷ keys_of (optional_tree simple_tree step.now))) ++ Fixed RIGHT_PAREN ∷ [])) }
 {
     write_fixed(fixed::LEFT_PAREN, keys)?;

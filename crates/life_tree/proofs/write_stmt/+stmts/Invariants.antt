@@ -1,6 +1,7 @@
 use Rattle.std.proofs.Common.{◌≡◌, ◌++◌, map, drop}
+use Rattle.life_tree.specs.Branches.{else_if_keys}
 use Rattle.life_tree.specs.Tree.{keys_of}
-use Rattle.life_tree.specs.Views.{block_item_tree, else_if_tree, list_tree}
+use Rattle.life_tree.specs.Views.{block_item_tree, else_if_view, list_tree}
 use Rattle.life_tree.proofs.write_stmt.+stmts.Given as goal
 
 abbrev pub invariant-write_block-items : goal.invariant-write_block-items
@@ -10,5 +11,5 @@ invariant-write_block-items l =
 
 abbrev pub invariant-write_if-branches : goal.invariant-write_if-branches
 invariant-write_if-branches l =
-    l.keys.items ++ keys_of (list_tree (map else_if_tree (drop l.next-index l.next-items)))
-    ≡ l.initial.keys.items ++ keys_of (list_tree (map else_if_tree l.next-items))
+    l.keys.items ++ else_if_keys (map else_if_view (drop l.next-index l.next-items))
+    ≡ l.initial.keys.items ++ else_if_keys (map else_if_view l.next-items)

@@ -1,0 +1,4 @@
+pub mod Digits
+pub mod Interned
+pub mod KeyedSteps
+pub mod WordNumbers
