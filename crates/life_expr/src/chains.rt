@@ -1,0 +1,291 @@
+// Operands and the operators between them: each function mirrors the reader of its rule.
+ghost use Rattle.std.specs.Prelude.{◌≡◌, map};
+ghost use Rattle.life_expr.specs.Exprs as spec;
+ghost use Rattle.life_expr.specs.Gives.{Gives};
+ghost use Rattle.life_expr.specs.Readers as readers;
+ghost use Rattle.life_tree.specs.Views.{additive_part_tree, additive_tree, and_part_tree, equality_part_tree, equality_tree, expr_tree, list_tree, logical_and_tree, multiplicative_part_tree, multiplicative_tree, or_part_tree, relational_part_tree, relational_tree};
+
+use crate::marks::{mark, starts};
+use crate::operands::unary;
+use crate::operators::{
+    additive_operator, equality_operator, multiplicative_operator, relational_operator,
+    starts_additive, starts_equality, starts_multiplicative, starts_relational,
+};
+use crate::stop::Read;
+use life_tree::{
+    Additive, AdditivePart, AndPart, Equality, EqualityPart, Expr, LogicalAnd, Multiplicative,
+    MultiplicativePart, OrPart, Relational, RelationalPart, TreeToken, fixed,
+};
+use std::alloc::Global;
+
+/// An expression, where `left` more constructs may be open.
+#[cycle(expr)]
+#[tactic(auto, unfolding(crate::specs::Readers::expr_with))]
+pub fn expr<'a>(alloc: Global, left: usize, tokens: &'a [TreeToken]) -> Read<'a, Expr>
+    ensures { Gives (λ x. (expr_tree x.0, x.1.now)) result (readers.expr_with left (readers.below left) tokens.now) }
+{
+    let (first, rest) = logical_and(alloc, left, tokens)?;
+    let (more, rest) = or_parts(alloc, left, rest)?;
+    Ok((Expr { first, more }, rest))
+}
+
+/// The operands behind the first.
+#[cycle(expr)]
+fn or_parts<'a>(alloc: Global, left: usize, tokens: &'a [TreeToken]) -> Read<'a, Vec<OrPart>>
+    ensures { Gives (λ x. (list_tree (map or_part_tree x.0.items), x.1.now)) result (spec.or_parts_with left (readers.below left) tokens.now) }
+{
+    let mut rest = tokens;
+    let mut list = Vec::new(alloc);
+    'list: while starts(rest, fixed::OR_OR) {
+        let (next, after) = or_part(alloc, left, rest)?;
+        list.push(next)?;
+        rest = after;
+    }
+    Ok((list, rest))
+}
+
+/// An operand with the operator before it.
+#[cycle(expr)]
+fn or_part<'a>(alloc: Global, left: usize, tokens: &'a [TreeToken]) -> Read<'a, OrPart>
+    ensures { Gives (λ x. (or_part_tree x.0, x.1.now)) result (spec.or_part_with left (readers.below left) tokens.now) }
+{
+    let (place, rest) = mark(tokens, fixed::OR_OR)?;
+    let (operand, rest) = logical_and(alloc, left, rest)?;
+    Ok((OrPart { place, operand }, rest))
+}
+
+/// Operands of `&&`, and the operators between them.
+#[cycle(expr)]
+#[tactic(auto, unfolding(crate::specs::Readers::both_with))]
+fn logical_and<'a>(alloc: Global, left: usize, tokens: &'a [TreeToken]) -> Read<'a, LogicalAnd>
+    ensures { Gives (λ x. (logical_and_tree x.0, x.1.now)) result (readers.both_with left (readers.below left) tokens.now) }
+{
+    let (first, rest) = equality(alloc, left, tokens)?;
+    let (more, rest) = and_parts(alloc, left, rest)?;
+    Ok((LogicalAnd { first, more }, rest))
+}
+
+/// The operands behind the first.
+#[cycle(expr)]
+fn and_parts<'a>(alloc: Global, left: usize, tokens: &'a [TreeToken]) -> Read<'a, Vec<AndPart>>
+    ensures { Gives (λ x. (list_tree (map and_part_tree x.0.items), x.1.now)) result (spec.and_parts_with left (readers.below left) tokens.now) }
+{
+    let mut rest = tokens;
+    let mut list = Vec::new(alloc);
+    'list: while starts(rest, fixed::AND_AND) {
+        let (next, after) = and_part(alloc, left, rest)?;
+        list.push(next)?;
+        rest = after;
+    }
+    Ok((list, rest))
+}
+
+/// An operand with the operator before it.
+#[cycle(expr)]
+fn and_part<'a>(alloc: Global, left: usize, tokens: &'a [TreeToken]) -> Read<'a, AndPart>
+    ensures { Gives (λ x. (and_part_tree x.0, x.1.now)) result (spec.and_part_with left (readers.below left) tokens.now) }
+{
+    let (place, rest) = mark(tokens, fixed::AND_AND)?;
+    let (operand, rest) = equality(alloc, left, rest)?;
+    Ok((AndPart { place, operand }, rest))
+}
+
+/// Operands of `==` and `!=`, and the operators between them.
+#[cycle(expr)]
+#[tactic(auto, unfolding(crate::specs::Readers::equal_with))]
+fn equality<'a>(alloc: Global, left: usize, tokens: &'a [TreeToken]) -> Read<'a, Equality>
+    ensures { Gives (λ x. (equality_tree x.0, x.1.now)) result (readers.equal_with left (readers.below left) tokens.now) }
+{
+    let (first, rest) = relational(alloc, left, tokens)?;
+    let (more, rest) = equality_parts(alloc, left, rest)?;
+    Ok((Equality { first, more }, rest))
+}
+
+/// The operands behind the first.
+#[cycle(expr)]
+fn equality_parts<'a>(
+    alloc: Global,
+    left: usize,
+    tokens: &'a [TreeToken],
+) -> Read<'a, Vec<EqualityPart>>
+    ensures { Gives (λ x. (list_tree (map equality_part_tree x.0.items), x.1.now)) result (spec.equality_parts_with left (readers.below left) tokens.now) }
+{
+    let mut rest = tokens;
+    let mut list = Vec::new(alloc);
+    'list: while starts_equality(rest) {
+        let (next, after) = equality_part(alloc, left, rest)?;
+        list.push(next)?;
+        rest = after;
+    }
+    Ok((list, rest))
+}
+
+/// An operand with the operator before it.
+#[cycle(expr)]
+fn equality_part<'a>(alloc: Global, left: usize, tokens: &'a [TreeToken]) -> Read<'a, EqualityPart>
+    ensures { Gives (λ x. (equality_part_tree x.0, x.1.now)) result (spec.equality_part_with left (readers.below left) tokens.now) }
+{
+    let ((operator, place), rest) = equality_operator(tokens)?;
+    let (operand, rest) = relational(alloc, left, rest)?;
+    Ok((
+        EqualityPart {
+            operator,
+            place,
+            operand,
+        },
+        rest,
+    ))
+}
+
+/// Operands of comparisons by order, and the operators between them.
+#[cycle(expr)]
+#[tactic(auto, unfolding(crate::specs::Readers::order_with))]
+fn relational<'a>(alloc: Global, left: usize, tokens: &'a [TreeToken]) -> Read<'a, Relational>
+    ensures { Gives (λ x. (relational_tree x.0, x.1.now)) result (readers.order_with left (readers.below left) tokens.now) }
+{
+    let (first, rest) = additive(alloc, left, tokens)?;
+    let (more, rest) = relational_parts(alloc, left, rest)?;
+    Ok((Relational { first, more }, rest))
+}
+
+/// The operands behind the first.
+#[cycle(expr)]
+fn relational_parts<'a>(
+    alloc: Global,
+    left: usize,
+    tokens: &'a [TreeToken],
+) -> Read<'a, Vec<RelationalPart>>
+    ensures { Gives (λ x. (list_tree (map relational_part_tree x.0.items), x.1.now)) result (spec.relational_parts_with left (readers.below left) tokens.now) }
+{
+    let mut rest = tokens;
+    let mut list = Vec::new(alloc);
+    'list: while starts_relational(rest) {
+        let (next, after) = relational_part(alloc, left, rest)?;
+        list.push(next)?;
+        rest = after;
+    }
+    Ok((list, rest))
+}
+
+/// An operand with the operator before it.
+#[cycle(expr)]
+fn relational_part<'a>(
+    alloc: Global,
+    left: usize,
+    tokens: &'a [TreeToken],
+) -> Read<'a, RelationalPart>
+    ensures { Gives (λ x. (relational_part_tree x.0, x.1.now)) result (spec.relational_part_with left (readers.below left) tokens.now) }
+{
+    let ((operator, place), rest) = relational_operator(tokens)?;
+    let (operand, rest) = additive(alloc, left, rest)?;
+    Ok((
+        RelationalPart {
+            operator,
+            place,
+            operand,
+        },
+        rest,
+    ))
+}
+
+/// Operands of `+` and `-`, and the operators between them.
+#[cycle(expr)]
+#[tactic(auto, unfolding(crate::specs::Readers::sum_with))]
+pub fn additive<'a>(alloc: Global, left: usize, tokens: &'a [TreeToken]) -> Read<'a, Additive>
+    ensures { Gives (λ x. (additive_tree x.0, x.1.now)) result (readers.sum_with left (readers.below left) tokens.now) }
+{
+    let (first, rest) = multiplicative(alloc, left, tokens)?;
+    let (more, rest) = additive_parts(alloc, left, rest)?;
+    Ok((Additive { first, more }, rest))
+}
+
+/// The operands behind the first.
+#[cycle(expr)]
+fn additive_parts<'a>(
+    alloc: Global,
+    left: usize,
+    tokens: &'a [TreeToken],
+) -> Read<'a, Vec<AdditivePart>>
+    ensures { Gives (λ x. (list_tree (map additive_part_tree x.0.items), x.1.now)) result (spec.additive_parts_with left (readers.below left) tokens.now) }
+{
+    let mut rest = tokens;
+    let mut list = Vec::new(alloc);
+    'list: while starts_additive(rest) {
+        let (next, after) = additive_part(alloc, left, rest)?;
+        list.push(next)?;
+        rest = after;
+    }
+    Ok((list, rest))
+}
+
+/// An operand with the operator before it.
+#[cycle(expr)]
+fn additive_part<'a>(alloc: Global, left: usize, tokens: &'a [TreeToken]) -> Read<'a, AdditivePart>
+    ensures { Gives (λ x. (additive_part_tree x.0, x.1.now)) result (spec.additive_part_with left (readers.below left) tokens.now) }
+{
+    let ((operator, place), rest) = additive_operator(tokens)?;
+    let (operand, rest) = multiplicative(alloc, left, rest)?;
+    Ok((
+        AdditivePart {
+            operator,
+            place,
+            operand,
+        },
+        rest,
+    ))
+}
+
+/// Operands of `*`, `/` and `%`, and the operators between them.
+#[cycle(expr)]
+#[tactic(auto, unfolding(crate::specs::Readers::term_with))]
+fn multiplicative<'a>(
+    alloc: Global,
+    left: usize,
+    tokens: &'a [TreeToken],
+) -> Read<'a, Multiplicative>
+    ensures { Gives (λ x. (multiplicative_tree x.0, x.1.now)) result (readers.term_with left (readers.below left) tokens.now) }
+{
+    let (first, rest) = unary(alloc, left, tokens)?;
+    let (more, rest) = multiplicative_parts(alloc, left, rest)?;
+    Ok((Multiplicative { first, more }, rest))
+}
+
+/// The operands behind the first.
+#[cycle(expr)]
+fn multiplicative_parts<'a>(
+    alloc: Global,
+    left: usize,
+    tokens: &'a [TreeToken],
+) -> Read<'a, Vec<MultiplicativePart>>
+    ensures { Gives (λ x. (list_tree (map multiplicative_part_tree x.0.items), x.1.now)) result (spec.multiplicative_parts_with left (readers.below left) tokens.now) }
+{
+    let mut rest = tokens;
+    let mut list = Vec::new(alloc);
+    'list: while starts_multiplicative(rest) {
+        let (next, after) = multiplicative_part(alloc, left, rest)?;
+        list.push(next)?;
+        rest = after;
+    }
+    Ok((list, rest))
+}
+
+/// An operand with the operator before it.
+#[cycle(expr)]
+fn multiplicative_part<'a>(
+    alloc: Global,
+    left: usize,
+    tokens: &'a [TreeToken],
+) -> Read<'a, MultiplicativePart>
+    ensures { Gives (λ x. (multiplicative_part_tree x.0, x.1.now)) result (spec.multiplicative_part_with left (readers.below left) tokens.now) }
+{
+    let ((operator, place), rest) = multiplicative_operator(tokens)?;
+    let (operand, rest) = unary(alloc, left, rest)?;
+    Ok((
+        MultiplicativePart {
+            operator,
+            place,
+            operand,
+        },
+        rest,
+    ))
+}

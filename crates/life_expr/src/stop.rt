@@ -1,0 +1,33 @@
+// Why a tree could not be read.
+ghost use Rattle.std.specs.Prelude.{◌≡◌};
+ghost use Rattle.life_expr.specs.declared.stop.Stop.TheVariants.{Memory};
+
+use life_tree::TreeToken;
+use std::alloc::{AllocError, AllocFailed};
+
+/// Reading stopped: memory ran out, or the first of these tokens is refused, or opens too much.
+#[derive(Debug, Drop)]
+pub enum Stop<'a> {
+    Memory,
+    Refused(&'a [TreeToken]),
+    Deep(&'a [TreeToken]),
+}
+
+/// What was read, and the tokens behind it.
+pub type Read<'a, T> = Result<(T, &'a [TreeToken]), Stop<'a>>;
+
+impl<'a> From<AllocError> for Stop<'a> {
+    ghost from_gives = { λ _ e. e ≡ Memory };
+
+    fn from(_e: AllocError) -> Stop<'a> {
+        Stop::Memory
+    }
+}
+
+impl<'a, T: Drop> From<AllocFailed<T>> for Stop<'a> {
+    ghost from_gives = { λ _ e. e ≡ Memory };
+
+    fn from(_e: AllocFailed<T>) -> Stop<'a> {
+        Stop::Memory
+    }
+}

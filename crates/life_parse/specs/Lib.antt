@@ -1,0 +1,4 @@
+pub mod Ends
+pub mod ParsesTokens
+pub mod Source
+pub mod Tails

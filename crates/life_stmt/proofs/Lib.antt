@@ -1,0 +1,10 @@
+pub mod Below
+pub mod CallParts
+pub mod ElseReads
+pub mod FunctionReads
+pub mod LoopReads
+pub mod ShrinksReads
+pub mod ShrinksRules
+pub mod SimpleReads
+pub mod StartsReads
+pub mod StatementReads

@@ -1,0 +1,15 @@
+use Rattle.std.proofs.Common.{◌≡◌, ◌∷◌, [], ◌<◌, map, length}
+use Rattle.life_stmt.specs.Fronts.{mapped, before}
+use Rattle.life_expr.specs.Heads.{heads_of, comma_kind}
+use Rattle.life_stmt.specs.Definitions as spec
+use Rattle.life_expr.specs.Read.{as_many}
+use Rattle.life_expr.specs.Readers as readers
+use Rattle.life_tree.specs.Rules as rules
+use Rattle.life_tree.specs.Views.{member_tree}
+use Rattle.life_stmt.proofs.programs.more_members.Given as goal
+
+abbrev pub invariant-list : goal.invariant-list
+invariant-list l = mapped (before (map member_tree l.list.items)) (as_many (heads_of rules.member) (readers.below l.left rules.member) l.rest) ≡ mapped (before (map member_tree l.fn.before.items)) (as_many (heads_of rules.member) (readers.below l.left rules.member) l.fn.tokens)
+
+abbrev pub decreases-list : goal.decreases-list
+decreases-list l = length l.rest

@@ -1,0 +1,26 @@
+-- What was read before, in front of what is read next.
+use Rattle.std.specs.Prelude.{List, [], ◌∷◌, Ok, Err}
+use Rattle.life_expr.specs.Read.{Read, Stop, ◌>>=◌}
+use Rattle.life_tree.specs.Tree.{Tree, ◌⨾◌}
+use Rattle.life_tree.specs.Views.{comma_tree}
+
+abbrev pub mapped : (Tree → Tree) → Read → Read
+mapped f read = read >>= λ x. Ok (f x.0, x.1)
+
+abbrev pub behind : Tree → Read → Read
+behind t = mapped (λ u. t ⨾ u)
+
+-- these trees, and then another
+abbrev pub before : List Tree → Tree → Tree
+before [] t = t
+before (x ∷ xs) t = x ⨾ before xs t
+
+-- .. with a comma before each
+abbrev pub later_before : List Tree → Tree → Tree
+later_before [] t = t
+later_before (x ∷ xs) t = (comma_tree ⨾ x) ⨾ later_before xs t
+
+-- .. but the first
+abbrev pub separated_before : List Tree → Tree → Tree
+separated_before [] t = t
+separated_before (x ∷ xs) t = x ⨾ later_before xs t
