@@ -35,6 +35,33 @@ def blocks_file():
     return head + b"{}" * ((FILE_LIMIT - len(head) - len(tail)) // 2) + tail
 
 
+def usual_file():
+    """Usual functions of the whole grammar up to the largest size: all of it is parsed, and then it is told unsupported."""
+    function = """
+[[life::ret(values)]] const int* largest{n}(const std::vector<int>& values, long limit) {{
+  const int* best = nullptr;
+  for (const int& value : values) {{
+    if (value < limit && (!best || *best < value)) {{
+      best = &value;  // the largest so far
+    }} else if (value == {n}) {{
+      continue;
+    }}
+  }}
+  std::string text = std::string("largest") + "of";
+  for (int i = 0; i < 10; ++i) {{
+    text += 'x';
+    assert(text.size() > 0);
+  }}
+  return best;
+}}
+"""
+    text, number = "", 0
+    while len(text) + len(function) < FILE_LIMIT - 10:
+        text += function.format(n=number)
+        number += 1
+    return text.encode()
+
+
 def limits_file():
     """250 variables and some 1,000 points, each pointer used twice."""
     lines = ["int main() {"]
@@ -61,6 +88,7 @@ def faults_file():
 FILES = [
     ("one comment, 1 MiB", comment_file),
     ("tokens, 1 MiB", names_file),
+    ("usual code, 1 MiB", usual_file),
     ("empty blocks, 1 MiB", blocks_file),
     ("250 variables, 1,000 points", limits_file),
     ("250 diagnostics", faults_file),

@@ -1,15 +1,20 @@
 -- What the command needs of the answers to a file: there is at most one, and its status is a file's.
-use Rattle.std.proofs.Common.{◌≡◌, ℕ, Bool, true, false, List, [], ◌∷◌, Option, None, Some, refl, sym, ◌∙◌, ap, subst}
-use Rattle.std.specs.Prelude.{slice_get}
+use Rattle.std.proofs.Common.{◌≡◌, ℕ, Bool, true, false, List, [], ◌∷◌, ◌++◌, Option, None, Some, Err, refl, sym, ◌∙◌, ap, subst}
+use Rattle.std.specs.Prelude.{slice_get, codes}
 use Rattle.life_core.specs.Function.{Function, Program}
 use Rattle.life_front.specs.Form.{Reading, Faulty, Foreign, Whole}
+use Rattle.life_parse.specs.Ends.{HasNoTree, IsOnlyFault, Ends as Parses}
+use Rattle.life_parse.specs.declared.fault.ParseFault.{ParseFault}
+use Rattle.life_parse.specs.declared.fault.ParseFault.TheVariants as parsing
+use Rattle.life_tree.specs.Views.{program_tree}
+use Rattle.life_types.specs.Places.{position_text}
 use Rattle.life_rules.proofs.Unique.{only_listing}
 use Rattle.life_rules.specs.declared.diag.Diag.{Diag}
 use Rattle.life_store.specs.Meaning as meaning
 use Rattle.life_store.specs.Meaning.{Outcome}
 use Rattle.life_store.specs.NoFault.{IsNoFault, NoFault}
-use Rattle.life_cli.specs.Answer.{Answer}
-use Rattle.life_cli.specs.CheckedFile.{AnswersFile, AnswersProgram, AnswersReading, Concludes, RunsDiagnosed, verdict}
+use Rattle.life_cli.specs.Answer.{Answer, refusal}
+use Rattle.life_cli.specs.CheckedFile.{AnswersFile, AnswersParsing, AnswersProgram, AnswersReading, AnswersTree, Concludes, HasTree, RefusesTree, RunsDiagnosed, lex_fault_text, limit_text, verdict}
 use Rattle.life_cli.specs.Runs.{IsEnd, Ran, ended_as, run_with, setting_of}
 use Rattle.life_cli.specs.Status.{IsOfBytes}
 use Rattle.life_cli.specs.Words.{IsUnchecked}
@@ -17,7 +22,7 @@ use Rattle.life_cli.specs.declared.job.Command.{Command}
 use Rattle.life_cli.specs.declared.job.Command.TheVariants.{Check, Run}
 use Rattle.life_cli.specs.declared.job.RunOptions.{RunOptions}
 use Rattle.life_cli.specs.declared.status.Status.{Status}
-use Rattle.life_cli.specs.declared.status.Status.TheVariants.{Done, Diagnosed, Syntax, Trap, Fault, Steps}
+use Rattle.life_cli.specs.declared.status.Status.TheVariants.{Done, Diagnosed, Ill, Limit, Syntax, Trap, Fault, Steps}
 
 head_or : Function → List Function → Function
 head_or f [] = f
@@ -58,11 +63,48 @@ one_answer_to command (Faulty fault) a b p q = p ∙ sym q
 one_answer_to command Foreign a b p q = p ∙ sym q
 one_answer_to command (Whole program) a b p q = one_program_answer command program a b p q
 
--- a file has at most one answer
-pub one_answer : (command : Command) (bytes : List ℕ) (a b : Answer) → AnswersFile command bytes a → AnswersFile command bytes b → a ≡ b
-one_answer command bytes a b p q =
+one_tree_answer : (command : Command) (bytes : List ℕ) (a b : Answer) → AnswersTree command bytes a → AnswersTree command bytes b → a ≡ b
+one_tree_answer command bytes a b p q =
     one_answer_to command p.reading a b p.answered
     (subst (λ r. AnswersReading command r b) (p.read.only q.reading q.read.is) q.answered)
+
+-- a file with a tree isn't one without
+pub one_way : (bytes : List ℕ) → HasTree bytes → HasNoTree bytes → ⊥
+one_way bytes has none = none has.1.lexemes has.1.lexed.0 (program_tree has.0) has.1.fits has.1.spelled
+
+has_none : (bytes : List ℕ) (fault : ParseFault) (a : Answer) → Parses bytes (Err fault) → RefusesTree fault a → HasNoTree bytes
+has_none bytes (parsing.Lex fault) a parsed is = parsed.1
+has_none bytes (parsing.Refused k place) a parsed is = parsed.1
+has_none bytes (parsing.Limit fault) a parsed is = parsed.1
+has_none bytes parsing.NoMemory a parsed is = absurd is
+
+has_memory : (fault : ParseFault) (a : Answer) → RefusesTree fault a → fault ≡ parsing.NoMemory → ⊥
+has_memory (parsing.Lex fault) a is e = cc
+has_memory (parsing.Refused k place) a is e = cc
+has_memory (parsing.Limit fault) a is e = cc
+has_memory parsing.NoMemory a is e = is
+
+one_refusal : (fault : ParseFault) (a b : Answer) → RefusesTree fault a → RefusesTree fault b → a ≡ b
+one_refusal (parsing.Lex fault) a b p q = p ∙ sym q
+one_refusal (parsing.Refused k place) a b p q = p ∙ sym q
+one_refusal (parsing.Limit fault) a b p q = p ∙ sym q
+one_refusal parsing.NoMemory a b p q = absurd p
+
+only_reason : (bytes : List ℕ) (f g : ParseFault) (a b : Answer) → IsOnlyFault bytes f → RefusesTree f a → Parses bytes (Err g) → RefusesTree g b → g ≡ f
+only_reason bytes (parsing.Lex fault) g a b only had parsed is = only g parsed (has_memory g b is)
+only_reason bytes (parsing.Refused k place) g a b only had parsed is = only g parsed (has_memory g b is)
+only_reason bytes (parsing.Limit fault) g a b only had parsed is = only g parsed (has_memory g b is)
+only_reason bytes parsing.NoMemory g a b only had parsed is = absurd had
+
+one_parsing : (command : Command) (bytes : List ℕ) (f g : Option ParseFault) (a b : Answer) → AnswersParsing command bytes f a → AnswersParsing command bytes g b → a ≡ b
+one_parsing command bytes None None a b p q = one_tree_answer command bytes a b p.1 q.1
+one_parsing command bytes None (Some g) a b p q = absurd (one_way bytes p.0 (has_none bytes g b q.0 q.2))
+one_parsing command bytes (Some f) None a b p q = absurd (one_way bytes q.0 (has_none bytes f a p.0 p.2))
+one_parsing command bytes (Some f) (Some g) a b p q = one_refusal f a b p.2 (subst (λ h. RefusesTree h b) (only_reason bytes f g a b p.1 p.2 q.0 q.2) q.2)
+
+-- a file has at most one answer
+pub one_answer : (command : Command) (bytes : List ℕ) (a b : Answer) → AnswersFile command bytes a → AnswersFile command bytes b → a ≡ b
+one_answer command bytes a b p q = one_parsing command bytes p.fault q.fault a b p.answered q.answered
 
 -- ---- its status
 
@@ -97,9 +139,16 @@ status_to command (Faulty fault) answer is = has_status answer _ is tt
 status_to command Foreign answer is = has_status answer _ is tt
 status_to command (Whole p) answer is = conclusion_status command p is.main is.diagnostics answer is.concluded
 
+parsing_status : (command : Command) (bytes : List ℕ) (fault : Option ParseFault) (answer : Answer) → AnswersParsing command bytes fault answer → IsOfBytes answer.status
+parsing_status command bytes None answer is = status_to command is.1.reading answer is.1.answered
+parsing_status command bytes (Some (parsing.Lex fault)) answer is = has_status answer _ is.2 tt
+parsing_status command bytes (Some (parsing.Refused k place)) answer is = has_status answer _ is.2 tt
+parsing_status command bytes (Some (parsing.Limit fault)) answer is = has_status answer _ is.2 tt
+parsing_status command bytes (Some parsing.NoMemory) answer is = absurd is.2
+
 -- the status of a file's answer is one that the bytes of a file can have
 pub status_of_bytes : (command : Command) (bytes : List ℕ) (answer : Answer) → AnswersFile command bytes answer → IsOfBytes answer.status
-status_of_bytes command bytes answer is = status_to command is.reading answer is.answered
+status_of_bytes command bytes answer is = parsing_status command bytes is.fault answer is.answered
 
 -- ---- faults
 
@@ -131,14 +180,24 @@ concluded_fault (Run options) p main [] a only safe is e =
     absurd (end_fault options.steps (run_with options p main).outcome (run_with options p main).output a is e (safe refl (setting_of options) 0 main [] options.steps (first_of p main only)))
 concluded_fault (Run options) p main (d ∷ ds) a only safe is e = unchecked_is options.unchecked options p main (d ∷ ds) a is e
 
-syntax_fault : Syntax ≡ Fault → ⊥
-syntax_fault e = cc
+no_fault : (a : Answer) (s : Status) → a.status ≡ s → a.status ≡ Fault → (s ≡ Fault → ⊥) → ⊥
+no_fault a s is e other = other (sym is ∙ e)
+
+refused_fault : (a : Answer) (s : Status) (text : List ℕ) → a ≡ refusal s text → a.status ≡ Fault → (s ≡ Fault → ⊥) → ⊥
+refused_fault a s text is e other = no_fault a s (ap (λ (x : Answer). x.status) is) e other
 
 fault_to : (command : Command) (reading : Reading) (a : Answer) → AnswersReading command reading a → a.status ≡ Fault → IsUnchecked command
-fault_to command (Faulty fault) a is e = let h : Syntax ≡ Fault = differs a _ Fault is e in absurd (syntax_fault h)
-fault_to command Foreign a is e = let h : Syntax ≡ Fault = differs a _ Fault is e in absurd (syntax_fault h)
+fault_to command (Faulty fault) a is e = absurd (refused_fault a Syntax (lex_fault_text fault) is e (λ h. cc))
+fault_to command Foreign a is e = absurd (refused_fault a Ill (codes "1:1: ill-formed: unsupported") is e (λ h. cc))
 fault_to command (Whole p) a is e = concluded_fault command p is.main is.diagnostics a is.only_function is.safe is.concluded e
+
+parsing_fault : (command : Command) (bytes : List ℕ) (fault : Option ParseFault) (a : Answer) → AnswersParsing command bytes fault a → a.status ≡ Fault → IsUnchecked command
+parsing_fault command bytes None a is e = fault_to command is.1.reading a is.1.answered e
+parsing_fault command bytes (Some (parsing.Lex fault)) a is e = absurd (refused_fault a Syntax (lex_fault_text fault) is.2 e (λ h. cc))
+parsing_fault command bytes (Some (parsing.Refused k place)) a is e = absurd (refused_fault a Syntax (position_text place ++ codes ": syntax") is.2 e (λ h. cc))
+parsing_fault command bytes (Some (parsing.Limit fault)) a is e = absurd (refused_fault a Limit (limit_text fault.name fault.place) is.2 e (λ h. cc))
+parsing_fault command bytes (Some parsing.NoMemory) a is e = absurd is.2
 
 -- a file's answer is a fault where it was to be run unchecked alone
 pub fault_is_unchecked : (command : Command) (bytes : List ℕ) (a : Answer) → AnswersFile command bytes a → a.status ≡ Fault → IsUnchecked command
-fault_is_unchecked command bytes a is e = fault_to command is.reading a is.answered e
+fault_is_unchecked command bytes a is e = parsing_fault command bytes is.fault a is.answered e

@@ -1,26 +1,32 @@
 -- What serves some answers serves others.
-use Rattle.std.proofs.Common.{◌≡◌, ℕ, true, false, List, [], ◌∷◌, Result, Ok, Err, refl, sym, subst}
+use Rattle.std.proofs.Common.{◌≡◌, ℕ, true, false, List, [], ◌∷◌, ◌++◌, Option, None, Some, Result, Ok, Err, refl, sym, subst}
 use Rattle.std.specs.Prelude.{codes}
 use Rattle.std.proofs.KnownBytes.{Appends-nil}
 use Rattle.life_base.specs.Edges.{AppendsFront}
 use Rattle.life_core.specs.Function.{Function, Program}
 use Rattle.life_front.specs.Form.{Faulty, Foreign, Whole, ReadsOnlyAs}
 use Rattle.life_lex.specs.declared.fault.LexFault.{LexFault}
+use Rattle.life_parse.specs.Ends.{IsOnlyFault, Ends as Parses}
+use Rattle.life_parse.specs.declared.fault.ParseFault.{ParseFault}
+use Rattle.life_parse.specs.declared.fault.ParseFault.TheVariants as parsing
+use Rattle.life_tree.specs.declared.program.Program.{Program as Parsed}
+use Rattle.life_types.specs.Places.{position_text}
 use Rattle.life_rules.specs.Listing.{AreProgramDiagnostics}
 use Rattle.life_rules.specs.declared.diag.Diag.{Diag}
 use Rattle.life_store.specs.NoFault.{NoFault}
 use Rattle.life_rules.proofs.Unique.{only_listing}
-use Rattle.life_cli.proofs.CheckedFile.{same_function}
+use Rattle.life_cli.proofs.CheckedFile.{one_way, same_function}
 use Rattle.life_cli.specs.Answer.{Answer, answer_in, line}
-use Rattle.life_cli.specs.CheckedFile.{AnswersFile, AnswersProgram, AnswersReading, Concludes, IsWholeProgram, RunsDiagnosed, lex_fault_text, not_run, reported}
+use Rattle.life_cli.specs.CheckedFile.{AnswersFile, AnswersParsing, AnswersProgram, AnswersReading, AnswersTree, Concludes, HasTree, IsWholeProgram, RunsDiagnosed, lex_fault_text, limit_text, not_run, reported}
 use Rattle.life_cli.specs.Ends.{HandsOut, Port, Tells, Reports, Serves, ServesFront}
+use Rattle.life_cli.specs.Refusals.{TellsFault}
 use Rattle.life_cli.specs.Runs.{Ran, RanMain}
 use Rattle.life_cli.specs.declared.job.Command.{Command}
 use Rattle.life_cli.specs.declared.job.Command.TheVariants.{Check, Run}
 use Rattle.life_cli.specs.declared.job.RunOptions.{RunOptions}
 use Rattle.life_cli.specs.declared.reply.Reply.{Reply}
 use Rattle.life_cli.specs.declared.status.Status.{Status}
-use Rattle.life_cli.specs.declared.status.Status.TheVariants.{Syntax}
+use Rattle.life_cli.specs.declared.status.Status.TheVariants.{Ill, Limit, Syntax}
 use Rattle.life_cli.specs.declared.stop.Stop.{Stop}
 use Rattle.life_cli.specs.declared.stop.Stop.TheVariants as stop
 use Rattle.life_cli.specs.declared.stop.Ending.{Ending}
@@ -61,21 +67,47 @@ reply_serves P reply out out' (Err stop.WriteFault) is only hands = record { out
 -- ---- files
 
 pub lexical_serves : (command : Command) (bytes : List ℕ) (fault : LexFault) (out : Port) (result : Result Ending Stop) → ReadsOnlyAs bytes (Faulty fault)
-    → Tells Syntax (lex_fault_text fault) result → Serves (AnswersFile command bytes) out out result
+    → Tells Syntax (lex_fault_text fault) result → Serves (AnswersTree command bytes) out out result
 lexical_serves command bytes fault out result reads tells =
-    text_serves (AnswersFile command bytes) Syntax (line (lex_fault_text fault)) out result (record { reading = Faulty fault; read = reads; answered = refl }) tells
+    text_serves (AnswersTree command bytes) Syntax (line (lex_fault_text fault)) out result (record { reading = Faulty fault; read = reads; answered = refl }) tells
 
 pub foreign_serves : (command : Command) (bytes : List ℕ) (out : Port) (result : Result Ending Stop) → ReadsOnlyAs bytes Foreign
-    → Tells Syntax (codes "syntax") result → Serves (AnswersFile command bytes) out out result
+    → Tells Ill (codes "1:1: ill-formed: unsupported") result → Serves (AnswersTree command bytes) out out result
 foreign_serves command bytes out result reads tells =
-    text_serves (AnswersFile command bytes) Syntax (line (codes "syntax")) out result (record { reading = Foreign; read = reads; answered = refl }) tells
+    text_serves (AnswersTree command bytes) Ill (line (codes "1:1: ill-formed: unsupported")) out result (record { reading = Foreign; read = reads; answered = refl }) tells
 
 pub whole_serves : (command : Command) (bytes : List ℕ) (p : Program) (out out' : Port) (result : Result Ending Stop) → ReadsOnlyAs bytes (Whole p)
-    → Serves (AnswersProgram command p) out out' result → Serves (AnswersFile command bytes) out out' result
+    → Serves (AnswersProgram command p) out out' result → Serves (AnswersTree command bytes) out out' result
 whole_serves command bytes p out out' result reads =
-    serves_as (AnswersProgram command p) (AnswersFile command bytes) out out' result
+    serves_as (AnswersProgram command p) (AnswersTree command bytes) out out' result
     (λ a is. record { reading = Whole p; read = reads; answered = is })
     (λ a is. subst (λ r. AnswersReading command r a) (reads.only is.reading is.read.is) is.answered)
+
+-- ---- trees
+
+tree_alone : (command : Command) (bytes : List ℕ) (fault : Option ParseFault) (a : Answer) → HasTree bytes → AnswersParsing command bytes fault a → AnswersTree command bytes a
+tree_alone command bytes None a has is = is.1
+tree_alone command bytes (Some (parsing.Lex fault)) a has is = absurd (one_way bytes has is.0.1)
+tree_alone command bytes (Some (parsing.Refused k place)) a has is = absurd (one_way bytes has is.0.1)
+tree_alone command bytes (Some (parsing.Limit fault)) a has is = absurd (one_way bytes has is.0.1)
+tree_alone command bytes (Some parsing.NoMemory) a has is = absurd is.2
+
+pub tree_serves : (command : Command) (bytes : List ℕ) (p : Parsed) (out out' : Port) (result : Result Ending Stop) → Parses bytes (Ok p)
+    → Serves (AnswersTree command bytes) out out' result → Serves (AnswersFile command bytes) out out' result
+tree_serves command bytes p out out' result parsed =
+    serves_as (AnswersTree command bytes) (AnswersFile command bytes) out out' result
+    (λ a is. record { fault = None; answered = ((p, parsed.0), is) })
+    (λ a is. tree_alone command bytes is.fault a (p, parsed.0) is.answered)
+
+pub unparsed_serves : (command : Command) (bytes : List ℕ) (fault : ParseFault) (out : Port) (result : Result Ending Stop) → Parses bytes (Err fault) → IsOnlyFault bytes fault
+    → TellsFault fault result → Serves (AnswersFile command bytes) out out result
+unparsed_serves command bytes (parsing.Lex fault) out result parsed only tells =
+    text_serves (AnswersFile command bytes) Syntax (line (lex_fault_text fault)) out result (record { fault = Some (parsing.Lex fault); answered = (parsed, only, refl) }) tells
+unparsed_serves command bytes (parsing.Refused k place) out result parsed only tells =
+    text_serves (AnswersFile command bytes) Syntax (line (position_text place ++ codes ": syntax")) out result (record { fault = Some (parsing.Refused k place); answered = (parsed, only, refl) }) tells
+unparsed_serves command bytes (parsing.Limit fault) out result parsed only tells =
+    text_serves (AnswersFile command bytes) Limit (line (limit_text fault.name fault.place)) out result (record { fault = Some (parsing.Limit fault); answered = (parsed, only, refl) }) tells
+unparsed_serves command bytes parsing.NoMemory out result parsed only tells = rw tells (wants_memory (AnswersFile command bytes) out)
 
 -- ---- programs
 

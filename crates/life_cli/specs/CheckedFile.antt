@@ -1,5 +1,5 @@
 -- The answer to the bytes of a file.
-use Rattle.std.specs.Prelude.{◌≡◌, ◌++◌, ℕ, Bool, true, false, List, [], ◌∷◌, codes}
+use Rattle.std.specs.Prelude.{◌≡◌, ◌++◌, ℕ, Bool, true, false, List, [], ◌∷◌, Option, None, Some, Err, codes}
 use Rattle.life_types.specs.Places.{position_text}
 use Rattle.life_lex.specs.declared.fault.LexFault.{LexFault}
 use Rattle.life_lex.specs.declared.fault.LexFaultKind.{LexFaultKind}
@@ -12,14 +12,21 @@ use Rattle.life_rules.specs.Listing.{AreProgramDiagnostics}
 use Rattle.life_rules.specs.declared.diag.Diag.{Diag}
 use Rattle.life_report.specs.Reports.{report_text}
 use Rattle.life_front.specs.Form.{Reading, Faulty, Foreign, Whole, ReadsOnlyAs}
+use Rattle.life_parse.specs.Ends.{IsOnlyFault, IsSource, Ends as Parses}
+use Rattle.life_parse.specs.declared.fault.ParseFault.{ParseFault}
+use Rattle.life_parse.specs.declared.fault.ParseFault.TheVariants as parsing
 use Rattle.life_store.specs.NoFault.{NoFault}
+use Rattle.life_tree.specs.declared.limit.LimitName.{LimitName}
+use Rattle.life_tree.specs.declared.limit.LimitName.TheVariants as limits
+use Rattle.life_tree.specs.declared.program.Program.{Program as Parsed}
+use Rattle.life_types.specs.declared.place.Place.{Place}
 use Rattle.life_cli.specs.Answer.{Answer, refusal}
 use Rattle.life_cli.specs.Runs.{Ran}
 use Rattle.life_cli.specs.declared.job.Command.{Command}
 use Rattle.life_cli.specs.declared.job.Command.TheVariants.{Check, Run}
 use Rattle.life_cli.specs.declared.job.RunOptions.{RunOptions}
 use Rattle.life_cli.specs.declared.status.Status.{Status}
-use Rattle.life_cli.specs.declared.status.Status.TheVariants.{Done, Diagnosed, Syntax}
+use Rattle.life_cli.specs.declared.status.Status.TheVariants.{Done, Diagnosed, Ill, Limit, Syntax}
 
 -- what a lexical fault is called
 abbrev pub lex_fault_name : LexFaultKind → List ℕ
@@ -30,6 +37,30 @@ lex_fault_name NumberTooLarge = codes "number too large"
 
 abbrev pub lex_fault_text : LexFault → List ℕ
 lex_fault_text fault = position_text fault.place ++ codes ": " ++ lex_fault_name fault.kind
+
+-- what a limit is called
+abbrev pub limit_name : LimitName → List ℕ
+limit_name limits.File = codes "file"
+limit_name limits.Input = codes "input"
+limit_name limits.Size = codes "size"
+limit_name limits.Nesting = codes "nesting"
+limit_name limits.Functions = codes "functions"
+limit_name limits.Fields = codes "fields"
+limit_name limits.Path = codes "path"
+limit_name limits.Locations = codes "locations"
+limit_name limits.Points = codes "points"
+limit_name limits.Elements = codes "elements"
+
+abbrev pub limit_text : LimitName → Option Place → List ℕ
+limit_text name None = codes "limit: " ++ limit_name name
+limit_text name (Some place) = position_text place ++ codes ": limit: " ++ limit_name name
+
+-- the answer to why a file has no tree
+abbrev pub RefusesTree : ParseFault → Answer → Type 0
+RefusesTree (parsing.Lex fault) answer = answer ≡ refusal Syntax (lex_fault_text fault)
+RefusesTree (parsing.Refused k place) answer = answer ≡ refusal Syntax (position_text place ++ codes ": syntax")
+RefusesTree (parsing.Limit fault) answer = answer ≡ refusal Limit (limit_text fault.name fault.place)
+RefusesTree parsing.NoMemory answer = ⊥
 
 -- a program is accepted where there is nothing to list
 abbrev pub verdict : List Diag → Status
@@ -73,14 +104,28 @@ pub record AnswersProgram (command : Command) (p : Program) (answer : Answer) : 
   pub safe : diagnostics ≡ [] → NoFault p
   pub concluded : Concludes command p main diagnostics answer
 
--- the answer is one to what a file reads as
+-- the answer is one to what a file with a tree reads as: a file that isn't of the form that is built is ill-formed
 abbrev pub AnswersReading : Command → Reading → Answer → Type 0
 AnswersReading command (Faulty fault) answer = answer ≡ refusal Syntax (lex_fault_text fault)
-AnswersReading command Foreign answer = answer ≡ refusal Syntax (codes "syntax")
+AnswersReading command Foreign answer = answer ≡ refusal Ill (codes "1:1: ill-formed: unsupported")
 AnswersReading command (Whole p) answer = AnswersProgram command p answer
 
 -- the answer is the command's to the only reading of these bytes
-pub record AnswersFile (command : Command) (bytes : List ℕ) (answer : Answer) : Type 0 where
+pub record AnswersTree (command : Command) (bytes : List ℕ) (answer : Answer) : Type 0 where
   pub reading : Reading
   pub read : ReadsOnlyAs bytes reading
   pub answered : AnswersReading command reading answer
+
+-- the file is the tokens of a tree
+abbrev pub HasTree : List ℕ → Type 0
+HasTree bytes = (p : Parsed) × IsSource bytes p
+
+-- .. to the one reason for which the file has no tree, or to what it reads as where it has one
+abbrev pub AnswersParsing : Command → List ℕ → Option ParseFault → Answer → Type 0
+AnswersParsing command bytes None answer = HasTree bytes × AnswersTree command bytes answer
+AnswersParsing command bytes (Some fault) answer = Parses bytes (Err fault) × IsOnlyFault bytes fault × RefusesTree fault answer
+
+-- the answer is the command's to a file of these bytes
+pub record AnswersFile (command : Command) (bytes : List ℕ) (answer : Answer) : Type 0 where
+  pub fault : Option ParseFault
+  pub answered : AnswersParsing command bytes fault answer

@@ -1,9 +1,10 @@
+pub mod Answer
+pub mod CheckedFile
+pub mod Ends
+pub mod Question
+pub mod Refusals
+pub mod Runs
 pub mod Status
 pub mod Stops
-pub mod Words
-pub mod Answer
-pub mod Runs
-pub mod CheckedFile
-pub mod Question
-pub mod Ends
 pub mod Told
+pub mod Words

@@ -1,13 +1,14 @@
 -- The statuses, their numbers, and which of them come where.
 use Rattle.std.specs.Prelude.{ℕ}
 use Rattle.life_cli.specs.declared.status.Status.{Status}
-use Rattle.life_cli.specs.declared.status.Status.TheVariants.{Done, Diagnosed, Syntax, Limit, Trap, Fault, Steps, Usage, NoFile, NoMemory, ReadFault, WriteFault}
+use Rattle.life_cli.specs.declared.status.Status.TheVariants.{Done, Diagnosed, Syntax, Ill, Limit, Trap, Fault, Steps, Usage, NoFile, NoMemory, ReadFault, WriteFault}
 
 -- the exit status of the program
 abbrev pub code_of : Status → ℕ
 code_of Done = 0
 code_of Diagnosed = 1
 code_of Syntax = 2
+code_of Ill = 3
 code_of Limit = 4
 code_of Trap = 5
 code_of Fault = 6
@@ -30,6 +31,7 @@ abbrev pub IsOfBytes : Status → Type 0
 IsOfBytes Done = Unit {0}
 IsOfBytes Diagnosed = Unit {0}
 IsOfBytes Syntax = Unit {0}
+IsOfBytes Ill = Unit {0}
 IsOfBytes Limit = Unit {0}
 IsOfBytes Trap = Unit {0}
 IsOfBytes Fault = Unit {0}

@@ -18,4 +18,6 @@ pub use command::run_command;
 pub use status::Status;
 
 #[cfg(test)]
+mod refusal_tests;
+#[cfg(test)]
 mod tests;

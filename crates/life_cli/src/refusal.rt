@@ -1,12 +1,17 @@
 // Refusals: a line on err, and nothing on out.
 ghost use Rattle.std.specs.Prelude.{◌≡◌, ◌++◌, codes};
-ghost use Rattle.life_cli.specs.CheckedFile.{lex_fault_name, lex_fault_text};
+ghost use Rattle.life_types.specs.Places.{position_text};
+ghost use Rattle.life_cli.specs.CheckedFile.{lex_fault_name, lex_fault_text, limit_name, limit_text};
 ghost use Rattle.life_cli.specs.Ends.{Tells};
-ghost use Rattle.life_cli.specs.declared.status.Status.TheVariants.{NoFile, Syntax};
+ghost use Rattle.life_cli.specs.Refusals.{TellsFault};
+ghost use Rattle.life_cli.specs.declared.status.Status.TheVariants.{Limit, NoFile, Syntax};
 
 use crate::Status;
 use crate::stop::{Ending, Stop};
 use life_lex::{LexFault, LexFaultKind};
+use life_parse::ParseFault;
+use life_tree::LimitName;
+use life_types::Place;
 use std::alloc::Global;
 
 /// A line on err, and nothing on out.
@@ -26,6 +31,64 @@ pub fn refuse_name(alloc: Global, name: &str) -> Result<Ending, Stop>
 {
     let text = format!(in alloc; "no file {name}")?;
     tell(alloc, Status::NoFile, text.as_str())
+}
+
+/// The line for a file that has no tree.
+pub fn refuse_tree(alloc: Global, fault: ParseFault) -> Result<Ending, Stop>
+    ensures { TellsFault fault result }
+{
+    match fault {
+        ParseFault::Lex(fault) => refuse_lexical(alloc, fault),
+        ParseFault::Refused { place, .. } => refuse_syntax(alloc, place),
+        ParseFault::Limit(fault) => refuse_limit(alloc, fault.name, fault.place),
+        ParseFault::NoMemory => Err(Stop::NoMemory),
+    }
+}
+
+/// The line for a token at which no program goes on.
+fn refuse_syntax(alloc: Global, place: Place) -> Result<Ending, Stop>
+    ensures { Tells Syntax (position_text place ++ codes ": syntax") result }
+{
+    let line = place.line;
+    let column = place.column;
+    let text = format!(in alloc; "{line}:{column}: syntax")?;
+    tell(alloc, Status::Syntax, text.as_str())
+}
+
+/// The line for a limit that is passed.
+fn refuse_limit(alloc: Global, name: LimitName, place: Option<Place>) -> Result<Ending, Stop>
+    ensures { Tells Limit (limit_text name place) result }
+{
+    let name = limit_name(name);
+    match place {
+        Some(place) => {
+            let line = place.line;
+            let column = place.column;
+            let text = format!(in alloc; "{line}:{column}: limit: {name}")?;
+            tell(alloc, Status::Limit, text.as_str())
+        }
+        None => {
+            let text = format!(in alloc; "limit: {name}")?;
+            tell(alloc, Status::Limit, text.as_str())
+        }
+    }
+}
+
+fn limit_name(name: LimitName) -> &'static str
+    ensures { result.now ≡ limit_name name }
+{
+    match name {
+        LimitName::File => "file",
+        LimitName::Input => "input",
+        LimitName::Size => "size",
+        LimitName::Nesting => "nesting",
+        LimitName::Functions => "functions",
+        LimitName::Fields => "fields",
+        LimitName::Path => "path",
+        LimitName::Locations => "locations",
+        LimitName::Points => "points",
+        LimitName::Elements => "elements",
+    }
 }
 
 /// The line for a file with a lexical fault.

@@ -4,7 +4,7 @@ ghost use Rattle.life_core.specs.Function.{program_of};
 ghost use Rattle.life_report.specs.Reports.{report_text, HaveFunctions};
 ghost use Rattle.life_rules.specs.Listing.{AreProgramDiagnostics};
 ghost use Rattle.life_store.specs.NoFault.{NoFault};
-ghost use Rattle.life_cli.specs.CheckedFile.{reported, verdict, AnswersFile, AnswersProgram, IsWholeProgram};
+ghost use Rattle.life_cli.specs.CheckedFile.{reported, verdict, AnswersFile, AnswersProgram, AnswersTree, IsWholeProgram};
 ghost use Rattle.life_cli.specs.Ends.{Reports, Serves};
 ghost use Rattle.life_cli.specs.Question.{most_bytes};
 ghost use Rattle.life_cli.specs.Words.{HasFewSteps};
@@ -14,19 +14,20 @@ use crate::Status;
 use crate::checker::program_diagnostics;
 use crate::execute::execute;
 use crate::job::Command;
-use crate::refusal::{refuse_lexical, tell};
+use crate::refusal::{refuse_lexical, refuse_tree, tell};
 use crate::reply::{Reply, hand_out};
 use crate::stop::{Ending, Stop};
 use life_base::Sink;
 use life_core::CoreProgram;
 use life_front::{FrontFault, read_program};
+use life_parse::parse;
 use life_report::text_report;
 use life_rules::Diag;
 use life_sound::accept;
 use std::alloc::Global;
 
-/// Serves a file of these bytes: what it reads as decides.
-#[tactic(auto, using(crate::proofs::Served::lexical_serves, crate::proofs::Served::foreign_serves, crate::proofs::Served::whole_serves))]
+/// Serves a file of these bytes: it has a tree, or why it has none decides.
+#[tactic(auto, using(crate::proofs::Served::unparsed_serves, crate::proofs::Served::tree_serves))]
 pub fn serve_bytes<O: Sink>(
     alloc: Global,
     command: Command,
@@ -39,10 +40,30 @@ pub fn serve_bytes<O: Sink>(
         (record { taken = O.taken out.old; faults = O.faults out.old })
         (record { taken = O.taken out.new; faults = O.faults out.new }) result }
 {
+    match parse(alloc, bytes) {
+        Ok(_) => serve_tree(alloc, command, bytes, out),
+        Err(fault) => refuse_tree(alloc, fault),
+    }
+}
+
+// Serves a file that has a tree: what it reads as decides.
+#[tactic(auto, using(crate::proofs::Served::lexical_serves, crate::proofs::Served::foreign_serves, crate::proofs::Served::whole_serves))]
+fn serve_tree<O: Sink>(
+    alloc: Global,
+    command: Command,
+    bytes: &[u8],
+    out: &mut O,
+) -> Result<Ending, Stop>
+    requires short { length bytes.now ≤ most_bytes }
+    requires few { HasFewSteps command }
+    ensures { Serves (AnswersTree command bytes.now)
+        (record { taken = O.taken out.old; faults = O.faults out.old })
+        (record { taken = O.taken out.new; faults = O.faults out.new }) result }
+{
     match read_program(alloc, bytes) {
         Ok(program) => serve_program(alloc, command, program, out),
         Err(FrontFault::Lex(fault)) => refuse_lexical(alloc, fault),
-        Err(FrontFault::Refused) => tell(alloc, Status::Syntax, "syntax"),
+        Err(FrontFault::Refused) => tell(alloc, Status::Ill, "1:1: ill-formed: unsupported"),
         Err(FrontFault::NoMemory) => Err(Stop::NoMemory),
     }
 }

@@ -11,6 +11,8 @@ pub enum Status {
     Diagnosed,
     /// The file is no text of the subset.
     Syntax,
+    /// The file breaks a rule of the language, or has a form that is not built.
+    Ill,
     /// A count passed its limit.
     Limit,
     /// The run was stopped by a trap.
@@ -40,6 +42,7 @@ impl Status {
             Status::Done => 0,
             Status::Diagnosed => 1,
             Status::Syntax => 2,
+            Status::Ill => 3,
             Status::Limit => 4,
             Status::Trap => 5,
             Status::Fault => 6,

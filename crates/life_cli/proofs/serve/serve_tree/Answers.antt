@@ -1,4 +1,4 @@
-use Rattle.life_cli.proofs.serve.serve_bytes.Goals as goal
+use Rattle.life_cli.proofs.serve.serve_tree.Goals as goal
 
 pub serve_program-requires-clause-whole : goal.serve_program-requires-clause-whole
 serve_program-requires-clause-whole g c =

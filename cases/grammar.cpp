@@ -1,0 +1,23 @@
+// A file of the whole grammar, more of which is parsed than is checked so far.
+struct Word {
+  std::string text;
+  int count;
+};
+
+[[life::ret(words)]] const Word* most(const std::vector<Word>& words) {
+  const Word* best = nullptr;
+  for (const Word& word : words) {
+    if (!best || best->count < word.count) {
+      best = &word;
+    }
+  }
+  return best;
+}
+
+int main() {
+  std::vector<Word> words = {Word{"one", 1}, Word{"two", 2}};
+  const Word* best = most(words);
+  words.push_back(Word{"three", 3});
+  std::cout << best->text << std::endl;
+  return 0;
+}

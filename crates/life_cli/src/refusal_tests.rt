@@ -1,0 +1,99 @@
+// What the command says of files that have a tree, and of files that have none.
+use crate::{Status, run_command};
+use life_base::{MemFiles, MemSink};
+use std::alloc::Global;
+use std::test::Fail;
+
+// Files with a tree, which is of no form that is built so far.
+const WITH_TREES: &[&str] = &[
+    "int f(); int g(int a, const int* b);",
+    "struct S { int a; std::vector<std::vector<int>> b; gsl::span<const int> c; };",
+    "void f() { x * y; x & y = 3; x y{1, 2}; x = {}; x.y(); x->y[3] = 4; **x += 1; ++*x; x--; --x; }",
+    "void f() { if (a) if (b) ; else ; else if (c) {} else x = 1; }",
+    "void f() { for (int i = 0; i < 9; ++i) ; for (;;) {} for (auto& x : v) f(x); for (x = 1; ; ) ; }",
+    "void f() { for (std::string s : v) ; for (std::string(x).clear(); ; x()) ; }",
+    "void f() { std::string s; std::string(s).size(); std::make_unique<int>(); std::vector<int>::iterator it; }",
+    "void f() { std::cout << 1 + 2 << std::endl << std::string(s) + t << \"x\"; }",
+    "void f() { auto w = std::move(u); const auto& r = *u; long n = life::input(); assert(n > 0); }",
+    "[[life::nonnull]] [[gnu::pure]] [[std::ret(a, static)]] int* f([[life::keeps]] int* p, S q) { return p; }",
+    "void f() { while (a || b && c == d != e < f <= g + h - i * j / k % !-*&l) { break; continue; } return; }",
+];
+
+// Files without one, and the place of the token that is refused.
+const WITHOUT: &[(&str, &str)] = &[
+    ("int main() { return 1", "1:22"),
+    ("struct S { };", "1:12"),
+    ("int main() { x * 2; }", "1:18"),
+    ("int main() { if (x) y * z; }", "1:23"),
+    ("int main() { life::input(); }", "1:27"),
+    ("int main() { x; }", "1:15"),
+    ("int main() { if (x) int y; }", "1:21"),
+    ("int main() { *p++; }", "1:16"),
+    ("[[gnu::const]] int f();", "1:8"),
+    ("int main() { std::foo x; }", "1:19"),
+    ("int std() { }", "1:5"),
+    ("int main() { else ; }", "1:14"),
+    ("int main() { class x; }", "1:14"),
+    ("int f() { f(1, ); }", "1:16"),
+    ("int f() { std::cout; }", "1:20"),
+    ("int main() { return 012; }", "1:22"),
+    ("int f()\n{ }\nx", "3:2"),
+];
+
+// The status and the line on err for a file of these bytes.
+fn checked(alloc: Global, text: &[u8]) -> Result<(Status, Vec<u8>), Fail> {
+    let mut words = Vec::new(alloc);
+    for word in ["lifecheck", "check", "a.cpp"] {
+        words.push(word.to_string(alloc)?)?;
+    }
+    let mut files = Vec::new(alloc);
+    files.push(("a.cpp".to_string(alloc)?, text.to_vec(alloc)?))?;
+    let mut files = MemFiles::new(files, 4096, Vec::new(alloc));
+    let mut out = MemSink::new(alloc, 100, 100, Vec::new(alloc))?;
+    let mut err = MemSink::new(alloc, 100, 100, Vec::new(alloc))?;
+    let status = run_command(alloc, &words, &mut files, &mut out, &mut err);
+    Ok((status, err.held().to_vec(alloc)?))
+}
+
+#[test]
+fn files_with_trees_and_without(rt: HostRuntime) -> Result<(), Fail> {
+    let alloc = rt.alloc();
+    for text in WITH_TREES {
+        let (status, line) = checked(alloc, text.as_bytes())?;
+        assert_eq!(rt; status, Status::Ill, "{text}");
+        assert_eq!(rt;
+            line.as_slice(),
+            b"1:1: ill-formed: unsupported\n".as_slice(),
+            "{text}"
+        );
+    }
+    for (text, place) in WITHOUT {
+        let (status, line) = checked(alloc, text.as_bytes())?;
+        let wanted = format!(in alloc; "{place}: syntax\n")?;
+        assert_eq!(rt; status, Status::Syntax, "{text}");
+        assert_eq!(rt; line.as_slice(), wanted.as_bytes(), "{text}");
+    }
+    Ok(())
+}
+
+// A body that opens so many parentheses and closes none.
+fn opened(alloc: Global, count: usize) -> Result<Vec<u8>, Fail> {
+    let mut text = b"int main() { return ".as_slice().to_vec(alloc)?;
+    for _ in 0..count {
+        text.push(b'(')?;
+    }
+    text.push(b';')?;
+    Ok(text)
+}
+
+#[test]
+fn files_too_deep(rt: HostRuntime) -> Result<(), Fail> {
+    let alloc = rt.alloc();
+    let (status, line) = checked(alloc, &opened(alloc, 63)?)?;
+    assert_eq!(rt; status, Status::Syntax);
+    assert_eq!(rt; line.as_slice(), b"1:84: syntax\n".as_slice());
+    let (status, line) = checked(alloc, &opened(alloc, 64)?)?;
+    assert_eq!(rt; status, Status::Limit);
+    assert_eq!(rt; line.as_slice(), b"1:84: limit: nesting\n".as_slice());
+    Ok(())
+}
