@@ -2,7 +2,7 @@
 use Rattle.std.specs.Prelude.{◌≡◌, ◌⊎◌, ℕ, ◌+◌, List, [], ◌∷◌, Option, Some, None, IsSome, IsTrue, Contains, map, slice_get, slice_set}
 use Rattle.life_types.specs.Types.{Types, class_at}
 use Rattle.life_types.specs.declared.ty.Class.{Class}
-use Rattle.life_types.specs.declared.ty.Class.TheVariants.{Value, Pointer}
+use Rattle.life_types.specs.declared.ty.Class.TheVariants.{Value, Pointer, Owner, Aggregate}
 use Rattle.life_core.specs.declared.instr.Operand.{Operand}
 use Rattle.life_core.specs.declared.instr.Operand.TheVariants.{Name, Through}
 use Rattle.life_core.specs.declared.instr.Operation.{Operation}
@@ -29,10 +29,14 @@ pub data Holding : Type 0 where
   ANumber : Holding
   APointer : Holding
 
+-- an owner and a struct hold nothing: no function that is built so far has such a local, and a point
+-- that needs one to be ready isn't
 abbrev pub held_if : Class → LocalKind → Holding
 held_if Value Object = AnObject
 held_if Value Register = ANumber
 held_if Pointer kind = APointer
+held_if Owner kind = Blank
+held_if Aggregate kind = Blank
 
 abbrev pub held_by : Types → Option Local → Holding
 held_by types None = Blank

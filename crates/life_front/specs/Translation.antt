@@ -31,7 +31,7 @@ abbrev pub pointer_type : TyId
 pointer_type = record { 0 = 2 }
 
 abbrev pub all_types : Types
-all_types = record { types = Int ∷ Long ∷ Raw int_type false ∷ [] }
+all_types = record { types = Int ∷ Long ∷ Raw int_type false ∷ []; structs = [] }
 
 -- ---- what has been translated
 

@@ -40,6 +40,9 @@ pub(crate) fn live<S: Store>(
                     put_cell(cells, local, Cell::Points(born_pointer(form)));
                     Ok(())
                 }
+                // No function that is built so far has an owner or a struct.
+                (Class::Owner, _) => Err(Ending::Stray),
+                (Class::Aggregate, _) => Err(Ending::Stray),
             },
             Some(Cell::Object(_)) => Err(Ending::Stray),
             Some(Cell::Number(_)) => Err(Ending::Stray),

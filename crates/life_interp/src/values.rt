@@ -6,7 +6,7 @@ ghost use Rattle.life_interp.specs.Steps.{loaded, stored, LeavesBoth, LeavesCell
 ghost use Rattle.life_core.specs.Limits.{FitsLong};
 ghost use Rattle.life_store.specs.Content.{Content};
 ghost use Rattle.life_store.specs.References.{Rows};
-ghost use Rattle.life_store.specs.Doing.{as_int, converted, evaluated, type_of};
+ghost use Rattle.life_store.specs.Doing.{as_bool, as_char, as_int, converted, evaluated, type_of};
 
 use crate::ending::Ending;
 use crate::frame::{number_at, put_cell};
@@ -59,9 +59,26 @@ fn converted(ty: Option<Ty>, value: i64) -> i64
     ensures { result ≡ converted ty value }
 {
     match ty {
+        Some(Ty::Bool) => as_bool(value),
+        Some(Ty::Char) => as_char(value),
         Some(Ty::Int) => as_int(value),
-        Some(Ty::Void | Ty::Long | Ty::Raw { .. }) | None => value,
+        _ => value,
     }
+}
+
+// 1 for what isn't 0.
+fn as_bool(value: i64) -> i64
+    ensures { result ≡ as_bool value }
+{
+    if value == 0 { 0 } else { 1 }
+}
+
+// Modulo 2^8, with a sign.
+fn as_char(value: i64) -> i64
+    ensures { result ≡ as_char value }
+{
+    let low = (value.cast_unsigned() % (1 << 8)) as u8;
+    low.cast_signed() as i64
 }
 
 // Modulo 2^32, with a sign.

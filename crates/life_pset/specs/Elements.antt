@@ -4,7 +4,7 @@ use Rattle.std.specs.List.{flat_map}
 use Rattle.life_types.specs.Types.{Types, class_at}
 use Rattle.life_types.specs.declared.place.Place.{Place}
 use Rattle.life_types.specs.declared.ty.Class.{Class}
-use Rattle.life_types.specs.declared.ty.Class.TheVariants.{Value, Pointer}
+use Rattle.life_types.specs.declared.ty.Class.TheVariants.{Value, Pointer, Owner, Aggregate}
 use Rattle.life_types.specs.declared.ty.NameId.{NameId}
 use Rattle.life_core.specs.declared.program.Local.{Local}
 use Rattle.life_core.specs.declared.program.LocalKind.{LocalKind}
@@ -25,10 +25,12 @@ use Rattle.life_pset.specs.declared.element.Root.TheVariants as root
 abbrev pub local_place : ℕ → AbsPlace
 local_place x = record { root = root.Local x; length = 0; steps = 0 ∷ 0 ∷ 0 ∷ 0 ∷ 0 ∷ 0 ∷ 0 ∷ 0 ∷ [] }
 
--- a pointer is a location
+-- a pointer is a location; an owner and a struct have none so far
 abbrev pub location_if : Class → ℕ → List AbsPlace
 location_if Value x = []
 location_if Pointer x = local_place x ∷ []
+location_if Owner x = []
+location_if Aggregate x = []
 
 -- the locations of locals that are numbered from this number on
 abbrev pub locations_from : Types → ℕ → List Local → List AbsPlace

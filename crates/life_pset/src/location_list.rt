@@ -45,6 +45,8 @@ fn push_location(
     match class_of(types, ty) {
         Class::Pointer => all.push(AbsPlace::of_local(number))?,
         Class::Value => {}
+        Class::Owner => {}
+        Class::Aggregate => {}
     }
     Ok(())
 }
@@ -57,5 +59,7 @@ fn locations_of_type(types: &TypeTable, ty: TyId) -> usize
     match class_of(types, ty) {
         Class::Pointer => 1,
         Class::Value => 0,
+        Class::Owner => 0,
+        Class::Aggregate => 0,
     }
 }

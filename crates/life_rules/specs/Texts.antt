@@ -4,7 +4,7 @@ use Rattle.life_types.specs.Places.{position_text}
 use Rattle.life_types.specs.Types.{Types}
 use Rattle.life_types.specs.declared.ty.NameId.{NameId}
 use Rattle.life_types.specs.declared.ty.Ty.{Ty}
-use Rattle.life_types.specs.declared.ty.Ty.TheVariants.{Void, Int, Long, Raw}
+use Rattle.life_types.specs.declared.ty.Ty.TheVariants.{Void}
 use Rattle.life_core.specs.Function.{Function}
 use Rattle.life_core.specs.declared.program.Local.{Local}
 use Rattle.life_pset.specs.declared.element.AbsPlace.{AbsPlace}
@@ -27,9 +27,7 @@ name_text names name = or_nothing (slice_get names name.0)
 abbrev pub has_value : Option Ty → Bool
 has_value None = false
 has_value (Some Void) = false
-has_value (Some Int) = true
-has_value (Some Long) = true
-has_value (Some (Raw target constant)) = true
+has_value (Some _) = true
 
 abbrev pub is_result : Types → Function → ℕ → Bool
 is_result types f x = nat_eq x f.parameters && has_value (slice_get types.types f.result.0)

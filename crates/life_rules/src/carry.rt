@@ -76,6 +76,8 @@ fn push_born(
         Some(local) => match class_of(types, local.ty) {
             Class::Value => {}
             Class::Pointer => out.push(fact_of(number, element))?,
+            Class::Owner => {}
+            Class::Aggregate => {}
         },
     }
     Ok(())

@@ -8,7 +8,7 @@ use Rattle.std.proofs.lemmas.List.Elements.{Contains-append_left, Contains-appen
 use Rattle.life_types.specs.Types.{Types, class_at}
 use Rattle.life_types.specs.declared.place.Place.{Place}
 use Rattle.life_types.specs.declared.ty.Class.{Class}
-use Rattle.life_types.specs.declared.ty.Class.TheVariants.{Value, Pointer}
+use Rattle.life_types.specs.declared.ty.Class.TheVariants.{Value, Pointer, Owner, Aggregate}
 use Rattle.life_core.specs.Function.{Function}
 use Rattle.life_core.specs.Linked.{Linked, code_of, numbered}
 use Rattle.life_core.specs.Proper.{Blank, AnObject, ANumber, APointer, held_if, held_by, sort_of}
@@ -51,6 +51,8 @@ module _ (types : Types) (f : Function) (x : ℕ) where
       kind Value Object e = refl
       kind Value Register e = absurd (number e)
       kind Pointer k e = absurd (pointer e)
+      kind Owner k e = absurd (blank e)
+      kind Aggregate k e = absurd (blank e)
 
       go : (o : Option Local) → slice_get f.locals x ≡ o → (l : Local) × ((slice_get f.locals x ≡ Some l) × (l.kind ≡ Object))
       go None e = absurd (blank (ap (held_by types) (sym e) ∙ sort))
@@ -72,6 +74,8 @@ module _ (types : Types) (f : Function) (x : ℕ) where
       class Value Object e = absurd (object e)
       class Value Register e = absurd (number e)
       class Pointer k e = refl
+      class Owner k e = absurd (blank e)
+      class Aggregate k e = absurd (blank e)
 
       go : (o : Option Local) → slice_get f.locals x ≡ o → (l : Local) × ((slice_get f.locals x ≡ Some l) × (class_at types l.ty ≡ Pointer))
       go None e = absurd (blank (ap (held_by types) (sym e) ∙ sort))

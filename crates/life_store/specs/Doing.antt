@@ -1,10 +1,10 @@
 -- What one instruction does.
-use Rattle.std.specs.Prelude.{ℕ, ℤ, pos, ◌+◌, ◌*◌, ◌%◌, ◌^◌, Bool, true, false, cond, nat_lt, nat_le, List, [], ◌∷◌, ◌++◌, Option, Some, None, length, slice_get, slice_set}
-use Rattle.std.specs.Int.{cast_signed, cast_unsigned, w32, w64}
+use Rattle.std.specs.Prelude.{ℕ, zero, ℤ, pos, ◌+◌, ◌*◌, ◌%◌, ◌^◌, Bool, true, false, cond, nat_lt, nat_le, List, [], ◌∷◌, ◌++◌, Option, Some, None, length, slice_get, slice_set}
+use Rattle.std.specs.Int.{cast_signed, cast_unsigned, w8, w32, w64}
 use Rattle.std.specs.Fmt.{signed_decimal}
 use Rattle.life_types.specs.Types.{Types}
 use Rattle.life_types.specs.declared.ty.Ty.{Ty}
-use Rattle.life_types.specs.declared.ty.Ty.TheVariants.{Void, Int, Long, Raw}
+use Rattle.life_types.specs.declared.ty.Ty.TheVariants as variant
 use Rattle.life_types.specs.declared.ty.TyId.{TyId}
 use Rattle.life_core.specs.declared.instr.Form.{Form}
 use Rattle.life_core.specs.declared.instr.Form.TheVariants as form
@@ -64,12 +64,21 @@ number_in_word word = cast_signed w64 word
 abbrev pub as_int : ℤ → ℤ
 as_int z = cast_signed w32 (cast_unsigned w64 z % 2 ^ 32)
 
+-- .. modulo 2^8, which is the width of a char
+abbrev pub as_char : ℤ → ℤ
+as_char z = cast_signed w8 (cast_unsigned w64 z % 2 ^ 8)
+
+-- 1 for what isn't 0 ([conv.bool])
+abbrev pub as_bool : ℤ → ℤ
+as_bool (pos zero) = pos 0
+as_bool _ = pos 1
+
+-- a long and a size_t have all 64 bits, and what has no value of its own stays as it is
 abbrev pub converted : Option Ty → ℤ → ℤ
-converted None z = z
-converted (Some Void) z = z
-converted (Some Int) z = as_int z
-converted (Some Long) z = z
-converted (Some (Raw target constant)) z = z
+converted (Some variant.Bool) z = as_bool z
+converted (Some variant.Char) z = as_char z
+converted (Some variant.Int) z = as_int z
+converted _ z = z
 
 abbrev pub type_of_local : Types → Option Local → Option Ty
 type_of_local types None = None

@@ -1,1 +1,3 @@
+pub mod FactLemmas
 pub mod Numbers
+pub mod TreeLemmas

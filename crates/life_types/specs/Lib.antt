@@ -1,3 +1,5 @@
+pub mod Facts
 pub mod Memory
 pub mod Places
+pub mod Trees
 pub mod Types

@@ -1,5 +1,5 @@
 -- A place as text.
-use Rattle.std.specs.Prelude.{ℕ, List, ◌++◌, ◌∷◌, codes, decimal}
+use Rattle.std.specs.Prelude.{ℕ, List, ◌++◌, codes, decimal}
 use Rattle.life_types.specs.declared.place.Place.{Place}
 
 -- the line and the column, with a colon between
