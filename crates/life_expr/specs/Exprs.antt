@@ -6,7 +6,6 @@ use Rattle.life_expr.specs.Readers.{Readers, no_reader, args_with, both_with, eq
 use Rattle.life_expr.specs.Types.{flat}
 use Rattle.life_tree.specs.Grammar.{Form, quoted, name, comma, ◌then◌, ◌or◌, opens, rule, optional, parenthesized, separated, namespaced}
 use Rattle.life_tree.specs.Rules as rules
-use Rattle.life_tree.specs.Rules.{Rule}
 use Rattle.life_tree.specs.Tree.{node, ◌⨾◌}
 use Rattle.life_tree.specs.Views.{at}
 use Rattle.life_tree.specs.declared.fixed.TheConstants as fixed

@@ -1,10 +1,9 @@
 -- Reading from the front of a list of tokens. Every test looks at one token.
-use Rattle.std.specs.Prelude.{ℕ, zero, suc, Bool, true, false, nat_lt, ◌==◌, ◌&&◌, ◌||◌, List, [], ◌∷◌, ◌++◌, length, Result, Ok, Err, if◌then◌else◌}
+use Rattle.std.specs.Prelude.{ℕ, zero, suc, Bool, false, nat_lt, ◌||◌, List, [], ◌∷◌, length, Result, Ok, Err, if◌then◌else◌}
 use Rattle.life_tree.specs.Grammar.{Form, none, no_else, quoted, comma, name, number, character, text, ◌then◌, ◌decides◌, ◌or◌, many, opens, rule, nowhere, optional}
 use Rattle.life_tree.specs.Rules.{Rule}
-use Rattle.life_tree.specs.Tree.{Tree, nothing, without_else, token, ◌⨾◌, construct, node}
+use Rattle.life_tree.specs.Tree.{Tree, nothing, without_else, token, ◌⨾◌, construct}
 use Rattle.life_tree.specs.declared.fixed.TheConstants as fixed
-use Rattle.life_tree.specs.declared.key.TokenKey.{TokenKey}
 use Rattle.life_tree.specs.declared.key.TokenKey.TheVariants as keys
 use Rattle.life_tree.specs.declared.token.TreeToken.{TreeToken}
 use Rattle.life_types.specs.declared.place.Place.{Place}

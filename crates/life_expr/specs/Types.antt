@@ -1,6 +1,6 @@
 -- Readers of parts of types, each as a function of the program reads one.
-use Rattle.std.specs.Prelude.{ℕ, Ok, Err}
-use Rattle.life_expr.specs.Read.{Reader, Read, Stop, reads, ◌>>=◌}
+use Rattle.std.specs.Prelude.{ℕ, Ok}
+use Rattle.life_expr.specs.Read.{Reader, Read, reads, ◌>>=◌}
 use Rattle.life_expr.specs.Readers.{Readers, no_reader, argument_with}
 use Rattle.life_tree.specs.Grammar.{Form, quoted, ◌then◌, ◌or◌, rule, optional}
 use Rattle.life_tree.specs.Rules as rules

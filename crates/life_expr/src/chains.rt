@@ -1,5 +1,5 @@
 // Operands and the operators between them: each function mirrors the reader of its rule.
-ghost use Rattle.std.specs.Prelude.{◌≡◌, map};
+ghost use Rattle.std.specs.Prelude.{map};
 ghost use Rattle.life_expr.specs.Exprs as spec;
 ghost use Rattle.life_expr.specs.Gives.{Gives};
 ghost use Rattle.life_expr.specs.Readers as readers;
@@ -27,6 +27,15 @@ pub fn expr<'a>(alloc: Global, left: usize, tokens: &'a [TreeToken]) -> Read<'a,
     let (first, rest) = logical_and(alloc, left, tokens)?;
     let (more, rest) = or_parts(alloc, left, rest)?;
     Ok((Expr { first, more }, rest))
+}
+
+/// An expression in a box, where `left` more constructs may be open.
+pub fn boxed_expr<'a>(alloc: Global, left: usize, tokens: &'a [TreeToken]) -> Read<'a, Box<Expr>>
+    ensures { Gives (λ x. (expr_tree x.0.value, x.1.now)) result (readers.expr_with left (readers.below left) tokens.now) }
+{
+    let (found, rest) = expr(alloc, left, tokens)?;
+    let found = Box::new(alloc, found)?;
+    Ok((found, rest))
 }
 
 /// The operands behind the first.

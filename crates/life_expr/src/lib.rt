@@ -13,7 +13,7 @@ mod operators;
 mod stop;
 mod types;
 
-pub use chains::{additive, expr};
+pub use chains::{additive, boxed_expr};
 pub use commas::{comma, starts_comma};
 pub use lists::init_list;
 pub use literals::{starts_expr, starts_primary};

@@ -1,5 +1,5 @@
 // Lists of expressions, in parentheses or braces.
-ghost use Rattle.std.specs.Prelude.{◌≡◌, ◌<◌, map};
+ghost use Rattle.std.specs.Prelude.{◌<◌, map};
 ghost use Rattle.life_expr.specs.Exprs as spec;
 ghost use Rattle.life_expr.specs.Gives.{Gives};
 ghost use Rattle.life_expr.specs.Readers as readers;

@@ -3,7 +3,6 @@ ghost use Rattle.std.specs.Prelude.{◌≡◌, ◌<◌, ◌∷◌, [], IfOk};
 ghost use Rattle.life_expr.specs.Gives.{Gives};
 ghost use Rattle.life_expr.specs.Heads.{quoted_kind, name_kind};
 ghost use Rattle.life_expr.specs.Read as spec;
-ghost use Rattle.life_tree.specs.Grammar as grammar;
 ghost use Rattle.life_tree.specs.Views.{at, name_tree, optional_tree};
 
 use crate::stop::{Read, Stop};

@@ -1,9 +1,8 @@
 // Operands: prefix operators, what stands behind an operand, and what has no parts of that kind.
-ghost use Rattle.std.specs.Prelude.{◌≡◌, ◌<◌, map};
+ghost use Rattle.std.specs.Prelude.{◌<◌, map};
 ghost use Rattle.life_expr.specs.Exprs as spec;
 ghost use Rattle.life_expr.specs.Gives.{Gives};
 ghost use Rattle.life_expr.specs.Readers as readers;
-ghost use Rattle.life_tree.specs.Grammar as grammar;
 ghost use Rattle.life_tree.specs.Rules as rules;
 ghost use Rattle.life_tree.specs.Views.{arguments_tree, list_tree, optional_tree, postfix_part_tree, postfix_tree, prefix_number, primary_tree, unary_tree};
 ghost use Rattle.life_tree.specs.declared.fixed.TheConstants as numbers;

@@ -1,5 +1,5 @@
 // The parser of types: each function mirrors the reader of its name.
-ghost use Rattle.std.specs.Prelude.{◌≡◌, ◌<◌};
+ghost use Rattle.std.specs.Prelude.{◌<◌};
 ghost use Rattle.life_expr.specs.Gives.{Gives};
 ghost use Rattle.life_expr.specs.Readers as readers;
 ghost use Rattle.life_expr.specs.Types as spec;

@@ -6,7 +6,6 @@ use Rattle.life_parse.proofs.Agrees.{Agrees, AllAgree, Agrees-self, Agrees-deriv
 use Rattle.life_parse.proofs.AgreesExprs.{Agrees-argument, Agrees-base, Agrees-unqualified, Agrees-type, Agrees-args, Agrees-list, Agrees-primary, Agrees-part, Agrees-postfix, Agrees-unary, Agrees-term, Agrees-sum, Agrees-order, Agrees-equal, Agrees-both, Agrees-expr}
 use Rattle.life_parse.proofs.AgreesSimple.{Agrees-condition, Agrees-initial, Agrees-initializer, Agrees-declared_type, Agrees-declaration, Agrees-target, Agrees-simple}
 use Rattle.life_tree.specs.Rules as rules
-use Rattle.life_tree.specs.Rules.{Rule}
 
 module _ (n k : ℕ) (inside inside' : Readers) (le : n ≤ k) (i : AllAgree inside inside') where
   for_rest_agree : AllAgree (for_rest_parts n inside) (for_rest_parts k inside')

@@ -1,5 +1,5 @@
 -- Where reading a form stops, what was read is the beginning of a tree of the form.
-use Rattle.std.proofs.Common.{◌≡◌, ℕ, zero, suc, ◌==◌, Bool, true, false, MatchBool, [], ◌∷◌, ◌++◌, Ok, Err, if◌then◌else◌, inl, inr, ◌⊎◌, refl, sym, ap, subst, ◌∙◌, add-one}
+use Rattle.std.proofs.Common.{◌≡◌, ℕ, zero, suc, ◌==◌, Bool, true, false, MatchBool, [], ◌∷◌, ◌++◌, Ok, Err, inl, inr, ◌⊎◌, refl, sym, ap, subst, ◌∙◌, add-one}
 use Rattle.life_parse.proofs.Binds.{bind_err, ok_no_err}
 use Rattle.life_parse.proofs.Begun.{Sample, Over, begun_nothing, begun_inside, over_inside, over_at_opener}
 use Rattle.life_parse.proofs.Closed.{Stopped, Closed, Closed-pair, Closed-or, Closed-empty, Closed-many}

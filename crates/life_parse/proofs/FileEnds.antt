@@ -1,17 +1,14 @@
 -- What an answer to a file's tokens says of the file.
-use Rattle.std.proofs.Common.{◌≡◌, ◌∙◌, ℕ, List, Option, Some, map, Result, Ok, Err, refl, sym, ap, subst}
+use Rattle.std.proofs.Common.{◌≡◌, ◌∙◌, ℕ, List, Some, map, Ok, Err, refl, sym, ap, subst}
 use Rattle.life_keys.specs.Keys.{file_tokens, file_tables}
-use Rattle.life_lex.specs.Answers.{LexesOnly, FaultsOnly, StopsOnly}
-use Rattle.life_lex.specs.Readings.{Lexeme, Lexes, whole, broken}
+use Rattle.life_lex.specs.Answers.{LexesOnly, FaultsOnly}
+use Rattle.life_lex.specs.Readings.{Lexeme, whole, broken}
 use Rattle.life_lex.specs.declared.fault.LexFault.{LexFault}
-use Rattle.life_parse.specs.Ends.{Ends, HasNoTree, IsOnlyTree, IsSource, IsTooDeepAt, RefusesAt, place_of_token}
+use Rattle.life_parse.specs.Ends.{Ends, HasNoTree, place_of_token}
 use Rattle.life_parse.specs.ParsesTokens.{AreRefused, AreTooDeep, HaveNoTree, IsTheTree}
 use Rattle.life_expr.specs.Read.{Tokens}
-use Rattle.life_parse.specs.declared.fault.ParseFault.TheVariants.{Lex, Refused, Limit, NoMemory}
-use Rattle.life_tree.specs.Grammar.{Fits}
-use Rattle.life_tree.specs.Tree.{Tree, tokens_of}
+use Rattle.life_parse.specs.declared.fault.ParseFault.TheVariants.{Lex, Refused, Limit}
 use Rattle.life_tree.specs.Views.{program_tree}
-use Rattle.life_tree.specs.declared.limit.LimitFault.{LimitFault}
 use Rattle.life_tree.specs.declared.limit.LimitName.TheVariants.{Nesting}
 use Rattle.life_tree.specs.declared.program.Program.{Program}
 use Rattle.life_types.specs.declared.place.Place.{Place}

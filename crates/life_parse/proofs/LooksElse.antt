@@ -9,7 +9,6 @@ use Rattle.life_parse.proofs.LooksMany.{Looks-numbered}
 use Rattle.life_parse.proofs.LooksForms.{Laws, Law-no_reader, Law-derived}
 use Rattle.life_tree.specs.Grammar.{quoted, ◌then◌, rule}
 use Rattle.life_tree.specs.Rules as rules
-use Rattle.life_tree.specs.Rules.{Rule}
 use Rattle.life_tree.specs.Tree.{Tree, node, ◌⨾◌, without_else}
 use Rattle.life_tree.specs.declared.fixed.TheConstants as fixed
 

@@ -5,7 +5,6 @@ use Rattle.life_expr.specs.Readers.{Readers, argument_with, base_with, unqualifi
 use Rattle.life_parse.proofs.Looks.{Law}
 use Rattle.life_parse.proofs.LooksForms.{Laws, Law-any, Law-no_reader, Law-derived}
 use Rattle.life_tree.specs.Rules as rules
-use Rattle.life_tree.specs.Rules.{Rule}
 
 module _ (n : ℕ) (inside : Readers) (i : Laws inside) where
   pub Law-argument : Law false (argument_with n inside)

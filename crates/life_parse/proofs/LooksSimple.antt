@@ -12,7 +12,6 @@ use Rattle.life_tree.specs.Grammar.{form_of, ending, assignment, step, is_starre
 use Rattle.life_tree.specs.Tree.{Tree, node, ◌⨾◌}
 use Rattle.life_tree.specs.declared.fixed.TheConstants as fixed
 use Rattle.life_tree.specs.Rules as rules
-use Rattle.life_tree.specs.Rules.{Rule}
 
 module _ (n : ℕ) (inside : Readers) (i : Laws inside) where
   pub Law-condition : Law false (condition_with n inside)

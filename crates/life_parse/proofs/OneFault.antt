@@ -1,10 +1,10 @@
 -- A file has no tree for one reason alone.
-use Rattle.std.proofs.Common.{◌≡◌, ◌≤◌, ◌<◌, ◌∙◌, ℕ, List, [], ◌∷◌, ◌++◌, length, Option, Some, None, Result, Ok, Err, IfErr, refl, sym, ap, subst, inl, inr, ◌⊎◌, arith, append_assoc}
+use Rattle.std.proofs.Common.{◌≡◌, ◌<◌, ◌∙◌, ℕ, List, [], ◌∷◌, ◌++◌, length, Some, Result, Ok, Err, IfErr, refl, sym, ap, subst, inl, inr, arith, append_assoc}
 use Rattle.std.proofs.lemmas.Bool.{cases_lt}
 use Rattle.std.proofs.lemmas.List.{length-append}
 use Rattle.life_keys.specs.Keys.{file_tokens}
 use Rattle.life_lex.specs.Answers.{LexesOnly, FaultsOnly}
-use Rattle.life_lex.specs.Readings.{Lexeme, Ending, whole, broken}
+use Rattle.life_lex.specs.Readings.{Lexeme, whole, broken}
 use Rattle.life_lex.specs.declared.fault.LexFault.{LexFault}
 use Rattle.life_parse.specs.Ends.{Ends, IsOnlyFault, IsTooDeepAt, RefusesAt, place_of_token}
 use Rattle.life_expr.specs.Read.{Tokens}

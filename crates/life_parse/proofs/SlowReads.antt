@@ -1,5 +1,5 @@
 -- Reading a form with n more open constructs, against reading it with another number of them.
-use Rattle.std.proofs.Common.{◌≡◌, ℕ, zero, suc, true, List, [], ◌∷◌, ◌++◌, length, Ok, if◌then◌else◌, ◌⊎◌, inl, inr, refl, sym, ap, subst, ◌∙◌, arith}
+use Rattle.std.proofs.Common.{◌≡◌, ℕ, zero, suc, true, List, [], ◌∷◌, ◌++◌, length, Ok, ◌⊎◌, inl, inr, refl, sym, ap, subst, ◌∙◌, arith}
 use Rattle.life_parse.proofs.Counts.{counts_further, over_at_once, over_further}
 use Rattle.life_parse.proofs.Laws.{IsOver}
 use Rattle.life_parse.proofs.Openers.{Passed, opened, construct_read}

@@ -1,9 +1,8 @@
 -- What a file's tokens spell, by what reading them as a program says.
-use Rattle.std.proofs.Common.{◌≡◌, ◌+◌, ◌-◌, ◌<◌, ℕ, List, [], length, Result, Ok, Err, inl, inr}
-use Rattle.life_parse.specs.ParsesTokens.{IsTheTree, AreRefused, AreTooDeep, HaveNoTree}
+use Rattle.std.proofs.Common.{◌≡◌, ◌+◌, ◌-◌, ◌<◌, ℕ, [], length, Ok, Err, inl, inr}
+use Rattle.life_parse.specs.ParsesTokens.{IsTheTree, AreRefused, AreTooDeep}
 use Rattle.life_expr.specs.Read.{Tokens, refused, deep}
 use Rattle.life_expr.specs.Readers.{read_rule}
-use Rattle.life_tree.specs.Grammar.{Fits}
 use Rattle.life_tree.specs.Rules as rules
 use Rattle.life_tree.specs.Tree.{Tree}
 use Rattle.life_parse.proofs.Kept.{behind_read, behind_refused, behind_deep}

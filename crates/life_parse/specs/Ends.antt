@@ -1,5 +1,5 @@
 -- What an answer of the parser says of a file.
-use Rattle.std.specs.Prelude.{◌≡◌, ℕ, ◌<◌, List, [], ◌∷◌, length, map, slice_get, Option, None, Some, Result, Ok, Err}
+use Rattle.std.specs.Prelude.{◌≡◌, ℕ, ◌<◌, List, length, map, slice_get, Option, None, Some, Result, Ok, Err}
 use Rattle.life_keys.specs.Keys.{file_tokens, file_tables}
 use Rattle.life_lex.specs.Answers.{LexesOnly, FaultsOnly}
 use Rattle.life_lex.specs.Places.{place_at}

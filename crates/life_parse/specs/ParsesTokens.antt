@@ -1,5 +1,5 @@
 -- What an answer says of the tokens of a file.
-use Rattle.std.specs.Prelude.{◌≡◌, ℕ, ◌<◌, List, map, Result, Ok, Err}
+use Rattle.std.specs.Prelude.{◌≡◌, ℕ, ◌<◌, List, map}
 use Rattle.life_expr.specs.Read.{Tokens}
 use Rattle.life_parse.specs.Source.{IsRefused, OpensTooMany, IsTooDeep}
 use Rattle.life_parse.specs.declared.tokens.TokensFault.{TokensFault}

@@ -1,5 +1,5 @@
 -- What the tree of a file is, and where a file has none.
-use Rattle.std.specs.Prelude.{◌≡◌, ℕ, ◌<◌, ◌+◌, List, [], ◌∷◌, ◌++◌, length, slice_get, Some}
+use Rattle.std.specs.Prelude.{◌≡◌, ℕ, ◌<◌, [], ◌∷◌, ◌++◌, length, slice_get, Some}
 use Rattle.life_expr.specs.Read.{Tokens}
 use Rattle.life_tree.specs.Grammar.{IsProgram}
 use Rattle.life_tree.specs.Tree.{Tree, tokens_of, open_at}

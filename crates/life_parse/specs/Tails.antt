@@ -1,10 +1,9 @@
 -- Which tokens go on with a tree of a form, so that none of them may follow it. Of an `else` nothing is said here.
-use Rattle.std.specs.Prelude.{ℕ, Bool, true, false, ◌==◌, ◌&&◌, ◌||◌, List, [], ◌∷◌, ◌++◌, if◌then◌else◌}
-use Rattle.life_expr.specs.Heads.{Kind, quoted_kind, name_kind, heads, may_be_empty, simple_heads, unary_heads, type_heads}
-use Rattle.life_tree.specs.Grammar.{Form, none, no_else, quoted, comma, name, number, character, text, ◌then◌, ◌decides◌, ◌or◌, many, opens, rule}
+use Rattle.std.specs.Prelude.{List, [], ◌∷◌, ◌++◌, if◌then◌else◌}
+use Rattle.life_expr.specs.Heads.{Kind, quoted_kind, heads, may_be_empty, simple_heads, type_heads}
+use Rattle.life_tree.specs.Grammar.{Form, no_else, ◌then◌, ◌decides◌, ◌or◌, many, opens, rule}
 use Rattle.life_tree.specs.Rules as rules
 use Rattle.life_tree.specs.Rules.{Rule}
-use Rattle.life_tree.specs.Tree.{nothing}
 use Rattle.life_tree.specs.declared.fixed.TheConstants as fixed
 
 abbrev pub postfix_tails : List Kind

@@ -1,5 +1,5 @@
 // The parser of a file's tokens.
-ghost use Rattle.std.specs.Prelude.{◌≡◌, IfOk, IfErr};
+ghost use Rattle.std.specs.Prelude.{IfOk, IfErr};
 ghost use Rattle.life_parse.specs.ParsesTokens.{FaultOf, IsTheTree, definitions_tree};
 
 use life_expr::Stop;

@@ -1,8 +1,8 @@
 -- Whether an operand ends in arguments, part by part.
-use Rattle.std.proofs.Common.{◌≡◌, Bool, true, false, ◌&&◌, ◌||◌, List, [], ◌∷◌, map, fold, refl, sym, ◌∙◌}
+use Rattle.std.proofs.Common.{◌≡◌, Bool, true, false, ◌&&◌, ◌||◌, List, [], ◌∷◌, map, fold, refl, ◌∙◌}
 use Rattle.life_stmt.specs.Simples.{call_after}
 use Rattle.life_tree.specs.Grammar.{ends_in_arguments}
-use Rattle.life_tree.specs.Tree.{Tree, is_empty}
+use Rattle.life_tree.specs.Tree.{is_empty}
 use Rattle.life_tree.specs.Views.{list_tree, postfix_part_tree}
 use Rattle.life_tree.specs.declared.primary.PostfixPart.{PostfixPart}
 

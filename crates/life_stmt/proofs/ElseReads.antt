@@ -1,21 +1,20 @@
 -- What follows the first branch of an `if`, branch by branch.
-use Rattle.std.proofs.Common.{◌≡◌, ℕ, zero, suc, ◌<◌, Bool, true, false, ◌&&◌, cond, List, [], ◌∷◌, ◌++◌, length, Result, Ok, Err, Option, Some, None, refl, sym, ap, subst, ◌∙◌, arith}
+use Rattle.std.proofs.Common.{◌≡◌, ℕ, zero, suc, ◌<◌, Bool, true, false, ◌&&◌, List, [], ◌∷◌, ◌++◌, length, Ok, Err, Option, Some, None, refl, sym, ap, subst, ◌∙◌, arith}
 use Rattle.life_expr.specs.declared.stop.Stop.{Stop as Fault}
 use Rattle.life_expr.specs.declared.stop.Stop.TheVariants as faults
 use Rattle.life_stmt.specs.Elses.{else_if_kinds, else_if_with, last_else_with, else_if_front, attach, elses_before, last_form, BranchesRead}
 use Rattle.life_stmt.specs.Fronts.{mapped, behind}
 use Rattle.life_expr.specs.Gives.{Fails}
-use Rattle.life_expr.specs.Heads.{Kind, quoted_kind, is_of}
-use Rattle.life_expr.specs.Read.{Tokens, Stop, Read, Reader, ◌>>=◌, starts, reads, mark}
-use Rattle.life_expr.specs.Readers.{Readers, no_reader, begins, condition_with, statement_with, plain_with, else_part_below, else_part_with, else_parts}
+use Rattle.life_expr.specs.Heads.{quoted_kind, is_of}
+use Rattle.life_expr.specs.Read.{Tokens, Stop, Read, Reader, ◌>>=◌}
+use Rattle.life_expr.specs.Readers.{Readers, no_reader, begins, condition_with, statement_with, else_part_below, else_part_with, else_parts}
 use Rattle.life_stmt.proofs.ShrinksReads.{Takes, TakesAll, Takes-none, Takes-reads, ok_is, shrinks}
-use Rattle.life_stmt.proofs.ShrinksRules.{Takes-condition, Takes-statement, Takes-plain, else_parts_take}
+use Rattle.life_stmt.proofs.ShrinksRules.{Takes-condition, Takes-statement, else_parts_take}
 use Rattle.life_tree.specs.Grammar.{◌then◌, quoted, rule}
 use Rattle.life_tree.specs.Rules as rules
-use Rattle.life_tree.specs.Tree.{Tree, node, ◌⨾◌, token}
+use Rattle.life_tree.specs.Tree.{Tree, node, ◌⨾◌}
 use Rattle.life_tree.specs.Views.{ElseIfView, at, else_part_tree}
 use Rattle.life_tree.specs.declared.fixed.TheConstants as fixed
-use Rattle.life_tree.specs.declared.key.TokenKey.TheVariants as keys
 use Rattle.life_tree.specs.declared.token.TreeToken.{TreeToken}
 
 both_true : (a b : Bool) → (a && b) ≡ true → (a ≡ true) × (b ≡ true)

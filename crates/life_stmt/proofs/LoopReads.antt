@@ -1,5 +1,5 @@
 -- Reading as many as there are, one after the other, as a loop does.
-use Rattle.std.proofs.Common.{◌≡◌, ℕ, zero, suc, ◌<◌, Bool, true, false, cond, List, [], ◌∷◌, ◌++◌, length, Ok, Err, refl, sym, ap, ◌∙◌, arith}
+use Rattle.std.proofs.Common.{◌≡◌, ℕ, zero, suc, ◌<◌, true, false, cond, List, [], ◌∷◌, ◌++◌, length, Ok, Err, refl, sym, ap, ◌∙◌, arith}
 use Rattle.life_expr.specs.declared.stop.Stop.{Stop as Fault}
 use Rattle.life_expr.specs.declared.stop.Stop.TheVariants as faults
 use Rattle.life_stmt.specs.Fronts.{mapped, behind, before, later_before, separated_before}

@@ -1,5 +1,5 @@
 -- Reading a form leaves no more tokens than there were, and fewer where the form has one.
-use Rattle.std.proofs.Common.{◌≡◌, ℕ, zero, suc, ◌+◌, ◌≤◌, ◌<◌, nat_lt, Bool, true, false, cond, ◌&&◌, ◌||◌, not, List, [], ◌∷◌, length, Result, Ok, Err, refl, sym, ap, arith}
+use Rattle.std.proofs.Common.{◌≡◌, ℕ, zero, suc, ◌+◌, ◌≤◌, ◌<◌, nat_lt, Bool, true, false, cond, ◌&&◌, ◌||◌, not, List, [], ◌∷◌, length, Result, Ok, Err, refl, ap, arith}
 use Rattle.life_stmt.specs.Fronts.{mapped, behind}
 use Rattle.life_expr.specs.Heads.{Kind, is_of, quoted_kind, comma_kind, name_kind, number_kind, character_kind, text_kind, heads, may_be_empty, rule_may_be_empty}
 use Rattle.life_expr.specs.Read.{Tokens, Stop, refused, deep, ◌>>=◌, Read, Reader, starts, the_token, as_it_stands, opener, many_below, as_many, reads}

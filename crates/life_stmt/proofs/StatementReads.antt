@@ -1,5 +1,5 @@
 -- Heads of loops and sentences are read part by part.
-use Rattle.std.proofs.Common.{◌≡◌, ℕ, true, ◌∷◌, [], refl}
+use Rattle.std.proofs.Common.{◌≡◌, ℕ, true, refl}
 use Rattle.life_stmt.specs.Fronts.{mapped}
 use Rattle.life_expr.specs.Read.{Tokens}
 use Rattle.life_expr.specs.Readers.{Readers, begins_as, print_fronts, block_with, for_rest_with, sentence_with}

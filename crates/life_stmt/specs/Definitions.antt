@@ -4,7 +4,7 @@ use Rattle.life_expr.specs.Heads.{heads_of}
 use Rattle.life_expr.specs.Read.{Reader, reads, made, pair, as_many, name_mark}
 use Rattle.life_expr.specs.Readers.{Readers, no_reader, function_parts, attribute_with}
 use Rattle.life_expr.specs.Types.{flat}
-use Rattle.life_tree.specs.Grammar.{Form, name, quoted, comma, ◌then◌, ◌or◌, rule, optional, parenthesized, separated, some}
+use Rattle.life_tree.specs.Grammar.{name, quoted, comma, ◌then◌, ◌or◌, rule, optional, parenthesized, separated, some}
 use Rattle.life_tree.specs.Rules as rules
 use Rattle.life_tree.specs.Rules.{Rule}
 use Rattle.life_tree.specs.Tree.{node}

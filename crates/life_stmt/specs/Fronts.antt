@@ -1,6 +1,6 @@
 -- What was read before, in front of what is read next.
-use Rattle.std.specs.Prelude.{List, [], ◌∷◌, Ok, Err}
-use Rattle.life_expr.specs.Read.{Read, Stop, ◌>>=◌}
+use Rattle.std.specs.Prelude.{List, [], ◌∷◌, Ok}
+use Rattle.life_expr.specs.Read.{Read, ◌>>=◌}
 use Rattle.life_tree.specs.Tree.{Tree, ◌⨾◌}
 use Rattle.life_tree.specs.Views.{comma_tree}
 

@@ -1,5 +1,5 @@
 -- Readers of parts of statements, each as a function of the program reads one.
-use Rattle.std.specs.Prelude.{ℕ, Bool, false, ◌==◌, ◌&&◌, ◌||◌, if◌then◌else◌, List, [], ◌∷◌, Ok, Err}
+use Rattle.std.specs.Prelude.{ℕ, Bool, ◌&&◌, ◌||◌, if◌then◌else◌, List, [], ◌∷◌}
 use Rattle.life_stmt.specs.Fronts.{mapped, behind}
 use Rattle.life_expr.specs.Heads.{Kind, quoted_kind, name_kind}
 use Rattle.life_expr.specs.Read.{Reader, Read, reads}
@@ -7,7 +7,7 @@ use Rattle.life_expr.specs.Readers.{Readers, simple_parts}
 use Rattle.life_tree.specs.Grammar.{Form, none, quoted, ◌or◌, assignment, step, ending, ends_in_arguments}
 use Rattle.life_expr.specs.Types.{flat}
 use Rattle.life_tree.specs.Rules as rules
-use Rattle.life_tree.specs.Tree.{Tree, node, ◌⨾◌, is_empty}
+use Rattle.life_tree.specs.Tree.{Tree, node, is_empty}
 use Rattle.life_tree.specs.Views.{postfix_part_tree}
 use Rattle.life_tree.specs.declared.fixed.TheConstants as fixed
 use Rattle.life_tree.specs.declared.primary.PostfixPart.{PostfixPart}

@@ -1,15 +1,15 @@
 -- Readers of parts of statements, each as a function of the program reads one, and what those functions return as trees.
-use Rattle.std.specs.Prelude.{ℕ, List, [], ◌∷◌, ◌++◌, Option, map, option_map}
+use Rattle.std.specs.Prelude.{ℕ, List, [], ◌∷◌, ◌++◌}
 use Rattle.life_expr.specs.Heads.{Kind, quoted_kind, simple_heads, plain_heads, type_heads}
 use Rattle.life_stmt.specs.Fronts.{mapped}
-use Rattle.life_expr.specs.Read.{Reader, Read, Stop, ◌>>=◌, reads, made, pair, mark, opener}
-use Rattle.life_expr.specs.Readers.{Readers, no_reader, for_parts, for_rest_parts, sentence_parts, plain_parts, else_parts}
+use Rattle.life_expr.specs.Read.{Reader, ◌>>=◌, reads, made, pair, mark, opener}
+use Rattle.life_expr.specs.Readers.{Readers, for_parts, for_rest_parts, sentence_parts, plain_parts}
 use Rattle.life_stmt.specs.declared.heads.Clauses.{Clauses}
 use Rattle.life_stmt.specs.declared.heads.Clauses.TheVariants as clauses
 use Rattle.life_stmt.specs.declared.heads.Guard.{Guard}
 use Rattle.life_stmt.specs.declared.heads.ForHead.{ForHead}
 use Rattle.life_stmt.specs.declared.heads.ForRest.{ForRest}
-use Rattle.life_tree.specs.Grammar.{Form, name, no_else, quoted, ◌then◌, ◌or◌, rule, opens, optional, namespaced, some, many}
+use Rattle.life_tree.specs.Grammar.{Form, name, quoted, ◌then◌, ◌or◌, rule, opens, optional, some, many}
 use Rattle.life_tree.specs.Rules as rules
 use Rattle.life_tree.specs.Tree.{Tree, node, ◌⨾◌, construct}
 use Rattle.life_tree.specs.Views.{at, condition_tree, declared_type_tree, expr_tree, for_clauses_form, for_head_tree, for_rest_tree, name_tree}
@@ -18,13 +18,13 @@ use Rattle.life_tree.specs.declared.fixed.TheConstants as fixed
 -- ---- conditions and heads of loops
 
 abbrev pub condition_view : Guard → Tree
-condition_view c = condition_tree c.opening c.value c.closing
+condition_view c = condition_tree c.opening c.value.value c.closing
 
 abbrev pub for_rest_view : ForRest → Tree
 for_rest_view r = for_rest_tree r.first_semicolon r.condition r.second_semicolon r.step
 
 abbrev pub clauses_form : Clauses → Tree
-clauses_form (clauses.Range ty variable colon range) = declared_type_tree ty ⨾ name_tree variable ⨾ at fixed.COLON colon ⨾ expr_tree range
+clauses_form (clauses.Range ty variable colon range) = declared_type_tree ty ⨾ name_tree variable ⨾ at fixed.COLON colon ⨾ expr_tree range.value
 clauses_form (clauses.Turns start rest) = for_clauses_form start (for_rest_view rest)
 
 abbrev pub clauses_tree : Clauses → Tree

@@ -1,5 +1,5 @@
 // The parser of attributes: each function mirrors the reader of its name.
-ghost use Rattle.std.specs.Prelude.{◌≡◌, ◌∷◌, [], ◌<◌, length, map};
+ghost use Rattle.std.specs.Prelude.{◌∷◌, [], ◌<◌, length, map};
 ghost use Rattle.life_stmt.specs.Definitions as spec;
 ghost use Rattle.life_stmt.specs.Fronts.{mapped, separated_before};
 ghost use Rattle.life_expr.specs.Gives.{Gives};
@@ -9,7 +9,7 @@ ghost use Rattle.life_expr.specs.Read.{as_many};
 ghost use Rattle.life_expr.specs.Readers as readers;
 ghost use Rattle.life_tree.specs.Rules as rules;
 ghost use Rattle.life_tree.specs.Tree.{◌⨾◌};
-ghost use Rattle.life_tree.specs.Views.{attribute_arguments_tree, attribute_tree, attributes_tree, comma_tree, list_tree, optional_tree, scope_tree, separated_tree, word_tree};
+ghost use Rattle.life_tree.specs.Views.{attribute_arguments_tree, attribute_tree, attributes_tree, comma_tree, optional_tree, scope_tree, separated_tree, word_tree};
 
 use life_expr::{Read, comma, mark, name, opener, starts, starts_comma, starts_name};
 use life_tree::{Attribute, AttributeArguments, AttributeScope, AttributeWord, TreeToken, fixed};

@@ -1,12 +1,11 @@
 // The parser of declarations: each function mirrors the reader of its name.
-ghost use Rattle.std.specs.Prelude.{◌≡◌};
 ghost use Rattle.life_expr.specs.Gives.{Gives};
 ghost use Rattle.life_expr.specs.Readers as readers;
 ghost use Rattle.life_tree.specs.Views.{declared_type_tree, initial_tree, initializer_tree, declaration_tree};
 
 use crate::fronts::starts_type;
 use life_expr::{
-    Read, expr, init_list, mark, name, optional_mark, starts, starts_expr, unqualified,
+    Read, boxed_expr, init_list, mark, name, optional_mark, starts, starts_expr, unqualified,
 };
 use life_tree::{
     AutoType, Declaration, DeclaredType, InitialValue, Initializer, TreeToken, TypeName, fixed,
@@ -48,7 +47,7 @@ pub fn initial<'a>(alloc: Global, left: usize, tokens: &'a [TreeToken]) -> Read<
     ensures { Gives (λ x. (initial_tree x.0, x.1.now)) result (readers.initial_with left (readers.below left) tokens.now) }
 {
     if starts_expr(tokens) {
-        let (value, rest) = expr(alloc, left, tokens)?;
+        let (value, rest) = boxed_expr(alloc, left, tokens)?;
         return Ok((InitialValue::Expr(value), rest));
     }
     let (list, rest) = init_list(alloc, left, tokens)?;
@@ -78,18 +77,21 @@ pub fn initializer<'a>(
 
 /// A declaration without its `;`.
 #[tactic(auto, unfolding(life_expr::specs::Readers::declaration_with))]
-pub fn declaration<'a>(alloc: Global, left: usize, tokens: &'a [TreeToken]) -> Read<'a, Declaration>
-    ensures { Gives (λ x. (declaration_tree x.0, x.1.now)) result (readers.declaration_with left (readers.below left) tokens.now) }
+pub fn declaration<'a>(
+    alloc: Global,
+    left: usize,
+    tokens: &'a [TreeToken],
+) -> Read<'a, Box<Declaration>>
+    ensures { Gives (λ x. (declaration_tree x.0.value, x.1.now)) result (readers.declaration_with left (readers.below left) tokens.now) }
 {
     let (ty, rest) = declared_type(alloc, left, tokens)?;
     let (name, rest) = name(rest)?;
     let (initializer, rest) = initializer(alloc, left, rest)?;
-    Ok((
-        Declaration {
-            ty,
-            name,
-            initializer,
-        },
-        rest,
-    ))
+    let found = Declaration {
+        ty,
+        name,
+        initializer,
+    };
+    let found = Box::new(alloc, found)?;
+    Ok((found, rest))
 }

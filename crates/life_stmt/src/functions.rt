@@ -1,5 +1,5 @@
 // The parser of functions: each function mirrors the reader of its name.
-ghost use Rattle.std.specs.Prelude.{◌≡◌, ◌∷◌, [], ◌<◌, length, map};
+ghost use Rattle.std.specs.Prelude.{◌∷◌, [], ◌<◌, length, map};
 ghost use Rattle.life_stmt.specs.Definitions as spec;
 ghost use Rattle.life_stmt.specs.Fronts.{mapped, separated_before};
 ghost use Rattle.life_expr.specs.Gives.{Gives};

@@ -1,16 +1,16 @@
 // The parser of conditions and of what stands in the parentheses of a `for`: each function mirrors
 // the reader of its name.
-ghost use Rattle.std.specs.Prelude.{◌≡◌, ◌<◌};
+ghost use Rattle.std.specs.Prelude.{◌<◌};
 ghost use Rattle.life_expr.specs.Gives.{Gives};
 ghost use Rattle.life_expr.specs.Readers as readers;
 ghost use Rattle.life_stmt.specs.Statements as spec;
 ghost use Rattle.life_tree.specs.Rules as rules;
-ghost use Rattle.life_tree.specs.Views.{expr_tree, optional_tree, simple_tree};
+ghost use Rattle.life_tree.specs.Views.{boxed, expr_tree, optional_tree, simple_tree};
 
 use crate::declarations::{declared_type, initializer};
 use crate::fronts::{starts_declaration, starts_simple};
 use crate::simples::simple;
-use life_expr::{Read, expr, mark, name, opener, starts, starts_expr};
+use life_expr::{Read, boxed_expr, mark, name, opener, starts, starts_expr};
 use life_tree::{Declaration, DeclaredType, Expr, ForStart, Identifier, Simple, TreeToken, fixed};
 use life_types::Place;
 use std::alloc::Global;
@@ -21,7 +21,7 @@ pub struct Guard {
     /// The `(`.
     pub opening: Place,
     /// What decides.
-    pub value: Expr,
+    pub value: Box<Expr>,
     /// The `)`.
     pub closing: Place,
 }
@@ -32,11 +32,11 @@ pub struct ForRest {
     /// The first `;`.
     pub first_semicolon: Place,
     /// What decides on each turn.
-    pub condition: Option<Expr>,
+    pub condition: Option<Box<Expr>>,
     /// The second `;`.
     pub second_semicolon: Place,
     /// What is done behind each turn.
-    pub step: Option<Simple>,
+    pub step: Option<Box<Simple>>,
 }
 
 /// What stands in the parentheses of a `for`.
@@ -47,7 +47,7 @@ pub enum Clauses {
         ty: DeclaredType,
         name: Identifier,
         colon: Place,
-        range: Expr,
+        range: Box<Expr>,
     },
     /// Of any other.
     Turns {
@@ -68,11 +68,11 @@ pub struct ForHead {
 }
 
 /// An expression inside a construct, where `left` more may be open outside.
-fn expr_inside<'a>(alloc: Global, left: usize, tokens: &'a [TreeToken]) -> Read<'a, Expr>
+fn expr_inside<'a>(alloc: Global, left: usize, tokens: &'a [TreeToken]) -> Read<'a, Box<Expr>>
     requires { 0 < left }
-    ensures { Gives (λ x. (expr_tree x.0, x.1.now)) result (readers.below left rules.expr tokens.now) }
+    ensures { Gives (λ x. (expr_tree x.0.value, x.1.now)) result (readers.below left rules.expr tokens.now) }
 {
-    expr(alloc, left - 1, tokens)
+    boxed_expr(alloc, left - 1, tokens)
 }
 
 /// A condition with its parentheses.
@@ -103,11 +103,15 @@ pub fn condition_below<'a>(alloc: Global, left: usize, tokens: &'a [TreeToken]) 
 
 /// An expression, where one stands.
 #[tactic(auto, unfolding(crate::specs::Statements::optional_expr_with))]
-fn optional_expr<'a>(alloc: Global, left: usize, tokens: &'a [TreeToken]) -> Read<'a, Option<Expr>>
-    ensures { Gives (λ x. (optional_tree expr_tree x.0, x.1.now)) result (spec.optional_expr_with left (readers.below left) tokens.now) }
+fn optional_expr<'a>(
+    alloc: Global,
+    left: usize,
+    tokens: &'a [TreeToken],
+) -> Read<'a, Option<Box<Expr>>>
+    ensures { Gives (λ x. (optional_tree (boxed expr_tree) x.0, x.1.now)) result (spec.optional_expr_with left (readers.below left) tokens.now) }
 {
     if starts_expr(tokens) {
-        let (found, rest) = expr(alloc, left, tokens)?;
+        let (found, rest) = boxed_expr(alloc, left, tokens)?;
         return Ok((Some(found), rest));
     }
     Ok((None, tokens))
@@ -119,8 +123,8 @@ fn optional_simple<'a>(
     alloc: Global,
     left: usize,
     tokens: &'a [TreeToken],
-) -> Read<'a, Option<Simple>>
-    ensures { Gives (λ x. (optional_tree simple_tree x.0, x.1.now)) result (spec.optional_simple_with left (readers.below left) tokens.now) }
+) -> Read<'a, Option<Box<Simple>>>
+    ensures { Gives (λ x. (optional_tree (boxed simple_tree) x.0, x.1.now)) result (spec.optional_simple_with left (readers.below left) tokens.now) }
 {
     if starts_simple(tokens) {
         let (found, rest) = simple(alloc, left, tokens)?;
@@ -163,7 +167,7 @@ fn declared_clauses<'a>(alloc: Global, left: usize, tokens: &'a [TreeToken]) -> 
     let (name, rest) = name(rest)?;
     if starts(rest, fixed::COLON) {
         let (colon, rest) = mark(rest, fixed::COLON)?;
-        let (range, rest) = expr(alloc, left, rest)?;
+        let (range, rest) = boxed_expr(alloc, left, rest)?;
         return Ok((
             Clauses::Range {
                 ty,
@@ -181,6 +185,7 @@ fn declared_clauses<'a>(alloc: Global, left: usize, tokens: &'a [TreeToken]) -> 
         name,
         initializer,
     };
+    let declaration = Box::new(alloc, declaration)?;
     Ok((
         Clauses::Turns {
             start: Some(ForStart::Declaration(declaration)),

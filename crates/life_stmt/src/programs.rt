@@ -1,5 +1,5 @@
 // The parser of structs and whole programs: each function mirrors the reader of its name.
-ghost use Rattle.std.specs.Prelude.{◌≡◌, ◌∷◌, [], ◌<◌, length, map};
+ghost use Rattle.std.specs.Prelude.{◌<◌, length, map};
 ghost use Rattle.life_stmt.specs.Definitions as spec;
 ghost use Rattle.life_stmt.specs.Fronts as fronts;
 ghost use Rattle.life_stmt.specs.Fronts.{mapped};

@@ -1,5 +1,5 @@
 // The parser of statements without statements in them: each function mirrors the reader of its name.
-ghost use Rattle.std.specs.Prelude.{◌≡◌, ◌<◌, length, map};
+ghost use Rattle.std.specs.Prelude.{◌<◌, length, map};
 ghost use Rattle.life_stmt.specs.Fronts as fronts;
 ghost use Rattle.life_stmt.specs.Fronts.{mapped};
 ghost use Rattle.life_expr.specs.Gives.{Gives};
@@ -14,7 +14,7 @@ ghost use Rattle.life_tree.specs.Views.{list_tree, plain_stmt_tree, print_item_t
 use crate::fronts::starts_std;
 use crate::heads::{Guard, condition};
 use crate::simples::simple;
-use life_expr::{Read, additive, expr, mark, starts, starts_expr};
+use life_expr::{Read, additive, boxed_expr, mark, starts, starts_expr};
 use life_tree::{PlainStmt, PrintItem, PrintPart, Qualified, TreeToken, fixed};
 use std::alloc::Global;
 
@@ -122,7 +122,7 @@ fn returning<'a>(alloc: Global, left: usize, tokens: &'a [TreeToken]) -> Read<'a
 {
     let (keyword, rest) = mark(tokens, fixed::RETURN)?;
     if starts_expr(rest) {
-        let (found, rest) = expr(alloc, left, rest)?;
+        let (found, rest) = boxed_expr(alloc, left, rest)?;
         let (semicolon, rest) = mark(rest, fixed::SEMICOLON)?;
         return Ok((
             PlainStmt::Return {

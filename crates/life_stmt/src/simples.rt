@@ -1,16 +1,15 @@
 // The parser of assignments, steps and calls: each function mirrors the reader of its name.
-ghost use Rattle.std.specs.Prelude.{◌≡◌};
 ghost use Rattle.life_expr.specs.Gives.{Gives};
 ghost use Rattle.life_expr.specs.Readers as readers;
 ghost use Rattle.life_stmt.specs.Simples as spec;
 ghost use Rattle.life_tree.specs.Grammar as grammar;
-ghost use Rattle.life_tree.specs.Views.{at, compound_number, plain_target, postfix_tree, simple_tree, step_number, target_tree};
+ghost use Rattle.life_tree.specs.Views.{at, compound_number, plain_target, postfix_tree, simple_tree, target_tree};
 
 use crate::calls::ends_in_arguments;
 use crate::declarations::initial;
 use crate::fronts::{starts_assignment, starts_step};
 use crate::targets::{target, target_below};
-use life_expr::{Read, expr, mark, opener, starts};
+use life_expr::{Read, boxed_expr, mark, opener, starts};
 use life_tree::{CompoundOperator, Postfix, Simple, StepOperator, Target, TreeToken, fixed};
 use life_types::Place;
 use std::alloc::Global;
@@ -45,58 +44,58 @@ fn assignment<'a>(
     left: usize,
     target: Target,
     tokens: &'a [TreeToken],
-) -> Read<'a, Simple>
-    ensures { Gives (λ x. (simple_tree x.0, x.1.now)) result (spec.behind_target (target_tree target) (spec.assignment_with left (readers.below left) tokens.now)) }
+) -> Read<'a, Box<Simple>>
+    ensures { Gives (λ x. (simple_tree x.0.value, x.1.now)) result (spec.behind_target (target_tree target) (spec.assignment_with left (readers.below left) tokens.now)) }
 {
     if starts(tokens, fixed::ASSIGN) {
         let (equals, rest) = mark(tokens, fixed::ASSIGN)?;
         let (value, rest) = initial(alloc, left, rest)?;
-        return Ok((
-            Simple::Assign {
-                target,
-                equals,
-                value,
-            },
-            rest,
-        ));
+        let found = Simple::Assign {
+            target,
+            equals,
+            value,
+        };
+        let found = Box::new(alloc, found)?;
+        return Ok((found, rest));
     }
     let ((operator, place), rest) = compound_operator(tokens)?;
-    let (value, rest) = expr(alloc, left, rest)?;
-    Ok((
-        Simple::Compound {
-            target,
-            operator,
-            place,
-            value,
-        },
-        rest,
-    ))
+    let (value, rest) = boxed_expr(alloc, left, rest)?;
+    let found = Simple::Compound {
+        target,
+        operator,
+        place,
+        value,
+    };
+    let found = Box::new(alloc, found)?;
+    Ok((found, rest))
 }
 
 /// A step behind its target.
-fn postfix_step<'a>(target: Postfix, tokens: &'a [TreeToken]) -> Read<'a, Simple>
-    ensures { Gives (λ x. (simple_tree x.0, x.1.now)) result (spec.behind_target (plain_target target) (spec.step_at tokens.now)) }
+fn postfix_step<'a>(
+    alloc: Global,
+    target: Postfix,
+    tokens: &'a [TreeToken],
+) -> Read<'a, Box<Simple>>
+    ensures { Gives (λ x. (simple_tree x.0.value, x.1.now)) result (spec.behind_target (plain_target target) (spec.step_at tokens.now)) }
 {
     if starts(tokens, fixed::PLUS_PLUS) {
         let (place, rest) = mark(tokens, fixed::PLUS_PLUS)?;
-        return Ok((
-            Simple::PostfixStep {
-                target,
-                operator: StepOperator::Increment,
-                place,
-            },
-            rest,
-        ));
+        let found = Simple::PostfixStep {
+            target,
+            operator: StepOperator::Increment,
+            place,
+        };
+        let found = Box::new(alloc, found)?;
+        return Ok((found, rest));
     }
     let (place, rest) = mark(tokens, fixed::MINUS_MINUS)?;
-    Ok((
-        Simple::PostfixStep {
-            target,
-            operator: StepOperator::Decrement,
-            place,
-        },
-        rest,
-    ))
+    let found = Simple::PostfixStep {
+        target,
+        operator: StepOperator::Decrement,
+        place,
+    };
+    let found = Box::new(alloc, found)?;
+    Ok((found, rest))
 }
 
 /// What stands behind an operand without stars.
@@ -105,19 +104,20 @@ fn behind_operand<'a>(
     left: usize,
     operand: Postfix,
     tokens: &'a [TreeToken],
-) -> Read<'a, Simple>
-    ensures { Gives (λ x. (simple_tree x.0, x.1.now)) result (spec.behind_target (plain_target operand) (spec.operand_ending_with left (readers.below left) (grammar.ends_in_arguments (postfix_tree operand)) tokens.now)) }
+) -> Read<'a, Box<Simple>>
+    ensures { Gives (λ x. (simple_tree x.0.value, x.1.now)) result (spec.behind_target (plain_target operand) (spec.operand_ending_with left (readers.below left) (grammar.ends_in_arguments (postfix_tree operand)) tokens.now)) }
 {
     if starts_assignment(tokens) {
         return assignment(alloc, left, Target::Plain(operand), tokens);
     }
     if !ends_in_arguments(&operand) {
-        return postfix_step(operand, tokens);
+        return postfix_step(alloc, operand, tokens);
     }
     if starts_step(tokens) {
-        return postfix_step(operand, tokens);
+        return postfix_step(alloc, operand, tokens);
     }
-    Ok((Simple::Call(operand), tokens))
+    let found = Box::new(alloc, Simple::Call(operand))?;
+    Ok((found, tokens))
 }
 
 /// What stands behind a target.
@@ -126,8 +126,8 @@ fn behind_target<'a>(
     left: usize,
     target: Target,
     tokens: &'a [TreeToken],
-) -> Read<'a, Simple>
-    ensures { Gives (λ x. (simple_tree x.0, x.1.now)) result (spec.behind_target (target_tree target) (spec.ending_with left (readers.below left) (target_tree target) tokens.now)) }
+) -> Read<'a, Box<Simple>>
+    ensures { Gives (λ x. (simple_tree x.0.value, x.1.now)) result (spec.behind_target (target_tree target) (spec.ending_with left (readers.below left) (target_tree target) tokens.now)) }
 {
     match target {
         Target::Dereference { star, operand } => {
@@ -139,32 +139,30 @@ fn behind_target<'a>(
 
 /// An assignment, a step or a call.
 #[tactic(auto, unfolding(life_expr::specs::Readers::simple_with))]
-pub fn simple<'a>(alloc: Global, left: usize, tokens: &'a [TreeToken]) -> Read<'a, Simple>
-    ensures { Gives (λ x. (simple_tree x.0, x.1.now)) result (readers.simple_with left (readers.below left) tokens.now) }
+pub fn simple<'a>(alloc: Global, left: usize, tokens: &'a [TreeToken]) -> Read<'a, Box<Simple>>
+    ensures { Gives (λ x. (simple_tree x.0.value, x.1.now)) result (readers.simple_with left (readers.below left) tokens.now) }
 {
     if starts(tokens, fixed::PLUS_PLUS) {
         let (place, rest) = opener(left, tokens, fixed::PLUS_PLUS)?;
         let (target, rest) = target_below(alloc, left, rest)?;
-        return Ok((
-            Simple::PrefixStep {
-                operator: StepOperator::Increment,
-                place,
-                target,
-            },
-            rest,
-        ));
+        let found = Simple::PrefixStep {
+            operator: StepOperator::Increment,
+            place,
+            target,
+        };
+        let found = Box::new(alloc, found)?;
+        return Ok((found, rest));
     }
     if starts(tokens, fixed::MINUS_MINUS) {
         let (place, rest) = opener(left, tokens, fixed::MINUS_MINUS)?;
         let (target, rest) = target_below(alloc, left, rest)?;
-        return Ok((
-            Simple::PrefixStep {
-                operator: StepOperator::Decrement,
-                place,
-                target,
-            },
-            rest,
-        ));
+        let found = Simple::PrefixStep {
+            operator: StepOperator::Decrement,
+            place,
+            target,
+        };
+        let found = Box::new(alloc, found)?;
+        return Ok((found, rest));
     }
     let (target, rest) = target(alloc, left, tokens)?;
     behind_target(alloc, left, target, rest)

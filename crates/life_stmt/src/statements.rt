@@ -1,5 +1,5 @@
 // The parser of statements: each function mirrors the reader of its name.
-ghost use Rattle.std.specs.Prelude.{◌≡◌, ◌<◌, map, option_map};
+ghost use Rattle.std.specs.Prelude.{◌≡◌, ◌<◌, IfOk, map, option_map};
 ghost use Rattle.life_stmt.specs.Elses as elses_spec;
 ghost use Rattle.life_stmt.specs.Fronts.{mapped};
 ghost use Rattle.life_expr.specs.Gives.{Gives};
@@ -20,7 +20,7 @@ use life_tree::{
     TreeToken, fixed,
 };
 use life_types::Place;
-use std::alloc::Global;
+use std::alloc::{AllocError, Global};
 
 /// What follows the first branch of an `if`.
 #[derive(Drop)]
@@ -62,8 +62,13 @@ fn for_of(
 }
 
 /// A loop by `for` or over a range, with its body.
-fn loop_of(keyword: Place, head: ForHead, body: Box<Stmt>) -> PlainStmt
-    ensures { plain_stmt_tree result ≡ node rules.plain (construct numbers.FOR keyword (spec.for_head_view head ⨾ stmt_tree body.value)) }
+fn loop_of(
+    alloc: Global,
+    keyword: Place,
+    head: ForHead,
+    body: Box<Stmt>,
+) -> Result<PlainStmt, AllocError>
+    ensures { IfOk result (λ found. plain_stmt_tree found ≡ node rules.plain (construct numbers.FOR keyword (spec.for_head_view head ⨾ stmt_tree body.value))) }
 {
     let ForHead {
         opening,
@@ -87,11 +92,11 @@ fn loop_of(keyword: Place, head: ForHead, body: Box<Stmt>) -> PlainStmt
                 closing,
                 body,
             };
-            PlainStmt::RangeFor(found)
+            Ok(PlainStmt::RangeFor(Box::new(alloc, found)?))
         }
         Clauses::Turns { start, rest } => {
             let found = for_of(keyword, opening, start, rest, closing, body);
-            PlainStmt::For(found)
+            Ok(PlainStmt::For(Box::new(alloc, found)?))
         }
     }
 }
@@ -203,14 +208,15 @@ fn for_loop<'a>(alloc: Global, left: usize, tokens: &'a [TreeToken]) -> Read<'a,
     let (head, rest) = for_head_below(alloc, left, rest)?;
     let (body, rest) = statement_below(alloc, left, rest)?;
     let body = Box::new(alloc, body)?;
-    Ok((loop_of(keyword, head, body), rest))
+    let found = loop_of(alloc, keyword, head, body)?;
+    Ok((found, rest))
 }
 
 /// An `if` with all its branches.
 #[cycle(stmt)]
 #[tactic(auto, unfolding(life_expr::specs::Readers::branches_with))]
-fn branches<'a>(alloc: Global, left: usize, tokens: &'a [TreeToken]) -> Read<'a, If>
-    ensures { Gives (λ x. (if_tree x.0, x.1.now)) result (readers.branches_with left (readers.below left) tokens.now) }
+fn branches<'a>(alloc: Global, left: usize, tokens: &'a [TreeToken]) -> Read<'a, Box<If>>
+    ensures { Gives (λ x. (if_tree x.0.value, x.1.now)) result (readers.branches_with left (readers.below left) tokens.now) }
 {
     let (keyword, rest) = opener(left, tokens, fixed::IF)?;
     let (guard, rest) = condition_below(alloc, left, rest)?;
@@ -218,7 +224,8 @@ fn branches<'a>(alloc: Global, left: usize, tokens: &'a [TreeToken]) -> Read<'a,
     let body = Box::new(alloc, body)?;
     let first = branch_of(keyword, guard, body);
     let (more, rest) = elses_below(alloc, left, rest)?;
-    Ok((if_of(first, more), rest))
+    let found = Box::new(alloc, if_of(first, more))?;
+    Ok((found, rest))
 }
 
 /// A branch behind an `else`.

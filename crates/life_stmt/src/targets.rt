@@ -1,5 +1,5 @@
 // The parser of what is assigned to, and what may stand behind it.
-ghost use Rattle.std.specs.Prelude.{◌≡◌, ◌<◌};
+ghost use Rattle.std.specs.Prelude.{◌<◌};
 ghost use Rattle.life_expr.specs.Gives.{Gives};
 ghost use Rattle.life_expr.specs.Readers as readers;
 ghost use Rattle.life_tree.specs.Rules as rules;

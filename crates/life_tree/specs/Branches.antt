@@ -20,5 +20,5 @@ else_if_keys (e ∷ es) = (Fixed ELSE ∷ branch_keys e.branch) ++ else_if_keys 
 -- what a `for` starts with, alone
 abbrev pub start_tree : Option ForStart → Tree
 start_tree None = nothing
-start_tree (Some (Declaration d)) = declaration_tree d
-start_tree (Some (Simple s)) = simple_tree s
+start_tree (Some (Declaration d)) = declaration_tree d.value
+start_tree (Some (Simple s)) = simple_tree s.value

@@ -1,5 +1,5 @@
 -- The trees that values of the program stand for.
-use Rattle.std.specs.Prelude.{ℕ, List, [], ◌∷◌, Option, Some, None, map}
+use Rattle.std.specs.Prelude.{ℕ, List, [], ◌∷◌, Option, Some, None, map, Box}
 use Rattle.life_types.specs.declared.place.Place.{Place}
 use Rattle.life_tree.specs.Grammar.{nowhere}
 use Rattle.life_tree.specs.Rules as rules
@@ -108,6 +108,9 @@ at n place = token (keys.Fixed n) place
 abbrev pub optional_tree : {A : Type 0} → (A → Tree) → Option A → Tree
 optional_tree f None = nothing
 optional_tree f (Some x) = f x
+
+abbrev pub boxed : {A Z : Type 0} → (A → Tree) → Box A Z → Tree
+boxed f b = f b.value
 
 -- one after the other
 abbrev pub list_tree : List Tree → Tree
@@ -422,7 +425,7 @@ abbrev pub declared_type_tree : DeclaredType → Tree
 declared_type_tree ty = node rules.declared_type (declared_type_form ty)
 
 abbrev pub initial_form : InitialValue → Tree
-initial_form (initial_value.Expr value) = expr_tree value
+initial_form (initial_value.Expr value) = expr_tree value.value
 initial_form (initial_value.List elements) = init_list_tree elements
 
 abbrev pub initial_tree : InitialValue → Tree
@@ -454,7 +457,7 @@ plain_target operand = node rules.target (postfix_tree operand)
 
 abbrev pub simple_form : Simple → Tree
 simple_form (simple.Assign target equals value) = target_tree target ⨾ at fixed.ASSIGN equals ⨾ initial_tree value
-simple_form (simple.Compound target operator place value) = target_tree target ⨾ at (compound_number operator) place ⨾ expr_tree value
+simple_form (simple.Compound target operator place value) = target_tree target ⨾ at (compound_number operator) place ⨾ expr_tree value.value
 simple_form (simple.PrefixStep operator place target) = construct (step_number operator) place (target_tree target)
 simple_form (simple.PostfixStep target operator place) = plain_target target ⨾ at (step_number operator) place
 simple_form (simple.Call call) = plain_target call ⨾ nothing
@@ -496,20 +499,20 @@ else_part_tree (e ∷ es) last =
     node rules.else_part (at fixed.ELSE e.keyword ⨾ at fixed.IF e.branch.keyword ⨾ e.branch.condition ⨾ e.branch.body ⨾ else_part_tree es last)
 
 -- what follows the start of a `for`
-abbrev pub for_rest_tree : Place → Option Expr → Place → Option Simple → Tree
+abbrev pub for_rest_tree : {Y Z : Type 0} → Place → Option (Box Expr Y) → Place → Option (Box Simple Z) → Tree
 for_rest_tree first condition second step =
-    node rules.for_rest (at fixed.SEMICOLON first ⨾ optional_tree expr_tree condition ⨾ at fixed.SEMICOLON second ⨾ optional_tree simple_tree step)
+    node rules.for_rest (at fixed.SEMICOLON first ⨾ optional_tree (boxed expr_tree) condition ⨾ at fixed.SEMICOLON second ⨾ optional_tree (boxed simple_tree) step)
 
 abbrev pub for_clauses_form : Option ForStart → Tree → Tree
 for_clauses_form None rest = nothing ⨾ rest
-for_clauses_form (Some (for_start.Declaration d)) rest = declared_type_tree d.ty ⨾ name_tree d.name ⨾ initializer_tree d.initializer ⨾ rest
-for_clauses_form (Some (for_start.Simple s)) rest = simple_tree s ⨾ rest
+for_clauses_form (Some (for_start.Declaration d)) rest = declared_type_tree d.value.ty ⨾ name_tree d.value.name ⨾ initializer_tree d.value.initializer ⨾ rest
+for_clauses_form (Some (for_start.Simple s)) rest = simple_tree s.value ⨾ rest
 
 abbrev pub for_head_tree : Place → Tree → Place → Tree
 for_head_tree opening clauses closing = node rules.for_head (parenthesized_tree opening (node rules.for_clauses clauses) closing)
 
 abbrev pub block_item_form : open_stmt.BlockItem-F Tree Tree Tree Tree BranchView Tree ElseIfView Tree Tree Tree → Tree
-block_item_form (open_stmt.Declare declaration semicolon) = declaration_tree declaration ⨾ at fixed.SEMICOLON semicolon
+block_item_form (open_stmt.Declare declaration semicolon) = declaration_tree declaration.value ⨾ at fixed.SEMICOLON semicolon
 block_item_form (open_stmt.Stmt s) = s
 
 abbrev pub block_item_step : open_stmt.BlockItem-F Tree Tree Tree Tree BranchView Tree ElseIfView Tree Tree Tree → Tree
@@ -518,23 +521,23 @@ block_item_step i = node rules.block_item (block_item_form i)
 abbrev pub plain_form : open_stmt.PlainStmt-F Tree Tree Tree Tree BranchView Tree ElseIfView Tree Tree Tree → Tree
 plain_form (open_stmt.Block b) = b
 plain_form (open_stmt.Empty place) = at fixed.SEMICOLON place
-plain_form (open_stmt.Simple s semicolon) = node rules.sentence (simple_tree s ⨾ at fixed.SEMICOLON semicolon)
-plain_form (open_stmt.While keyword opening condition closing body) = construct fixed.WHILE keyword (condition_tree opening condition closing ⨾ body.value)
-plain_form (open_stmt.For loop) = loop
-plain_form (open_stmt.RangeFor loop) = loop
+plain_form (open_stmt.Simple s semicolon) = node rules.sentence (simple_tree s.value ⨾ at fixed.SEMICOLON semicolon)
+plain_form (open_stmt.While keyword opening condition closing body) = construct fixed.WHILE keyword (condition_tree opening condition.value closing ⨾ body.value)
+plain_form (open_stmt.For loop) = loop.value
+plain_form (open_stmt.RangeFor loop) = loop.value
 plain_form (open_stmt.Break keyword semicolon) = at fixed.BREAK keyword ⨾ at fixed.SEMICOLON semicolon
 plain_form (open_stmt.Continue keyword semicolon) = at fixed.CONTINUE keyword ⨾ at fixed.SEMICOLON semicolon
-plain_form (open_stmt.Return keyword value semicolon) = at fixed.RETURN keyword ⨾ optional_tree expr_tree value ⨾ at fixed.SEMICOLON semicolon
+plain_form (open_stmt.Return keyword value semicolon) = at fixed.RETURN keyword ⨾ optional_tree (boxed expr_tree) value ⨾ at fixed.SEMICOLON semicolon
 plain_form (open_stmt.Print name parts semicolon) =
     node rules.sentence (qualified_tree fixed.STD fixed.COUT name (list_tree (map print_part_tree parts.items) ⨾ at fixed.SEMICOLON semicolon))
 plain_form (open_stmt.Assert keyword opening condition closing semicolon) =
-    at fixed.ASSERT keyword ⨾ condition_tree opening condition closing ⨾ at fixed.SEMICOLON semicolon
+    at fixed.ASSERT keyword ⨾ condition_tree opening condition.value closing ⨾ at fixed.SEMICOLON semicolon
 
 abbrev pub plain_step : open_stmt.PlainStmt-F Tree Tree Tree Tree BranchView Tree ElseIfView Tree Tree Tree → Tree
 plain_step s = node rules.plain (plain_form s)
 
 abbrev pub stmt_form : open_stmt.Stmt-F Tree Tree Tree Tree BranchView Tree ElseIfView Tree Tree Tree → Tree
-stmt_form (open_stmt.If i) = i
+stmt_form (open_stmt.If i) = i.value
 stmt_form (open_stmt.Plain s) = s
 
 abbrev pub stmt_step : open_stmt.Stmt-F Tree Tree Tree Tree BranchView Tree ElseIfView Tree Tree Tree → Tree
@@ -544,7 +547,7 @@ abbrev pub block_step : open_stmt.Block-F Tree Tree Tree Tree BranchView Tree El
 block_step b = node rules.block (braced_tree b.opening (list_tree b.items.items) b.closing)
 
 abbrev pub branch_step : open_stmt.Branch-F Tree Tree Tree Tree BranchView Tree ElseIfView Tree Tree Tree → BranchView
-branch_step b = record { keyword = b.keyword; condition = condition_tree b.opening b.condition b.closing; body = b.body.value }
+branch_step b = record { keyword = b.keyword; condition = condition_tree b.opening b.condition.value b.closing; body = b.body.value }
 
 abbrev pub else_step : open_stmt.Else-F Tree Tree Tree Tree BranchView Tree ElseIfView Tree Tree Tree → Tree
 else_step e = at fixed.ELSE e.keyword ⨾ e.body.value
@@ -561,7 +564,7 @@ if_step i = node rules.branches (construct fixed.IF i.first.keyword (i.first.con
 
 abbrev pub range_for_step : open_stmt.RangeFor-F Tree Tree Tree Tree BranchView Tree ElseIfView Tree Tree Tree → Tree
 range_for_step f =
-    construct fixed.FOR f.keyword (for_head_tree f.opening (declared_type_tree f.ty ⨾ name_tree f.name ⨾ at fixed.COLON f.colon ⨾ expr_tree f.range) f.closing ⨾ f.body.value)
+    construct fixed.FOR f.keyword (for_head_tree f.opening (declared_type_tree f.ty ⨾ name_tree f.name ⨾ at fixed.COLON f.colon ⨾ expr_tree f.range.value) f.closing ⨾ f.body.value)
 
 abbrev pub block_item_tree : BlockItem → Tree
 block_item_tree =

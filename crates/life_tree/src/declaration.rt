@@ -48,7 +48,7 @@ pub enum Initializer {
 #[derive(Drop)]
 pub enum InitialValue {
     /// An expression.
-    Expr(Expr),
+    Expr(Box<Expr>),
     /// A list.
     List(InitList),
 }

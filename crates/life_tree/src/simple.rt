@@ -28,7 +28,7 @@ pub enum Simple {
         target: Target,
         operator: CompoundOperator,
         place: Place,
-        value: Expr,
+        value: Box<Expr>,
     },
     /// `( "++" | "--" ) target` ([expr.pre.incr]).
     PrefixStep {

@@ -11,7 +11,7 @@ use life_types::Place;
 #[derive(Drop)]
 pub enum Stmt {
     /// An `if` with all its branches.
-    If(If),
+    If(Box<If>),
     /// Any other.
     Plain(PlainStmt),
 }
@@ -26,21 +26,21 @@ pub enum PlainStmt {
     Empty(Place),
     /// An assignment, a step or a call, and `;`.
     Simple {
-        simple: Simple,
+        simple: Box<Simple>,
         semicolon: Place,
     },
     /// `"while" "(" expr ")" stmt` ([stmt.while]).
     While {
         keyword: Place,
         opening: Place,
-        condition: Expr,
+        condition: Box<Expr>,
         closing: Place,
         body: Box<Stmt>,
     },
     /// A loop by `for` ([stmt.for]).
-    For(For),
+    For(Box<For>),
     /// A loop over a range ([stmt.ranged]).
-    RangeFor(RangeFor),
+    RangeFor(Box<RangeFor>),
     /// `"break" ";"` ([stmt.break]).
     Break {
         keyword: Place,
@@ -54,7 +54,7 @@ pub enum PlainStmt {
     /// `"return" [ expr ] ";"` ([stmt.return]).
     Return {
         keyword: Place,
-        value: Option<Expr>,
+        value: Option<Box<Expr>>,
         semicolon: Place,
     },
     /// `std::cout`, items with `<<` before each, at least one, and `;`.
@@ -67,7 +67,7 @@ pub enum PlainStmt {
     Assert {
         keyword: Place,
         opening: Place,
-        condition: Expr,
+        condition: Box<Expr>,
         closing: Place,
         semicolon: Place,
     },
@@ -91,7 +91,7 @@ pub struct Block {
 pub enum BlockItem {
     /// A declaration and `;` ([stmt.dcl]).
     Declare {
-        declaration: Declaration,
+        declaration: Box<Declaration>,
         semicolon: Place,
     },
     /// A statement.
@@ -119,7 +119,7 @@ pub struct Branch {
     /// The `(`.
     pub opening: Place,
     /// What decides.
-    pub condition: Expr,
+    pub condition: Box<Expr>,
     /// The `)`.
     pub closing: Place,
     /// What is done where it holds.
@@ -159,11 +159,11 @@ pub struct For {
     /// The first `;`.
     pub first_semicolon: Place,
     /// What decides on each turn.
-    pub condition: Option<Expr>,
+    pub condition: Option<Box<Expr>>,
     /// The second `;`.
     pub second_semicolon: Place,
     /// What is done behind each turn.
-    pub step: Option<Simple>,
+    pub step: Option<Box<Simple>>,
     /// The `)`.
     pub closing: Place,
     /// What is repeated.
@@ -174,9 +174,9 @@ pub struct For {
 #[derive(Drop)]
 pub enum ForStart {
     /// A declaration.
-    Declaration(Declaration),
+    Declaration(Box<Declaration>),
     /// An assignment, a step or a call.
-    Simple(Simple),
+    Simple(Box<Simple>),
 }
 
 /// `"for" "(" dtype NAME ":" expr ")" stmt`.
@@ -194,7 +194,7 @@ pub struct RangeFor {
     /// The `:`.
     pub colon: Place,
     /// What is gone over.
-    pub range: Expr,
+    pub range: Box<Expr>,
     /// The `)`.
     pub closing: Place,
     /// What is repeated.

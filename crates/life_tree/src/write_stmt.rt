@@ -2,7 +2,7 @@
 ghost use Rattle.std.specs.Prelude.{◌≡◌, ◌++◌, ◌∷◌, [], OnOk, map};
 ghost use Rattle.life_tree.specs.Branches.{branch_keys, start_tree};
 ghost use Rattle.life_tree.specs.Tree.{keys_of};
-ghost use Rattle.life_tree.specs.Views.{block_item_tree, block_tree, branch_view, declared_type_tree, expr_tree, for_tree, if_tree, list_tree, name_tree, optional_tree, plain_stmt_tree, print_part_tree, range_for_tree, simple_tree, stmt_tree};
+ghost use Rattle.life_tree.specs.Views.{block_item_tree, block_tree, boxed, branch_view, declared_type_tree, expr_tree, for_tree, if_tree, list_tree, name_tree, optional_tree, plain_stmt_tree, print_part_tree, range_for_tree, simple_tree, stmt_tree};
 ghost use Rattle.life_tree.specs.declared.fixed.TheConstants.{COLON, LEFT_PAREN, RIGHT_PAREN, SEMICOLON};
 ghost use Rattle.life_tree.specs.declared.key.TokenKey.TheVariants.{Fixed};
 
@@ -82,8 +82,8 @@ fn write_plain(stmt: &PlainStmt, keys: &mut Vec<TokenKey>) -> Result<(), NoMemor
     }
 }
 
-fn write_optional_expr(expr: &Option<Expr>, keys: &mut Vec<TokenKey>) -> Result<(), NoMemory>
-    ensures { OnOk result (keys.new.items ≡ keys.old.items ++ keys_of (optional_tree expr_tree expr.now)) }
+fn write_optional_expr(expr: &Option<Box<Expr>>, keys: &mut Vec<TokenKey>) -> Result<(), NoMemory>
+    ensures { OnOk result (keys.new.items ≡ keys.old.items ++ keys_of (optional_tree (boxed expr_tree) expr.now)) }
 {
     match expr {
         Some(expr) => write_expr(expr, keys),
@@ -174,8 +174,8 @@ fn write_for_start(start: &Option<ForStart>, keys: &mut Vec<TokenKey>) -> Result
     }
 }
 
-fn write_for_step(step: &Option<Simple>, keys: &mut Vec<TokenKey>) -> Result<(), NoMemory>
-    ensures { OnOk result (keys.new.items ≡ keys.old.items ++ keys_of (optional_tree simple_tree step.now)) }
+fn write_for_step(step: &Option<Box<Simple>>, keys: &mut Vec<TokenKey>) -> Result<(), NoMemory>
+    ensures { OnOk result (keys.new.items ≡ keys.old.items ++ keys_of (optional_tree (boxed simple_tree) step.now)) }
 {
     match step {
         Some(simple) => write_simple(simple, keys),
@@ -186,14 +186,14 @@ fn write_for_step(step: &Option<Simple>, keys: &mut Vec<TokenKey>) -> Result<(),
 /// Adds the tokens of the head of a `for`, with its parentheses.
 fn write_for_head(
     start: &Option<ForStart>,
-    condition: &Option<Expr>,
-    step: &Option<Simple>,
+    condition: &Option<Box<Expr>>,
+    step: &Option<Box<Simple>>,
     keys: &mut Vec<TokenKey>,
 ) -> Result<(), NoMemory>
     ensures { OnOk result
         (keys.new.items
-        ≡ keys.old.items ++ Fixed LEFT_PAREN ∷ ((keys_of (start_tree start.now) ++ Fixed SEMICOLON ∷ (keys_of (optional_tree expr_tree condition.now)
-        ++ Fixed SEMICOLON ∷ keys_of (optional_tree simple_tree step.now))) ++ Fixed RIGHT_PAREN ∷ [])) }
+        ≡ keys.old.items ++ Fixed LEFT_PAREN ∷ ((keys_of (start_tree start.now) ++ Fixed SEMICOLON ∷ (keys_of (optional_tree (boxed expr_tree) condition.now)
+        ++ Fixed SEMICOLON ∷ keys_of (optional_tree (boxed simple_tree) step.now))) ++ Fixed RIGHT_PAREN ∷ [])) }
 {
     write_fixed(fixed::LEFT_PAREN, keys)?;
     write_for_start(start, keys)?;

@@ -1,5 +1,5 @@
 // Single tokens, added to a list.
-ghost use Rattle.std.specs.Prelude.{◌≡◌, ◌++◌, ◌∷◌, [], OnOk, ℕ};
+ghost use Rattle.std.specs.Prelude.{◌≡◌, ◌++◌, ◌∷◌, [], OnOk};
 ghost use Rattle.life_tree.specs.Separated.{separator};
 ghost use Rattle.life_tree.specs.Tree.{keys_of};
 ghost use Rattle.life_tree.specs.Views.{iterator_tree, name_tree, optional_tree, at, suffix_tree};

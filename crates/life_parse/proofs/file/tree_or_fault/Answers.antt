@@ -1,5 +1,4 @@
-use Rattle.std.proofs.Common.{◌≡◌, ◌∙◌, map, ap, sym, subst}
-use Rattle.life_keys.specs.Keys.{file_tokens, file_tables}
+use Rattle.std.proofs.Common.{◌∙◌, map, ap, sym, subst}
 use Rattle.life_lex.specs.Answers.{lexeme, LexesOnly}
 use Rattle.life_parse.specs.Ends.{place_of_token}
 use Rattle.life_parse.proofs.FileEnds.{broken_ends, refused_ends, deep_ends, tree_ends}

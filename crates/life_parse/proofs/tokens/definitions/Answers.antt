@@ -1,4 +1,4 @@
-use Rattle.std.proofs.Common.{◌≡◌, arith}
+use Rattle.std.proofs.Common.{arith}
 use Rattle.std.proofs.lemmas.List.{nil_from_length}
 use Rattle.life_parse.specs.ParsesTokens.{definitions_tree}
 use Rattle.life_parse.proofs.Spelled.{spelled, spelled_less, spelled_refused, spelled_deep}

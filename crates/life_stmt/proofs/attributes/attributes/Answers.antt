@@ -1,17 +1,16 @@
-use Rattle.std.proofs.Common.{◌≡◌, ◌++◌, ◌∷◌, [], ◌<◌, length, map, true, false, Ok, ap, ◌∙◌, arith}
-use Rattle.std.proofs.lemmas.List.{map_push, length-map, length-append}
+use Rattle.std.proofs.Common.{◌≡◌, ◌++◌, ◌∷◌, [], map, true, false, Ok, ap, ◌∙◌}
+use Rattle.std.proofs.lemmas.List.{map_push}
 use Rattle.std.proofs.lemmas.Result.{err_from_is_err_and}
 use Rattle.life_stmt.proofs.LoopReads.{goes_on, fails, ends, before_nothing, before_more}
-use Rattle.life_stmt.proofs.ShrinksReads.{shrinks, Takes-any}
-use Rattle.life_stmt.proofs.ShrinksRules.{Takes-below, Takes-attribute, Takes-definition, Takes-later, Takes-print_part}
-use Rattle.life_stmt.specs.Fronts.{mapped, before}
-use Rattle.life_expr.specs.Heads.{heads_of, comma_kind}
-use Rattle.life_stmt.specs.Definitions as spec
+use Rattle.life_stmt.proofs.ShrinksReads.{shrinks}
+use Rattle.life_stmt.proofs.ShrinksRules.{Takes-below, Takes-attribute}
+use Rattle.life_stmt.specs.Fronts.{before}
+use Rattle.life_expr.specs.Heads.{heads_of}
 use Rattle.life_expr.specs.Read.{as_many, starts}
 use Rattle.life_expr.specs.Readers as readers
 use Rattle.life_tree.specs.Rules as rules
-use Rattle.life_tree.specs.Tree.{Tree, ◌⨾◌}
-use Rattle.life_tree.specs.Views.{attribute_tree, comma_tree}
+use Rattle.life_tree.specs.Tree.{Tree}
+use Rattle.life_tree.specs.Views.{attribute_tree}
 use Rattle.life_stmt.proofs.attributes.attributes.Goals as goal
 
 pub returns-in_err-next : goal.returns-in_err-next

@@ -1,7 +1,6 @@
-use Rattle.std.proofs.Common.{◌≡◌, ◌∷◌, [], ◌<◌, map, length}
+use Rattle.std.proofs.Common.{◌≡◌, map, length}
 use Rattle.life_stmt.specs.Fronts.{mapped, before}
-use Rattle.life_expr.specs.Heads.{heads_of, comma_kind}
-use Rattle.life_stmt.specs.Definitions as spec
+use Rattle.life_expr.specs.Heads.{heads_of}
 use Rattle.life_expr.specs.Read.{as_many}
 use Rattle.life_expr.specs.Readers as readers
 use Rattle.life_tree.specs.Rules as rules

@@ -1,6 +1,6 @@
 use Rattle.std.proofs.Common.{◌≡◌, ◌∷◌, [], ◌<◌, map, length}
 use Rattle.life_stmt.specs.Fronts.{mapped, separated_before}
-use Rattle.life_expr.specs.Heads.{heads_of, comma_kind}
+use Rattle.life_expr.specs.Heads.{comma_kind}
 use Rattle.life_stmt.specs.Definitions as spec
 use Rattle.life_expr.specs.Read.{as_many}
 use Rattle.life_expr.specs.Readers as readers

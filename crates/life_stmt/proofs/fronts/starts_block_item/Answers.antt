@@ -1,10 +1,9 @@
-use Rattle.std.proofs.Common.{◌≡◌, ◌∷◌, [], true, false, sym}
+use Rattle.std.proofs.Common.{◌≡◌, true, false, sym}
 use Rattle.life_stmt.proofs.StartsReads.{starts_front, starts_behind}
 use Rattle.life_stmt.proofs.fronts.starts_block_item.Goals as goal
-use Rattle.life_expr.specs.Heads.{quoted_kind, type_heads, declaration_heads}
+use Rattle.life_expr.specs.Heads.{declaration_heads}
 use Rattle.life_expr.specs.Read.{starts}
 use Rattle.life_stmt.specs.Statements.{item_tail_heads}
-use Rattle.life_tree.specs.declared.fixed.TheConstants as fixed
 
 pub returns-then-starts_declared : goal.returns-then-starts_declared
 returns-then-starts_declared c =

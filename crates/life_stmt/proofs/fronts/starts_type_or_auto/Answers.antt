@@ -1,9 +1,8 @@
 use Rattle.std.proofs.Common.{◌≡◌, ◌∷◌, [], true, false, sym}
 use Rattle.life_stmt.proofs.StartsReads.{starts_front, starts_behind}
 use Rattle.life_stmt.proofs.fronts.starts_type_or_auto.Goals as goal
-use Rattle.life_expr.specs.Heads.{quoted_kind, type_heads, declaration_heads}
+use Rattle.life_expr.specs.Heads.{quoted_kind, type_heads}
 use Rattle.life_expr.specs.Read.{starts}
-use Rattle.life_stmt.specs.Statements.{item_tail_heads}
 use Rattle.life_tree.specs.declared.fixed.TheConstants as fixed
 
 pub returns-then-starts_type : goal.returns-then-starts_type

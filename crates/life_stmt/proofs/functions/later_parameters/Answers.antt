@@ -2,10 +2,10 @@ use Rattle.std.proofs.Common.{◌≡◌, ◌++◌, ◌∷◌, [], ◌<◌, lengt
 use Rattle.std.proofs.lemmas.List.{map_push, length-map, length-append}
 use Rattle.std.proofs.lemmas.Result.{err_from_is_err_and}
 use Rattle.life_stmt.proofs.LoopReads.{goes_on, fails, ends, separated_nothing, separated_more}
-use Rattle.life_stmt.proofs.ShrinksReads.{shrinks, Takes-any}
-use Rattle.life_stmt.proofs.ShrinksRules.{Takes-below, Takes-attribute, Takes-definition, Takes-later, Takes-print_part}
+use Rattle.life_stmt.proofs.ShrinksReads.{shrinks}
+use Rattle.life_stmt.proofs.ShrinksRules.{Takes-below, Takes-later}
 use Rattle.life_stmt.specs.Fronts.{mapped, separated_before}
-use Rattle.life_expr.specs.Heads.{heads_of, comma_kind}
+use Rattle.life_expr.specs.Heads.{comma_kind}
 use Rattle.life_stmt.specs.Definitions as spec
 use Rattle.life_expr.specs.Read.{as_many, starts}
 use Rattle.life_expr.specs.Readers as readers

@@ -4,4 +4,4 @@ use Rattle.life_tree.specs.Rules as rules
 
 pub returns : goal.returns
 unfolding Rattle.life_expr.specs.Readers.rule_with
-returns c = rw (← below_rule c.args.left rules.expr c.args.tokens.now c.requires) c.expr.ensures
+returns c = rw (← below_rule c.args.left rules.expr c.args.tokens.now c.requires) c.boxed_expr.ensures

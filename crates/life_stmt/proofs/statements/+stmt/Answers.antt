@@ -7,8 +7,8 @@ use Rattle.life_stmt.proofs.LoopReads.{goes_on, fails, ends, before_nothing, bef
 use Rattle.life_stmt.proofs.ShrinksReads.{shrinks}
 use Rattle.life_stmt.proofs.ShrinksRules.{Takes-below}
 use Rattle.life_stmt.proofs.StatementReads.{block_reads}
-use Rattle.life_stmt.specs.Elses.{else_if_kinds, else_if_with, else_if_front, BranchesRead}
-use Rattle.life_stmt.specs.Fronts.{mapped, before}
+use Rattle.life_stmt.specs.Elses.{else_if_kinds, else_if_with, else_if_front}
+use Rattle.life_stmt.specs.Fronts.{before}
 use Rattle.life_expr.specs.Heads.{heads_of}
 use Rattle.life_expr.specs.Read.{as_many, starts}
 use Rattle.life_expr.specs.Readers.{below, begins, else_part_with}

@@ -3,7 +3,6 @@ use Rattle.life_stmt.specs.Elses.{elses_before}
 use Rattle.life_stmt.specs.Fronts.{mapped, before}
 use Rattle.life_expr.specs.Heads.{heads_of}
 use Rattle.life_expr.specs.Read.{as_many}
-use Rattle.life_expr.specs.Readers as readers
 use Rattle.life_expr.specs.Readers.{below, else_part_with}
 use Rattle.life_tree.specs.Rules as rules
 use Rattle.life_tree.specs.Views.{block_item_tree, else_if_view}

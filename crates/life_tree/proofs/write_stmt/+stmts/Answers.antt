@@ -4,7 +4,7 @@ use Rattle.life_tree.proofs.BranchKeys.{chain_keys, start_keys}
 use Rattle.life_tree.proofs.Written.{ended, joined}
 use Rattle.life_tree.specs.Branches.{branch_keys, else_if_keys, start_tree}
 use Rattle.life_tree.specs.Tree.{keys_of}
-use Rattle.life_tree.specs.Views.{branch_view, else_if_view, else_tree, expr_tree, for_rest_tree, for_tree, if_tree, optional_tree, plain_stmt_tree, simple_tree, stmt_tree}
+use Rattle.life_tree.specs.Views.{boxed, branch_view, else_if_view, else_tree, expr_tree, for_rest_tree, for_tree, if_tree, optional_tree, plain_stmt_tree, simple_tree, stmt_tree}
 use Rattle.life_tree.specs.declared.fixed.TheConstants.{ELSE, FOR, LEFT_PAREN, RIGHT_PAREN, SEMICOLON}
 use Rattle.life_tree.specs.declared.key.TokenKey.{TokenKey}
 use Rattle.life_tree.specs.declared.key.TokenKey.TheVariants.{Fixed}
@@ -13,8 +13,8 @@ use Rattle.life_tree.specs.declared.stmt.For.{For, fold_out-For, out-For}
 use Rattle.life_tree.specs.declared.stmt.If.{If, fold_out-If, out-If}
 use Rattle.life_tree.proofs.write_stmt.+stmts.Goals as goal
 
-for_keys : (f : For) → keys_of (for_tree f) ≡ Fixed FOR ∷ ((Fixed LEFT_PAREN ∷ ((keys_of (start_tree (out-For f).start) ++ Fixed SEMICOLON ∷ (keys_of (optional_tree expr_tree (out-For f).condition)
-    ++ Fixed SEMICOLON ∷ keys_of (optional_tree simple_tree (out-For f).step))) ++ Fixed RIGHT_PAREN ∷ [])) ++ keys_of (stmt_tree (out-For f).body.value))
+for_keys : (f : For) → keys_of (for_tree f) ≡ Fixed FOR ∷ ((Fixed LEFT_PAREN ∷ ((keys_of (start_tree (out-For f).start) ++ Fixed SEMICOLON ∷ (keys_of (optional_tree (boxed expr_tree) (out-For f).condition)
+    ++ Fixed SEMICOLON ∷ keys_of (optional_tree (boxed simple_tree) (out-For f).step))) ++ Fixed RIGHT_PAREN ∷ [])) ++ keys_of (stmt_tree (out-For f).body.value))
 for_keys f = rw fold_out-For
     (ap (λ (ks : List TokenKey). Fixed FOR ∷ (Fixed LEFT_PAREN ∷ (ks ++ Fixed RIGHT_PAREN ∷ [])) ++ keys_of (stmt_tree (out-For f).body.value))
     (start_keys (out-For f).start (for_rest_tree (out-For f).first_semicolon (out-For f).condition (out-For f).second_semicolon (out-For f).step)))
