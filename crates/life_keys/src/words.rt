@@ -18,81 +18,95 @@ fn number_in(words: &[(u16, &[u8])], text: &[u8]) -> Option<u16>
     None
 }
 
+/// The keywords that begin with this byte: so a word is compared with a few of them alone.
+#[tactic(auto, unfolding(crate::specs::Words::keywords))]
+fn keywords_from(first: u8) -> &'static [(u16, &'static [u8])]
+    ensures { (rest : List ℕ) → spec.number_in (map (λ w. (w.0, w.1.now)) result.now) (first ∷ rest) ≡ spec.number_in spec.keywords (first ∷ rest) }
+{
+    match first {
+        b'a' => &[(fixed::AUTO, b"auto")],
+        b'b' => &[(fixed::BOOL, b"bool"), (fixed::BREAK, b"break")],
+        b'c' => &[
+            (fixed::CHAR, b"char"),
+            (fixed::CONST, b"const"),
+            (fixed::CONTINUE, b"continue"),
+        ],
+        b'e' => &[(fixed::ELSE, b"else")],
+        b'f' => &[(fixed::FALSE, b"false"), (fixed::FOR, b"for")],
+        b'i' => &[(fixed::IF, b"if"), (fixed::INT, b"int")],
+        b'l' => &[(fixed::LONG, b"long")],
+        b'n' => &[(fixed::NULLPTR, b"nullptr")],
+        b'r' => &[(fixed::RETURN, b"return")],
+        b's' => &[(fixed::STATIC, b"static"), (fixed::STRUCT, b"struct")],
+        b't' => &[(fixed::TRUE, b"true")],
+        b'v' => &[(fixed::VOID, b"void")],
+        b'w' => &[(fixed::WHILE, b"while")],
+        _ => &[],
+    }
+}
+
 /// The number of a keyword that a rule quotes.
 pub(crate) fn keyword_number(text: &[u8]) -> Option<u16>
     ensures { result ≡ spec.number_in spec.keywords text.now }
 {
-    number_in(
-        &[
-            (fixed::AUTO, b"auto"),
-            (fixed::BOOL, b"bool"),
-            (fixed::BREAK, b"break"),
-            (fixed::CHAR, b"char"),
-            (fixed::CONST, b"const"),
-            (fixed::CONTINUE, b"continue"),
-            (fixed::ELSE, b"else"),
-            (fixed::FALSE, b"false"),
-            (fixed::FOR, b"for"),
-            (fixed::IF, b"if"),
-            (fixed::INT, b"int"),
-            (fixed::LONG, b"long"),
-            (fixed::NULLPTR, b"nullptr"),
-            (fixed::RETURN, b"return"),
-            (fixed::STATIC, b"static"),
-            (fixed::STRUCT, b"struct"),
-            (fixed::TRUE, b"true"),
-            (fixed::VOID, b"void"),
-            (fixed::WHILE, b"while"),
+    match text {
+        [] => None,
+        [first, ..] => number_in(keywords_from(*first), text),
+    }
+}
+
+/// The marks that begin with this byte.
+#[tactic(auto, unfolding(crate::specs::Words::marks))]
+fn marks_from(first: u8) -> &'static [(u16, &'static [u8])]
+    ensures { (rest : List ℕ) → spec.number_in (map (λ w. (w.0, w.1.now)) result.now) (first ∷ rest) ≡ spec.number_in spec.marks (first ∷ rest) }
+{
+    match first {
+        b'{' => &[(fixed::LEFT_BRACE, b"{")],
+        b'}' => &[(fixed::RIGHT_BRACE, b"}")],
+        b'(' => &[(fixed::LEFT_PAREN, b"(")],
+        b')' => &[(fixed::RIGHT_PAREN, b")")],
+        b'[' => &[(fixed::LEFT_BRACKET, b"[")],
+        b']' => &[(fixed::RIGHT_BRACKET, b"]")],
+        b';' => &[(fixed::SEMICOLON, b";")],
+        b',' => &[(fixed::COMMA, b",")],
+        b'.' => &[(fixed::DOT, b".")],
+        b'-' => &[
+            (fixed::ARROW, b"->"),
+            (fixed::MINUS, b"-"),
+            (fixed::MINUS_MINUS, b"--"),
+            (fixed::MINUS_ASSIGN, b"-="),
         ],
-        text,
-    )
+        b'&' => &[(fixed::AMPERSAND, b"&"), (fixed::AND_AND, b"&&")],
+        b'|' => &[(fixed::OR_OR, b"||")],
+        b'*' => &[(fixed::STAR, b"*"), (fixed::STAR_ASSIGN, b"*=")],
+        b'+' => &[
+            (fixed::PLUS, b"+"),
+            (fixed::PLUS_PLUS, b"++"),
+            (fixed::PLUS_ASSIGN, b"+="),
+        ],
+        b'/' => &[(fixed::SLASH, b"/"), (fixed::SLASH_ASSIGN, b"/=")],
+        b'%' => &[(fixed::PERCENT, b"%"), (fixed::PERCENT_ASSIGN, b"%=")],
+        b'!' => &[(fixed::NOT, b"!"), (fixed::NOT_EQUAL, b"!=")],
+        b'=' => &[(fixed::ASSIGN, b"="), (fixed::EQUAL, b"==")],
+        b'<' => &[
+            (fixed::LESS, b"<"),
+            (fixed::LESS_EQUAL, b"<="),
+            (fixed::SHIFT_LEFT, b"<<"),
+        ],
+        b'>' => &[(fixed::GREATER, b">"), (fixed::GREATER_EQUAL, b">=")],
+        b':' => &[(fixed::COLON, b":"), (fixed::SCOPE, b"::")],
+        _ => &[],
+    }
 }
 
 /// The number of a mark that a rule quotes.
 pub(crate) fn mark_number(text: &[u8]) -> Option<u16>
     ensures { result ≡ spec.number_in spec.marks text.now }
 {
-    number_in(
-        &[
-            (fixed::LEFT_BRACE, b"{"),
-            (fixed::RIGHT_BRACE, b"}"),
-            (fixed::LEFT_PAREN, b"("),
-            (fixed::RIGHT_PAREN, b")"),
-            (fixed::LEFT_BRACKET, b"["),
-            (fixed::RIGHT_BRACKET, b"]"),
-            (fixed::SEMICOLON, b";"),
-            (fixed::COMMA, b","),
-            (fixed::DOT, b"."),
-            (fixed::ARROW, b"->"),
-            (fixed::AMPERSAND, b"&"),
-            (fixed::AND_AND, b"&&"),
-            (fixed::OR_OR, b"||"),
-            (fixed::STAR, b"*"),
-            (fixed::PLUS, b"+"),
-            (fixed::MINUS, b"-"),
-            (fixed::SLASH, b"/"),
-            (fixed::PERCENT, b"%"),
-            (fixed::NOT, b"!"),
-            (fixed::ASSIGN, b"="),
-            (fixed::EQUAL, b"=="),
-            (fixed::NOT_EQUAL, b"!="),
-            (fixed::LESS, b"<"),
-            (fixed::LESS_EQUAL, b"<="),
-            (fixed::GREATER, b">"),
-            (fixed::GREATER_EQUAL, b">="),
-            (fixed::SHIFT_LEFT, b"<<"),
-            (fixed::PLUS_PLUS, b"++"),
-            (fixed::MINUS_MINUS, b"--"),
-            (fixed::PLUS_ASSIGN, b"+="),
-            (fixed::MINUS_ASSIGN, b"-="),
-            (fixed::STAR_ASSIGN, b"*="),
-            (fixed::SLASH_ASSIGN, b"/="),
-            (fixed::PERCENT_ASSIGN, b"%="),
-            (fixed::COLON, b":"),
-            (fixed::SCOPE, b"::"),
-        ],
-        text,
-    )
+    match text {
+        [] => None,
+        [first, ..] => number_in(marks_from(*first), text),
+    }
 }
 
 /// The number of a name that is one in attributes alone.
