@@ -1,5 +1,5 @@
 // Operands and the operators between them: each function mirrors the reader of its rule.
-ghost use Rattle.std.specs.Prelude.{map};
+ghost use Rattle.std.specs.Prelude.{◌≡◌, [], map, IfOk};
 ghost use Rattle.life_expr.specs.Exprs as spec;
 ghost use Rattle.life_expr.specs.Gives.{Gives};
 ghost use Rattle.life_expr.specs.Readers as readers;
@@ -16,7 +16,7 @@ use life_tree::{
     Additive, AdditivePart, AndPart, Equality, EqualityPart, Expr, LogicalAnd, Multiplicative,
     MultiplicativePart, OrPart, Relational, RelationalPart, TreeToken, fixed,
 };
-use std::alloc::Global;
+use std::alloc::{AllocError, Global};
 
 /// An expression, where `left` more constructs may be open.
 #[cycle(expr)]
@@ -44,7 +44,7 @@ fn or_parts<'a>(alloc: Global, left: usize, tokens: &'a [TreeToken]) -> Read<'a,
     ensures { Gives (λ x. (list_tree (map or_part_tree x.0.items), x.1.now)) result (spec.or_parts_with left (readers.below left) tokens.now) }
 {
     let mut rest = tokens;
-    let mut list = Vec::new(alloc);
+    let mut list = list_for(alloc, starts(rest, fixed::OR_OR))?;
     'list: while starts(rest, fixed::OR_OR) {
         let (next, after) = or_part(alloc, left, rest)?;
         list.push(next)?;
@@ -65,6 +65,7 @@ fn or_part<'a>(alloc: Global, left: usize, tokens: &'a [TreeToken]) -> Read<'a, 
 
 /// Operands of `&&`, and the operators between them.
 #[cycle(expr)]
+#[inline(always)]
 #[tactic(auto, unfolding(crate::specs::Readers::both_with))]
 fn logical_and<'a>(alloc: Global, left: usize, tokens: &'a [TreeToken]) -> Read<'a, LogicalAnd>
     ensures { Gives (λ x. (logical_and_tree x.0, x.1.now)) result (readers.both_with left (readers.below left) tokens.now) }
@@ -80,7 +81,7 @@ fn and_parts<'a>(alloc: Global, left: usize, tokens: &'a [TreeToken]) -> Read<'a
     ensures { Gives (λ x. (list_tree (map and_part_tree x.0.items), x.1.now)) result (spec.and_parts_with left (readers.below left) tokens.now) }
 {
     let mut rest = tokens;
-    let mut list = Vec::new(alloc);
+    let mut list = list_for(alloc, starts(rest, fixed::AND_AND))?;
     'list: while starts(rest, fixed::AND_AND) {
         let (next, after) = and_part(alloc, left, rest)?;
         list.push(next)?;
@@ -101,6 +102,7 @@ fn and_part<'a>(alloc: Global, left: usize, tokens: &'a [TreeToken]) -> Read<'a,
 
 /// Operands of `==` and `!=`, and the operators between them.
 #[cycle(expr)]
+#[inline(always)]
 #[tactic(auto, unfolding(crate::specs::Readers::equal_with))]
 fn equality<'a>(alloc: Global, left: usize, tokens: &'a [TreeToken]) -> Read<'a, Equality>
     ensures { Gives (λ x. (equality_tree x.0, x.1.now)) result (readers.equal_with left (readers.below left) tokens.now) }
@@ -120,7 +122,7 @@ fn equality_parts<'a>(
     ensures { Gives (λ x. (list_tree (map equality_part_tree x.0.items), x.1.now)) result (spec.equality_parts_with left (readers.below left) tokens.now) }
 {
     let mut rest = tokens;
-    let mut list = Vec::new(alloc);
+    let mut list = list_for(alloc, starts_equality(rest))?;
     'list: while starts_equality(rest) {
         let (next, after) = equality_part(alloc, left, rest)?;
         list.push(next)?;
@@ -148,6 +150,7 @@ fn equality_part<'a>(alloc: Global, left: usize, tokens: &'a [TreeToken]) -> Rea
 
 /// Operands of comparisons by order, and the operators between them.
 #[cycle(expr)]
+#[inline(always)]
 #[tactic(auto, unfolding(crate::specs::Readers::order_with))]
 fn relational<'a>(alloc: Global, left: usize, tokens: &'a [TreeToken]) -> Read<'a, Relational>
     ensures { Gives (λ x. (relational_tree x.0, x.1.now)) result (readers.order_with left (readers.below left) tokens.now) }
@@ -167,7 +170,7 @@ fn relational_parts<'a>(
     ensures { Gives (λ x. (list_tree (map relational_part_tree x.0.items), x.1.now)) result (spec.relational_parts_with left (readers.below left) tokens.now) }
 {
     let mut rest = tokens;
-    let mut list = Vec::new(alloc);
+    let mut list = list_for(alloc, starts_relational(rest))?;
     'list: while starts_relational(rest) {
         let (next, after) = relational_part(alloc, left, rest)?;
         list.push(next)?;
@@ -199,6 +202,7 @@ fn relational_part<'a>(
 
 /// Operands of `+` and `-`, and the operators between them.
 #[cycle(expr)]
+#[inline(always)]
 #[tactic(auto, unfolding(crate::specs::Readers::sum_with))]
 pub fn additive<'a>(alloc: Global, left: usize, tokens: &'a [TreeToken]) -> Read<'a, Additive>
     ensures { Gives (λ x. (additive_tree x.0, x.1.now)) result (readers.sum_with left (readers.below left) tokens.now) }
@@ -218,7 +222,7 @@ fn additive_parts<'a>(
     ensures { Gives (λ x. (list_tree (map additive_part_tree x.0.items), x.1.now)) result (spec.additive_parts_with left (readers.below left) tokens.now) }
 {
     let mut rest = tokens;
-    let mut list = Vec::new(alloc);
+    let mut list = list_for(alloc, starts_additive(rest))?;
     'list: while starts_additive(rest) {
         let (next, after) = additive_part(alloc, left, rest)?;
         list.push(next)?;
@@ -246,6 +250,7 @@ fn additive_part<'a>(alloc: Global, left: usize, tokens: &'a [TreeToken]) -> Rea
 
 /// Operands of `*`, `/` and `%`, and the operators between them.
 #[cycle(expr)]
+#[inline(always)]
 #[tactic(auto, unfolding(crate::specs::Readers::term_with))]
 fn multiplicative<'a>(
     alloc: Global,
@@ -269,7 +274,7 @@ fn multiplicative_parts<'a>(
     ensures { Gives (λ x. (list_tree (map multiplicative_part_tree x.0.items), x.1.now)) result (spec.multiplicative_parts_with left (readers.below left) tokens.now) }
 {
     let mut rest = tokens;
-    let mut list = Vec::new(alloc);
+    let mut list = list_for(alloc, starts_multiplicative(rest))?;
     'list: while starts_multiplicative(rest) {
         let (next, after) = multiplicative_part(alloc, left, rest)?;
         list.push(next)?;
@@ -297,4 +302,12 @@ fn multiplicative_part<'a>(
         },
         rest,
     ))
+}
+
+/// An empty list, with room for one part where there is one: few chains have more.
+fn list_for<T: Drop>(alloc: Global, is_begun: bool) -> Result<Vec<T>, AllocError>
+    ensures { IfOk result (λ list. list.items ≡ []) }
+{
+    let room = if is_begun { 1 } else { 0 };
+    Vec::with_capacity(alloc, room)
 }

@@ -71,6 +71,8 @@ fn expressions<'a>(alloc: Global, left: usize, tokens: &'a [TreeToken]) -> Read<
     if starts_expr(tokens) {
         let (first, rest) = expr_below(alloc, left, tokens)?;
         let (mut list, rest) = later_expressions(alloc, left, rest)?;
+        // Most lists have one element.
+        list.reserve_exact(1)?;
         list.insert(0, first)?;
         return Ok((list, rest));
     }

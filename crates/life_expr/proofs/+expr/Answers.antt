@@ -24,7 +24,7 @@ operands::unary_below-returns t c = rw (← below_rule c.args.left rules.unary c
 
 pub chains::or_parts-returns-in_err-next : goal.chains::or_parts-returns-in_err-next
 chains::or_parts-returns-in_err-next t c =
-    let e = err_from_is_err_and c.from_residual.result c.from_residual.ensures.1 in
+    let e = err_from_is_err_and c.from_residual-in_err-next.result c.from_residual-in_err-next.ensures.1 in
     let h : starts (heads or_form) c.list.rest.now ≡ true = cc in
     rw (e.1, e.2) (fails (heads or_form) (or_part_shrinks c.args.left) (map or_part_tree c.list.list.items) c.list.rest.now (spec.or_parts_with c.args.left (below c.args.left) c.args.tokens.now) c.in_err-next.field-0.0 c.list.invariant h c.in_err-next.ensures)
 
@@ -43,7 +43,7 @@ chains::or_parts-returns t c =
 
 pub chains::and_parts-returns-in_err-next : goal.chains::and_parts-returns-in_err-next
 chains::and_parts-returns-in_err-next t c =
-    let e = err_from_is_err_and c.from_residual.result c.from_residual.ensures.1 in
+    let e = err_from_is_err_and c.from_residual-in_err-next.result c.from_residual-in_err-next.ensures.1 in
     let h : starts (heads and_form) c.list.rest.now ≡ true = cc in
     rw (e.1, e.2) (fails (heads and_form) (and_part_shrinks c.args.left) (map and_part_tree c.list.list.items) c.list.rest.now (spec.and_parts_with c.args.left (below c.args.left) c.args.tokens.now) c.in_err-next.field-0.0 c.list.invariant h c.in_err-next.ensures)
 
@@ -62,7 +62,7 @@ chains::and_parts-returns t c =
 
 pub chains::equality_parts-returns-in_err-next : goal.chains::equality_parts-returns-in_err-next
 chains::equality_parts-returns-in_err-next t c =
-    let e = err_from_is_err_and c.from_residual.result c.from_residual.ensures.1 in
+    let e = err_from_is_err_and c.from_residual-in_err-next.result c.from_residual-in_err-next.ensures.1 in
     let h : starts (heads equality_form) c.list.rest.now ≡ true = cc in
     rw (e.1, e.2) (fails (heads equality_form) (equality_part_shrinks c.args.left) (map equality_part_tree c.list.list.items) c.list.rest.now (spec.equality_parts_with c.args.left (below c.args.left) c.args.tokens.now) c.in_err-next.field-0.0 c.list.invariant h c.in_err-next.ensures)
 
@@ -81,7 +81,7 @@ chains::equality_parts-returns t c =
 
 pub chains::relational_parts-returns-in_err-next : goal.chains::relational_parts-returns-in_err-next
 chains::relational_parts-returns-in_err-next t c =
-    let e = err_from_is_err_and c.from_residual.result c.from_residual.ensures.1 in
+    let e = err_from_is_err_and c.from_residual-in_err-next.result c.from_residual-in_err-next.ensures.1 in
     let h : starts (heads relational_form) c.list.rest.now ≡ true = cc in
     rw (e.1, e.2) (fails (heads relational_form) (relational_part_shrinks c.args.left) (map relational_part_tree c.list.list.items) c.list.rest.now (spec.relational_parts_with c.args.left (below c.args.left) c.args.tokens.now) c.in_err-next.field-0.0 c.list.invariant h c.in_err-next.ensures)
 
@@ -100,7 +100,7 @@ chains::relational_parts-returns t c =
 
 pub chains::additive_parts-returns-in_err-next : goal.chains::additive_parts-returns-in_err-next
 chains::additive_parts-returns-in_err-next t c =
-    let e = err_from_is_err_and c.from_residual.result c.from_residual.ensures.1 in
+    let e = err_from_is_err_and c.from_residual-in_err-next.result c.from_residual-in_err-next.ensures.1 in
     let h : starts (heads additive_form) c.list.rest.now ≡ true = cc in
     rw (e.1, e.2) (fails (heads additive_form) (additive_part_shrinks c.args.left) (map additive_part_tree c.list.list.items) c.list.rest.now (spec.additive_parts_with c.args.left (below c.args.left) c.args.tokens.now) c.in_err-next.field-0.0 c.list.invariant h c.in_err-next.ensures)
 
@@ -119,7 +119,7 @@ chains::additive_parts-returns t c =
 
 pub chains::multiplicative_parts-returns-in_err-next : goal.chains::multiplicative_parts-returns-in_err-next
 chains::multiplicative_parts-returns-in_err-next t c =
-    let e = err_from_is_err_and c.from_residual.result c.from_residual.ensures.1 in
+    let e = err_from_is_err_and c.from_residual-in_err-next.result c.from_residual-in_err-next.ensures.1 in
     let h : starts (heads multiplicative_form) c.list.rest.now ≡ true = cc in
     rw (e.1, e.2) (fails (heads multiplicative_form) (multiplicative_part_shrinks c.args.left) (map multiplicative_part_tree c.list.list.items) c.list.rest.now (spec.multiplicative_parts_with c.args.left (below c.args.left) c.args.tokens.now) c.in_err-next.field-0.0 c.list.invariant h c.in_err-next.ensures)
 
