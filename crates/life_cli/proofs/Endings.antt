@@ -26,7 +26,7 @@ module _ (asked : Option Question) (reads reads' : ℕ) (out out' err err' : Por
   ends_as status want same h = subst (Ends asked reads reads' out out' err err') (sym same) h
 
   -- err's count rose
-  cut_off : Rose err.faults err'.faults → GainsFront asked out.taken out'.taken → GainsSomeText asked err err' → Ends asked reads reads' out out' err err' WriteFault
+  cut_off : Rose err.faults err'.faults → GainsFront asked out.taken out'.taken → GainsSomeText asked reads reads' out out' err err' → Ends asked reads reads' out out' err err' WriteFault
   cut_off rose front text = record { front = front; text = inr (rose, text) }
 
   -- how the work went and how err was closed say how the command ended
@@ -41,19 +41,19 @@ module _ (asked : Option Question) (reads reads' : ℕ) (out out' err err' : Por
     }))
     | inr e ↦ ends_as status WriteFault e.0 (cut_off e.1
         (record { gained = IfSome_then asked work.answer.each (λ q each answer is. whole_front _ _ _ (each answer is).on_out) })
-        (record { gained = inl (IfSome_then asked work.answer.each (λ q each answer is. subst (AppendsFront err.taken err'.taken) (each answer is).on_err e.2)) }))
+        (record { gained = inl (IfSome_then asked work.answer.each (λ q each answer is. subst (AppendsFront err.taken err'.taken) (each answer is).on_err e.2), work.read_faults, work.out_faults) }))
   ]
   ends (Err stop.NoMemory) status work close = elim close.ends [
     | inl e ↦ ends_as status NoMemory e.0 (record { read_faults = work.read_faults; out_faults = work.out_faults; err_faults = e.1; front = work.front; text = e.2 })
-    | inr e ↦ ends_as status WriteFault e.0 (cut_off e.1 work.front (record { gained = inr (inl e.2) }))
+    | inr e ↦ ends_as status WriteFault e.0 (cut_off e.1 work.front (record { gained = inr (inl (e.2, work.read_faults, work.out_faults)) }))
   ]
   ends (Err stop.ReadFault) status work close = elim close.ends [
     | inl e ↦ ends_as status ReadFault e.0 (record { read_faults = work.read_faults; out_faults = work.out_faults; err_faults = e.1; nothing = work.nothing; text = e.2 })
-    | inr e ↦ ends_as status WriteFault e.0 (cut_off e.1 (record { gained = known_of asked (λ q answer is. (0, work.nothing)) }) (record { gained = inr (inr (inl e.2)) }))
+    | inr e ↦ ends_as status WriteFault e.0 (cut_off e.1 (record { gained = known_of asked (λ q answer is. (0, work.nothing)) }) (record { gained = inr (inr (inl (e.2, work.read_faults, work.out_faults))) }))
   ]
   ends (Err stop.WriteFault) status work close = elim close.ends [
-    | inl e ↦ ends_as status WriteFault e.0 (record { front = work.front; text = inl (work.out_faults, e.2) })
-    | inr e ↦ ends_as status WriteFault e.0 (cut_off e.1 work.front (record { gained = inr (inr (inr e.2)) }))
+    | inl e ↦ ends_as status WriteFault e.0 (record { front = work.front; text = inl (work.read_faults, work.out_faults, e.1, e.2) })
+    | inr e ↦ ends_as status WriteFault e.0 (cut_off e.1 work.front (record { gained = inr (inr (inr (e.2, work.read_faults, work.out_faults))) }))
   ]
 
 -- what a settled status of the work tells, that of the command tells too

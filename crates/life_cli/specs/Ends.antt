@@ -161,20 +161,22 @@ pub record EndsInReadFault (reads reads' : ℕ) (out out' err err' : Port) : Typ
   pub nothing : Appends out.taken out'.taken []
   pub text : Appends err.taken err'.taken (line (codes "read fault"))
 
--- err has gained a front of one of the texts that it may be handed: the answer's, or one of three lines
-pub record GainsSomeText (asked : Option Question) (err err' : Port) : Type 0 where
-  pub gained : EachAnswer asked (λ answer. AppendsFront err.taken err'.taken answer.err) ⊎ (AppendsFront err.taken err'.taken (line (codes "no memory"))
-      ⊎ (AppendsFront err.taken err'.taken (line (codes "read fault")) ⊎ AppendsFront err.taken err'.taken (line (codes "write fault"))))
+-- err has gained a front of a text that it may be handed: the answer's, or one of three lines, each where the other counts are as it tells
+pub record GainsSomeText (asked : Option Question) (reads reads' : ℕ) (out out' err err' : Port) : Type 0 where
+  pub gained : (EachAnswer asked (λ answer. AppendsFront err.taken err'.taken answer.err) × (reads' ≡ reads) × (out'.faults ≡ out.faults))
+      ⊎ ((AppendsFront err.taken err'.taken (line (codes "no memory")) × (reads' ≡ reads) × (out'.faults ≡ out.faults))
+      ⊎ ((AppendsFront err.taken err'.taken (line (codes "read fault")) × Rose reads reads' × (out'.faults ≡ out.faults))
+      ⊎ (AppendsFront err.taken err'.taken (line (codes "write fault")) × (reads' ≡ reads) × Rose out.faults out'.faults)))
 
--- out's count rose and err has gained the line, or err's count rose
-pub record EndsInWriteFault (asked : Option Question) (out out' err err' : Port) : Type 0 where
+-- out's count rose alone and err has gained the line, or err's count rose
+pub record EndsInWriteFault (asked : Option Question) (reads reads' : ℕ) (out out' err err' : Port) : Type 0 where
   pub front : GainsFront asked out.taken out'.taken
-  pub text : (Rose out.faults out'.faults × Appends err.taken err'.taken (line (codes "write fault")))
-      ⊎ (Rose err.faults err'.faults × GainsSomeText asked err err')
+  pub text : ((reads' ≡ reads) × Rose out.faults out'.faults × (err'.faults ≡ err.faults) × Appends err.taken err'.taken (line (codes "write fault")))
+      ⊎ (Rose err.faults err'.faults × GainsSomeText asked reads reads' out out' err err')
 
 -- what the command has done, by its status
 abbrev pub Ends : Option Question → ℕ → ℕ → Port → Port → Port → Port → Status → Type 0
 Ends asked reads reads' out out' err err' NoMemory = EndsWithoutMemory asked reads reads' out out' err err'
 Ends asked reads reads' out out' err err' ReadFault = EndsInReadFault reads reads' out out' err err'
-Ends asked reads reads' out out' err err' WriteFault = EndsInWriteFault asked out out' err err'
+Ends asked reads reads' out out' err err' WriteFault = EndsInWriteFault asked reads reads' out out' err err'
 Ends asked reads reads' out out' err err' status = EndsWell asked reads reads' out out' err err' status
