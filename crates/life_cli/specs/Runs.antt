@@ -8,22 +8,29 @@ use Rattle.life_store.specs.Doing.{Setting}
 use Rattle.life_store.specs.Meaning as meaning
 use Rattle.life_store.specs.Meaning.{Outcome, run_of}
 use Rattle.life_store.specs.declared.run.FaultKind.{FaultKind}
-use Rattle.life_store.specs.declared.run.FaultKind.TheVariants.{Null, Dangling}
+use Rattle.life_store.specs.declared.run.FaultKind.TheVariants.{Null, Dangling, Moved}
 use Rattle.life_store.specs.declared.run.Growth.TheVariants.{Always}
 use Rattle.life_store.specs.declared.run.TrapKind.{TrapKind}
-use Rattle.life_store.specs.declared.run.TrapKind.TheVariants.{Cells, Depth}
+use Rattle.life_store.specs.declared.run.TrapKind.TheVariants.{Bounds, Overflow, ZeroDivisor, Assert, InputEnd, Cells, Depth, ForeignIterator}
 use Rattle.life_cli.specs.Answer.{Answer, line}
 use Rattle.life_cli.specs.declared.job.RunOptions.{RunOptions}
 use Rattle.life_cli.specs.declared.status.Status.{Status}
 use Rattle.life_cli.specs.declared.status.Status.TheVariants as status
 
 abbrev pub trap_name : TrapKind → List ℕ
+trap_name Bounds = codes "bounds"
+trap_name Overflow = codes "overflow"
+trap_name ZeroDivisor = codes "zero-divisor"
+trap_name Assert = codes "assert"
+trap_name InputEnd = codes "input-end"
 trap_name Cells = codes "cells"
 trap_name Depth = codes "depth"
+trap_name ForeignIterator = codes "foreign-iterator"
 
 abbrev pub fault_name : FaultKind → List ℕ
 fault_name Null = codes "null"
 fault_name Dangling = codes "dangling"
+fault_name Moved = codes "moved"
 
 -- the status of each end, and the line on err
 abbrev pub value_end : ℤ → Status × List ℕ

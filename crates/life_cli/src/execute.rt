@@ -97,8 +97,14 @@ fn trap_name(kind: TrapKind) -> &'static str
     ensures { result.now ≡ trap_name kind }
 {
     match kind {
+        TrapKind::Bounds => "bounds",
+        TrapKind::Overflow => "overflow",
+        TrapKind::ZeroDivisor => "zero-divisor",
+        TrapKind::Assert => "assert",
+        TrapKind::InputEnd => "input-end",
         TrapKind::Cells => "cells",
         TrapKind::Depth => "depth",
+        TrapKind::ForeignIterator => "foreign-iterator",
     }
 }
 
@@ -108,5 +114,6 @@ fn fault_name(kind: FaultKind) -> &'static str
     match kind {
         FaultKind::Null => "null",
         FaultKind::Dangling => "dangling",
+        FaultKind::Moved => "moved",
     }
 }

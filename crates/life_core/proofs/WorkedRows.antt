@@ -2,15 +2,18 @@
 use Rattle.std.proofs.Common.{◌≡◌, ℕ, Bool, true, false, [], ◌∷◌, Option, Some, None, refl}
 use Rattle.life_types.specs.declared.place.Place.{Place}
 use Rattle.life_core.specs.declared.instr.Form.TheVariants.{Plain}
-use Rattle.life_core.specs.declared.instr.Test.TheVariants.{NonZero, NotNull}
 use Rattle.life_core.specs.declared.stmt.Edge.{Edge}
 use Rattle.life_core.specs.Linked.{edges_from, linked, no_exits}
-use Rattle.life_core.specs.Step.{Live}
+use Rattle.life_core.specs.Operands.{Location}
+use Rattle.life_core.specs.Step.{Live, NonZero, NotNull}
 use Rattle.life_core.specs.Tree.{Tree, Skip, Then, Acts, Asks, Both, Either, Negated, Choice, Turns, Breaks, Continues, Returns, Node, Action, Question, Return, Spot, size, spots}
 
 -- a place on the line with this number
 abbrev on_line : ℕ → Place
 on_line n = record { line = n; column = 1 }
+
+abbrev variable : ℕ → Location
+variable x = record { local = x; members = [] }
 
 abbrev acts : (line local : ℕ) → Tree
 acts n x = Acts (on_line n) (Live x Plain)
@@ -26,14 +29,14 @@ abbrev breaking : Tree
 breaking =
     Then
     (Turns
-    (Both (Asks (on_line 1) (NonZero 0)) (Asks (on_line 2) (NotNull 1)))
+    (Both (Asks (on_line 1) (NonZero 0)) (Asks (on_line 2) (NotNull (variable 1))))
     (Then (acts 3 5) (Then (Choice (Asks (on_line 4) (NonZero 2)) (Then Breaks Skip) Skip) (Then (acts 5 6) Skip)))
     Skip)
     (Then (Returns (on_line 6)) Skip)
 
 breaking_points : spots breaking
     ≡ spot 1 (Question (NonZero 0))
-    ∷ spot 2 (Question (NotNull 1))
+    ∷ spot 2 (Question (NotNull (variable 1)))
     ∷ spot 3 (Action (Live 5 Plain))
     ∷ spot 4 (Question (NonZero 2))
     ∷ spot 5 (Action (Live 6 Plain))

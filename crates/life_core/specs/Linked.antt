@@ -1,14 +1,13 @@
 -- The points that know where they lead, and what is read off them.
 use Rattle.std.specs.Prelude.{ℕ, ◌≤◌, zero, suc, ◌+◌, Bool, true, false, List, [], ◌∷◌, ◌++◌, Option, Some, None, option_map, option_and_then, slice_get}
 use Rattle.life_types.specs.declared.place.Place.{Place}
-use Rattle.life_core.specs.declared.instr.Test.{Test}
 use Rattle.life_core.specs.declared.stmt.Edge.{Edge}
 use Rattle.life_core.specs.declared.stmt.Point.{Point}
 use Rattle.life_core.specs.declared.exits.Exits.{Exits}
 use Rattle.life_core.specs.declared.exits.Entry.{Entry}
 use Rattle.life_core.specs.declared.exits.Entry.TheVariants as entry
 use Rattle.life_core.specs.Function.{Function}
-use Rattle.life_core.specs.Step.{Step}
+use Rattle.life_core.specs.Step.{Step, Test}
 use Rattle.life_core.specs.Tree.{Tree, Skip, Then, Acts, Asks, Both, Either, Negated, Choice, Turns, Breaks, Continues, Returns, Stops, size, Node, Action, Question, Return, Stop, Spot}
 
 -- where control goes to one tree and then another

@@ -2,13 +2,13 @@
 use Rattle.life_core.specs.declared.node.NodeRef.{NodeRef}
 use Rattle.life_core.specs.declared.node.NodeRef.TheVariants as reference
 use Rattle.life_core.specs.declared.node.SpotRef.{SpotRef}
-use Rattle.life_core.specs.Step.{step_of}
+use Rattle.life_core.specs.Step.{asked_of, step_of}
 use Rattle.life_core.specs.Tree.{Node, Action, Question, Return, Stop, Spot}
 
 -- what it refers to
 abbrev pub node_seen : NodeRef → Node
 node_seen (reference.Action i) = Action (step_of i.now)
-node_seen (reference.Question t) = Question t.now
+node_seen (reference.Question t) = Question (asked_of t.now)
 node_seen reference.Return = Return
 node_seen reference.Stop = Stop
 

@@ -1,8 +1,7 @@
 -- A statement as a tree whose lists are made of pairs, and how many points it has.
 use Rattle.std.specs.Prelude.{ℕ, ◌+◌, List, [], ◌∷◌, ◌++◌}
 use Rattle.life_types.specs.declared.place.Place.{Place}
-use Rattle.life_core.specs.declared.instr.Test.{Test}
-use Rattle.life_core.specs.Step.{Step, step_of}
+use Rattle.life_core.specs.Step.{Step, Test, asked_of, step_of}
 use Rattle.life_core.specs.declared.stmt.Condition.{Condition}
 use Rattle.life_core.specs.declared.stmt.Condition.TheFolds.{fold-Condition, fold-Stmt}
 use Rattle.life_core.specs.declared.stmt.Condition.TheOpen.{Condition-F, After, Single, And, Or, Not, Stmt-F, List as Sequence, Do, Branch, Loop, Break, Continue, Return as ReturnAt, Stop as StopAt}
@@ -31,7 +30,7 @@ trees (t ∷ ts) = Then t (trees ts)
 
 abbrev pub condition_step : Condition-F Tree Tree → Tree
 condition_step (After s t) = Then s.value t.value
-condition_step (Single place t) = Asks place t
+condition_step (Single place t) = Asks place (asked_of t)
 condition_step (And a b) = Both a.value b.value
 condition_step (Or a b) = Either a.value b.value
 condition_step (Not a) = Negated a.value

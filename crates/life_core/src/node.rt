@@ -3,7 +3,7 @@ ghost use Rattle.std.specs.Option.{option_copied};
 ghost use Rattle.std.specs.Prelude.{◌≡◌, option_map, Some};
 ghost use Rattle.life_core.specs.Linked.{instr_part, is_return, spot_at, test_part};
 ghost use Rattle.life_core.specs.Node.{node_seen, spot_seen};
-ghost use Rattle.life_core.specs.Step.{step_of};
+ghost use Rattle.life_core.specs.Step.{asked_of, step_of};
 
 use crate::instr::{Instr, Test};
 use life_types::Place;
@@ -34,7 +34,7 @@ impl<'a> NodeRef<'a> {
 
     /// The single test, if it is one.
     pub fn test(self) -> Option<&'a Test>
-        ensures { option_copied result ≡ test_part (node_seen self.entry) }
+        ensures { option_map asked_of (option_copied result) ≡ test_part (node_seen self.entry) }
     {
         match self {
             NodeRef::Question(test) => Some(test),

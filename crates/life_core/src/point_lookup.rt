@@ -5,7 +5,7 @@ ghost use Rattle.life_core.specs.Columns.{only, spot_in};
 ghost use Rattle.life_core.specs.Function.{function_of};
 ghost use Rattle.life_core.specs.Linked.{instr_of, is_return, node_of, place_of, points_of, spot_of, test_of};
 ghost use Rattle.life_core.specs.Node.{spot_seen};
-ghost use Rattle.life_core.specs.Step.{step_of};
+ghost use Rattle.life_core.specs.Step.{asked_of, step_of};
 ghost use Rattle.life_core.specs.Tree.{condition_tree, size, tree_of};
 
 use crate::instr::{Instr, Test};
@@ -26,7 +26,7 @@ pub fn instr_at(f: &CoreFn, point: Point) -> Option<&Instr>
 /// The single test at the point, if one stands there.
 pub fn test_at(f: &CoreFn, point: Point) -> Option<&Test>
     requires { points_of (function_of f.now) < 2 ^ 31 }
-    ensures { option_copied result ≡ test_of (function_of f.now) point }
+    ensures { option_map asked_of (option_copied result) ≡ test_of (function_of f.now) point }
 {
     spot_at(f, point)?.node.test()
 }

@@ -1,6 +1,6 @@
 // Core programs and their functions.
 ghost use Rattle.std.specs.Prelude.{◌≡◌, ◌<◌, length, map, slice_get};
-ghost use Rattle.life_core.specs.Function.{name_bytes};
+ghost use Rattle.life_core.specs.Function.{HasMember, member_name, member_names, name_bytes};
 
 use crate::stmt::Stmt;
 use life_types::{NameId, Place, TyId, TypeTable};
@@ -16,6 +16,9 @@ pub enum LocalKind {
     Object,
     /// It holds one value or pointer and can't be pointed to.
     Register,
+    /// A register that holds the hidden range, or a hidden iterator, of a loop over a range (ISO/IEC
+    /// 14882:2017 [stmt.ranged]).
+    Range,
 }
 
 /// A local of a function. One without a name holds an intermediate value or the result.
@@ -26,6 +29,27 @@ pub struct Local {
     pub kind: LocalKind,
     /// Where its name stands where it is declared, or the function's name for a local without one.
     pub place: Place,
+    /// Whether it is a parameter that bears `[[life::nonnull]]`: a raw pointer that is never null.
+    pub nonnull: bool,
+    /// Whether it is a parameter that bears `[[life::keeps]]`: what it points to keeps its owners as
+    /// they are.
+    pub keeps: bool,
+}
+
+/// What a result that is a pointer, or has members that are, may point to (P1179R1 section 2.5).
+#[derive(Debug, Drop)]
+pub enum Promise {
+    /// What fits the types of the parameters.
+    Default,
+    /// What `[[life::ret(..)]]` lists.
+    Listed {
+        /// The numbers of parameters, ascending, each once.
+        inputs: Vec<u32>,
+        /// Whether what never ends is listed (`static`).
+        fixed: bool,
+        /// Whether null is listed.
+        null: bool,
+    },
 }
 
 /// A function. Its locals are numbered from 0: the parameters, then the result where it isn't void,
@@ -38,6 +62,7 @@ pub struct CoreFn {
     /// How many of the locals are parameters.
     pub parameters: u32,
     pub result: TyId,
+    pub promise: Promise,
     pub locals: Vec<Local>,
     pub body: Stmt,
 }
@@ -47,6 +72,9 @@ pub struct CoreFn {
 pub struct CoreProgram {
     pub names: Names,
     pub types: TypeTable,
+    /// The contents of the string literals, by their numbers, and last the one byte 10 that
+    /// `std::endl` writes.
+    pub texts: Vec<Vec<u8>>,
     pub functions: Vec<CoreFn>,
 }
 
@@ -54,6 +82,8 @@ pub struct CoreProgram {
 #[derive(Debug, Drop)]
 pub struct Names {
     pub texts: Vec<Vec<u8>>,
+    /// The names of the members of each struct, by the number of the struct.
+    pub members: Vec<Vec<NameId>>,
 }
 
 impl Names {
@@ -63,5 +93,14 @@ impl Names {
         ensures { slice_get (map name_bytes self.now.texts.items) name.0 ≡ Some result.now }
     {
         &self.texts[name.0 as usize]
+    }
+
+    /// The name of the member with this number, counted from 0, of the struct with this number.
+    pub fn member(&self, number: u32, member: u32) -> NameId
+        requires { HasMember (map member_names self.now.members.items) number member }
+        ensures { member_name (map member_names self.now.members.items) number member ≡ Some result }
+    {
+        let names = &self.members[number as usize];
+        names[member as usize]
     }
 }

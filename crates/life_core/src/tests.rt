@@ -5,7 +5,7 @@ ghost use Rattle.life_core.specs.Linked.{points_of};
 ghost use Rattle.life_core.specs.Tree.{condition_tree, size, tree_of};
 
 use crate::{
-    Condition, CoreFn, Edge, Form, Instr, Leads, Names, NodeRef, Point, Stmt, Test, edges,
+    Condition, CoreFn, Edge, Form, Instr, Leads, Names, NodeRef, Point, Promise, Stmt, Test, edges,
     instr_at, links, place_at, points, returns_at, spots, test_at,
 };
 use life_types::{NameId, NoMemory, Place, TyId};
@@ -91,6 +91,7 @@ fn breaking(alloc: Global) -> Result<CoreFn, NoMemory>
         place: on_line(1),
         parameters: 0,
         result: TyId(0),
+        promise: Promise::Default,
         locals: Vec::new(alloc),
         body,
     })
@@ -103,6 +104,13 @@ fn live_local(instr: &Instr) -> Option<u32> {
     }
 }
 
+fn tested_register(test: &Test) -> Option<u32> {
+    match test {
+        Test::NonZero(register) => Some(*register),
+        Test::NotNull(_) => None,
+    }
+}
+
 #[test]
 fn reads_a_loop(rt: HostRuntime) -> Result<(), Fail> {
     let f = breaking(rt.alloc())?;
@@ -110,10 +118,10 @@ fn reads_a_loop(rt: HostRuntime) -> Result<(), Fail> {
 
     let rows = [
         (0, None, None, false, None),
-        (1, None, Some(Test::NonZero(0)), false, Some(on_line(1))),
-        (2, None, Some(Test::NonZero(1)), false, Some(on_line(2))),
+        (1, None, Some(0), false, Some(on_line(1))),
+        (2, None, Some(1), false, Some(on_line(2))),
         (3, Some(5), None, false, Some(on_line(3))),
-        (4, None, Some(Test::NonZero(2)), false, Some(on_line(4))),
+        (4, None, Some(2), false, Some(on_line(4))),
         (5, Some(6), None, false, Some(on_line(5))),
         (6, None, None, true, Some(on_line(6))),
         (7, None, None, false, None),
@@ -125,7 +133,11 @@ fn reads_a_loop(rt: HostRuntime) -> Result<(), Fail> {
             local,
             "at {number}"
         );
-        assert_eq!(rt; test_at(&f, point).copied(), test, "at {number}");
+        assert_eq!(rt;
+            test_at(&f, point).and_then(tested_register),
+            test,
+            "at {number}"
+        );
         assert_eq!(rt; returns_at(&f, point), returns, "at {number}");
         assert_eq!(rt; place_at(&f, point), place, "at {number}");
     }
@@ -203,7 +215,12 @@ fn tells_names(rt: HostRuntime) -> Result<(), Fail> {
     let mut texts = Vec::new(rt.alloc());
     texts.push(b"f".to_vec(rt.alloc())?)?;
     texts.push(b"x1".to_vec(rt.alloc())?)?;
-    let names = Names { texts };
+    let mut first = Vec::new(rt.alloc());
+    first.push(NameId(1))?;
+    let mut members = Vec::new(rt.alloc());
+    members.push(first)?;
+    let names = Names { texts, members };
     assert_eq!(rt; names.text(NameId(1)), b"x1".as_slice());
+    assert_eq!(rt; names.member(0, 0), NameId(1));
     Ok(())
 }

@@ -6,7 +6,8 @@ ghost use Rattle.life_pset.specs.Elements.{IsWithinLimits};
 use crate::{diagnostics, solve};
 use life_base::Steps;
 use life_core::{
-    Condition, CoreFn, FnId, Form, Instr, Local, LocalKind, Names, Operand, Source, Stmt, Test,
+    Condition, CoreFn, FnId, Form, Instr, Local, LocalKind, Location, Names, Operand, Promise,
+    Source, Stmt, Test,
 };
 use life_pset::{AbsPlace, BitRows, Cause, CauseKind, Rows, SetRows, is_within_limits};
 use life_rules::{Diag, DiagKind, Why};
@@ -34,6 +35,8 @@ fn local(name: Option<NameId>, ty: TyId, kind: LocalKind) -> Local {
         ty,
         kind,
         place: at(1, 1),
+        nonnull: false,
+        keeps: false,
     }
 }
 
@@ -47,31 +50,31 @@ fn live(place: Place, local: u32) -> Stmt {
     )
 }
 
-fn aim(place: Place, source: Source) -> Stmt {
+fn aim(alloc: Global, place: Place, source: Source) -> Stmt {
     Stmt::Do(
         place,
         Instr::Aim {
-            pointer: POINTER,
+            pointer: Location::whole(alloc, POINTER),
             source,
         },
     )
 }
 
-fn read(place: Place) -> Stmt {
+fn read(alloc: Global, place: Place) -> Stmt {
     Stmt::Do(
         place,
         Instr::Load {
             into: REGISTER,
-            from: Operand::Through(POINTER),
+            from: Operand::through(alloc, POINTER),
         },
     )
 }
 
-fn write(place: Place) -> Stmt {
+fn write(alloc: Global, place: Place) -> Stmt {
     Stmt::Do(
         place,
         Instr::Save {
-            to: Operand::Through(POINTER),
+            to: Operand::through(alloc, POINTER),
             from: REGISTER,
         },
     )
@@ -84,12 +87,18 @@ fn misusing(alloc: Global, void: TyId, int: TyId, pointer: TyId) -> Result<CoreF
         live(at(2, 1), FIRST),
         live(at(2, 1), SECOND),
         live(at(3, 3), POINTER),
-        read(at(4, 5)),
-        write(at(4, 5)),
+        read(alloc, at(4, 5)),
+        write(alloc, at(4, 5)),
         Stmt::Branch(
             Condition::Single(at(5, 7), Test::NonZero(REGISTER)),
-            Box::new(alloc, aim(at(6, 1), Source::Place(Operand::Name(SECOND))))?,
-            Box::new(alloc, aim(at(6, 9), Source::Place(Operand::Name(FIRST))))?,
+            Box::new(
+                alloc,
+                aim(alloc, at(6, 1), Source::Place(Operand::name(alloc, SECOND)))
+            )?,
+            Box::new(
+                alloc,
+                aim(alloc, at(6, 9), Source::Place(Operand::name(alloc, FIRST)))
+            )?,
         ),
         Stmt::Do(
             at(7, 1),
@@ -97,9 +106,9 @@ fn misusing(alloc: Global, void: TyId, int: TyId, pointer: TyId) -> Result<CoreF
                 locals: vec![in alloc; SECOND, FIRST]?
             }
         ),
-        read(at(2, 4)),
-        aim(at(8, 1), Source::Null),
-        write(at(9, 2)),
+        read(alloc, at(2, 4)),
+        aim(alloc, at(8, 1), Source::Null),
+        write(alloc, at(9, 2)),
         Stmt::Return(at(10, 1)),
     ]?;
     let locals = vec![in alloc;
@@ -113,6 +122,7 @@ fn misusing(alloc: Global, void: TyId, int: TyId, pointer: TyId) -> Result<CoreF
         place: at(1, 5),
         parameters: 0,
         result: void,
+        promise: Promise::Default,
         locals,
         body: Stmt::List(body),
     })
@@ -183,7 +193,10 @@ fn lists_each_line_once(rt: HostRuntime) -> Result<(), Fail> {
     let f = misusing(rt.alloc(), void, int, pointer)?;
     let mut texts = Vec::new(rt.alloc());
     texts.push(b"p".to_vec(rt.alloc())?)?;
-    let names = Names { texts };
+    let names = Names {
+        texts,
+        members: Vec::new(rt.alloc()),
+    };
     assert!(rt; is_within_limits(rt.alloc(), &f, &types)?);
 
     let want = [

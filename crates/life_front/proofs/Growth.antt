@@ -3,11 +3,10 @@ use Rattle.std.proofs.Common.{◌≡◌, ◌≤◌, ◌+◌, ℕ, refl, sym, ◌
 use Rattle.life_types.specs.declared.place.Place.{Place}
 use Rattle.life_types.specs.declared.ty.TyId.{TyId}
 use Rattle.life_core.specs.Shape.{is_statement, tests_straight}
-use Rattle.life_core.specs.Step.{Step, End, Save, Aim, Repoint, Port}
+use Rattle.life_core.specs.Step.{Step, End, Save, Aim, Repoint, Ports, Writes}
 use Rattle.life_core.specs.Tree.{Tree, Skip, Then, Acts, Returns, trees, size}
-use Rattle.life_core.specs.declared.instr.Operand.{Operand}
-use Rattle.life_core.specs.declared.instr.Operand.TheVariants.{Name, Through}
-use Rattle.life_core.specs.declared.instr.Source.TheVariants as source
+use Rattle.life_core.specs.Operands.{Operand, object_named, behind, whole}
+use Rattle.life_core.specs.Operands as source
 use Rattle.life_core.specs.declared.program.Local.{Local}
 use Rattle.life_front.specs.Source.{Named, Expression, Number, Null, Variable, Pointee, Address, Item, Open, Close, Declare, Assign, Store, Return, Print, Insert, Semicolon}
 use Rattle.life_front.proofs.Kept.{IsFront, Keeps, front_more, front_self, keeps_self, keeps_then}
@@ -296,20 +295,20 @@ loads own place operand o s =
 value_adds : (own : Bool) (e : Expression) (s : State) → MayAdd 2 0 s (value own e s)
 value_adds own (Number place digits) s = literal_adds own place (value_of digits) s
 value_adds own (Null place) s = tt
-value_adds own (Variable x) s = loads own x.place Name (variable s false x) s
-value_adds own (Pointee star p) s = loads own star Through (variable s true p) s
+value_adds own (Variable x) s = loads own x.place object_named (variable s false x) s
+value_adds own (Pointee star p) s = loads own star behind (variable s true p) s
 value_adds own (Address ampersand x) s = tt
 
 -- an expression that a pointer is given
 aim_adds : (p : ℕ) (e : Expression) (s : State) → MayAdd 0 0 s (aim p e s)
 aim_adds p (Number place digits) s = tt
-aim_adds p (Null place) s = code_adds place (Aim p source.Null) s
+aim_adds p (Null place) s = code_adds place (Aim (whole p) source.Null) s
 aim_adds p (Variable q) s =
-    may_map 0 0 s (λ n. with_code q.place (Repoint p n) s) (variable s true q) (λ n. code_adds q.place (Repoint p n) s)
+    may_map 0 0 s (λ n. with_code q.place (Repoint (whole p) (whole n)) s) (variable s true q) (λ n. code_adds q.place (Repoint (whole p) (whole n)) s)
 aim_adds p (Pointee star q) s = tt
 aim_adds p (Address ampersand x) s =
-    may_map 0 0 s (λ n. with_code ampersand (Aim p (source.Place (Name n))) s) (variable s false x)
-    (λ n. code_adds ampersand (Aim p (source.Place (Name n))) s)
+    may_map 0 0 s (λ n. with_code ampersand (Aim (whole p) (source.Place (object_named n))) s) (variable s false x)
+    (λ n. code_adds ampersand (Aim (whole p) (source.Place (object_named n))) s)
 
 -- ---- declarations
 
@@ -352,9 +351,9 @@ saves to place e s = may_then 2 0 0 0 s (save to place) (value true e s) (value_
 -- an assignment to a visible variable
 assign_to_adds : (v : Bound) (equals : Place) (e : Expression) (s : State) → MayAdd 2 0 s (assign_to v equals e s)
 assign_to_adds v equals e s =
-    may_cond 2 0 s v.pointer (aim v.local e s) (option_map (save (Name v.local) equals) (value true e s))
+    may_cond 2 0 s v.pointer (aim v.local e s) (option_map (save (object_named v.local) equals) (value true e s))
     (may_wider 0 0 2 0 s (aim v.local e s) (omega arith) (le_refl 0) (aim_adds v.local e s))
-    (saves (Name v.local) equals e s)
+    (saves (object_named v.local) equals e s)
 
 -- an assignment
 assign_adds : (x : Named) (equals : Place) (e : Expression) (s : State) → MayAdd 2 0 s (assign x equals e s)
@@ -364,13 +363,13 @@ assign_adds x equals e s =
 -- an assignment through a pointer
 store_adds : (p : Named) (equals : Place) (e : Expression) (s : State) → MayAdd 2 0 s (store p equals e s)
 store_adds p equals e s =
-    may_and_then 2 0 s (λ n. option_map (save (Through n) equals) (value true e s)) (variable s true p) (λ n. saves (Through n) equals e s)
+    may_and_then 2 0 s (λ n. option_map (save (behind n) equals) (value true e s)) (variable s true p) (λ n. saves (behind n) equals e s)
 
 -- ---- printing
 
 -- the register that was made last is printed
 port_adds : (place : Place) (s : State) → Adds 0 0 s (port place s)
-port_adds place s = code_adds place (Port (last_register s)) s
+port_adds place s = code_adds place (Ports (Writes (last_register s))) s
 
 -- an expression that is printed
 print_adds : (e : Expression) (s : State) → MayAdd 2 0 s (print e s)

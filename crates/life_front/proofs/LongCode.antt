@@ -8,9 +8,8 @@ use Rattle.life_core.specs.Limits.{HasLong, HaveLongNumbers, HaveLongs}
 use Rattle.life_core.specs.Linked.{linked, no_exits}
 use Rattle.life_core.specs.Step.{Step, Aim, Repoint}
 use Rattle.life_core.specs.Tree.{Tree, Acts, Returns, trees}
-use Rattle.life_core.specs.declared.instr.Operand.{Operand}
-use Rattle.life_core.specs.declared.instr.Operand.TheVariants.{Name, Through}
-use Rattle.life_core.specs.declared.instr.Source.TheVariants as source
+use Rattle.life_core.specs.Operands.{Operand, object_named, behind, whole}
+use Rattle.life_core.specs.Operands as source
 use Rattle.life_core.specs.declared.program.CoreProgram.{CoreProgram}
 use Rattle.life_front.specs.NumbersFit.{ExpressionFits, InitialFits, ItemFits}
 use Rattle.life_front.specs.Reads.{Reads}
@@ -84,16 +83,16 @@ loads own place operand o s h = may_map (λ n. write own place (load (operand n)
 value_fits : (own : Bool) (e : Expression) (s : State) → ExpressionFits e → Fits s → MayFit (value own e s)
 value_fits own (Number place digits) s f h = literal_fits own place (value_of digits) s f h
 value_fits own (Null place) s f h = tt
-value_fits own (Variable x) s f h = loads own x.place Name (variable s false x) s h
-value_fits own (Pointee star p) s f h = loads own star Through (variable s true p) s h
+value_fits own (Variable x) s f h = loads own x.place object_named (variable s false x) s h
+value_fits own (Pointee star p) s f h = loads own star behind (variable s true p) s h
 value_fits own (Address ampersand x) s f h = tt
 
 aim_fits : (p : ℕ) (e : Expression) (s : State) → Fits s → MayFit (aim p e s)
 aim_fits p (Number place digits) s h = tt
 aim_fits p (Null place) s h = more s.code _ h tt
-aim_fits p (Variable q) s h = may_map (λ n. with_code q.place (Repoint p n) s) (variable s true q) (λ n. more s.code _ h tt)
+aim_fits p (Variable q) s h = may_map (λ n. with_code q.place (Repoint (whole p) (whole n)) s) (variable s true q) (λ n. more s.code _ h tt)
 aim_fits p (Pointee star q) s h = tt
-aim_fits p (Address ampersand x) s h = may_map (λ n. with_code ampersand (Aim p (source.Place (Name n))) s) (variable s false x) (λ n. more s.code _ h tt)
+aim_fits p (Address ampersand x) s h = may_map (λ n. with_code ampersand (Aim (whole p) (source.Place (object_named n))) s) (variable s false x) (λ n. more s.code _ h tt)
 
 -- ---- statements
 
@@ -116,7 +115,7 @@ saves to place e s f h = may_then (save to place) (value true e s) (value_fits t
 
 assign_to_fits : (v : Bound) (equals : Place) (e : Expression) (s : State) → ExpressionFits e → Fits s → MayFit (assign_to v equals e s)
 assign_to_fits v equals e s f h =
-    may_cond v.pointer (aim v.local e s) (option_map (save (Name v.local) equals) (value true e s)) (aim_fits v.local e s h) (saves (Name v.local) equals e s f h)
+    may_cond v.pointer (aim v.local e s) (option_map (save (object_named v.local) equals) (value true e s)) (aim_fits v.local e s h) (saves (object_named v.local) equals e s f h)
 
 print_fits : (e : Expression) (s : State) → ExpressionFits e → Fits s → MayFit (print e s)
 print_fits e s f h =
@@ -154,7 +153,7 @@ item_fits (Declare pointer x e) s f h = not_returned (declare pointer x e s) (de
 item_fits (Assign x equals e) s f h =
     not_returned (assign x equals e s) (may_and_then (λ v. assign_to v equals e s) (lookup s x.text) (λ v. assign_to_fits v equals e s f h))
 item_fits (Store star x equals e) s f h =
-    not_returned (store x equals e s) (may_and_then (λ n. option_map (save (Through n) equals) (value true e s)) (variable s true x) (λ n. saves (Through n) equals e s f h))
+    not_returned (store x equals e s) (may_and_then (λ n. option_map (save (behind n) equals) (value true e s)) (variable s true x) (λ n. saves (behind n) equals e s f h))
 item_fits (Return keyword e) s f h =
     may_then (return keyword) (value false e s) (value_fits false e s f h) (λ u k. leave_fits (locals_of (visible u)) keyword u k)
 item_fits (Print e) s f h = not_returned (print e s) (print_fits e s f h)

@@ -6,9 +6,8 @@ use Rattle.std.specs.List.{flat_map}
 use Rattle.life_types.specs.declared.place.Place.{Place}
 use Rattle.life_core.specs.Function.{Function}
 use Rattle.life_core.specs.Proper.{AnObject, ANumber, APointer, CanEnd, Holdings, Holds, IsOperandReady, blanked, entry_holdings, sort_of}
-use Rattle.life_core.specs.Step.{Step, Port, Save}
-use Rattle.life_core.specs.declared.instr.Operand.{Operand}
-use Rattle.life_core.specs.declared.instr.Operand.TheVariants.{Name, Through}
+use Rattle.life_core.specs.Step.{Step, Ports, Save, Writes}
+use Rattle.life_core.specs.Operands.{Operand, object_named, behind}
 use Rattle.life_front.specs.Source.{Named, Expression, Item, Open, Close, Declare, Assign, Store, Return, Print, Insert, Semicolon, depth_after}
 use Rattle.life_front.specs.Translation.{Bound, State, aim, all_types, assign, assign_to, bind, close_block, declare, declare_new, declared, end, end_block, expression_place, finish, is_converted, is_taken, last_register, live, locals_of, lookup, next_local, port, print, return, save, store, translate_item, value, variable, visible, with_blocks, with_code, with_returned, with_variable}
 use Rattle.life_front.proofs.HeldLocals.{get_set_other, set_same}
@@ -55,7 +54,7 @@ declared_goes f x s u v front =
     let register : Holds hs (last_register u) ANumber = get_set_other v.holdings n (last_register u) AnObject not_last ∙ v.register in
     record {
       holdings = hs;
-      ready = ready_kept f (live false x u) hs x.place (Save (Name (next_local u)) (last_register u)) here (register, next_holds f u v.holdings AnObject v.ready next.within) refl;
+      ready = ready_kept f (live false x u) hs x.place (Save (object_named (next_local u)) (last_register u)) here (register, (refl, next_holds f u v.holdings AnObject v.ready next.within)) refl;
       depth = bind_depth (record { text = x.text; local = n; pointer = false }) u.blocks ∙ ap length v.blocks;
     }
   where
@@ -118,11 +117,11 @@ found_in f u s ks text v r same is =
 
 assign_to_goes : (f : Function) (x : Named) (v : Bound) (equals : Place) (e : Expression) (s : State) (hs : Holdings) → IsReady f s hs → lookup s x.text ≡ Some v → MayGo f s (assign_to v equals e s)
 assign_to_goes f x v equals e s hs r is =
-    given_cond (λ t. IsFront t.locals f.locals → Goes f s t) v.pointer (aim v.local e s) (option_map (save (Name v.local) equals) (value true e s))
+    given_cond (λ t. IsFront t.locals f.locals → Goes f s t) v.pointer (aim v.local e s) (option_map (save (object_named v.local) equals) (value true e s))
     (λ pointer. (let held = found_in f s s hs x.text v r refl is in
     aim_goes f v.local e s hs r (held.holds ∙ ap (λ b. Some (holding_of b)) pointer) (held.sort ∙ ap holding_of pointer)))
-    (λ pointer. save_goes f (Name v.local) equals e s hs r
-    (λ u ks ready same. (found_in f u s ks x.text v ready same is).holds ∙ ap (λ b. Some (holding_of b)) pointer))
+    (λ pointer. save_goes f (object_named v.local) equals e s hs r
+    (λ u ks ready same. (refl, (found_in f u s ks x.text v ready same is).holds ∙ ap (λ b. Some (holding_of b)) pointer)))
 
 assign_goes : (f : Function) (x : Named) (equals : Place) (e : Expression) (s : State) (hs : Holdings) → IsReady f s hs → MayGo f s (assign x equals e s)
 assign_goes f x equals e s hs r =
@@ -130,9 +129,9 @@ assign_goes f x equals e s hs r =
 
 store_goes : (f : Function) (p : Named) (equals : Place) (e : Expression) (s : State) (hs : Holdings) → IsReady f s hs → MayGo f s (store p equals e s)
 store_goes f p equals e s hs r =
-    given_then (λ t. IsFront t.locals f.locals → Goes f s t) (λ n. option_map (save (Through n) equals) (value true e s)) (variable s true p)
-    (λ n is. save_goes f (Through n) equals e s hs r
-    (λ u ks ready same. (known f ks (length u.locals) u true p n ready.held (ap (λ (blocks : List (List Bound)). variable (with_blocks blocks u) true p) same ∙ is)).holds))
+    given_then (λ t. IsFront t.locals f.locals → Goes f s t) (λ n. option_map (save (behind n) equals) (value true e s)) (variable s true p)
+    (λ n is. save_goes f (behind n) equals e s hs r
+    (λ u ks ready same. (refl, (refl, (known f ks (length u.locals) u true p n ready.held (ap (λ (blocks : List (List Bound)). variable (with_blocks blocks u) true p) same ∙ is)).holds))))
 
 -- ---- printing
 
@@ -142,7 +141,7 @@ print_goes f e s hs r =
     (λ is. behind_value f true e s hs (Goes f s) (port (expression_place e)) r (λ u front. front)
     (λ u v front. record {
       holdings = v.holdings;
-      ready = ready_kept f u v.holdings (expression_place e) (Port (last_register u)) v.ready v.register refl;
+      ready = ready_kept f u v.holdings (expression_place e) (Ports (Writes (last_register u))) v.ready v.register refl;
       depth = ap length v.blocks;
     }))
 

@@ -4,8 +4,8 @@ use Rattle.life_types.specs.declared.place.Place.{Place}
 use Rattle.life_core.specs.Function.{Function}
 use Rattle.life_core.specs.Proper.{ANumber, APointer, Holdings, Holds, IsStepReady, holdings_after, sort_of}
 use Rattle.life_core.specs.Step.{Step, Aim, Repoint}
-use Rattle.life_core.specs.declared.instr.Operand.TheVariants.{Name, Through}
-use Rattle.life_core.specs.declared.instr.Source.TheVariants as source
+use Rattle.life_core.specs.Operands.{object_named, behind, whole}
+use Rattle.life_core.specs.Operands as source
 use Rattle.life_core.specs.declared.program.Local.{Local}
 use Rattle.life_front.specs.Source.{Expression, Number, Null, Variable, Pointee, Address}
 use Rattle.life_front.specs.Translation.{State, aim, all_types, convert, fits_int, int_type, last_register, literal, load, long_type, nameless, number, value, value_of, variable, with_code, with_long, with_target, write}
@@ -104,12 +104,12 @@ value_ready f own (Number place digits) s hs r = literal_ready f own place (valu
 value_ready f own (Null place) s hs r = tt
 value_ready f own (Variable x) s hs r =
     given_map (λ u. IsFront u.locals f.locals → IsValued own f s u) _ (variable s false x)
-    (λ n is. write_ready f own x.place (load (Name n)) s hs r
-    (record { ready = λ k sort. (sort, (known f hs (length s.locals) s false x n r.held is).holds); after = λ k. refl }))
+    (λ n is. write_ready f own x.place (load (object_named n)) s hs r
+    (record { ready = λ k sort. (sort, (refl, (known f hs (length s.locals) s false x n r.held is).holds)); after = λ k. refl }))
 value_ready f own (Pointee star p) s hs r =
     given_map (λ u. IsFront u.locals f.locals → IsValued own f s u) _ (variable s true p)
-    (λ n is. write_ready f own star (load (Through n)) s hs r
-    (record { ready = λ k sort. (sort, (known f hs (length s.locals) s true p n r.held is).holds); after = λ k. refl }))
+    (λ n is. write_ready f own star (load (behind n)) s hs r
+    (record { ready = λ k sort. (sort, (refl, (refl, (known f hs (length s.locals) s true p n r.held is).holds))); after = λ k. refl }))
 value_ready f own (Address ampersand x) s hs r = tt
 
 -- ---- pointers
@@ -122,10 +122,10 @@ pub record Points (f : Function) (hs : Holdings) (p : ℕ) (i : Step) : Type 0 w
 -- an expression that a pointer is given is one such instruction
 pub aim_ready : (f : Function) (p : ℕ) (e : Expression) (s : State) (hs : Holdings) (P : State → Type 0) → IsReady f s hs → ((place : Place) (i : Step) → Points f hs p i → P (with_code place i s)) → Given P (aim p e s)
 aim_ready f p (Number place digits) s hs P r each = tt
-aim_ready f p (Null place) s hs P r each = each place (Aim p source.Null) (record { ready = λ sort. (sort, tt); after = refl })
+aim_ready f p (Null place) s hs P r each = each place (Aim (whole p) source.Null) (record { ready = λ sort. ((refl, sort), tt); after = refl })
 aim_ready f p (Variable q) s hs P r each =
-    given_map P _ (variable s true q) (λ n is. each q.place (Repoint p n) (record { ready = λ sort. (sort, (known f hs (length s.locals) s true q n r.held is).holds); after = refl }))
+    given_map P _ (variable s true q) (λ n is. each q.place (Repoint (whole p) (whole n)) (record { ready = λ sort. ((refl, sort), (refl, (known f hs (length s.locals) s true q n r.held is).holds)); after = refl }))
 aim_ready f p (Pointee star q) s hs P r each = tt
 aim_ready f p (Address ampersand x) s hs P r each =
     given_map P _ (variable s false x)
-    (λ n is. each ampersand (Aim p (source.Place (Name n))) (record { ready = λ sort. (sort, (known f hs (length s.locals) s false x n r.held is).holds); after = refl }))
+    (λ n is. each ampersand (Aim (whole p) (source.Place (object_named n))) (record { ready = λ sort. ((refl, sort), (refl, (known f hs (length s.locals) s false x n r.held is).holds)); after = refl }))

@@ -1,12 +1,12 @@
 -- Bodies whose instructions were written out by hand.
 use Rattle.std.proofs.Common.{◌≡◌, ℕ, true, false, List, [], ◌∷◌, Option, Some, option_map, refl, codes}
 use Rattle.life_types.specs.declared.place.Place.{Place}
-use Rattle.life_core.specs.Step.{Step, Live, End, Eval, Load, Save, Aim, Port}
+use Rattle.life_core.specs.Step.{Step, Live, End, Eval, Load, Save, Aim, Ports, Writes}
 use Rattle.life_core.specs.Tree.{Action, Return as Leave, Spot, spots, trees}
 use Rattle.life_core.specs.declared.instr.Form.TheVariants.{Plain}
-use Rattle.life_core.specs.declared.instr.Operand.TheVariants.{Name, Through}
-use Rattle.life_core.specs.declared.instr.Operation.TheVariants.{Number as Digits}
-use Rattle.life_core.specs.declared.instr.Source.TheVariants as source
+use Rattle.life_core.specs.Operands.{object_named, behind, whole}
+use Rattle.life_core.specs.declared.operation.Operation.TheVariants.{Number as Digits}
+use Rattle.life_core.specs.Operands as source
 use Rattle.life_front.specs.Source.{Named, Number, Variable, Pointee, Address, Item, Close, Declare, Return, Print, Insert, Semicolon}
 use Rattle.life_front.specs.Translation.{State, first_state, translate_items}
 
@@ -39,13 +39,13 @@ printing_points : points (translate_items printing (first_state (column 5)))
     ≡ Some
     (act 22 (Eval 1 (Digits 4))
     ∷ act 18 (Live 2 Plain)
-    ∷ act 18 (Save (Name 2) 1)
-    ∷ act 34 (Aim 3 (source.Place (Name 2)))
-    ∷ act 51 (Load 4 (Through 3))
-    ∷ act 51 (Port 4)
-    ∷ act 57 (Load 5 (Name 2))
-    ∷ act 57 (Port 5)
-    ∷ act 67 (Load 0 (Through 3))
+    ∷ act 18 (Save (object_named 2) 1)
+    ∷ act 34 (Aim (whole 3) (source.Place (object_named 2)))
+    ∷ act 51 (Load 4 (behind 3))
+    ∷ act 51 (Ports (Writes 4))
+    ∷ act 57 (Load 5 (object_named 2))
+    ∷ act 57 (Ports (Writes 5))
+    ∷ act 67 (Load 0 (behind 3))
     ∷ act 60 (End (3 ∷ 2 ∷ []))
     ∷ record { node = Leave; place = column 60 }
     ∷ [])

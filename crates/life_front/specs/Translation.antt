@@ -7,14 +7,13 @@ use Rattle.life_types.specs.declared.place.Place.{Place}
 use Rattle.life_types.specs.declared.ty.NameId.{NameId}
 use Rattle.life_types.specs.declared.ty.Ty.TheVariants.{Int, Long, Raw}
 use Rattle.life_types.specs.declared.ty.TyId.{TyId}
-use Rattle.life_core.specs.Function.{Function, Program}
-use Rattle.life_core.specs.Step.{Step, Live, End, Eval, Load, Save, Aim, Repoint, Port}
+use Rattle.life_core.specs.Function.{Function, Program, Default}
+use Rattle.life_core.specs.Step.{Step, Live, End, Eval, Load, Save, Aim, Repoint, Ports, Writes}
 use Rattle.life_core.specs.Tree.{Tree, Acts, Returns, trees}
 use Rattle.life_core.specs.declared.instr.Form.TheVariants.{Plain}
-use Rattle.life_core.specs.declared.instr.Operand.{Operand}
-use Rattle.life_core.specs.declared.instr.Operand.TheVariants.{Name, Through}
-use Rattle.life_core.specs.declared.instr.Operation.TheVariants as operation
-use Rattle.life_core.specs.declared.instr.Source.TheVariants as source
+use Rattle.life_core.specs.Operands.{Operand, object_named, behind, whole}
+use Rattle.life_core.specs.declared.operation.Operation.TheVariants as operation
+use Rattle.life_core.specs.Operands as source
 use Rattle.life_core.specs.declared.program.Local.{Local}
 use Rattle.life_core.specs.declared.program.LocalKind.TheVariants.{Object, Register}
 use Rattle.life_front.specs.Source.{Named, Expression, Number, Null, Variable, Pointee, Address, Item, Open, Close, Declare, Assign, Store, Return, Print, Insert, Semicolon, Source}
@@ -53,7 +52,7 @@ pub record State : Type 0 where
 
 -- the result is the first local
 abbrev pub nameless : Place → TyId → Local
-nameless main ty = record { name = None; ty = ty; kind = Register; place = main }
+nameless main ty = record { name = None; ty = ty; kind = Register; place = main; nonnull = false; keeps = false }
 
 abbrev pub first_state : Place → State
 first_state main = record {
@@ -157,18 +156,18 @@ load from r = Load r from
 abbrev pub value : Bool → Expression → State → Option State
 value own (Number place digits) s = Some (literal own place (value_of digits) s)
 value own (Null place) s = None
-value own (Variable x) s = option_map (λ n. write own x.place (load (Name n)) s) (variable s false x)
-value own (Pointee star p) s = option_map (λ n. write own star (load (Through n)) s) (variable s true p)
+value own (Variable x) s = option_map (λ n. write own x.place (load (object_named n)) s) (variable s false x)
+value own (Pointee star p) s = option_map (λ n. write own star (load (behind n)) s) (variable s true p)
 value own (Address ampersand x) s = None
 
 -- ---- an expression that a pointer is given
 
 abbrev pub aim : ℕ → Expression → State → Option State
 aim p (Number place digits) s = None
-aim p (Null place) s = Some (with_code place (Aim p source.Null) s)
-aim p (Variable q) s = option_map (λ n. with_code q.place (Repoint p n) s) (variable s true q)
+aim p (Null place) s = Some (with_code place (Aim (whole p) source.Null) s)
+aim p (Variable q) s = option_map (λ n. with_code q.place (Repoint (whole p) (whole n)) s) (variable s true q)
 aim p (Pointee star q) s = None
-aim p (Address ampersand x) s = option_map (λ n. with_code ampersand (Aim p (source.Place (Name n))) s) (variable s false x)
+aim p (Address ampersand x) s = option_map (λ n. with_code ampersand (Aim (whole p) (source.Place (object_named n))) s) (variable s false x)
 
 -- ---- declarations
 
@@ -185,8 +184,8 @@ bind v (block ∷ blocks) = (v ∷ block) ∷ blocks
 
 -- a variable is a local of its own: an object of type int, or a pointer
 abbrev pub variable_local : Bool → NameId → Place → Local
-variable_local false name place = record { name = Some name; ty = int_type; kind = Object; place = place }
-variable_local true name place = record { name = Some name; ty = pointer_type; kind = Register; place = place }
+variable_local false name place = record { name = Some name; ty = int_type; kind = Object; place = place; nonnull = false; keeps = false }
+variable_local true name place = record { name = Some name; ty = pointer_type; kind = Register; place = place; nonnull = false; keeps = false }
 
 abbrev pub with_names : List (List ℕ) → State → State
 with_names names s = record s { names = names }
@@ -208,7 +207,7 @@ live pointer x s = with_code x.place (Live (next_local s) Plain) (with_variable 
 
 -- the variable is given the register that was made last
 abbrev pub declared : Named → State → State
-declared x s = with_code x.place (Save (Name (next_local s)) (last_register s)) (live false x s)
+declared x s = with_code x.place (Save (object_named (next_local s)) (last_register s)) (live false x s)
 
 -- the new pointer isn't visible in what it is given
 abbrev pub aimed : Named → Expression → State → Option State
@@ -228,13 +227,13 @@ abbrev pub save : Operand → Place → State → State
 save to place s = with_code place (Save to (last_register s)) s
 
 abbrev pub assign_to : Bound → Place → Expression → State → Option State
-assign_to v equals e s = cond v.pointer (aim v.local e s) (option_map (save (Name v.local) equals) (value true e s))
+assign_to v equals e s = cond v.pointer (aim v.local e s) (option_map (save (object_named v.local) equals) (value true e s))
 
 abbrev pub assign : Named → Place → Expression → State → Option State
 assign x equals e s = option_and_then (λ v. assign_to v equals e s) (lookup s x.text)
 
 abbrev pub store : Named → Place → Expression → State → Option State
-store p equals e s = option_and_then (λ n. option_map (save (Through n) equals) (value true e s)) (variable s true p)
+store p equals e s = option_and_then (λ n. option_map (save (behind n) equals) (value true e s)) (variable s true p)
 
 -- ---- printing
 
@@ -255,7 +254,7 @@ is_converted (Pointee star p) = false
 is_converted (Address ampersand x) = false
 
 abbrev pub port : Place → State → State
-port place s = with_code place (Port (last_register s)) s
+port place s = with_code place (Ports (Writes (last_register s))) s
 
 abbrev pub print : Expression → State → Option State
 print e s = cond (is_converted e) None (option_map (port (expression_place e)) (value true e s))
@@ -314,10 +313,10 @@ abbrev pub main_name : NameId
 main_name = record { 0 = 0 }
 
 abbrev pub function_from : State → Function
-function_from s = record { name = main_name; place = s.main; parameters = 0; result = int_type; locals = s.locals; body = trees s.code }
+function_from s = record { name = main_name; place = s.main; parameters = 0; result = int_type; promise = Default; locals = s.locals; body = trees s.code }
 
 abbrev pub program_from : State → Program
-program_from s = record { names = s.names; types = all_types; functions = function_from s ∷ [] }
+program_from s = record { names = s.names; members = []; types = all_types; texts = []; functions = function_from s ∷ [] }
 
 -- the program of a source, where it is typed
 abbrev pub translate : Source → Option Program

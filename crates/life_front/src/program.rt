@@ -1,6 +1,6 @@
 // The program of a file.
 ghost use Rattle.std.specs.Prelude.{◌≡◌, ◌+◌, ◌≤◌, ◌<◌, ◌^◌, ◌∷◌, [], length, map, IfOk};
-ghost use Rattle.life_core.specs.Function.{function_of, name_bytes, program_of};
+ghost use Rattle.life_core.specs.Function.{function_of, member_names, name_bytes, program_of};
 ghost use Rattle.life_core.specs.Limits.{HaveLongNumbers};
 ghost use Rattle.life_core.specs.Proper.{IsProperProgram};
 ghost use Rattle.life_lex.specs.Answers.{lexeme};
@@ -79,7 +79,9 @@ fn one_function(
 ) -> Result<CoreProgram, NoMemory>
     ensures { IfOk result (λ p. program_of p ≡ record {
       names = map name_bytes names.texts.items;
+      members = map member_names names.members.items;
       types = types;
+      texts = [];
       functions = function_of function ∷ [];
     }) }
 {
@@ -88,6 +90,7 @@ fn one_function(
     Ok(CoreProgram {
         names,
         types,
+        texts: Vec::new(alloc),
         functions,
     })
 }

@@ -1,5 +1,6 @@
 // Typing and translation at once, item by item (ISO/IEC 14882:2017 [expr], [stmt.stmt]).
 ghost use Rattle.std.specs.Prelude.{◌≡◌, ◌<◌, ◌^◌, true, length, Some, false, IfOk, OnOk, option_map};
+ghost use Rattle.life_core.specs.Operands.{operand_of};
 ghost use Rattle.life_front.specs.Answers.{HasRoom, Translates, ExpressionFits, InitialFits, ItemFits};
 ghost use Rattle.life_front.specs.Translation as spec;
 ghost use Rattle.life_front.specs.Views.{state_of, named_of, expression_of, item_of};
@@ -9,7 +10,7 @@ use crate::item::{Expression, Item, Named};
 use crate::number::value_of;
 use crate::translator::{Translator, Variable};
 use crate::types::{INT, LONG, POINTER};
-use life_core::{Form, Instr, Local, LocalKind, Operand, Operation, Source};
+use life_core::{Form, Instr, Local, LocalKind, Operand, Operation, Port, Source};
 use life_types::{NameId, NoMemory, Place};
 
 impl<'a> Translator<'a> {
@@ -59,7 +60,7 @@ impl<'a> Translator<'a> {
     /// Reads an int.
     fn load(&mut self, own: bool, place: Place, from: Operand) -> Result<(), NoMemory>
         requires { length (state_of self.old).locals < 2 ^ 32 }
-        ensures { OnOk result (state_of self.new ≡ spec.write own place (spec.load from) (state_of self.old)) }
+        ensures { OnOk result (state_of self.new ≡ spec.write own place (spec.load (operand_of from)) (state_of self.old)) }
     {
         let into = self.target(own)?;
         self.emit(place, Instr::Load { into, from })
@@ -77,13 +78,15 @@ impl<'a> Translator<'a> {
                 let Some(local) = self.variable(false, name) else {
                     return Err(FrontFault::Refused);
                 };
-                self.load(own, name.place, Operand::Name(local))?;
+                let from = self.named(local);
+                self.load(own, name.place, from)?;
             }
             Expression::Pointee { star, pointer } => {
                 let Some(local) = self.variable(true, pointer) else {
                     return Err(FrontFault::Refused);
                 };
-                self.load(own, *star, Operand::Through(local))?;
+                let from = self.behind(local);
+                self.load(own, *star, from)?;
             }
             Expression::Null(_) | Expression::Address { .. } => return Err(FrontFault::Refused),
         }
@@ -95,17 +98,22 @@ impl<'a> Translator<'a> {
         ensures { Translates result (spec.aim pointer (expression_of expression.now) (state_of self.old)) (state_of self.new) }
     {
         match expression {
-            Expression::Null(place) => self.emit(
-                *place,
-                Instr::Aim {
-                    pointer,
-                    source: Source::Null,
-                },
-            )?,
+            Expression::Null(place) => {
+                let pointer = self.whole(pointer);
+                self.emit(
+                    *place,
+                    Instr::Aim {
+                        pointer,
+                        source: Source::Null,
+                    },
+                )?;
+            }
             Expression::Variable(name) => {
                 let Some(from) = self.variable(true, name) else {
                     return Err(FrontFault::Refused);
                 };
+                let pointer = self.whole(pointer);
+                let from = self.whole(from);
                 self.emit(name.place, Instr::Repoint { pointer, from })?;
             }
             Expression::Address {
@@ -115,7 +123,8 @@ impl<'a> Translator<'a> {
                 let Some(local) = self.variable(false, variable) else {
                     return Err(FrontFault::Refused);
                 };
-                let source = Source::Place(Operand::Name(local));
+                let pointer = self.whole(pointer);
+                let source = Source::Place(self.named(local));
                 self.emit(*ampersand, Instr::Aim { pointer, source })?;
             }
             Expression::Number { .. } | Expression::Pointee { .. } => {
@@ -235,7 +244,7 @@ impl<'a> Translator<'a> {
     {
         let from = self.own_value(value)?;
         let local = self.live(false, name)?;
-        let to = Operand::Name(local);
+        let to = self.named(local);
         self.emit(name.place, Instr::Save { to, from })?;
         Ok(())
     }
@@ -262,7 +271,10 @@ impl<'a> Translator<'a> {
     {
         match self.lookup(name.text) {
             Some(variable) if variable.pointer => self.aim(variable.local, value),
-            Some(variable) => self.save(Operand::Name(variable.local), equals, value),
+            Some(variable) => {
+                let to = self.named(variable.local);
+                self.save(to, equals, value)
+            }
             None => Err(FrontFault::Refused),
         }
     }
@@ -281,7 +293,10 @@ impl<'a> Translator<'a> {
             (state_of self.new) }
     {
         match self.variable(true, pointer) {
-            Some(local) => self.save(Operand::Through(local), equals, value),
+            Some(local) => {
+                let to = self.behind(local);
+                self.save(to, equals, value)
+            }
             None => Err(FrontFault::Refused),
         }
     }
@@ -291,7 +306,7 @@ impl<'a> Translator<'a> {
         requires room { HasRoom 3 (state_of self.old) }
         requires fits { ExpressionFits (expression_of value.now) }
         ensures { Translates result
-            (option_map (spec.save to equals) (spec.value true (expression_of value.now) (state_of self.old)))
+            (option_map (spec.save (operand_of to) equals) (spec.value true (expression_of value.now) (state_of self.old)))
             (state_of self.new) }
     {
         let from = self.own_value(value)?;
@@ -309,7 +324,7 @@ impl<'a> Translator<'a> {
             return Err(FrontFault::Refused);
         }
         let register = self.own_value(item)?;
-        self.emit(place_of(item), Instr::Port { item: register })?;
+        self.emit(place_of(item), Instr::Port(Port::Value(register)))?;
         Ok(())
     }
 
@@ -369,5 +384,7 @@ fn variable_local(pointer: bool, name: NameId, place: Place) -> Local
         ty,
         kind,
         place,
+        nonnull: false,
+        keeps: false,
     }
 }

@@ -2,13 +2,14 @@
 ghost use Rattle.std.specs.Prelude.{◌≡◌, [], ◌∷◌, ◌<◌, ◌≤◌, ◌+◌, ◌^◌, length, IfOk, OnOk, IfSome, IfNone, nat_eq, option_map, reverse, map, position};
 ghost use Rattle.std.specs.Str.{bytes_eq};
 ghost use Rattle.life_core.specs.Function.{function_of, name_bytes};
+ghost use Rattle.life_core.specs.Operands.{behind, location_of, object_named, operand_of, whole};
 ghost use Rattle.life_core.specs.Step.{step_of};
 ghost use Rattle.life_front.specs.Translation as spec;
 ghost use Rattle.life_front.specs.Views.{state_of, bound_of, block_of, named_of};
 
 use crate::item::{MAIN, Named};
 use crate::types::INT;
-use life_core::{CoreFn, Instr, Local, LocalKind, Names, Stmt};
+use life_core::{CoreFn, Instr, Local, LocalKind, Location, Names, Operand, Promise, Stmt};
 use life_types::{NameId, NoMemory, Place, TyId};
 use std::alloc::Global;
 
@@ -50,6 +51,8 @@ impl<'a> Translator<'a> {
             ty: INT,
             kind: LocalKind::Register,
             place: main,
+            nonnull: false,
+            keeps: false,
         })?;
         let mut scopes = Vec::new(alloc);
         scopes.push(Vec::new(alloc))?;
@@ -76,14 +79,19 @@ impl<'a> Translator<'a> {
     #[tactic(auto, unfolding(crate::specs::Views::state_of))]
     pub(crate) fn finish(self) -> (Names, CoreFn)
         ensures names { map name_bytes result.0.texts.items ≡ (state_of self.entry).names }
+        ensures members { result.0.members.items ≡ [] }
         ensures function { function_of result.1 ≡ spec.function_from (state_of self.entry) }
     {
-        let names = Names { texts: self.names };
+        let names = Names {
+            texts: self.names,
+            members: Vec::new(self.alloc),
+        };
         let function = CoreFn {
             name: NameId(0),
             place: self.main,
             parameters: 0,
             result: INT,
+            promise: Promise::Default,
             locals: self.locals,
             body: Stmt::List(self.code),
         };
@@ -132,7 +140,30 @@ impl<'a> Translator<'a> {
             ty,
             kind: LocalKind::Register,
             place: self.main,
+            nonnull: false,
+            keeps: false,
         })
+    }
+
+    /// A local as a location.
+    pub(crate) fn whole(&self, local: u32) -> Location
+        ensures { location_of result ≡ whole local }
+    {
+        Location::whole(self.alloc, local)
+    }
+
+    /// An object.
+    pub(crate) fn named(&self, local: u32) -> Operand
+        ensures { operand_of result ≡ object_named local }
+    {
+        Operand::name(self.alloc, local)
+    }
+
+    /// What a pointer points to.
+    pub(crate) fn behind(&self, pointer: u32) -> Operand
+        ensures { operand_of result ≡ behind pointer }
+    {
+        Operand::through(self.alloc, pointer)
     }
 
     /// Adds an instruction.

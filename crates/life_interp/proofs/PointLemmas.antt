@@ -2,7 +2,7 @@
 use Rattle.std.proofs.Common.{◌≡◌, ℕ, List, [], ◌++◌, Option, true, false, sym, ap, ◌∙◌, append-nil}
 use Rattle.std.specs.Prelude.{ℤ}
 use Rattle.life_types.specs.Types.{Types}
-use Rattle.life_core.specs.declared.instr.Test.{Test}
+use Rattle.life_core.specs.Step.{Test}
 use Rattle.life_core.specs.Function.{Function}
 use Rattle.life_core.specs.Linked.{Linked}
 use Rattle.life_core.specs.Step.{Step}

@@ -1,12 +1,11 @@
 -- What the machine's functions do is what the steps of the meaning do.
-use Rattle.std.proofs.Common.{◌≡◌, ◌<◌, ◌^◌, ℕ, List, Option, Some, None, Result, Ok, refl, sym, ap, subst, ◌∙◌, arith}
+use Rattle.std.proofs.Common.{◌≡◌, ◌<◌, ◌^◌, ℕ, List, Option, Some, None, Result, Ok, Err, refl, sym, ap, subst, ◌∙◌, arith}
 use Rattle.std.proofs.lemmas.Int.{ints}
 use Rattle.std.proofs.lemmas.List.{map-set}
 use Rattle.std.proofs.lemmas.Option.{none-some, same_Some, slice_get-map}
 use Rattle.std.specs.Int.{cast_signed, w64}
 use Rattle.std.specs.Prelude.{ℤ, pos, slice_get, slice_set, option_map}
-use Rattle.life_core.specs.declared.instr.Operand.{Operand}
-use Rattle.life_core.specs.declared.instr.Operand.TheVariants.{Name, Through}
+use Rattle.life_core.specs.Operands.{Operand, Name, Through}
 use Rattle.life_store.specs.Content.{Content, Object}
 use Rattle.life_store.specs.Doing.{Effect, Strays, Found, named_by, behind_cell, on_found, on_number, on_pointer, put_cell, resolve}
 use Rattle.life_store.specs.References.{Rows, object_of, asked_of}
@@ -14,7 +13,7 @@ use Rattle.life_store.specs.State as state
 use Rattle.life_store.specs.State.{State}
 use Rattle.life_store.specs.declared.object.Dead.{Dead}
 use Rattle.life_interp.specs.Cells.{cell_seen, cells_seen, state_of, number_in, pointer_in}
-use Rattle.life_interp.specs.Steps.{IsPosition, TellsMiss, TellsEnd, place_in}
+use Rattle.life_interp.specs.Steps.{IsPosition, TellsMiss, TellsEnd, Leaves, place_in}
 use Rattle.life_interp.specs.declared.ending.Ending.{Ending}
 use Rattle.life_interp.specs.declared.ending.Ending.TheVariants as ending
 use Rattle.life_interp.specs.declared.places.Position.{Position}
@@ -66,11 +65,19 @@ a_pointer (Some (state.Named n)) go p e = absurd (none-some p (sym e))
 a_pointer (Some (state.Number z)) go p e = absurd (none-some p (sym e))
 a_pointer (Some (state.Points q)) go p e = ap go (sym (same_Some p q e))
 
+-- ---- steps
+
+-- a step that is another one
+pub leaves_as : {A : Type 0} (effect effect' : List ℕ → List ℤ → Effect) (next : List ℕ → List ℤ → State) (r : Result A Ending)
+    → ((output : List ℕ) (input : List ℤ) → effect output input ≡ effect' output input) → Leaves effect' next r → Leaves effect next r
+leaves_as effect effect' next (Ok a) same h = λ output input. same output input ∙ h output input
+leaves_as effect effect' next (Err e) same h = λ output input. subst (λ x. TellsEnd x e) (sym (same output input)) (h output input)
+
 -- ---- places
 
 pub resolve_is : (o : Operand) (c : Content) (cells : List Cell) (output : List ℕ) (input : List ℤ) → resolve o (state_of c cells output input) ≡ place_in c cells o
-resolve_is (Name x) c cells output input = ap (named_by c) (slice_get-map cell_seen cells x)
-resolve_is (Through p) c cells output input = ap (behind_cell c) (slice_get-map cell_seen cells p)
+resolve_is (Name l) c cells output input = ap (named_by c) (slice_get-map cell_seen cells l.local)
+resolve_is (Through p members) c cells output input = ap (behind_cell c) (slice_get-map cell_seen cells p.local)
 
 missed : (found : Found) (e : Ending) (go : ℕ → ℕ → Object → Effect) → TellsMiss found e → TellsEnd (on_found found go) e
 missed found (ending.Trap kind) go h = absurd h

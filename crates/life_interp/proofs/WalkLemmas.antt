@@ -3,6 +3,7 @@ use Rattle.std.proofs.Common.{◌≡◌, ℕ, List, [], Option, Result, Ok, Err,
 use Rattle.std.proofs.KnownBytes.{Appends-nil}
 use Rattle.life_core.specs.declared.instr.Instr.{Instr}
 use Rattle.life_core.specs.declared.instr.Instr.TheVariants as instrs
+use Rattle.life_core.specs.declared.instr.Port.{Port}
 use Rattle.life_core.specs.Step.{step_of}
 use Rattle.life_store.specs.Content.{Content}
 use Rattle.life_store.specs.Doing.{Effect, Next}
@@ -33,13 +34,24 @@ performs_quiet effect c d cells new k (Err ending.Stray) takes h = (takes, h)
 performs_quiet effect c d cells new k (Err ending.NoMemory) takes h = takes
 performs_quiet effect c d cells new k (Err ending.WriteFault) takes h = absurd (h [] [])
 
--- what isn't the one kind that writes
-pub quiet_else : (i : Instr) → ((item : ℕ) → i ≡ instrs.Port item → ⊥) → IsQuiet (step_of i)
+-- what isn't the one kind by which something goes in or out
+pub quiet_else : (i : Instr) → ((port : Port) → i ≡ instrs.Port port → ⊥) → IsQuiet (step_of i)
 quiet_else (instrs.Live x form) h = tt
 quiet_else (instrs.End xs) h = tt
 quiet_else (instrs.Eval r operation) h = tt
 quiet_else (instrs.Load r o) h = tt
 quiet_else (instrs.Save o r) h = tt
+quiet_else (instrs.Copy to from) h = tt
+quiet_else (instrs.Move to y) h = tt
 quiet_else (instrs.Aim p s) h = tt
 quiet_else (instrs.Repoint p q) h = tt
-quiet_else (instrs.Port r) h = h r refl
+quiet_else (instrs.Element p b which) h = tt
+quiet_else (instrs.Cursor p b end) h = tt
+quiet_else (instrs.Advance p q r direction) h = tt
+quiet_else (instrs.Cut p q r count) h = tt
+quiet_else (instrs.Size r b) h = tt
+quiet_else (instrs.Same r a b equal) h = tt
+quiet_else (instrs.Change o c) h = tt
+quiet_else (instrs.Make u made) h = tt
+quiet_else (instrs.Call target f xs) h = tt
+quiet_else (instrs.Port port) h = h port refl

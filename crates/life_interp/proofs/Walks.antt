@@ -5,8 +5,7 @@ use Rattle.std.specs.Prelude.{ℤ, pos, negsuc, IsTrue, ◌&&◌}
 use Rattle.life_types.specs.Types.{Types}
 use Rattle.life_types.specs.declared.place.Place.{Place}
 use Rattle.life_core.specs.declared.exits.Exits.{Exits}
-use Rattle.life_core.specs.declared.instr.Test.{Test}
-use Rattle.life_core.specs.declared.instr.Test.TheVariants.{NonZero, NotNull}
+use Rattle.life_core.specs.Step.{Test, NonZero, NotNull}
 use Rattle.life_core.specs.Function.{Function}
 use Rattle.life_core.specs.Linked.{Linked, goes, parts, spot_at, enter, with_next, with_true, with_false, turned, body_exits, linked, code_of, no_exits, numbered}
 use Rattle.life_core.specs.Shape.{is_statement, is_condition}
@@ -107,7 +106,7 @@ module _ (s : Setting) (types : Types) (f : Function) (call : Callee) (code : Li
 
   test_at_agrees : (held failed : Option ℕ) (n : ℕ) (st : State) (t : Test) → AgreeTest held failed (suc n) (chosen (walk s types f code n) held failed (test_at t n st)) (test_at t n st)
   test_at_agrees held failed n st (NonZero r) = number_agrees held failed n st (cell st r)
-  test_at_agrees held failed n st (NotNull p) = pointer_agrees held failed n st (cell st p)
+  test_at_agrees held failed n st (NotNull p) = pointer_agrees held failed n st (cell st p.local)
 
   asks_agree : (place : Place) (t : Test) (p : ℕ) (held failed : Option ℕ) → numbered code p ≡ Some (record { spot = spot_at place (Question t); leads = parts held failed }) → (n : ℕ) (st : State)
       → AgreeTest held failed n (on n (Some p) st) (ask t n st)

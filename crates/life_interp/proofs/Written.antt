@@ -1,27 +1,26 @@
 -- The walk only adds to what was written.
-use Rattle.std.proofs.Common.{◌≡◌, ℕ, zero, suc, ◌+◌, ◌*◌, List, [], ◌∷◌, ◌++◌, Option, Some, None, Bool, true, false, cond, refl, sym, ap, subst, ◌∙◌, append-nil, append_assoc}
+use Rattle.std.proofs.Common.{◌≡◌, ℕ, zero, suc, ◌+◌, ◌*◌, List, [], ◌∷◌, ◌++◌, Option, Some, None, Ok, Err, Bool, true, false, cond, refl, sym, ap, subst, ◌∙◌, append-nil, append_assoc}
 use Rattle.std.specs.Prelude.{ℤ, pos, negsuc, nat_lt}
 use Rattle.std.specs.Fmt.{signed_decimal}
 use Rattle.life_types.specs.Types.{Types}
 use Rattle.life_types.specs.declared.place.Place.{Place}
 use Rattle.life_types.specs.declared.ty.TyId.{TyId}
 use Rattle.life_core.specs.declared.instr.Form.{Form}
-use Rattle.life_core.specs.declared.instr.Operation.{Operation}
-use Rattle.life_core.specs.declared.instr.Operation.TheVariants as operation
-use Rattle.life_core.specs.declared.instr.Source.{Source}
-use Rattle.life_core.specs.declared.instr.Source.TheVariants as source
-use Rattle.life_core.specs.declared.instr.Test.{Test}
-use Rattle.life_core.specs.declared.instr.Test.TheVariants.{NonZero, NotNull}
+use Rattle.life_core.specs.declared.operation.Operation.{Operation}
+use Rattle.life_core.specs.declared.operation.Operation.TheVariants as operation
+use Rattle.life_core.specs.Operands.{Source}
+use Rattle.life_core.specs.Operands as source
 use Rattle.life_core.specs.declared.program.Local.{Local}
 use Rattle.life_core.specs.Function.{Function}
 use Rattle.life_core.specs.Linked.{Lead, Linked, numbered}
 use Rattle.life_core.specs.Proper.{Holding, Blank, AnObject, ANumber, APointer, sort_of}
-use Rattle.life_core.specs.Step.{Step, Live, End, Eval, Load, Save, Aim, Repoint, Port}
+use Rattle.life_core.specs.Step.{Step, Live, End, Eval, Load, Save, Copy, Move, Aim, Repoint, Element, Cursor, Advance, Cut, Size, Same, Changes, Make, Call, Port, Ports, Writes, WritesView, Takes, Test, NonZero, NotNull}
 use Rattle.life_core.specs.Tree.{Node, Action, Question, Return, Stop}
 use Rattle.life_store.specs.Cells.{at}
 use Rattle.life_store.specs.Content.{Object, live_words_of}
-use Rattle.life_store.specs.Doing.{Setting, put_cell, put_content, with_value_object, Effect, Next, Traps, Faults, Strays, Found, Here, Wrong, Astray, does, cell, on_found, on_number, on_pointer, live_as, live_over, live_local, on_next, end_object, end_cell, end_locals, evaluated, aimed, resolve}
+use Rattle.life_store.specs.Doing.{Setting, put_cell, put_content, with_value_object, Effect, Next, Traps, Faults, Strays, Found, Here, Wrong, Astray, does, cell, on_found, on_number, on_pointer, live_as, live_over, live_local, on_next, end_object, end_cell, end_locals, computed_into, evaluated, aimed, port, resolve, type_of}
 use Rattle.life_store.specs.Meaning.{Verdict, Holds, Fails, Cut, by_number, by_pointer, number_test, pointer_test, test_at, Called}
+use Rattle.life_store.specs.Numbers.{Computed, negated, truth, is_zero, combined}
 use Rattle.life_store.specs.State.{Pointer, Null, Wild, To, Cell, Empty, Named, Number, Points, World, State}
 use Rattle.life_store.specs.declared.run.TrapKind.TheVariants as trap
 use Rattle.life_interp.specs.Walk.{Go, walk, at_node, at_point, moved, chosen, first_way, second_way}
@@ -112,13 +111,29 @@ ends_begin : (xs : List ℕ) (st : State) → EffectBegins st.world.output (end_
 ends_begin [] st = begins_itself st.world.output
 ends_begin (x ∷ xs) st = next_begins st.world.output (end_cell (cell st x) x st) (end_locals xs) (cell_begins (cell st x) x st) (ends_begin xs)
 
+computed_begins : (r : ℕ) (computed : Computed) (st : State) → EffectBegins st.world.output (computed_into r computed st)
+computed_begins r (Ok z) st = begins_itself st.world.output
+computed_begins r (Err kind) st = tt
+
 evaluated_begins : (types : Types) (f : Function) (r : ℕ) (o : Operation) (st : State) → EffectBegins st.world.output (evaluated types f r o st)
 evaluated_begins types f r (operation.Number n) st = begins_itself st.world.output
 evaluated_begins types f r (operation.Convert q) st = number_begins st.world.output (cell st q) _ (λ z. begins_itself st.world.output)
+evaluated_begins types f r (operation.Negate q) st = number_begins st.world.output (cell st q) _ (λ z. computed_begins r (negated (type_of types f r) z) st)
+evaluated_begins types f r (operation.IsZero q) st = number_begins st.world.output (cell st q) _ (λ z. computed_begins r (truth (is_zero z)) st)
+evaluated_begins types f r (operation.Binary operator a b) st = number_begins st.world.output (cell st a) _ (λ x. number_begins st.world.output (cell st b) _ (λ y. computed_begins r (combined (type_of types f a) operator x y) st))
 
 aimed_begins : (p : ℕ) (s : Source) (st : State) → EffectBegins st.world.output (aimed p s st)
 aimed_begins p source.Null st = begins_itself st.world.output
+aimed_begins p (source.Text n) st = tt
+aimed_begins p source.Empty st = tt
+aimed_begins p (source.Whole o) st = tt
+aimed_begins p (source.Get l) st = tt
 aimed_begins p (source.Place o) st = found_begins st.world.output (resolve o st) _ (λ n i object. begins_itself st.world.output)
+
+port_begins : (p : Port) (st : State) → EffectBegins st.world.output (port p st)
+port_begins (Writes r) st = number_begins st.world.output (cell st r) _ (λ z. (signed_decimal z, refl))
+port_begins (WritesView l) st = tt
+port_begins (Takes r) st = tt
 
 does_begins : (s : Setting) (types : Types) (f : Function) (i : Step) (st : State) → EffectBegins st.world.output (does s types f i st)
 does_begins s types f (Live x form) st = live_begins s types f _ form x st
@@ -126,9 +141,20 @@ does_begins s types f (End xs) st = ends_begin xs st
 does_begins s types f (Eval r o) st = evaluated_begins types f r o st
 does_begins s types f (Load r o) st = found_begins st.world.output (resolve o st) _ (λ n i object. begins_itself st.world.output)
 does_begins s types f (Save o r) st = number_begins st.world.output (cell st r) _ (λ z. found_begins st.world.output (resolve o st) _ (λ n i object. begins_itself st.world.output))
-does_begins s types f (Aim p s') st = aimed_begins p s' st
-does_begins s types f (Repoint p q) st = pointer_begins st.world.output (cell st q) _ (λ v. begins_itself st.world.output)
-does_begins s types f (Port r) st = number_begins st.world.output (cell st r) _ (λ z. (signed_decimal z, refl))
+does_begins s types f (Copy to from) st = tt
+does_begins s types f (Move to y) st = tt
+does_begins s types f (Aim p s') st = aimed_begins p.local s' st
+does_begins s types f (Repoint p q) st = pointer_begins st.world.output (cell st q.local) _ (λ v. begins_itself st.world.output)
+does_begins s types f (Element p b which) st = tt
+does_begins s types f (Cursor p b end) st = tt
+does_begins s types f (Advance p q r direction) st = tt
+does_begins s types f (Cut p q r count) st = tt
+does_begins s types f (Size r b) st = tt
+does_begins s types f (Same r a b equal) st = tt
+does_begins s types f (Changes o c) st = tt
+does_begins s types f (Make u made) st = tt
+does_begins s types f (Call target g xs) st = tt
+does_begins s types f (Ports p) st = port_begins p st
 
 -- ---- the walk
 
@@ -173,7 +199,7 @@ module _ (s : Setting) (types : Types) (f : Function) where
 
   test_begins : (t : Test) (n : ℕ) (st : State) → VerdictBegins st.world.output (test_at t n st)
   test_begins (NonZero r) n st = number_test_begins (cell st r) n st
-  test_begins (NotNull p) n st = pointer_test_begins (cell st p) n st
+  test_begins (NotNull p) n st = pointer_test_begins (cell st p.local) n st
 
   chosen_begins : (front : List ℕ) (go : Go) (held failed : Option ℕ) (v : Verdict) → Onward go → VerdictBegins front v → Begins front (output_of (chosen go held failed v))
   chosen_begins front go held failed (Holds n st) h b = begins_on front st.world.output _ b (h held st)

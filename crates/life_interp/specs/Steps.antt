@@ -1,7 +1,6 @@
 -- What the machine's functions answer of the steps of the meaning.
 use Rattle.std.specs.Prelude.{◌≡◌, ℕ, ℤ, List, Some, Result, MatchResult, option_map, slice_get}
-use Rattle.life_core.specs.declared.instr.Operand.{Operand}
-use Rattle.life_core.specs.declared.instr.Operand.TheVariants.{Name, Through}
+use Rattle.life_core.specs.Operands.{Operand, Name, Through}
 use Rattle.life_store.specs.Content.{Content, Object, word_at}
 use Rattle.life_store.specs.Doing.{Effect, Next, Traps, Faults, Strays, Found, Here, Wrong, Astray, named_by, behind_cell, on_found, on_number, on_pointer, saved, put_cell, number_in_word, resolve, cell, ported}
 use Rattle.life_store.specs.References.{Rows, HasWord, object_of}
@@ -37,8 +36,8 @@ Finds c rows found result = MatchResult result (IsPosition c rows found) (TellsM
 
 -- what an operand names in a frame
 abbrev pub place_in : Content → List Cell → Operand → Found
-place_in c cells (Name x) = named_by c (option_map cell_seen (slice_get cells x))
-place_in c cells (Through p) = behind_cell c (option_map cell_seen (slice_get cells p))
+place_in c cells (Name l) = named_by c (option_map cell_seen (slice_get cells l.local))
+place_in c cells (Through p members) = behind_cell c (option_map cell_seen (slice_get cells p.local))
 
 -- ---- steps
 

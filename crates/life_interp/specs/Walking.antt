@@ -6,9 +6,8 @@ use Rattle.life_base.specs.Edges.{AppendsFront}
 use Rattle.life_types.specs.Types.{Types}
 use Rattle.life_core.specs.Function.{Function}
 use Rattle.life_core.specs.Linked.{Linked}
-use Rattle.life_core.specs.Step.{Step, Live, End, Eval, Load, Save, Aim, Repoint, Port}
+use Rattle.life_core.specs.Step.{Step, Ports, Test}
 use Rattle.life_types.specs.declared.place.Place.{Place}
-use Rattle.life_core.specs.declared.instr.Test.{Test}
 use Rattle.life_store.specs.Content.{Content}
 use Rattle.life_store.specs.Doing.{Setting, Effect, Next}
 use Rattle.life_store.specs.Meaning.{Trapped, Faulted, Stray, Exhausted, Verdict, Holds, Fails, Cut, test_at, Called, Back, TooDeep, Quit, results}
@@ -24,16 +23,10 @@ use Rattle.life_interp.specs.declared.value.Cell.{Cell}
 
 -- ---- instructions
 
--- it writes nothing out
+-- nothing goes in or out
 abbrev pub IsQuiet : Step → Type 0
-IsQuiet (Port r) = ⊥
-IsQuiet (Live x form) = Unit {0}
-IsQuiet (End xs) = Unit {0}
-IsQuiet (Eval r operation) = Unit {0}
-IsQuiet (Load r o) = Unit {0}
-IsQuiet (Save o r) = Unit {0}
-IsQuiet (Aim p s) = Unit {0}
-IsQuiet (Repoint p q) = Unit {0}
+IsQuiet (Ports p) = ⊥
+IsQuiet _ = Unit {0}
 
 -- what the sink has taken, and its count of faults, before and after
 pub record Sunk : Type 0 where

@@ -1,4 +1,5 @@
 // Single tests.
+ghost use Rattle.life_core.specs.Step.{asked_of};
 ghost use Rattle.life_interp.specs.Walking.{Asks};
 
 use crate::frame::{number_at, pointer_at};
@@ -6,15 +7,15 @@ use crate::value::{Cell, Pointer};
 use life_core::Test;
 
 /// Whether the test holds, if its local holds what is tested.
-pub(crate) fn ask(cells: &[Cell], test: Test) -> Option<bool>
-    ensures { Asks test cells.now result }
+pub(crate) fn ask(cells: &[Cell], test: &Test) -> Option<bool>
+    ensures { Asks (asked_of test.now) cells.now result }
 {
     match test {
-        Test::NonZero(register) => match number_at(cells, register) {
+        Test::NonZero(register) => match number_at(cells, *register) {
             None => None,
             Some(value) => Some(value != 0),
         },
-        Test::NotNull(pointer) => match pointer_at(cells, pointer) {
+        Test::NotNull(pointer) => match pointer_at(cells, pointer.local) {
             None => None,
             Some(Pointer::Null) => Some(false),
             Some(Pointer::Wild) => Some(true),

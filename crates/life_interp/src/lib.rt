@@ -1,6 +1,7 @@
 //! The machine that runs core programs over a store.
 #![tactic(auto)]
 
+mod arithmetic;
 mod ask;
 mod ending;
 mod entry;

@@ -36,6 +36,7 @@ pub(crate) fn live<S: Store>(
             Some(Cell::Empty) => match (class_of(types, declared.ty), declared.kind) {
                 (Class::Value, LocalKind::Object) => born(store, cells, declared.ty, local),
                 (Class::Value, LocalKind::Register) => Err(Ending::Stray),
+                (Class::Value, LocalKind::Range) => Err(Ending::Stray),
                 (Class::Pointer, _) => {
                     put_cell(cells, local, Cell::Points(born_pointer(form)));
                     Ok(())

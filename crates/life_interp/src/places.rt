@@ -1,4 +1,5 @@
 // What an operand names.
+ghost use Rattle.life_core.specs.Operands.{operand_of};
 ghost use Rattle.life_store.specs.Doing.{behind, found_at};
 ghost use Rattle.life_interp.specs.Cells.{pointer_seen};
 ghost use Rattle.life_interp.specs.Fits.{IsFit, IsHoused, IsRef, PointerFits};
@@ -17,21 +18,21 @@ pub(crate) struct Position {
     pub(crate) index: u32,
 }
 
-/// The position that the operand names.
+/// The position that the operand names: it has no members in the programs that are built so far.
 pub(crate) fn resolve<S: Store>(
     store: &S,
     cells: &[Cell],
-    operand: Operand,
+    operand: &Operand,
 ) -> Result<Position, Ending>
     requires { IsFit (S.content store.now) (S.rows store.now) cells.now }
-    ensures { Finds (S.content store.now) (S.rows store.now) (place_in (S.content store.now) cells.now operand) result }
+    ensures { Finds (S.content store.now) (S.rows store.now) (place_in (S.content store.now) cells.now (operand_of operand.now)) result }
 {
     match operand {
-        Operand::Name(local) => match cell_at(cells, local) {
+        Operand::Name(location) => match cell_at(cells, location.local) {
             Some(Cell::Object(object)) => slot_at(store, object, 0),
             Some(Cell::Empty | Cell::Number(_) | Cell::Points(_)) | None => Err(Ending::Stray),
         },
-        Operand::Through(local) => match cell_at(cells, local) {
+        Operand::Through { pointer, .. } => match cell_at(cells, pointer.local) {
             Some(Cell::Points(pointer)) => behind(store, pointer),
             Some(Cell::Empty | Cell::Number(_) | Cell::Object(_)) | None => Err(Ending::Stray),
         },

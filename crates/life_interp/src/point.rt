@@ -43,7 +43,7 @@ pub(crate) fn pass<S: Store, O: Sink>(
             Ok(()) => Ok(first_way(link.leads)),
             Err(ending) => Err(halt_at(ending, link.spot.place)),
         },
-        NodeRef::Question(test) => match ask(cells, *test) {
+        NodeRef::Question(test) => match ask(cells, test) {
             None => Err(Halt::Stray),
             Some(true) => Ok(first_way(link.leads)),
             Some(false) => Ok(second_way(link.leads)),

@@ -1,5 +1,6 @@
 // Instructions that aim pointers.
 ghost use Rattle.std.specs.Prelude.{◌≡◌, OnOk};
+ghost use Rattle.life_core.specs.Operands.{source_of};
 ghost use Rattle.life_interp.specs.Fits.{CellsFit, IsFit};
 ghost use Rattle.life_interp.specs.Steps.{repointed, LeavesCells};
 ghost use Rattle.life_store.specs.Content.{Content};
@@ -18,10 +19,10 @@ pub(crate) fn aim<S: Store>(
     store: &S,
     cells: &mut Vec<Cell>,
     pointer: u32,
-    source: Source,
+    source: &Source,
 ) -> Result<(), Ending>
     requires { IsFit (S.content store.now) (S.rows store.now) cells.old.items }
-    ensures step { LeavesCells (aimed pointer source) (S.content store.now) cells.old.items cells.new.items result }
+    ensures step { LeavesCells (aimed pointer (source_of source.now)) (S.content store.now) cells.old.items cells.new.items result }
     ensures fits { OnOk result (IsFit (S.content store.now) (S.rows store.now) cells.new.items) }
 {
     match source {
@@ -41,6 +42,8 @@ pub(crate) fn aim<S: Store>(
                 Ok(())
             }
         },
+        // No program that is built so far has another.
+        _ => Err(Ending::Stray),
     }
 }
 

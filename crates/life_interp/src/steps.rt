@@ -1,12 +1,13 @@
 // One instruction of any kind.
 ghost use Rattle.std.specs.Prelude.{◌≡◌, OnOk};
 ghost use Rattle.life_core.specs.Function.{function_of};
-ghost use Rattle.life_core.specs.Step.{step_of};
+ghost use Rattle.life_core.specs.Step.{port_of, step_of};
 ghost use Rattle.life_interp.specs.Fits.{CanStep, Grows, IsFit};
 ghost use Rattle.life_interp.specs.Steps.{ported_from, LeavesBoth};
 ghost use Rattle.life_interp.specs.Walking.{IsQuiet, Performs};
 ghost use Rattle.life_core.specs.Limits.{HasLong};
 ghost use Rattle.life_store.specs.Content.{Content};
+ghost use Rattle.life_store.specs.Doing as doing;
 ghost use Rattle.life_store.specs.Doing.{does, Setting};
 
 use crate::ending::Ending;
@@ -16,7 +17,7 @@ use crate::pointers::{aim, repoint};
 use crate::value::Cell;
 use crate::values::{evaluate, load, save};
 use life_base::{Sink, write_whole};
-use life_core::{CoreFn, Instr};
+use life_core::{CoreFn, Instr, Port};
 use life_store::Store;
 use life_types::TypeTable;
 use std::alloc::Global;
@@ -42,13 +43,25 @@ pub(crate) fn perform<S: Store, O: Sink>(
     ensures limit { S.limit store.new ≡ S.limit store.old }
 {
     match instr {
-        Instr::Port { item } => port(alloc, cells, *item, out),
+        Instr::Port(port) => pass(alloc, cells, port, out),
         _ => act(types, f, instr, store, cells),
     }
 }
 
+// Writes what is to be written.
+fn pass<O: Sink>(alloc: Global, cells: &[Cell], port: &Port, out: &mut O) -> Result<(), Ending>
+    ensures { (c : Content) → Performs (doing.port (port_of port.now)) c cells.now c cells.now
+        (record { old = O.taken out.old; new = O.taken out.new; faults = O.faults out.old; later = O.faults out.new }) result }
+{
+    match port {
+        Port::Value(item) => write(alloc, cells, *item, out),
+        // No program that is built so far has another.
+        _ => Err(Ending::Stray),
+    }
+}
+
 // Writes the value of a register.
-fn port<O: Sink>(alloc: Global, cells: &[Cell], item: u32, out: &mut O) -> Result<(), Ending>
+fn write<O: Sink>(alloc: Global, cells: &[Cell], item: u32, out: &mut O) -> Result<(), Ending>
     ensures { (c : Content) → Performs (ported_from item) c cells.now c cells.now
         (record { old = O.taken out.old; new = O.taken out.new; faults = O.faults out.old; later = O.faults out.new }) result }
 {
@@ -85,10 +98,12 @@ fn act<S: Store>(
         Instr::Live { local, form } => live(types, f, store, cells, *local, *form),
         Instr::End { locals } => end(store, cells, locals),
         Instr::Eval { into, operation } => evaluate(types, f, *into, *operation, cells),
-        Instr::Load { into, from } => load(store, cells, *into, *from),
-        Instr::Save { to, from } => save(store, cells, *to, *from),
-        Instr::Aim { pointer, source } => aim(store, cells, *pointer, *source),
-        Instr::Repoint { pointer, from } => repoint(cells, *pointer, *from),
-        Instr::Port { .. } => unreachable!(),
+        Instr::Load { into, from } => load(store, cells, *into, from),
+        Instr::Save { to, from } => save(store, cells, to, *from),
+        Instr::Aim { pointer, source } => aim(store, cells, pointer.local, source),
+        Instr::Repoint { pointer, from } => repoint(cells, pointer.local, from.local),
+        Instr::Port(_) => unreachable!(),
+        // No program that is built so far has another.
+        _ => Err(Ending::Stray),
     }
 }

@@ -1,19 +1,21 @@
 // Instructions that compute, read and write values.
 ghost use Rattle.std.specs.Prelude.{◌≡◌, ◌<◌, ◌^◌, pos, OnOk};
 ghost use Rattle.life_core.specs.Function.{function_of};
+ghost use Rattle.life_core.specs.Operands.{operand_of};
 ghost use Rattle.life_interp.specs.Fits.{CellsFit, IsFit};
 ghost use Rattle.life_interp.specs.Steps.{loaded, stored, LeavesBoth, LeavesCells};
 ghost use Rattle.life_core.specs.Limits.{FitsLong};
 ghost use Rattle.life_store.specs.Content.{Content};
 ghost use Rattle.life_store.specs.References.{Rows};
-ghost use Rattle.life_store.specs.Doing.{as_bool, as_char, as_int, converted, evaluated, type_of};
+ghost use Rattle.life_store.specs.Doing.{as_bool, as_char, as_int, computed_into, converted, evaluated, type_of};
 
+use crate::arithmetic::{combined, negated, zero_test};
 use crate::ending::Ending;
 use crate::frame::{number_at, put_cell};
 use crate::places::resolve;
 use crate::value::Cell;
 use life_core::{CoreFn, Operand, Operation};
-use life_store::Store;
+use life_store::{Store, TrapKind};
 use life_types::{Ty, TypeTable};
 
 /// Gives a register a value.
@@ -41,6 +43,46 @@ pub(crate) fn evaluate(
                 Ok(())
             }
         },
+        Operation::Negate(from) => match number_at(cells, from) {
+            None => Err(Ending::Stray),
+            Some(value) => put_computed(cells, into, negated(type_at(types, f, into), value)),
+        },
+        Operation::IsZero(from) => match number_at(cells, from) {
+            None => Err(Ending::Stray),
+            Some(value) => put_computed(cells, into, zero_test(value)),
+        },
+        Operation::Binary {
+            operator,
+            left,
+            right,
+        } => match number_at(cells, left) {
+            None => Err(Ending::Stray),
+            Some(first) => match number_at(cells, right) {
+                None => Err(Ending::Stray),
+                Some(second) => {
+                    let ty = type_at(types, f, left);
+                    put_computed(cells, into, combined(ty, operator, first, second))
+                }
+            },
+        },
+    }
+}
+
+// Gives a register what was computed.
+fn put_computed(
+    cells: &mut Vec<Cell>,
+    into: u32,
+    computed: Result<i64, TrapKind>,
+) -> Result<(), Ending>
+    ensures step { (c : Content) → LeavesCells (computed_into into computed) c cells.old.items cells.new.items result }
+    ensures fits { (c : Content) (rows : Rows) → CellsFit c rows cells.old.items → OnOk result (CellsFit c rows cells.new.items) }
+{
+    match computed {
+        Ok(value) => {
+            put_cell(cells, into, Cell::Number(value));
+            Ok(())
+        }
+        Err(kind) => Err(Ending::Trap(kind)),
     }
 }
 
@@ -94,10 +136,10 @@ pub(crate) fn load<S: Store>(
     store: &S,
     cells: &mut Vec<Cell>,
     into: u32,
-    from: Operand,
+    from: &Operand,
 ) -> Result<(), Ending>
     requires { IsFit (S.content store.now) (S.rows store.now) cells.old.items }
-    ensures step { LeavesCells (loaded into from) (S.content store.now) cells.old.items cells.new.items result }
+    ensures step { LeavesCells (loaded into (operand_of from.now)) (S.content store.now) cells.old.items cells.new.items result }
     ensures fits { OnOk result (IsFit (S.content store.now) (S.rows store.now) cells.new.items) }
 {
     match resolve(store, cells, from) {
@@ -116,11 +158,11 @@ pub(crate) fn load<S: Store>(
 pub(crate) fn save<S: Store>(
     store: &mut S,
     cells: &[Cell],
-    to: Operand,
+    to: &Operand,
     from: u32,
 ) -> Result<(), Ending>
     requires { IsFit (S.content store.old) (S.rows store.old) cells.now }
-    ensures step { LeavesBoth (stored to from) (S.content store.old) cells.now (S.content store.new) cells.now result }
+    ensures step { LeavesBoth (stored (operand_of to.now) from) (S.content store.old) cells.now (S.content store.new) cells.now result }
     ensures fits { OnOk result (IsFit (S.content store.new) (S.rows store.new) cells.now) }
     ensures births { OnOk result ((S.content store.new).births ≡ (S.content store.old).births) }
     ensures clock { OnOk result ((S.content store.new).clock ≡ (S.content store.old).clock) }

@@ -8,9 +8,9 @@ use Rattle.life_types.specs.declared.ty.Class.TheVariants.{Value, Pointer, Owner
 use Rattle.life_types.specs.declared.ty.NameId.{NameId}
 use Rattle.life_core.specs.declared.program.Local.{Local}
 use Rattle.life_core.specs.declared.program.LocalKind.{LocalKind}
-use Rattle.life_core.specs.declared.program.LocalKind.TheVariants.{Object, Register}
+use Rattle.life_core.specs.declared.program.LocalKind.TheVariants.{Object, Register, Range}
 use Rattle.life_core.specs.Function.{Function}
-use Rattle.life_core.specs.Step.{Step, Live, End, Eval, Load, Save, Aim, Repoint, Port}
+use Rattle.life_core.specs.Step.{Step, Live, End}
 use Rattle.life_core.specs.Tree.{Node, Action, Question, Return, Stop}
 use Rattle.life_core.specs.Linked.{Linked, code_of, points_of}
 use Rattle.life_pset.specs.declared.element.AbsPlace.{AbsPlace}
@@ -44,6 +44,7 @@ locations_of types f = locations_from types 0 f.locals
 abbrev pub object_if : LocalKind → ℕ → List Element
 object_if Object x = element.At (local_place x) ∷ []
 object_if Register x = []
+object_if Range x = []
 
 abbrev pub objects_from : ℕ → List Local → List Element
 objects_from x [] = []
@@ -65,6 +66,7 @@ ended_local place x l = record { kind = end_kind l.name; place = place; root = x
 abbrev pub end_if : LocalKind → Cause → List Cause
 end_if Object c = c ∷ []
 end_if Register c = []
+end_if Range c = []
 
 abbrev pub end_causes : Place → ℕ → Option Local → List Cause
 end_causes place x None = []
@@ -74,16 +76,11 @@ end_causes place x (Some l) = end_if l.kind (ended_local place x l)
 abbrev pub causes_of_end : Function → Place → ℕ → List Cause
 causes_of_end f place x = end_causes place x (slice_get f.locals x)
 
--- the causes that an instruction may give
+-- the causes that an instruction may give; those that aren't built so far have none yet
 abbrev pub step_causes : Function → Place → Step → List Cause
 step_causes f place (Live x form) = uninitialised place x ∷ []
 step_causes f place (End xs) = flat_map (causes_of_end f place) xs
-step_causes f place (Eval r operation) = []
-step_causes f place (Load r o) = []
-step_causes f place (Save o r) = []
-step_causes f place (Aim p s) = []
-step_causes f place (Repoint p q) = []
-step_causes f place (Port r) = []
+step_causes f place _ = []
 
 abbrev pub node_causes : Function → Place → Node → List Cause
 node_causes f place (Action i) = step_causes f place i

@@ -54,6 +54,7 @@ fn push_object(kind: LocalKind, number: u32, all: &mut Vec<Element>) -> Result<(
     match kind {
         LocalKind::Object => all.push(Element::At(AbsPlace::of_local(number)))?,
         LocalKind::Register => {}
+        LocalKind::Range => {}
     }
     Ok(())
 }
@@ -99,12 +100,7 @@ fn push_causes(
             root: *local,
         })?,
         Instr::End { locals } => push_ends(f, place, locals, causes)?,
-        Instr::Eval { .. } => {}
-        Instr::Load { .. } => {}
-        Instr::Save { .. } => {}
-        Instr::Aim { .. } => {}
-        Instr::Repoint { .. } => {}
-        Instr::Port { .. } => {}
+        _ => {}
     }
     Ok(())
 }
@@ -150,6 +146,7 @@ fn push_object_end(kind: LocalKind, cause: Cause, causes: &mut Vec<Cause>) -> Re
     match kind {
         LocalKind::Object => causes.push(cause)?,
         LocalKind::Register => {}
+        LocalKind::Range => {}
     }
     Ok(())
 }

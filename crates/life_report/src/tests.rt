@@ -2,7 +2,7 @@
 ghost use Rattle.std.specs.Prelude.{◌≡◌, length, IfOk};
 
 use crate::text_report;
-use life_core::{CoreFn, CoreProgram, Local, LocalKind, Names, Stmt};
+use life_core::{CoreFn, CoreProgram, Local, LocalKind, Names, Promise, Stmt};
 use life_pset::{AbsPlace, Cause, CauseKind};
 use life_rules::{Diag, DiagKind, Why};
 use life_types::{NameId, NoMemory, Place, TyId, TypeTable};
@@ -21,12 +21,15 @@ fn with_local(alloc: Global, name: NameId) -> Result<CoreFn, NoMemory> {
         ty: TyId(0),
         kind: LocalKind::Object,
         place: at(1, 1),
+        nonnull: false,
+        keeps: false,
     })?;
     Ok(CoreFn {
         name: NameId(0),
         place: at(1, 5),
         parameters: 0,
         result: TyId(0),
+        promise: Promise::Default,
         locals,
         body: Stmt::List(Vec::new(alloc)),
     })
@@ -36,7 +39,10 @@ fn names(alloc: Global) -> Result<Names, NoMemory> {
     let mut texts = Vec::new(alloc);
     texts.push(b"p".to_vec(alloc)?)?;
     texts.push(b"q".to_vec(alloc)?)?;
-    Ok(Names { texts })
+    Ok(Names {
+        texts,
+        members: Vec::new(alloc),
+    })
 }
 
 // A function with the local `p`, and then one with the local `q`.
@@ -49,6 +55,7 @@ fn two_functions(alloc: Global) -> Result<CoreProgram, NoMemory>
     Ok(CoreProgram {
         names: names(alloc)?,
         types: TypeTable::new(alloc),
+        texts: Vec::new(alloc),
         functions,
     })
 }

@@ -7,7 +7,7 @@ use Rattle.std.proofs.lemmas.List.Elements.{Contains-append_left, Contains-appen
 use Rattle.life_types.specs.Types.{Types}
 use Rattle.life_core.specs.Function.{Function}
 use Rattle.life_core.specs.Linked.{spot_of}
-use Rattle.life_core.specs.Step.{Step, Live, End, Eval, Load, Save, Aim, Repoint, Port}
+use Rattle.life_core.specs.Step.{Step}
 use Rattle.life_core.specs.Tree.{Node, Action, Question, Return, Stop, Spot}
 use Rattle.life_core.specs.declared.stmt.Edge.{Edge}
 use Rattle.life_pset.specs.declared.element.Fact.{Fact}
@@ -53,14 +53,7 @@ flat_map_empty g (x ∷ xs) none = rw (none x) (flat_map_empty g xs none)
 
 -- where nothing comes of two facts, nothing does
 step_two : (f : Function) (place : Place) (i : Step) (a b : Fact) → takes_two i ≡ false → from_two f place i a b ≡ []
-step_two f place (Live x form) a b h = refl
-step_two f place (End xs) a b h = refl
-step_two f place (Eval r operation) a b h = refl
-step_two f place (Load r o) a b h = refl
-step_two f place (Save o r) a b h = refl
-step_two f place (Aim p s) a b h = refl
-step_two f place (Repoint p q) a b h = refl
-step_two f place (Port r) a b h = refl
+step_two f place i a b h = refl
 
 node_two_none : (f : Function) (place : Place) (n : Node) (a b : Fact) → node_takes_two n ≡ false → node_two f place n a b ≡ []
 node_two_none f place (Action i) a b h = step_two f place i a b h

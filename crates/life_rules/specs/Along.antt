@@ -4,7 +4,7 @@ use Rattle.std.specs.List.{flat_map}
 use Rattle.life_types.specs.Types.{Types}
 use Rattle.life_core.specs.Function.{Function}
 use Rattle.life_core.specs.Linked.{spot_of}
-use Rattle.life_core.specs.Step.{Step, Live, End, Eval, Load, Save, Aim, Repoint, Port}
+use Rattle.life_core.specs.Step.{Step}
 use Rattle.life_core.specs.Tree.{Node, Action, Question, Return, Stop, Spot}
 use Rattle.life_core.specs.declared.stmt.Edge.{Edge}
 use Rattle.life_pset.specs.declared.element.Fact.{Fact}
@@ -18,16 +18,9 @@ all_at types f branch spot facts =
 abbrev pub all_along : Types → Function → Edge → List Fact → List Fact
 all_along types f edge facts = all_at types f edge.branch (spot_of f edge.from) facts
 
--- whether something comes of two facts
+-- whether something comes of two facts: of none of the instructions that are built so far
 abbrev pub takes_two : Step → Bool
-takes_two (Live x form) = false
-takes_two (End xs) = false
-takes_two (Eval r operation) = false
-takes_two (Load r o) = false
-takes_two (Save o r) = false
-takes_two (Aim p s) = false
-takes_two (Repoint p q) = false
-takes_two (Port r) = false
+takes_two i = false
 
 abbrev pub node_takes_two : Node → Bool
 node_takes_two (Action i) = takes_two i

@@ -5,15 +5,13 @@ use Rattle.life_types.specs.Types.{Types, class_at}
 use Rattle.life_types.specs.declared.place.Place.{Place}
 use Rattle.life_core.specs.Function.{Function}
 use Rattle.life_core.specs.Linked.{spot_of}
-use Rattle.life_core.specs.Step.{Step, Live, End, Eval, Load, Save, Aim, Repoint, Port}
+use Rattle.life_core.specs.Step.{Step, Live, End, Aim, Repoint, Test}
 use Rattle.life_core.specs.Tree.{Node, Action, Question, Return, Stop, Spot}
 use Rattle.life_core.specs.declared.instr.Form.{Form}
 use Rattle.life_core.specs.declared.instr.Form.TheVariants as form
-use Rattle.life_core.specs.declared.instr.Operand.TheVariants as operand
-use Rattle.life_core.specs.declared.instr.Source.{Source}
-use Rattle.life_core.specs.declared.instr.Source.TheVariants as source
-use Rattle.life_core.specs.declared.instr.Test.{Test}
-use Rattle.life_core.specs.declared.instr.Test.TheVariants as test
+use Rattle.life_core.specs.Operands.{Location, Operand, Source}
+use Rattle.life_core.specs.Operands as named
+use Rattle.life_core.specs.Step as test
 use Rattle.life_core.specs.declared.program.Local.{Local}
 use Rattle.life_core.specs.declared.stmt.Edge.{Edge}
 use Rattle.life_pset.specs.Elements.{local_place, location_if, uninitialised, causes_of_end}
@@ -109,10 +107,14 @@ abbrev pub born_facts : Element → List AbsPlace → List Fact
 born_facts e ls = map (λ l. fact_at l e) ls
 
 -- what a pointer is aimed at by name
+abbrev pub named_in : Operand → List Element
+named_in (named.Name l) = element.At (local_place l.local) ∷ []
+named_in (named.Through q members) = []
+
 abbrev pub named_target : Source → List Element
-named_target source.Null = element.Null ∷ []
-named_target (source.Place (operand.Name x)) = element.At (local_place x) ∷ []
-named_target (source.Place (operand.Through q)) = []
+named_target named.Null = element.Null ∷ []
+named_target (named.Place o) = named_in o
+named_target _ = []
 
 abbrev pub aimed_facts : ℕ → List Element → List Fact
 aimed_facts p es = map (fact_at (local_place p)) es
@@ -120,24 +122,16 @@ aimed_facts p es = map (fact_at (local_place p)) es
 -- what an instruction makes of no fact
 abbrev pub from_none : Types → Function → Place → Step → List Fact
 from_none types f place (Live x form) = born_facts (born place x form) (locations_of_local types f x)
-from_none types f place (End xs) = []
-from_none types f place (Eval r operation) = []
-from_none types f place (Load r o) = []
-from_none types f place (Save o r) = []
-from_none types f place (Aim p s) = aimed_facts p (named_target s)
-from_none types f place (Repoint p q) = []
-from_none types f place (Port r) = []
+from_none types f place (Aim p s) = aimed_facts p.local (named_target s)
+from_none types f place _ = []
 
 -- whether it drops a fact: what is written or ended loses its old set
 abbrev pub drops : Step → Fact → Bool
 drops (Live x form) fact = is_rooted x fact.location
 drops (End xs) fact = is_rooted_among xs fact.location || points_among xs fact.element
-drops (Eval r operation) fact = false
-drops (Load r o) fact = false
-drops (Save o r) fact = false
-drops (Aim p s) fact = is_location p fact.location
-drops (Repoint p q) fact = is_location p fact.location
-drops (Port r) fact = false
+drops (Aim p s) fact = is_location p.local fact.location
+drops (Repoint p q) fact = is_location p.local fact.location
+drops _ fact = false
 
 -- a pointer to what ended is invalid, unless it ended itself
 abbrev pub invalid_facts : AbsPlace → List Cause → List Fact
@@ -159,37 +153,29 @@ abbrev pub ended_facts : Function → Place → List ℕ → Fact → List Fact
 ended_facts f place xs fact = cond (is_rooted_among xs fact.location) [] (ended_element f place xs fact.location fact.element)
 
 -- a pointer that is aimed at what another one points to has its targets
+abbrev pub reached_through : ℕ → Operand → Fact → List Fact
+reached_through p (named.Name l) fact = []
+reached_through p (named.Through q members) fact =
+    given_if (is_location q.local fact.location && is_target fact.element) (fact_at (local_place p) fact.element)
+
 abbrev pub aimed_through : ℕ → Source → Fact → List Fact
-aimed_through p source.Null fact = []
-aimed_through p (source.Place (operand.Name x)) fact = []
-aimed_through p (source.Place (operand.Through q)) fact =
-    given_if (is_location q fact.location && is_target fact.element) (fact_at (local_place p) fact.element)
+aimed_through p (named.Place o) fact = reached_through p o fact
+aimed_through p _ fact = []
 
 -- what an instruction makes of one fact, beside keeping it
 abbrev pub makes : Function → Place → Step → Fact → List Fact
-makes f place (Live x form) fact = []
 makes f place (End xs) fact = ended_facts f place xs fact
-makes f place (Eval r operation) fact = []
-makes f place (Load r o) fact = []
-makes f place (Save o r) fact = []
-makes f place (Aim p s) fact = aimed_through p s fact
-makes f place (Repoint p q) fact = given_if (is_location q fact.location) (fact_at (local_place p) fact.element)
-makes f place (Port r) fact = []
+makes f place (Aim p s) fact = aimed_through p.local s fact
+makes f place (Repoint p q) fact = given_if (is_location q.local fact.location) (fact_at (local_place p.local) fact.element)
+makes f place _ fact = []
 
 -- what comes of one fact: itself, unless it is dropped, and what is made of it
 abbrev pub from_one : Function → Place → Step → Fact → List Fact
 from_one f place i fact = unless (drops i fact) fact ++ makes f place i fact
 
--- what comes of two facts: of these instructions none takes two
+-- what comes of two facts: none of the instructions that are built so far takes two
 abbrev pub from_two : Function → Place → Step → Fact → Fact → List Fact
-from_two f place (Live x form) a b = []
-from_two f place (End xs) a b = []
-from_two f place (Eval r operation) a b = []
-from_two f place (Load r o) a b = []
-from_two f place (Save o r) a b = []
-from_two f place (Aim p s) a b = []
-from_two f place (Repoint p q) a b = []
-from_two f place (Port r) a b = []
+from_two f place i a b = []
 
 -- ---- the tests
 
@@ -197,7 +183,7 @@ from_two f place (Port r) a b = []
 abbrev pub stops_at : Test → Option Bool → Fact → Bool
 stops_at (test.NonZero r) branch fact = false
 stops_at (test.NotNull p) None fact = false
-stops_at (test.NotNull p) (Some holds) fact = is_location p fact.location && cond holds (is_null fact.element) (is_held fact.element)
+stops_at (test.NotNull p) (Some holds) fact = is_location p.local fact.location && cond holds (is_null fact.element) (is_held fact.element)
 
 -- ---- the points and the edges
 

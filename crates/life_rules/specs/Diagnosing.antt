@@ -5,12 +5,10 @@ use Rattle.life_types.specs.Types.{Types}
 use Rattle.life_types.specs.declared.place.Place.{Place}
 use Rattle.life_core.specs.Function.{Function}
 use Rattle.life_core.specs.Linked.{spot_of}
-use Rattle.life_core.specs.Step.{Step, Live, End, Eval, Load, Save, Aim, Repoint, Port}
+use Rattle.life_core.specs.Step.{Step, Load, Save, Aim}
 use Rattle.life_core.specs.Tree.{Node, Action, Question, Return, Stop, Spot}
-use Rattle.life_core.specs.declared.instr.Operand.{Operand}
-use Rattle.life_core.specs.declared.instr.Operand.TheVariants.{Name, Through}
-use Rattle.life_core.specs.declared.instr.Source.{Source}
-use Rattle.life_core.specs.declared.instr.Source.TheVariants as source
+use Rattle.life_core.specs.Operands.{Operand, Name, Through, Source}
+use Rattle.life_core.specs.Operands as source
 use Rattle.life_core.specs.declared.stmt.Point.{Point}
 use Rattle.life_pset.specs.declared.element.AbsPlace.{AbsPlace}
 use Rattle.life_pset.specs.declared.element.Element.{Element}
@@ -24,22 +22,18 @@ use Rattle.life_rules.specs.declared.diag.Why.TheVariants as why
 
 -- the pointers through which an instruction goes
 abbrev pub used_in : Operand → List ℕ
-used_in (Name x) = []
-used_in (Through p) = p ∷ []
+used_in (Name l) = []
+used_in (Through p members) = p.local ∷ []
 
 abbrev pub used_by_source : Source → List ℕ
-used_by_source source.Null = []
 used_by_source (source.Place o) = used_in o
+used_by_source _ = []
 
 abbrev pub uses : Step → List ℕ
-uses (Live x form) = []
-uses (End xs) = []
-uses (Eval r operation) = []
 uses (Load r o) = used_in o
 uses (Save o r) = used_in o
 uses (Aim p s) = used_by_source s
-uses (Repoint p q) = []
-uses (Port r) = []
+uses _ = []
 
 -- what is wrong with using a pointer that may be this: null may not be used, nor what is invalid
 abbrev pub misused : ℕ → Place → AbsPlace → Element → List Diag

@@ -2,11 +2,12 @@
 ghost use Rattle.std.specs.Option.{option_copied};
 ghost use Rattle.std.specs.Prelude.{◌≡◌, ◌++◌, ℕ, [], false, slice_get, OnOk};
 ghost use Rattle.life_core.specs.Function.{function_of};
-ghost use Rattle.life_core.specs.Step.{step_of};
+ghost use Rattle.life_core.specs.Operands.{operand_of, source_of};
+ghost use Rattle.life_core.specs.Step.{asked_of, step_of};
 ghost use Rattle.life_pset.specs.Elements.{causes_of_end, end_causes, end_if, end_kind, local_place};
 ghost use Rattle.life_pset.specs.declared.element.Fact.{Fact};
 ghost use Rattle.life_rules.specs.Along.{takes_two};
-ghost use Rattle.life_rules.specs.Carrying.{aimed_facts, aimed_through, born, born_facts, drops, ended_element, ended_facts, ended_root, from_none, from_one, from_two, given_if, invalid_facts, locations_at, locations_of_local, makes, named_target, stops_at, unless};
+ghost use Rattle.life_rules.specs.Carrying.{aimed_facts, aimed_through, born, born_facts, drops, ended_element, ended_facts, ended_root, from_none, from_one, from_two, given_if, invalid_facts, locations_at, locations_of_local, makes, named_in, named_target, reached_through, stops_at, unless};
 
 use crate::matching::{
     is_held, is_location, is_null, is_rooted, is_rooted_among, is_target, points_among,
@@ -35,13 +36,8 @@ pub fn push_from_none(
             let element = born(place, *local, *form);
             push_born(types, f.locals.get(*local as usize), *local, element, out)?;
         }
-        Instr::End { .. } => {}
-        Instr::Eval { .. } => {}
-        Instr::Load { .. } => {}
-        Instr::Save { .. } => {}
-        Instr::Aim { pointer, source } => push_named_target(*pointer, source, out)?,
-        Instr::Repoint { .. } => {}
-        Instr::Port { .. } => {}
+        Instr::Aim { pointer, source } => push_named_target(pointer.local, source, out)?,
+        _ => {}
     }
     Ok(())
 }
@@ -96,14 +92,26 @@ fn fact_of(pointer: u32, element: Element) -> Fact
 // Adds what a pointer is aimed at by name.
 fn push_named_target(pointer: u32, source: &Source, out: &mut Vec<Fact>) -> Result<(), NoMemory>
     ensures { OnOk result
-        (out.new.items ≡ out.old.items ++ aimed_facts pointer (named_target source.now)) }
+        (out.new.items ≡ out.old.items ++ aimed_facts pointer (named_target (source_of source.now))) }
 {
     match source {
         Source::Null => out.push(fact_of(pointer, Element::Null))?,
-        Source::Place(Operand::Name(local)) => {
-            out.push(fact_of(pointer, Element::At(AbsPlace::of_local(*local))))?
+        Source::Place(operand) => push_named(pointer, operand, out)?,
+        _ => {}
+    }
+    Ok(())
+}
+
+// Adds the object at which a pointer is aimed by name.
+fn push_named(pointer: u32, operand: &Operand, out: &mut Vec<Fact>) -> Result<(), NoMemory>
+    ensures { OnOk result
+        (out.new.items ≡ out.old.items ++ aimed_facts pointer (named_in (operand_of operand.now))) }
+{
+    match operand {
+        Operand::Name(location) => {
+            out.push(fact_of(pointer, Element::At(AbsPlace::of_local(location.local))))?
         }
-        Source::Place(Operand::Through(_)) => {}
+        Operand::Through { .. } => {}
     }
     Ok(())
 }
@@ -156,12 +164,9 @@ fn drops(instr: &Instr, fact: Fact) -> bool
         Instr::End { locals } => {
             is_rooted_among(locals, &fact.location) || points_among(locals, &fact.element)
         }
-        Instr::Eval { .. } => false,
-        Instr::Load { .. } => false,
-        Instr::Save { .. } => false,
-        Instr::Aim { pointer, .. } => is_location(*pointer, &fact.location),
-        Instr::Repoint { pointer, .. } => is_location(*pointer, &fact.location),
-        Instr::Port { .. } => false,
+        Instr::Aim { pointer, .. } => is_location(pointer.local, &fact.location),
+        Instr::Repoint { pointer, .. } => is_location(pointer.local, &fact.location),
+        _ => false,
     }
 }
 
@@ -177,18 +182,14 @@ fn push_made(
         (out.new.items ≡ out.old.items ++ makes (function_of f.now) place (step_of instr.now) fact) }
 {
     match instr {
-        Instr::Live { .. } => {}
         Instr::End { locals } => push_ended(f, place, locals, fact, out)?,
-        Instr::Eval { .. } => {}
-        Instr::Load { .. } => {}
-        Instr::Save { .. } => {}
-        Instr::Aim { pointer, source } => push_aimed_through(*pointer, source, fact, out)?,
+        Instr::Aim { pointer, source } => push_aimed_through(pointer.local, source, fact, out)?,
         Instr::Repoint { pointer, from } => push_if(
-            is_location(*from, &fact.location),
-            fact_of(*pointer, fact.element),
+            is_location(from.local, &fact.location),
+            fact_of(pointer.local, fact.element),
             out,
         )?,
-        Instr::Port { .. } => {}
+        _ => {}
     }
     Ok(())
 }
@@ -294,6 +295,7 @@ fn push_invalid_object(
             element: Element::Invalid(cause),
         })?,
         LocalKind::Register => {}
+        LocalKind::Range => {}
     }
     Ok(())
 }
@@ -315,13 +317,32 @@ fn push_aimed_through(
     fact: Fact,
     out: &mut Vec<Fact>,
 ) -> Result<(), NoMemory>
-    ensures { OnOk result (out.new.items ≡ out.old.items ++ aimed_through pointer source.now fact) }
+    ensures { OnOk result (out.new.items ≡ out.old.items ++ aimed_through pointer (source_of source.now) fact) }
 {
     match source {
-        Source::Null => {}
-        Source::Place(Operand::Name(_)) => {}
-        Source::Place(Operand::Through(through)) => push_if(
-            is_location(*through, &fact.location) && is_target(&fact.element),
+        Source::Place(operand) => push_reached_through(pointer, operand, fact, out)?,
+        _ => {}
+    }
+    Ok(())
+}
+
+// Adds the targets of the pointer through which a place is reached.
+fn push_reached_through(
+    pointer: u32,
+    operand: &Operand,
+    fact: Fact,
+    out: &mut Vec<Fact>,
+) -> Result<(), NoMemory>
+    ensures { OnOk result
+        (out.new.items ≡ out.old.items ++ reached_through pointer (operand_of operand.now) fact) }
+{
+    match operand {
+        Operand::Name(_) => {}
+        Operand::Through {
+            pointer: through,
+            ..
+        } => push_if(
+            is_location(through.local, &fact.location) && is_target(&fact.element),
             fact_of(pointer, fact.element),
             out,
         )?,
@@ -336,14 +357,8 @@ pub fn takes_two(instr: &Instr) -> bool
     ensures { result ≡ takes_two (step_of instr.now) }
 {
     match instr {
-        Instr::Live { .. } => false,
-        Instr::End { .. } => false,
-        Instr::Eval { .. } => false,
-        Instr::Load { .. } => false,
-        Instr::Save { .. } => false,
-        Instr::Aim { .. } => false,
-        Instr::Repoint { .. } => false,
-        Instr::Port { .. } => false,
+        // None of those that are built so far does.
+        _ => false,
     }
 }
 
@@ -360,14 +375,8 @@ pub fn push_from_two(
         (out.new.items ≡ out.old.items ++ from_two (function_of f.now) place (step_of instr.now) first second) }
 {
     match instr {
-        Instr::Live { .. } => {}
-        Instr::End { .. } => {}
-        Instr::Eval { .. } => {}
-        Instr::Load { .. } => {}
-        Instr::Save { .. } => {}
-        Instr::Aim { .. } => {}
-        Instr::Repoint { .. } => {}
-        Instr::Port { .. } => {}
+        // None of those that are built so far does.
+        _ => {}
     }
     Ok(())
 }
@@ -377,14 +386,14 @@ pub fn push_from_two(
 /// Whether a branch of a test stops a fact: a pointer that was found to be null points nowhere on
 /// that branch, and on the other one it isn't null.
 pub fn stops_at(test: &Test, branch: Option<bool>, fact: Fact) -> bool
-    ensures { result ≡ stops_at test.now branch fact }
+    ensures { result ≡ stops_at (asked_of test.now) branch fact }
 {
     match test {
         Test::NonZero(_) => false,
         Test::NotNull(pointer) => match branch {
             None => false,
             Some(holds) => {
-                is_location(*pointer, &fact.location)
+                is_location(pointer.local, &fact.location)
                     && (if holds {
                         is_null(&fact.element)
                     } else {

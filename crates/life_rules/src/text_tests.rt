@@ -1,6 +1,6 @@
 // Texts of the locals and of the reasons of one function.
 use crate::{Diag, DiagKind, Why, place_text, texts_of};
-use life_core::{CoreFn, Local, LocalKind, Names, Stmt};
+use life_core::{CoreFn, Local, LocalKind, Names, Promise, Stmt};
 use life_pset::{AbsPlace, Cause, CauseKind, Root};
 use life_types::{NameId, NoMemory, Place, Ty, TyId, TypeTable};
 use std::alloc::Global;
@@ -24,6 +24,8 @@ fn local(name: Option<NameId>) -> Local {
         ty: TyId(0),
         kind: LocalKind::Object,
         place: at(1, 1),
+        nonnull: false,
+        keeps: false,
     }
 }
 
@@ -31,7 +33,10 @@ fn names(alloc: Global) -> Result<Names, NoMemory> {
     let mut texts = Vec::new(alloc);
     texts.push(b"p".to_vec(alloc)?)?;
     texts.push(b"x1".to_vec(alloc)?)?;
-    Ok(Names { texts })
+    Ok(Names {
+        texts,
+        members: Vec::new(alloc),
+    })
 }
 
 // A parameter `p`, the result, a temporary and a variable `x1`.
@@ -46,6 +51,7 @@ fn four_locals(alloc: Global) -> Result<CoreFn, NoMemory> {
         place: at(1, 5),
         parameters: 1,
         result: TyId(0),
+        promise: Promise::Default,
         locals,
         body: Stmt::List(Vec::new(alloc)),
     })

@@ -2,6 +2,7 @@
 ghost use Rattle.std.specs.List.{flat_map};
 ghost use Rattle.std.specs.Prelude.{◌≡◌, ◌++◌, OnOk, Some};
 ghost use Rattle.life_core.specs.Node.{spot_seen};
+ghost use Rattle.life_core.specs.Operands.{operand_of, source_of};
 ghost use Rattle.life_core.specs.Step.{step_of};
 ghost use Rattle.life_rules.specs.Diagnosing.{diags_at, misused, misused_as, used_by_source, used_in, uses};
 
@@ -43,46 +44,42 @@ fn push_misuses(
         (out.new.items ≡ out.old.items ++ flat_map (misused_as function place fact.now) (uses (step_of instr.now))) }
 {
     match instr {
-        Instr::Live { .. } => Ok(()),
-        Instr::End { .. } => Ok(()),
-        Instr::Eval { .. } => Ok(()),
-        Instr::Load { from, .. } => push_misuses_of(function, place, *from, fact, out),
-        Instr::Save { to, .. } => push_misuses_of(function, place, *to, fact, out),
-        Instr::Aim { source, .. } => push_misuses_by(function, place, *source, fact, out),
-        Instr::Repoint { .. } => Ok(()),
-        Instr::Port { .. } => Ok(()),
+        Instr::Load { from, .. } => push_misuses_of(function, place, from, fact, out),
+        Instr::Save { to, .. } => push_misuses_of(function, place, to, fact, out),
+        Instr::Aim { source, .. } => push_misuses_by(function, place, source, fact, out),
+        _ => Ok(()),
     }
 }
 
 fn push_misuses_by(
     function: u32,
     place: Place,
-    source: Source,
+    source: &Source,
     fact: &Fact,
     out: &mut Vec<Diag>,
 ) -> Result<(), NoMemory>
     ensures { OnOk result
-        (out.new.items ≡ out.old.items ++ flat_map (misused_as function place fact.now) (used_by_source source)) }
+        (out.new.items ≡ out.old.items ++ flat_map (misused_as function place fact.now) (used_by_source (source_of source.now))) }
 {
     match source {
-        Source::Null => Ok(()),
         Source::Place(operand) => push_misuses_of(function, place, operand, fact, out),
+        _ => Ok(()),
     }
 }
 
 fn push_misuses_of(
     function: u32,
     place: Place,
-    operand: Operand,
+    operand: &Operand,
     fact: &Fact,
     out: &mut Vec<Diag>,
 ) -> Result<(), NoMemory>
     ensures { OnOk result
-        (out.new.items ≡ out.old.items ++ flat_map (misused_as function place fact.now) (used_in operand)) }
+        (out.new.items ≡ out.old.items ++ flat_map (misused_as function place fact.now) (used_in (operand_of operand.now))) }
 {
     match operand {
         Operand::Name(_) => Ok(()),
-        Operand::Through(pointer) => push_misuse(function, place, pointer, fact, out),
+        Operand::Through { pointer, .. } => push_misuse(function, place, pointer.local, fact, out),
     }
 }
 

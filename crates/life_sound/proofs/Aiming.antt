@@ -6,10 +6,8 @@ use Rattle.life_types.specs.declared.place.Place.{Place}
 use Rattle.life_core.specs.Function.{Function}
 use Rattle.life_core.specs.Proper.{IsStepReady}
 use Rattle.life_core.specs.Step.{Aim, Repoint}
-use Rattle.life_core.specs.declared.instr.Operand.{Operand}
-use Rattle.life_core.specs.declared.instr.Operand.TheVariants.{Name, Through}
-use Rattle.life_core.specs.declared.instr.Source.{Source}
-use Rattle.life_core.specs.declared.instr.Source.TheVariants as source
+use Rattle.life_core.specs.Operands.{Location, Operand, Name, Through, Source}
+use Rattle.life_core.specs.Operands as source
 use Rattle.life_pset.specs.Elements.{local_place}
 use Rattle.life_pset.specs.Table.{IsOf, table_of}
 use Rattle.life_pset.specs.declared.element.Element.TheVariants as element
@@ -28,18 +26,22 @@ use Rattle.life_sound.proofs.Sorts.{IsSorted, named_sort}
 use Rattle.life_sound.proofs.Writing.{IsSafe, pointer_known}
 
 module _ (n : ℕ) (types : Types) (f : Function) (place : Place) (S S' : Fact → Type 0) (st : State) (h : Housed st.world.content st.cells) (sorted : IsSorted types f (holdings_of st)) (k : Known S st) where
-  pub aim_known : (p : ℕ) (source : Source) → IsStepReady types f (holdings_of st) (Aim p source) → Clean n place (Aim p source) S → Closed types f place (Aim p source) S S' → IsSafe S' (aimed p source st)
-  aim_known p source.Null ready clean cl = pointer_known types f place S S' st h sorted k (Aim p source.Null) cl p Null ready.0 (λ q e ne. other_location p q ne) record {
+  pub aim_known : (p : Location) (source : Source) → IsStepReady types f (holdings_of st) (Aim p source) → Clean n place (Aim p source) S → Closed types f place (Aim p source) S S' → IsSafe S' (aimed p.local source st)
+  aim_known p source.Null ready clean cl = pointer_known types f place S S' st h sorted k (Aim p source.Null) cl p.local Null ready.0.1 (λ q e ne. other_location p.local q ne) record {
     known = element.Null;
-    holds = cl.none _ (fact_of types f (local_place p) element.Null (pointer_location types f p ready.0) (null_element f)) (at_head _ []);
+    holds = cl.none _ (fact_of types f (local_place p.local) element.Null (pointer_location types f p.local ready.0.1) (null_element f)) (at_head _ []);
     covers = tt;
   }
+  aim_known p (source.Text n') ready clean cl = absurd ready.1
+  aim_known p source.Empty ready clean cl = absurd ready.1
+  aim_known p (source.Whole o) ready clean cl = absurd ready.1
+  aim_known p (source.Get l) ready clean cl = absurd ready.1
   aim_known p (source.Place o) ready clean cl =
       let at = reached n place (Aim p (source.Place o)) S clean st h k o (λ q used. used) ready.1 in
-      subst (λ found. IsSafe S' (on_found found (λ m i object. Next (put_cell p (Points (pointer_to st.world.content m i)) st)))) (sym at.here)
-      (pointer_known types f place S S' st h sorted k (Aim p (source.Place o)) cl p (pointer_to st.world.content at.number at.index) ready.0 (λ q e ne. other_location p q ne) record {
+      subst (λ found. IsSafe S' (on_found found (λ m i object. Next (put_cell p.local (Points (pointer_to st.world.content m i)) st)))) (sym at.here)
+      (pointer_known types f place S S' st h sorted k (Aim p (source.Place o)) cl p.local (pointer_to st.world.content at.number at.index) ready.0.1 (λ q e ne. other_location p.local q ne) record {
         known = element.At (local_place at.local);
-        holds = holds o at.local at.seen cl (fact_of types f (local_place p) _ (pointer_location types f p ready.0) (object_element types f at.local (named_sort types f st.cells at.local at.number sorted at.named)));
+        holds = holds o at.local at.seen cl (fact_of types f (local_place p.local) _ (pointer_location types f p.local ready.0.1) (object_element types f at.local (named_sort types f st.cells at.local at.number sorted at.named)));
         covers = record {
           local = at.local;
           place_is = refl;
@@ -48,21 +50,21 @@ module _ (n : ℕ) (types : Types) (f : Function) (place : Place) (S S' : Fact �
         };
       })
     where
-      holds : (o : Operand) (y : ℕ) → Sees S o y → Closed types f place (Aim p (source.Place o)) S S' → IsOf (table_of types f) (fact_at (local_place p) (element.At (local_place y))) → S' (fact_at (local_place p) (element.At (local_place y)))
-      holds (Name x) y seen cl of =
-          cl.none _ of (subst (λ z. Contains (aimed_facts p (named_target (source.Place (Name x)))) (fact_at (local_place p) (element.At (local_place z)))) seen (at_head _ []))
-      holds (Through q) y seen cl of =
-          made types f place (Aim p (source.Place (Through q))) S S' cl (fact_at (local_place q) (element.At (local_place y))) (fact_at (local_place p) (element.At (local_place y))) seen of
-          (if_given _ _ (ap (λ b. b && true) (same_location q)))
+      holds : (o : Operand) (y : ℕ) → Sees S o y → Closed types f place (Aim p (source.Place o)) S S' → IsOf (table_of types f) (fact_at (local_place p.local) (element.At (local_place y))) → S' (fact_at (local_place p.local) (element.At (local_place y)))
+      holds (Name l) y seen cl of =
+          cl.none _ of (subst (λ z. Contains (aimed_facts p.local (named_target (source.Place (Name l)))) (fact_at (local_place p.local) (element.At (local_place z)))) seen (at_head _ []))
+      holds (Through q members) y seen cl of =
+          made types f place (Aim p (source.Place (Through q members))) S S' cl (fact_at (local_place q.local) (element.At (local_place y))) (fact_at (local_place p.local) (element.At (local_place y))) seen of
+          (if_given _ _ (ap (λ b. b && true) (same_location q.local)))
 
-  pub repoint_known : (p q : ℕ) → IsStepReady types f (holdings_of st) (Repoint p q) → Closed types f place (Repoint p q) S S' → (s : Setting) → IsSafe S' (does s types f (Repoint p q) st)
+  pub repoint_known : (p q : Location) → IsStepReady types f (holdings_of st) (Repoint p q) → Closed types f place (Repoint p q) S S' → (s : Setting) → IsSafe S' (does s types f (Repoint p q) st)
   repoint_known p q ready cl s =
-      let cell = pointer_cell st.cells q ready.1 in
-      let c = k.covered q cell.0 cell.1 in
-      subst (λ o. IsSafe S' (on_pointer o (λ v. Next (put_cell p (Points v) st)))) (sym cell.1)
-      (pointer_known types f place S S' st h sorted k (Repoint p q) cl p cell.0 ready.0 (λ y e ne. other_location p y ne) record {
+      let cell = pointer_cell st.cells q.local ready.1.1 in
+      let c = k.covered q.local cell.0 cell.1 in
+      subst (λ o. IsSafe S' (on_pointer o (λ v. Next (put_cell p.local (Points v) st)))) (sym cell.1)
+      (pointer_known types f place S S' st h sorted k (Repoint p q) cl p.local cell.0 ready.0.1 (λ y e ne. other_location p.local y ne) record {
         known = c.known;
-        holds = made types f place (Repoint p q) S S' cl (fact_at (local_place q) c.known) (fact_at (local_place p) c.known) c.holds
-            (fact_of types f (local_place p) c.known (pointer_location types f p ready.0) (element_in types f _ (cl.of _ c.holds))) (if_given _ _ (same_location q));
+        holds = made types f place (Repoint p q) S S' cl (fact_at (local_place q.local) c.known) (fact_at (local_place p.local) c.known) c.holds
+            (fact_of types f (local_place p.local) c.known (pointer_location types f p.local ready.0.1) (element_in types f _ (cl.of _ c.holds))) (if_given _ _ (same_location q.local));
         covers = c.covers;
       })

@@ -3,8 +3,8 @@ use Rattle.std.proofs.Common.{◌≡◌, ◌≢◌, ℕ, zero, suc, Some, Bool, 
 use Rattle.std.specs.Prelude.{ℤ, pos, negsuc, slice_get, cond, ◌&&◌}
 use Rattle.std.proofs.lemmas.Bool.Decides.{eqb_tells}
 use Rattle.life_core.specs.Proper.{IsTestReady}
-use Rattle.life_core.specs.declared.instr.Test.{Test}
-use Rattle.life_core.specs.declared.instr.Test.TheVariants.{NonZero, NotNull}
+use Rattle.life_core.specs.Operands.{Location}
+use Rattle.life_core.specs.Step.{Test, NonZero, NotNull}
 use Rattle.life_pset.specs.Elements.{local_place}
 use Rattle.life_pset.specs.declared.element.Element.{Element}
 use Rattle.life_pset.specs.declared.element.Element.TheVariants as element
@@ -57,10 +57,13 @@ and_false true = refl
 and_false false = refl
 
 -- a test for null keeps what covers its pointer's value
-null_on : (p : ℕ) (branch : Bool) (v : Pointer) (S S' : Fact → Type 0) (st : State) → slice_get st.cells p ≡ Some (Points v) → ((e : Element) → Covers st.world.content st.cells e v → cond branch (is_null e) (is_held e) ≡ false)
-    → Passes (NotNull p) branch S S' → Known S st → Known S' st
-null_on p branch v S S' st is left passes k = known_on S S' st (λ q w e at cov s. passes (fact_at (local_place q) e) s (gone q w e at cov)) k
+null_on : (at : Location) (branch : Bool) (v : Pointer) (S S' : Fact → Type 0) (st : State) → slice_get st.cells at.local ≡ Some (Points v) → ((e : Element) → Covers st.world.content st.cells e v → cond branch (is_null e) (is_held e) ≡ false)
+    → Passes (NotNull at) branch S S' → Known S st → Known S' st
+null_on location branch v S S' st is left passes k = known_on S S' st (λ q w e at cov s. passes (fact_at (local_place q) e) s (gone q w e at cov)) k
   where
+    p : ℕ
+    p = location.local
+
     points_same : {a b : Pointer} → Points a ≡ Points b → a ≡ b
     points_same e = cc
 
@@ -83,7 +86,7 @@ test_known (NonZero r) S H F n st ready held failed k =
     go (pos (suc m)) = known_on S H st (λ p v e at cov s. held (fact_at (local_place p) e) s refl) k
     go (negsuc m) = known_on S H st (λ p v e at cov s. held (fact_at (local_place p) e) s refl) k
 test_known (NotNull p) S H F n st ready held failed k =
-    let cell = pointer_cell st.cells p ready in
+    let cell = pointer_cell st.cells p.local ready.1 in
     subst (λ o. IsKnownBy H F (pointer_test o n st)) (sym cell.1) (go cell.0 cell.1)
   where
     wild : Wild ≢ Null
@@ -98,7 +101,7 @@ test_known (NotNull p) S H F n st ready held failed k =
         clash : To t ≡ Null → ⊥
         clash e = cc
 
-    go : (v : Pointer) → slice_get st.cells p ≡ Some (Points v) → IsKnownBy H F (by_pointer v n st)
+    go : (v : Pointer) → slice_get st.cells p.local ≡ Some (Points v) → IsKnownBy H F (by_pointer v n st)
     go Null e = null_on p false Null S F st e (held_left st.world.content st.cells) failed k
     go Wild e = null_on p true Wild S H st e (λ x cov. null_left st.world.content st.cells Wild x wild cov) held k
     go (To t) e = null_on p true (To t) S H st e (λ x cov. null_left st.world.content st.cells (To t) x (aimed t) cov) held k

@@ -6,9 +6,8 @@ use Rattle.life_types.specs.Types.{Types}
 use Rattle.life_types.specs.declared.place.Place.{Place}
 use Rattle.life_core.specs.Function.{Function}
 use Rattle.life_core.specs.Linked.{Lead, Linked, spot_at, goes, parts, edge_to, edges_out, edges_from, code_of, edges_of, numbered, spot_of_linked, spot_of}
-use Rattle.life_core.specs.Step.{Step}
 use Rattle.life_core.specs.Tree.{Action, Question}
-use Rattle.life_core.specs.declared.instr.Test.{Test}
+use Rattle.life_core.specs.Step.{Step, Test}
 use Rattle.life_core.specs.declared.stmt.Edge.{Edge}
 use Rattle.life_core.specs.declared.stmt.Point.{Point}
 use Rattle.life_pset.specs.Table.{IsOf, table_of}

@@ -15,7 +15,7 @@ use Rattle.life_core.specs.Proper.{Blank, AnObject, ANumber, APointer, held_if, 
 use Rattle.life_core.specs.Step.{Step}
 use Rattle.life_core.specs.declared.program.Local.{Local}
 use Rattle.life_core.specs.declared.program.LocalKind.{LocalKind}
-use Rattle.life_core.specs.declared.program.LocalKind.TheVariants.{Object, Register}
+use Rattle.life_core.specs.declared.program.LocalKind.TheVariants.{Object, Register, Range}
 use Rattle.life_pset.specs.Elements.{local_place, location_if, locations_from, locations_of, object_if, objects_from, step_causes, causes_at, causes_of, elements_of}
 use Rattle.life_pset.specs.Table.{IsOf, table_of}
 use Rattle.life_pset.specs.declared.element.AbsPlace.{AbsPlace}
@@ -50,6 +50,7 @@ module _ (types : Types) (f : Function) (x : ℕ) where
       kind : (c : Class) (k : LocalKind) → held_if c k ≡ AnObject → k ≡ Object
       kind Value Object e = refl
       kind Value Register e = absurd (number e)
+      kind Value Range e = absurd (blank e)
       kind Pointer k e = absurd (pointer e)
       kind Owner k e = absurd (blank e)
       kind Aggregate k e = absurd (blank e)
@@ -73,6 +74,7 @@ module _ (types : Types) (f : Function) (x : ℕ) where
       class : (c : Class) (k : LocalKind) → held_if c k ≡ APointer → c ≡ Pointer
       class Value Object e = absurd (object e)
       class Value Register e = absurd (number e)
+      class Value Range e = absurd (blank e)
       class Pointer k e = refl
       class Owner k e = absurd (blank e)
       class Aggregate k e = absurd (blank e)

@@ -1,11 +1,10 @@
 -- An operand at which nothing is wrong has a position of an object that a local names.
-use Rattle.std.proofs.Common.{◌≡◌, ℕ, ◌<◌, length, [], Some, refl, ap, subst, ◌∙◌}
+use Rattle.std.proofs.Common.{◌≡◌, ℕ, ◌<◌, length, List, [], Some, refl, ap, subst, ◌∙◌}
 use Rattle.std.specs.Prelude.{Contains, slice_get}
 use Rattle.life_types.specs.declared.place.Place.{Place}
 use Rattle.life_core.specs.Proper.{IsOperandReady}
 use Rattle.life_core.specs.Step.{Step}
-use Rattle.life_core.specs.declared.instr.Operand.{Operand}
-use Rattle.life_core.specs.declared.instr.Operand.TheVariants.{Name, Through}
+use Rattle.life_core.specs.Operands.{Location, Operand, Name, Through}
 use Rattle.life_pset.specs.Elements.{local_place}
 use Rattle.life_pset.specs.declared.element.AbsPlace.{AbsPlace}
 use Rattle.life_pset.specs.declared.element.Element.{Element}
@@ -26,8 +25,8 @@ use Rattle.life_sound.proofs.Facts.{Clean, unused}
 
 -- the local is the operand's, or the pointer may point to it
 abbrev pub Sees : (Fact → Type 0) → Operand → ℕ → Type 0
-Sees S (Name x) local = x ≡ local
-Sees S (Through p) local = S (fact_at (local_place p) (element.At (local_place local)))
+Sees S (Name l) local = l.local ≡ local
+Sees S (Through p members) local = S (fact_at (local_place p.local) (element.At (local_place local)))
 
 -- the position where the operand lies, and the local that names the object
 pub record Reached (S : Fact → Type 0) (st : State) (o : Operand) : Type 0 where
@@ -42,13 +41,16 @@ pub record Reached (S : Fact → Type 0) (st : State) (o : Operand) : Type 0 whe
   pub seen : Sees S o local
 
 module _ (n : ℕ) (place : Place) (i : Step) (S : Fact → Type 0) (clean : Clean n place i S) (st : State) (h : Housed st.world.content st.cells) (k : Known S st) where
-  through : (p : ℕ) → Contains (uses i) p → (v : Pointer) → slice_get st.cells p ≡ Some (Points v) → Cover S st.world.content st.cells p v → Reached S st (Through p)
-  through p used v e cover = go v e cover.known cover.holds cover.covers
+  through : (at : Location) (members : List ℕ) → Contains (uses i) at.local → (v : Pointer) → slice_get st.cells at.local ≡ Some (Points v) → Cover S st.world.content st.cells at.local v → Reached S st (Through at members)
+  through at members used v e cover = go v e cover.known cover.holds cover.covers
     where
+      p : ℕ
+      p = at.local
+
       c : Content
       c = st.world.content
 
-      pointed : (t : Target) → slice_get st.cells p ≡ Some (Points (To t)) → (place' : AbsPlace) → S (fact_at (local_place p) (element.At place')) → PointsTo st.world.content st.cells place' t → Reached S st (Through p)
+      pointed : (t : Target) → slice_get st.cells p ≡ Some (Points (To t)) → (place' : AbsPlace) → S (fact_at (local_place p) (element.At place')) → PointsTo st.world.content st.cells place' t → Reached S st (Through at members)
       pointed t e place' s to =
           let l = h.lives to.local t.object to.named in
           let aims = h.aims p t e in
@@ -64,7 +66,7 @@ module _ (n : ℕ) (place : Place) (i : Step) (S : Fact → Type 0) (clean : Cle
             seen = subst (λ q. S (fact_at (local_place p) (element.At q))) to.place_is s;
           }
 
-      go : (v : Pointer) → slice_get st.cells p ≡ Some (Points v) → (known : Element) → S (fact_at (local_place p) known) → Covers st.world.content st.cells known v → Reached S st (Through p)
+      go : (v : Pointer) → slice_get st.cells p ≡ Some (Points v) → (known : Element) → S (fact_at (local_place p) known) → Covers st.world.content st.cells known v → Reached S st (Through at members)
       go Null e element.Null s cov = absurd (unused n place i S clean p element.Null _ used (at_head _ []) s)
       go Wild e element.Null s cov = absurd cov
       go (To t) e element.Null s cov = absurd cov
@@ -77,19 +79,19 @@ module _ (n : ℕ) (place : Place) (i : Step) (S : Fact → Type 0) (clean : Cle
       go (To t) e (element.At place') s cov = pointed t e place' s cov
 
   pub reached : (o : Operand) → ((p : ℕ) → Contains (used_in o) p → Contains (uses i) p) → IsOperandReady (holdings_of st) o → Reached S st o
-  reached (Name x) used ready =
-      let cell = named_cell st.cells x ready in
-      let l = h.lives x cell.0 cell.1 in record {
+  reached (Name at) used ready =
+      let cell = named_cell st.cells at.local ready.1 in
+      let l = h.lives at.local cell.0 cell.1 in record {
         number = cell.0;
         index = 0;
         object = l.object;
         here = ap (named_by st.world.content) cell.1 ∙ found_here st.world.content cell.0 0 l.object l.there l.slot;
         there = l.there;
         within = l.slot;
-        local = x;
+        local = at.local;
         named = cell.1;
         seen = refl;
       }
-  reached (Through p) used ready =
-      let cell = pointer_cell st.cells p ready in
-      through p (used p (at_head p [])) cell.0 cell.1 (k.covered p cell.0 cell.1)
+  reached (Through p members) used ready =
+      let cell = pointer_cell st.cells p.local ready.1.1 in
+      through p members (used p.local (at_head p.local [])) cell.0 cell.1 (k.covered p.local cell.0 cell.1)

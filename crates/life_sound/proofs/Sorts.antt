@@ -5,7 +5,7 @@ use Rattle.std.proofs.lemmas.Option.{slice_get-map}
 use Rattle.life_types.specs.Types.{Types}
 use Rattle.life_core.specs.Function.{Function}
 use Rattle.life_core.specs.Proper.{Holding, Blank, AnObject, ANumber, APointer, Holdings, Holds, sort_of, blank_for, blanked, holdings_after, holdings_past, IsStepReady, IsNodeReady, Reaches, starts, goes_on, IsProper}
-use Rattle.life_core.specs.Step.{Step, Live, End, Eval, Load, Save, Aim, Repoint, Port}
+use Rattle.life_core.specs.Step.{Step, Live, End, Eval, Load, Save, Copy, Move, Aim, Repoint, Element, Cursor, Advance, Cut, Size, Same, Changes, Make, Call, Ports}
 use Rattle.life_core.specs.Tree.{Node, Action, Question, Return, Stop}
 use Rattle.life_core.specs.declared.program.Local.{Local}
 use Rattle.life_store.specs.State.{Pointer, Cell, Named, Points, holding_of}
@@ -32,9 +32,20 @@ module _ (types : Types) (f : Function) where
   after_sorted (Eval r operation) hs ready s = set_sorted hs r ANumber (inr (sym ready.0)) s
   after_sorted (Load r o) hs ready s = set_sorted hs r ANumber (inr (sym ready.0)) s
   after_sorted (Save o r) hs ready s = s
-  after_sorted (Aim p source) hs ready s = set_sorted hs p APointer (inr (sym ready.0)) s
-  after_sorted (Repoint p q) hs ready s = set_sorted hs p APointer (inr (sym ready.0)) s
-  after_sorted (Port r) hs ready s = s
+  after_sorted (Copy to from) hs ready s = absurd ready
+  after_sorted (Move to y) hs ready s = absurd ready
+  after_sorted (Aim p source) hs ready s = set_sorted hs p.local APointer (inr (sym ready.0.1)) s
+  after_sorted (Repoint p q) hs ready s = set_sorted hs p.local APointer (inr (sym ready.0.1)) s
+  after_sorted (Element p b which) hs ready s = absurd ready
+  after_sorted (Cursor p b end) hs ready s = absurd ready
+  after_sorted (Advance p q r direction) hs ready s = absurd ready
+  after_sorted (Cut p q r count) hs ready s = absurd ready
+  after_sorted (Size r b) hs ready s = absurd ready
+  after_sorted (Same r a b equal) hs ready s = absurd ready
+  after_sorted (Changes o c) hs ready s = absurd ready
+  after_sorted (Make u made) hs ready s = absurd ready
+  after_sorted (Call target g xs) hs ready s = absurd ready
+  after_sorted (Ports p) hs ready s = s
 
   past_sorted : (node : Node) (hs : Holdings) → IsNodeReady types f hs node → IsSorted types f hs → IsSorted types f (holdings_past types f node hs)
   past_sorted (Action i) hs ready s = after_sorted i hs ready s

@@ -7,9 +7,8 @@ use Rattle.life_types.specs.declared.place.Place.{Place}
 use Rattle.life_core.specs.Function.{Function, Program}
 use Rattle.life_core.specs.Linked.{code_of, enter, no_exits, numbered, spot_at, goes, parts}
 use Rattle.life_core.specs.Proper.{IsProper, IsProperProgram}
-use Rattle.life_core.specs.Step.{Step}
 use Rattle.life_core.specs.Tree.{Action, Question}
-use Rattle.life_core.specs.declared.instr.Test.{Test}
+use Rattle.life_core.specs.Step.{Step, Test}
 use Rattle.life_pset.specs.declared.element.Fact.{Fact}
 use Rattle.life_rules.specs.Diagnosing.{IsDiagnosed}
 use Rattle.life_rules.specs.Listing.{IsProgramDiagnosed, AreProgramDiagnostics}

@@ -4,7 +4,7 @@ use Rattle.life_types.specs.Types.{Types}
 use Rattle.life_types.specs.declared.place.Place.{Place}
 use Rattle.life_core.specs.Function.{Function}
 use Rattle.life_core.specs.Proper.{IsStepReady}
-use Rattle.life_core.specs.Step.{Step, Live, End, Eval, Load, Save, Aim, Repoint, Port}
+use Rattle.life_core.specs.Step.{Step, Live, End, Eval, Load, Save, Copy, Move, Aim, Repoint, Element, Cursor, Advance, Cut, Size, Same, Changes, Make, Call, Ports}
 use Rattle.life_pset.specs.declared.element.Fact.{Fact}
 use Rattle.life_store.specs.Doing.{Setting, does}
 use Rattle.life_store.specs.State.{State, holdings_of}
@@ -25,6 +25,17 @@ module _ (n : â„•) (types : Types) (f : Function) (place : Place) (S S' : Fact â
   step_safe s (Eval r op) ready clean cl = eval_known n types f place S S' st h sorted k r op ready cl
   step_safe s (Load r o) ready clean cl = load_known n types f place S S' st h sorted k r o ready clean cl s
   step_safe s (Save o r) ready clean cl = save_known n types f place S S' st h sorted k o r ready clean cl s
+  step_safe s (Copy to from) ready clean cl = absurd ready
+  step_safe s (Move to y) ready clean cl = absurd ready
   step_safe s (Aim p source) ready clean cl = aim_known n types f place S S' st h sorted k p source ready clean cl
   step_safe s (Repoint p q) ready clean cl = repoint_known n types f place S S' st h sorted k p q ready cl s
-  step_safe s (Port r) ready clean cl = port_known n types f place S S' st h sorted k r ready cl s
+  step_safe s (Element p b which) ready clean cl = absurd ready
+  step_safe s (Cursor p b end) ready clean cl = absurd ready
+  step_safe s (Advance p q r direction) ready clean cl = absurd ready
+  step_safe s (Cut p q r count) ready clean cl = absurd ready
+  step_safe s (Size r b) ready clean cl = absurd ready
+  step_safe s (Same r a b equal) ready clean cl = absurd ready
+  step_safe s (Changes o c) ready clean cl = absurd ready
+  step_safe s (Make u made) ready clean cl = absurd ready
+  step_safe s (Call target g xs) ready clean cl = absurd ready
+  step_safe s (Ports p) ready clean cl = port_known n types f place S S' st h sorted k p ready cl s

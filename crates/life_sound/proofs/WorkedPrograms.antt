@@ -115,10 +115,10 @@ module _ (types : Types) (l : Local) (i : Step) (pointer : class_at types l.ty �
 -- ---- both are proper
 
 misuse_ready : (types : Types) (l : Local) → sort_of types (worked l misuse) 0 ≡ APointer → IsStepReady types (worked l misuse) (APointer ∷ []) misuse
-misuse_ready types l sort = (sort, refl)
+misuse_ready types l sort = ((refl, sort), (refl, (refl, refl)))
 
 no_use_ready : (types : Types) (l : Local) → sort_of types (worked l no_use) 0 ≡ APointer → IsStepReady types (worked l no_use) (APointer ∷ []) no_use
-no_use_ready types l sort = (sort, refl)
+no_use_ready types l sort = ((refl, sort), (refl, refl))
 
 one_proper : (p : Program) (f : Function) → p.functions ≡ f ∷ [] → f.parameters ≡ 0 → IsProper p.types f → IsProperProgram p
 one_proper p f is none proper = record {

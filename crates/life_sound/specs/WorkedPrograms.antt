@@ -2,12 +2,12 @@
 -- instruction follows.
 use Rattle.std.specs.Prelude.{ℕ, [], ◌∷◌}
 use Rattle.life_types.specs.declared.place.Place.{Place}
-use Rattle.life_core.specs.Function.{Function}
+use Rattle.life_core.specs.Function.{Function, Default}
 use Rattle.life_core.specs.Step.{Step, Live, Aim, Repoint}
 use Rattle.life_core.specs.Tree.{Tree, Skip, Then, Acts, Returns}
 use Rattle.life_core.specs.declared.instr.Form.TheVariants.{Plain}
-use Rattle.life_core.specs.declared.instr.Operand.TheVariants.{Through}
-use Rattle.life_core.specs.declared.instr.Source.TheVariants as source
+use Rattle.life_core.specs.Operands.{whole, Through}
+use Rattle.life_core.specs.Operands as source
 use Rattle.life_core.specs.declared.program.Local.{Local}
 use Rattle.life_pset.specs.Elements.{local_place, uninitialised}
 use Rattle.life_rules.specs.declared.diag.Diag.{Diag}
@@ -26,16 +26,17 @@ worked l i = record {
   place = on_line 1;
   parameters = 0;
   result = record { 0 = 0 };
+  promise = Default;
   locals = l ∷ [];
   body = worked_body i;
 }
 
 -- it is aimed at what it points to itself, which is wrong, or it is given its own value, which is not
 abbrev pub misuse : Step
-misuse = Aim 0 (source.Place (Through 0))
+misuse = Aim (whole 0) (source.Place (Through (whole 0) []))
 
 abbrev pub no_use : Step
-no_use = Repoint 0 0
+no_use = Repoint (whole 0) (whole 0)
 
 -- what is found of the first
 abbrev pub found : Diag

@@ -4,12 +4,15 @@ ghost use Rattle.life_core.specs.Function.{function_of, program_of};
 ghost use Rattle.life_core.specs.declared.program.Local.{Local};
 ghost use Rattle.life_core.specs.Step.{step_of};
 ghost use Rattle.life_core.specs.Tree.{tree_of};
-ghost use Rattle.life_sound.specs.WorkedPrograms.{found, on_line, worked, worked_body};
+ghost use Rattle.life_sound.specs.WorkedPrograms.{found, misuse, no_use, on_line, worked, worked_body};
 ghost use Rattle.life_types.specs.Types.{class_at};
 ghost use Rattle.life_types.specs.declared.ty.Class.TheVariants as class;
 
 use crate::accept;
-use life_core::{CoreFn, CoreProgram, Form, Instr, Local, LocalKind, Names, Operand, Source, Stmt};
+use life_core::{
+    CoreFn, CoreProgram, Form, Instr, Local, LocalKind, Location, Names, Operand, Promise, Source,
+    Stmt,
+};
 use life_pset::{AbsPlace, Cause, CauseKind};
 use life_rules::{Diag, DiagKind, Why};
 use life_types::{NameId, NoMemory, Place, Ty, TyId, TypeTable};
@@ -49,6 +52,7 @@ fn function(alloc: Global, pointer: Local, instr: Instr) -> Result<CoreFn, NoMem
         place: line(1),
         parameters: 0,
         result: TyId(0),
+        promise: Promise::Default,
         locals,
         body: body(alloc, instr)?,
     })
@@ -70,16 +74,40 @@ fn program(alloc: Global, instr: Instr) -> Result<CoreProgram, NoMemory>
         ty: pointer,
         kind: LocalKind::Register,
         place: line(1),
+        nonnull: false,
+        keeps: false,
     };
     let mut functions = Vec::new(alloc);
     functions.push(function(alloc, local, instr)?)?;
     Ok(CoreProgram {
         names: Names {
             texts: Vec::new(alloc),
+            members: Vec::new(alloc),
         },
         types,
+        texts: Vec::new(alloc),
         functions,
     })
+}
+
+/// It is given its own value.
+fn copying(alloc: Global) -> Instr
+    ensures { step_of result ≡ no_use }
+{
+    Instr::Repoint {
+        pointer: Location::whole(alloc, 0),
+        from: Location::whole(alloc, 0),
+    }
+}
+
+/// It is aimed at what it points to.
+fn misusing(alloc: Global) -> Instr
+    ensures { step_of result ≡ misuse }
+{
+    Instr::Aim {
+        pointer: Location::whole(alloc, 0),
+        source: Source::Place(Operand::through(alloc, 0)),
+    }
 }
 
 /// What is wrong with the use, as it was worked out.
@@ -103,13 +131,7 @@ fn one_use(alloc: Global) -> Result<Vec<Diag>, NoMemory>
 
 #[test]
 fn a_pointer_that_is_only_copied_is_accepted(rt: HostRuntime) -> Result<(), Fail> {
-    let copied = program(
-        rt.alloc(),
-        Instr::Repoint {
-            pointer: 0,
-            from: 0,
-        },
-    )?;
+    let copied = program(rt.alloc(), copying(rt.alloc()))?;
     match accept(copied, Vec::new(rt.alloc())) {
         Ok(accepted) => assert_eq!(rt; accepted.program().functions.len(), 1),
         Err(_) => assert!(rt; false),
@@ -119,13 +141,7 @@ fn a_pointer_that_is_only_copied_is_accepted(rt: HostRuntime) -> Result<(), Fail
 
 #[test]
 fn a_pointer_that_is_used_is_rejected(rt: HostRuntime) -> Result<(), Fail> {
-    let used = program(
-        rt.alloc(),
-        Instr::Aim {
-            pointer: 0,
-            source: Source::Place(Operand::Through(0)),
-        },
-    )?;
+    let used = program(rt.alloc(), misusing(rt.alloc()))?;
     match accept(used, one_use(rt.alloc())?) {
         Ok(_) => assert!(rt; false),
         Err(rejected) => {

@@ -2,8 +2,7 @@
 use Rattle.std.proofs.Common.{◌≡◌, ℕ, ◌<◌, length, Option, Some, None, Bool, true, false, refl, sym, ap, subst, ◌∙◌}
 use Rattle.std.proofs.lemmas.Bool.{lt-ltb, false≢true}
 use Rattle.life_core.specs.Proper.{IsOperandReady}
-use Rattle.life_core.specs.declared.instr.Operand.{Operand}
-use Rattle.life_core.specs.declared.instr.Operand.TheVariants.{Name, Through}
+use Rattle.life_core.specs.Operands.{Operand, Name, Through}
 use Rattle.life_store.specs.Cells.{at}
 use Rattle.life_store.specs.Content.{Object, Content, is_valid_in}
 use Rattle.life_store.specs.Doing.{Found, Here, Wrong, Astray, Effect, Faults, here_if, found_in, found_at, is_valid, found_if, behind, behind_cell, named_by, resolve, on_found}
@@ -40,15 +39,16 @@ behind_there c Wild aims = tt
 behind_there c (To t) aims = target_there c t (aims t refl)
 
 pub operand_there : (st : State) (o : Operand) → Housed st.world.content st.cells → IsOperandReady (holdings_of st) o → IsThere st.world.content (resolve o st)
-operand_there st (Name x) h ready =
-    let cell = named_cell st.cells x ready in
+operand_there st (Name l') h ready =
+    let x = l'.local in
+    let cell = named_cell st.cells x ready.1 in
     let l = h.lives x cell.0 cell.1 in
     let c = st.world.content in
     subst (λ v. IsThere c (named_by c v)) (sym cell.1) (subst (IsThere c) (sym (found_here c cell.0 0 l.object l.there l.slot)) (l.there, l.slot))
-operand_there st (Through p) h ready =
-    let cell = pointer_cell st.cells p ready in
+operand_there st (Through p members) h ready =
+    let cell = pointer_cell st.cells p.local ready.1.1 in
     let c = st.world.content in
-    subst (λ v. IsThere c (behind_cell c v)) (sym cell.1) (behind_there c cell.0 (λ t e. h.aims p t (cell.1 ∙ ap (λ v. Some (Points v)) e)))
+    subst (λ v. IsThere c (behind_cell c v)) (sym cell.1) (behind_there c cell.0 (λ t e. h.aims p.local t (cell.1 ∙ ap (λ v. Some (Points v)) e)))
 
 -- what is done with a position that was found, or with what is wrong
 pub on_found_good : (P : Effect → Type 0) (c : Content) (r : Found) (go : ℕ → ℕ → Object → Effect) → IsThere c r → ((kind : FaultKind) → P (Faults kind))

@@ -6,7 +6,7 @@ use Rattle.life_core.specs.Function.{Function}
 use Rattle.life_core.specs.Step.{Step}
 use Rattle.life_core.specs.Tree.{Action, Question, Stop as StopHere}
 use Rattle.life_core.specs.declared.exits.Exits.{Exits}
-use Rattle.life_core.specs.declared.instr.Test.{Test}
+use Rattle.life_core.specs.Step.{Test}
 use Rattle.life_types.specs.Types.{Types}
 use Rattle.life_types.specs.declared.place.Place.{Place}
 use Rattle.life_store.specs.Doing.{Setting, Effect, Next, Traps, Faults, Strays, does}

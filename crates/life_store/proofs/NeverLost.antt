@@ -8,8 +8,7 @@ use Rattle.life_core.specs.Linked.{Lead, Linked, code_of, enter, no_exits, numbe
 use Rattle.life_core.specs.Proper.{Blank, Holdings, Reaches, starts, goes_on, IsProper, AreProper, IsProperProgram, blank_for, holdings_past, IsTestReady}
 use Rattle.life_core.specs.Step.{Step}
 use Rattle.life_core.specs.Tree.{Action, Question}
-use Rattle.life_core.specs.declared.instr.Test.{Test}
-use Rattle.life_core.specs.declared.instr.Test.TheVariants.{NonZero, NotNull}
+use Rattle.life_core.specs.Step.{Test, NonZero, NotNull}
 use Rattle.life_core.specs.declared.program.Local.{Local}
 use Rattle.life_types.specs.Types.{Types}
 use Rattle.life_types.specs.declared.place.Place.{Place}
@@ -71,7 +70,7 @@ module _ (types : Types) (f : Function) where
       let cell = number_cell st.cells r ready in
       subst (λ o. GoodVerdict (Standing types f) IsHeld held failed (number_test o n st)) (sym cell.1) (number_stands held failed cell.0 n st a b)
   test_stands (NotNull p) held failed n st ready a b =
-      let cell = pointer_cell st.cells p ready in
+      let cell = pointer_cell st.cells p.local ready.1 in
       subst (λ o. GoodVerdict (Standing types f) IsHeld held failed (pointer_test o n st)) (sym cell.1) (pointer_stands held failed cell.0 n st a b)
 
   first_lead : (held failed : Option ℕ) → Contains (parts held failed) (record { branch = Some true; to = held })

@@ -1,22 +1,23 @@
 -- Each instruction that is ready leaves the cells as the rules of readiness say, and the store housed.
-use Rattle.std.proofs.Common.{◌≡◌, ◌⊎◌, inl, inr, ℕ, ◌+◌, ◌*◌, ◌<◌, length, List, [], ◌∷◌, Option, Some, None, refl, sym, ap, subst, ◌∙◌}
+use Rattle.std.proofs.Common.{◌≡◌, ◌⊎◌, inl, inr, ℕ, ◌+◌, ◌*◌, ◌<◌, length, List, [], ◌∷◌, Option, Some, None, Ok, Err, refl, sym, ap, subst, ◌∙◌}
 use Rattle.std.proofs.lemmas.Bool.{cond_both}
 use Rattle.std.specs.Prelude.{ℤ, nat_lt, slice_get, slice_set}
 use Rattle.life_core.specs.Function.{Function}
-use Rattle.life_core.specs.Proper.{Holding, Blank, AnObject, ANumber, APointer, Holdings, Holds, held_by, sort_of, blanked, holdings_after, CanEnd, IsSourceReady, IsOperationReady, IsStepReady}
-use Rattle.life_core.specs.Step.{Step, Live, End, Eval, Load, Save, Aim, Repoint, Port}
+use Rattle.life_core.specs.Proper.{Holding, Blank, AnObject, ANumber, APointer, Holdings, Holds, held_by, sort_of, blanked, holdings_after, CanEnd, IsSourceReady, IsOperationReady, IsPortReady, IsStepReady}
+use Rattle.life_core.specs.Step.{Step, Live, End, Eval, Load, Save, Copy, Move, Aim, Repoint, Element, Cursor, Advance, Cut, Size, Same, Changes, Make, Call, Port, Ports, Writes, WritesView, Takes}
 use Rattle.life_core.specs.declared.instr.Form.{Form}
 use Rattle.life_core.specs.declared.instr.Form.TheVariants as form
-use Rattle.life_core.specs.declared.instr.Operation.{Operation}
-use Rattle.life_core.specs.declared.instr.Operation.TheVariants as operation
-use Rattle.life_core.specs.declared.instr.Source.{Source}
-use Rattle.life_core.specs.declared.instr.Source.TheVariants as source
+use Rattle.life_core.specs.declared.operation.Operation.{Operation}
+use Rattle.life_core.specs.declared.operation.Operation.TheVariants as operation
+use Rattle.life_core.specs.Operands.{Source}
+use Rattle.life_core.specs.Operands as source
 use Rattle.life_core.specs.declared.program.Local.{Local}
 use Rattle.life_types.specs.Types.{Types}
 use Rattle.life_types.specs.declared.ty.TyId.{TyId}
 use Rattle.life_store.specs.Cells.{at}
 use Rattle.life_store.specs.Content.{Object, live_words_of}
-use Rattle.life_store.specs.Doing.{Setting, converted, type_of, Effect, Next, Traps, Faults, Strays, put_cell, put_content, word_of_number, on_number, on_pointer, resolve, on_found, with_value_object, born_object, born_pointer, live_as, live_over, live_local, on_next, end_object, end_cell, end_locals, evaluated, saved, pointer_to, aimed, ported, does}
+use Rattle.life_store.specs.Doing.{Setting, converted, type_of, Effect, Next, Traps, Faults, Strays, put_cell, put_content, word_of_number, on_number, on_pointer, resolve, on_found, with_value_object, born_object, born_pointer, live_as, live_over, live_local, on_next, end_object, end_cell, end_locals, computed_into, evaluated, saved, pointer_to, aimed, ported, port, does}
+use Rattle.life_store.specs.Numbers.{Computed, negated, truth, is_zero, combined}
 use Rattle.life_store.specs.State.{Target, Pointer, Null, Wild, To, Empty, Named, Number, Points, State, holdings_of}
 use Rattle.life_store.specs.declared.run.TrapKind.TheVariants as trap
 use Rattle.life_store.proofs.CellLemmas.{empty_cell_is, named_cell, number_cell, pointer_cell, holdings_set}
@@ -156,14 +157,33 @@ ends_settle (x ∷ xs) st hs is h ready =
 -- ---- the instructions
 
 module _ (s : Setting) (types : Types) (f : Function) (st : State) (h : Housed st.world.content st.cells) where
+  computed_settles : (r : ℕ) (computed : Computed) → Settles (slice_set (holdings_of st) r ANumber) (computed_into r computed st)
+  computed_settles r (Ok z) = number_settles st h r z
+  computed_settles r (Err kind) = tt
+
   eval_settles : (r : ℕ) (op : Operation) → IsOperationReady (holdings_of st) op → Settles (slice_set (holdings_of st) r ANumber) (evaluated types f r op st)
   eval_settles r (operation.Number n) ready = number_settles st h r _
   eval_settles r (operation.Convert q) ready =
       let cell = number_cell st.cells q ready in
       subst (λ o. Settles (slice_set (holdings_of st) r ANumber) (on_number o (λ z. Next (put_cell r (Number (converted (type_of types f r) z)) st)))) (sym cell.1) (number_settles st h r _)
+  eval_settles r (operation.Negate q) ready =
+      let cell = number_cell st.cells q ready in
+      subst (λ o. Settles (slice_set (holdings_of st) r ANumber) (on_number o (λ z. computed_into r (negated (type_of types f r) z) st))) (sym cell.1) (computed_settles r (negated (type_of types f r) cell.0))
+  eval_settles r (operation.IsZero q) ready =
+      let cell = number_cell st.cells q ready in
+      subst (λ o. Settles (slice_set (holdings_of st) r ANumber) (on_number o (λ z. computed_into r (truth (is_zero z)) st))) (sym cell.1) (computed_settles r (truth (is_zero cell.0)))
+  eval_settles r (operation.Binary operator a b) ready =
+      let left = number_cell st.cells a ready.0 in
+      let right = number_cell st.cells b ready.1 in
+      subst (λ o. Settles (slice_set (holdings_of st) r ANumber) (on_number o (λ x. on_number (slice_get st.cells b) (λ y. computed_into r (combined (type_of types f a) operator x y) st)))) (sym left.1)
+      (subst (λ o. Settles (slice_set (holdings_of st) r ANumber) (on_number o (λ y. computed_into r (combined (type_of types f a) operator left.0 y) st))) (sym right.1) (computed_settles r (combined (type_of types f a) operator left.0 right.0)))
 
   aim_settles : (p : ℕ) (source : Source) → IsSourceReady (holdings_of st) source → Settles (slice_set (holdings_of st) p APointer) (aimed p source st)
   aim_settles p source.Null ready = pointer_settles st h p Null (null_aims st h)
+  aim_settles p (source.Text n) ready = absurd ready
+  aim_settles p source.Empty ready = absurd ready
+  aim_settles p (source.Whole o) ready = absurd ready
+  aim_settles p (source.Get l) ready = absurd ready
   aim_settles p (source.Place o) ready =
       on_found_good (Settles (slice_set (holdings_of st) p APointer)) st.world.content (resolve o st) _ (operand_there st o h ready) (λ kind. tt)
       (λ n i object there within. pointer_settles st h p (pointer_to st.world.content n i) (aims n i object there within))
@@ -177,6 +197,13 @@ module _ (s : Setting) (types : Types) (f : Function) (st : State) (h : Housed s
           one : {a b : Object} → Some a ≡ Some b → a ≡ b
           one e = cc
 
+  port_settles : (p : Port) → IsPortReady (holdings_of st) p → Settles (holdings_of st) (port p st)
+  port_settles (Writes r) ready =
+      let cell = number_cell st.cells r ready in
+      subst (λ o. Settles (holdings_of st) (on_number o (λ z. Next (ported z st)))) (sym cell.1) (refl, h)
+  port_settles (WritesView l) ready = absurd ready
+  port_settles (Takes r) ready = absurd ready
+
   pub step_settles : (i : Step) → IsStepReady types f (holdings_of st) i → Settles (holdings_after types f i (holdings_of st)) (does s types f i st)
   step_settles (Live x form) ready = live_settles st h s types f x form ready
   step_settles (End xs) ready = ends_settle xs st (holdings_of st) refl h ready
@@ -189,11 +216,20 @@ module _ (s : Setting) (types : Types) (f : Function) (st : State) (h : Housed s
       subst (λ v. Settles (holdings_of st) (on_number v (λ z. on_found (resolve o st) (λ n i object. Next (saved z n i object st))))) (sym cell.1)
       (on_found_good (Settles (holdings_of st)) st.world.content (resolve o st) _ (operand_there st o h ready.1) (λ kind. tt)
       (λ n i object there within. (refl, write_housed st.world.content st.cells n object _ there (with_word_length i 0 (word_of_number cell.0) object) h)))
-  step_settles (Aim p source) ready = aim_settles p source ready.1
+  step_settles (Copy to from) ready = absurd ready
+  step_settles (Move to y) ready = absurd ready
+  step_settles (Aim p source) ready = aim_settles p.local source ready.1
   step_settles (Repoint p q) ready =
-      let cell = pointer_cell st.cells q ready.1 in
-      subst (λ o. Settles (slice_set (holdings_of st) p APointer) (on_pointer o (λ v. Next (put_cell p (Points v) st)))) (sym cell.1)
-      (pointer_settles st h p cell.0 (λ t e. h.aims q t (cell.1 ∙ ap (λ v. Some (Points v)) e)))
-  step_settles (Port r) ready =
-      let cell = number_cell st.cells r ready in
-      subst (λ o. Settles (holdings_of st) (on_number o (λ z. Next (ported z st)))) (sym cell.1) (refl, h)
+      let cell = pointer_cell st.cells q.local ready.1.1 in
+      subst (λ o. Settles (slice_set (holdings_of st) p.local APointer) (on_pointer o (λ v. Next (put_cell p.local (Points v) st)))) (sym cell.1)
+      (pointer_settles st h p.local cell.0 (λ t e. h.aims q.local t (cell.1 ∙ ap (λ v. Some (Points v)) e)))
+  step_settles (Element p b which) ready = absurd ready
+  step_settles (Cursor p b end) ready = absurd ready
+  step_settles (Advance p q r direction) ready = absurd ready
+  step_settles (Cut p q r count) ready = absurd ready
+  step_settles (Size r b) ready = absurd ready
+  step_settles (Same r a b equal) ready = absurd ready
+  step_settles (Changes o c) ready = absurd ready
+  step_settles (Make u made) ready = absurd ready
+  step_settles (Call target g xs) ready = absurd ready
+  step_settles (Ports p) ready = port_settles p ready

@@ -1,5 +1,5 @@
 -- What one instruction does.
-use Rattle.std.specs.Prelude.{ℕ, zero, ℤ, pos, ◌+◌, ◌*◌, ◌%◌, ◌^◌, Bool, true, false, cond, nat_lt, nat_le, List, [], ◌∷◌, ◌++◌, Option, Some, None, length, slice_get, slice_set}
+use Rattle.std.specs.Prelude.{ℕ, zero, ℤ, pos, ◌+◌, ◌*◌, ◌%◌, ◌^◌, Bool, true, false, cond, nat_lt, nat_le, List, [], ◌∷◌, ◌++◌, Option, Some, None, Result, Ok, Err, length, slice_get, slice_set}
 use Rattle.std.specs.Int.{cast_signed, cast_unsigned, w8, w32, w64}
 use Rattle.std.specs.Fmt.{signed_decimal}
 use Rattle.life_types.specs.Types.{Types}
@@ -8,18 +8,17 @@ use Rattle.life_types.specs.declared.ty.Ty.TheVariants as variant
 use Rattle.life_types.specs.declared.ty.TyId.{TyId}
 use Rattle.life_core.specs.declared.instr.Form.{Form}
 use Rattle.life_core.specs.declared.instr.Form.TheVariants as form
-use Rattle.life_core.specs.declared.instr.Operand.{Operand}
-use Rattle.life_core.specs.declared.instr.Operand.TheVariants.{Name, Through}
-use Rattle.life_core.specs.declared.instr.Operation.{Operation}
-use Rattle.life_core.specs.declared.instr.Operation.TheVariants as operation
-use Rattle.life_core.specs.declared.instr.Source.{Source}
-use Rattle.life_core.specs.declared.instr.Source.TheVariants as source
+use Rattle.life_core.specs.declared.operation.Operation.{Operation}
+use Rattle.life_core.specs.declared.operation.Operation.TheVariants as operation
 use Rattle.life_core.specs.declared.program.Local.{Local}
 use Rattle.life_core.specs.Function.{Function}
+use Rattle.life_core.specs.Operands.{Operand, Name, Through, Source}
+use Rattle.life_core.specs.Operands as source
 use Rattle.life_core.specs.Proper.{Holding, Blank, AnObject, ANumber, APointer, sort_of}
-use Rattle.life_core.specs.Step.{Step, Live, End, Eval, Load, Save, Aim, Repoint, Port}
+use Rattle.life_core.specs.Step.{Step, Live, End, Eval, Load, Save, Aim, Repoint, Port, Ports, Writes}
 use Rattle.life_store.specs.Cells.{at}
 use Rattle.life_store.specs.Content.{Object, Content, newborn, with_birth, with_object, with_resize, without, with_word, word_at, live_words_of, is_valid_in}
+use Rattle.life_store.specs.Numbers.{Computed, negated, truth, is_zero, combined}
 use Rattle.life_store.specs.State.{Target, Pointer, Null, Wild, To, Cell, Empty, Named, Number, Points, World, State}
 use Rattle.life_store.specs.declared.run.FaultKind.{FaultKind}
 use Rattle.life_store.specs.declared.run.FaultKind.TheVariants as fault
@@ -148,9 +147,10 @@ named_by c (Some (Named n)) = found_at c n 0
 named_by c (Some (Number z)) = Astray
 named_by c (Some (Points p)) = Astray
 
+-- members aren't built so far, and a proper program names none
 abbrev pub resolve : Operand → State → Found
-resolve (Name x) st = named_by st.world.content (cell st x)
-resolve (Through p) st = behind_cell st.world.content (cell st p)
+resolve (Name l) st = named_by st.world.content (cell st l.local)
+resolve (Through p members) st = behind_cell st.world.content (cell st p.local)
 
 abbrev pub on_found : Found → (ℕ → ℕ → Object → Effect) → Effect
 on_found (Here n i o) go = go n i o
@@ -214,9 +214,17 @@ end_locals (x ∷ xs) st = on_next (end_cell (cell st x) x st) (end_locals xs)
 
 -- ---- the instructions
 
+-- a register is given what was computed
+abbrev pub computed_into : ℕ → Computed → State → Effect
+computed_into r (Ok z) st = Next (put_cell r (Number z) st)
+computed_into r (Err kind) st = Traps kind
+
 abbrev pub evaluated : Types → Function → ℕ → Operation → State → Effect
 evaluated types f r (operation.Number n) st = Next (put_cell r (Number (pos n)) st)
 evaluated types f r (operation.Convert q) st = on_number (cell st q) (λ z. Next (put_cell r (Number (converted (type_of types f r) z)) st))
+evaluated types f r (operation.Negate q) st = on_number (cell st q) (λ z. computed_into r (negated (type_of types f r) z) st)
+evaluated types f r (operation.IsZero q) st = on_number (cell st q) (λ z. computed_into r (truth (is_zero z)) st)
+evaluated types f r (operation.Binary operator a b) st = on_number (cell st a) (λ x. on_number (cell st b) (λ y. computed_into r (combined (type_of types f a) operator x y) st))
 
 abbrev pub saved : ℤ → ℕ → ℕ → Object → State → State
 saved z n i o st = put_content (with_object n (with_word i 0 (word_of_number z) o) st.world.content) st
@@ -228,16 +236,23 @@ pointer_to c n i = To (record { object = n; index = i; moment = c.clock })
 abbrev pub aimed : ℕ → Source → State → Effect
 aimed p source.Null st = Next (put_cell p (Points Null) st)
 aimed p (source.Place o) st = on_found (resolve o st) (λ n i object. Next (put_cell p (Points (pointer_to st.world.content n i)) st))
+aimed p _ st = Strays
 
 abbrev pub ported : ℤ → State → State
 ported z st = record st { world = record (st.world) { output = st.world.output ++ signed_decimal z } }
 
+abbrev pub port : Port → State → Effect
+port (Writes r) st = on_number (cell st r) (λ z. Next (ported z st))
+port _ st = Strays
+
+-- what isn't built so far is in no proper program
 abbrev pub does : Setting → Types → Function → Step → State → Effect
 does s types f (Live x form) st = live_local s types f (slice_get f.locals x) form x st
 does s types f (End xs) st = end_locals xs st
 does s types f (Eval r operation) st = evaluated types f r operation st
 does s types f (Load r o) st = on_found (resolve o st) (λ n i object. Next (put_cell r (Number (number_in_word (word_at object i 0))) st))
 does s types f (Save o r) st = on_number (cell st r) (λ z. on_found (resolve o st) (λ n i object. Next (saved z n i object st)))
-does s types f (Aim p s') st = aimed p s' st
-does s types f (Repoint p q) st = on_pointer (cell st q) (λ v. Next (put_cell p (Points v) st))
-does s types f (Port r) st = on_number (cell st r) (λ z. Next (ported z st))
+does s types f (Aim p s') st = aimed p.local s' st
+does s types f (Repoint p q) st = on_pointer (cell st q.local) (λ v. Next (put_cell p.local (Points v) st))
+does s types f (Ports p) st = port p st
+does s types f _ st = Strays

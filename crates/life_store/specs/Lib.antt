@@ -4,6 +4,7 @@ pub mod Doing
 pub mod Layout
 pub mod Meaning
 pub mod NoFault
+pub mod Numbers
 pub mod PlainRows
 pub mod PlainStore
 pub mod References

@@ -2,11 +2,9 @@
 use Rattle.std.specs.Prelude.{ℕ, ℤ, pos, zero, suc, List, [], ◌∷◌, Option, Some, None, map, slice_get}
 use Rattle.life_types.specs.Types.{Types}
 use Rattle.life_types.specs.declared.place.Place.{Place}
-use Rattle.life_core.specs.declared.instr.Test.{Test}
-use Rattle.life_core.specs.declared.instr.Test.TheVariants.{NonZero, NotNull}
 use Rattle.life_core.specs.declared.program.Local.{Local}
 use Rattle.life_core.specs.Function.{Function, Program}
-use Rattle.life_core.specs.Step.{Step}
+use Rattle.life_core.specs.Step.{Step, Test, NonZero, NotNull}
 use Rattle.life_core.specs.Tree.{Tree, Skip, Then, Acts, Asks, Both, Either, Negated, Choice, Turns, Breaks, Continues, Returns, Stops}
 use Rattle.life_store.specs.Content.{Content, empty_content}
 use Rattle.life_store.specs.Doing.{Setting, Effect, Next, Traps, Faults, Strays, does, cell}
@@ -86,7 +84,7 @@ pointer_test (Some (Points p)) n st = by_pointer p n st
 
 abbrev pub test_at : Test → ℕ → State → Verdict
 test_at (NonZero r) n st = number_test (cell st r) n st
-test_at (NotNull p) n st = pointer_test (cell st p) n st
+test_at (NotNull p) n st = pointer_test (cell st p.local) n st
 
 abbrev pub ask : Test → ℕ → State → Verdict
 ask t zero st = Cut Exhausted st.world

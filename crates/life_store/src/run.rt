@@ -21,10 +21,23 @@ pub struct Limits {
 /// Why a run was stopped, where the program used nothing null, dangling or moved-from.
 #[derive(Clone, Copy, Debug, PartialEq, Eq)]
 pub enum TrapKind {
+    /// An index, a position or a count is out of its range.
+    Bounds,
+    /// The value of an `int` or a `long` is out of its range, which is undefined in C++ (ISO/IEC
+    /// 14882:2017 [expr]).
+    Overflow,
+    /// A division by 0, which is undefined in C++ ([expr.mul]).
+    ZeroDivisor,
+    /// An assertion that doesn't hold.
+    Assert,
+    /// No number of the input is left.
+    InputEnd,
     /// A birth would pass the limit of live words.
     Cells,
     /// A call would pass the limit of frames.
     Depth,
+    /// An iterator of another object is used.
+    ForeignIterator,
 }
 
 /// What a run used that it may not use.
@@ -34,4 +47,6 @@ pub enum FaultKind {
     Null,
     /// A pointer to what has ended, or that never pointed to anything (ISO/IEC 14882:2017 [basic.stc]).
     Dangling,
+    /// What was moved from.
+    Moved,
 }

@@ -1,4 +1,5 @@
 use Rattle.std.proofs.Common.{List, ap, subst, sym, ◌∙◌}
+use Rattle.life_core.specs.Operands.{operand_of, source_of}
 use Rattle.life_store.specs.Doing.{Next, aimed, put_cell}
 use Rattle.life_store.specs.State as state
 use Rattle.life_interp.specs.Cells.{state_of}
@@ -13,7 +14,7 @@ use Rattle.life_interp.proofs.pointers.aim.Goals as goal
 
 pub returns-in-Null-clause-step : goal.returns-in-Null-clause-step
 returns-in-Null-clause-step g c = λ output input.
-    ap (λ s. aimed c.args.pointer s (state_of (g.S.Store.content c.args.store.now) c.args.cells.now.items output input)) c.in-Null.is
+    ap (λ s. aimed c.args.pointer (source_of s) (state_of (g.S.Store.content c.args.store.now) c.args.cells.now.items output input)) c.in-Null.is
     ∙ ap Next (put_now _ c.args.cells.now.items c.put_cell.new.cells.items c.args.pointer (held.Points leads.Null) output input c.put_cell.ensures)
 
 pub returns-in-Null-clause-fits : goal.returns-in-Null-clause-fits
@@ -23,19 +24,19 @@ returns-in-Null-clause-fits g c =
 pub returns-in-Err-clause-step : goal.returns-in-Err-clause-step
 returns-in-Err-clause-step g c = λ output input.
     let content = g.S.Store.content c.args.store.now in
-    let gone = subst (λ (cells : List Cell). TellsMiss (place_in content cells c.in-Place.operand) c.in-Err.ending) c.deref.ensures.value c.in-Err.ensures in
-    subst (λ s. TellsEnd (aimed c.args.pointer s (state_of content c.args.cells.now.items output input)) c.in-Err.ending) (sym c.in-Place.is)
-    (place_missed c.in-Place.operand content c.args.cells.now.items c.in-Err.ending _ output input gone)
+    let gone = subst (λ (cells : List Cell). TellsMiss (place_in content cells (operand_of c.in-Place.operand)) c.in-Err.ending) c.deref.ensures.value c.in-Err.ensures in
+    subst (λ s. TellsEnd (aimed c.args.pointer (source_of s) (state_of content c.args.cells.now.items output input)) c.in-Err.ending) (sym c.in-Place.is)
+    (place_missed (operand_of c.in-Place.operand) content c.args.cells.now.items c.in-Err.ending _ output input gone)
 
 pub returns-in-Ok-clause-step : goal.returns-in-Ok-clause-step
 returns-in-Ok-clause-step g c = λ output input.
     let content = g.S.Store.content c.args.store.now in
     let rows = g.S.Store.rows c.args.store.now in
     let p = c.in-Ok.position in
-    let there = subst (λ (cells : List Cell). IsPosition content rows (place_in content cells c.in-Place.operand) p) c.deref.ensures.value c.in-Ok.ensures in
+    let there = subst (λ (cells : List Cell). IsPosition content rows (place_in content cells (operand_of c.in-Place.operand)) p) c.deref.ensures.value c.in-Ok.ensures in
     let st = state_of content c.args.cells.now.items output input in
-    ap (λ s. aimed c.args.pointer s st) c.in-Place.is
-    ∙ place_found c.in-Place.operand content rows c.args.cells.now.items p _ output input there
+    ap (λ s. aimed c.args.pointer (source_of s) st) c.in-Place.is
+    ∙ place_found (operand_of c.in-Place.operand) content rows c.args.cells.now.items p _ output input there
     ∙ ap (λ m. Next (put_cell c.args.pointer (state.Points (state.To (record { object = p.object.birth; index = p.index; moment = m }))) st)) (sym c.now.ensures)
     ∙ ap Next (put_now content c.args.cells.now.items c.put_cell-in-Ok.new.cells.items c.args.pointer (held.Points (leads.To p.object p.index c.now.result)) output input c.put_cell-in-Ok.ensures)
 

@@ -1,6 +1,7 @@
 use Rattle.std.proofs.Common.{ℕ, List, subst, sym}
 use Rattle.life_core.specs.declared.instr.Instr.{Instr}
 use Rattle.life_core.specs.Function.{function_of}
+use Rattle.life_core.specs.Operands.{operand_of}
 use Rattle.life_core.specs.Step.{step_of}
 use Rattle.life_store.specs.Doing.{does, end_locals}
 use Rattle.life_interp.specs.Steps.{stored, LeavesBoth}
@@ -37,7 +38,7 @@ returns-in-Load-clause-step g c = λ s e.
 pub returns-in-Save-clause-step : goal.returns-in-Save-clause-step
 returns-in-Save-clause-step g c = λ s e.
     subst (λ (i : Instr). LeavesBoth (does s c.args.types.now (function_of c.args.f.now) (step_of i)) (g.S.Store.content c.args.store.now) c.args.cells.now.items (g.S.Store.content c.save.new.store) c.args.cells.now.items c.save.result) (sym c.in-Save.is)
-    (subst (λ (cells : List Cell). LeavesBoth (stored c.in-Save.to c.in-Save.from) (g.S.Store.content c.args.store.now) cells (g.S.Store.content c.save.new.store) cells c.save.result) c.deref-in-Save.ensures.value c.save.ensures.step)
+    (subst (λ (cells : List Cell). LeavesBoth (stored (operand_of c.in-Save.to) c.in-Save.from) (g.S.Store.content c.args.store.now) cells (g.S.Store.content c.save.new.store) cells c.save.result) c.deref-in-Save.ensures.value c.save.ensures.step)
 
 pub returns-in-Aim-clause-step : goal.returns-in-Aim-clause-step
 returns-in-Aim-clause-step g c = λ s e.

@@ -1,4 +1,4 @@
-use Rattle.std.proofs.Common.{List, [], ◌∷◌, ◌++◌, map, None, ap, ◌∙◌}
+use Rattle.std.proofs.Common.{List, [], ◌∷◌, ◌++◌, map, None, false, ap, ◌∙◌}
 use Rattle.life_types.specs.Types.{class}
 use Rattle.life_core.specs.Function.{Function, function_of}
 use Rattle.life_core.specs.declared.program.CoreFn.{CoreFn}
@@ -8,7 +8,7 @@ use Rattle.life_sound.proofs.tests.program.Goals as goal
 
 pub returns : goal.returns
 returns c =
-    let l : Local = record { name = None; ty = c.in_ok-pointer.pointer; kind = Register; place = c.line.result } in
+    let l : Local = record { name = None; ty = c.in_ok-pointer.pointer; kind = Register; place = c.line.result; nonnull = false; keeps = false } in
     let f = c.in_ok-function.field-0 in
     let one = c.in_ok-push.ensures.items ∙ ap (λ (fs : List CoreFn). fs ++ f ∷ []) c.new-functions.ensures.items in
     (l, (ap class c.in_ok-pointer.ensures.number, ap (map function_of) one ∙ ap (λ (g : Function). g ∷ []) c.in_ok-function.ensures))
