@@ -1,5 +1,5 @@
 -- What serves some answers serves others.
-use Rattle.std.proofs.Common.{◌≡◌, ℕ, true, false, List, [], ◌∷◌, ◌++◌, Option, None, Some, Result, Ok, Err, refl, sym, subst}
+use Rattle.std.proofs.Common.{◌≡◌, ℕ, true, false, List, [], ◌∷◌, ◌++◌, Option, None, Some, Result, Ok, Err, refl, sym, subst, ◌∙◌}
 use Rattle.std.specs.Prelude.{codes}
 use Rattle.std.proofs.KnownBytes.{Appends-nil}
 use Rattle.life_base.specs.Edges.{AppendsFront}
@@ -63,6 +63,9 @@ reply_serves P reply out out' (Ok ending) is only hands = record { out_faults = 
 reply_serves P reply out out' (Err stop.NoMemory) is only hands = absurd hands
 reply_serves P reply out out' (Err stop.ReadFault) is only hands = absurd hands
 reply_serves P reply out out' (Err stop.WriteFault) is only hands = record { out_faults = hands.0; front = λ a such. subst (λ (b : Answer). AppendsFront out.taken out'.taken b.out) (sym (only a such)) hands.1 }
+
+pub report_serves : (p : Program) (ds : List Diag) (reply : Reply) (out out' : Port) (result : Result Ending Stop) → answer_in reply ≡ reported p ds → HandsOut reply out out' result → Serves (λ a. a ≡ reported p ds) out out' result
+report_serves p ds reply out out' result same hands = reply_serves (λ a. a ≡ reported p ds) reply out out' result same (λ a is. is ∙ sym same) hands
 
 -- ---- files
 

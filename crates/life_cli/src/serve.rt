@@ -1,9 +1,10 @@
 // What a command makes of the bytes of its file.
-ghost use Rattle.std.specs.Prelude.{◌≡◌, ◌≢◌, ◌≤◌, [], length};
+ghost use Rattle.std.specs.Prelude.{◌≡◌, ◌≢◌, ◌≤◌, [], length, IfOk};
 ghost use Rattle.life_core.specs.Function.{program_of};
 ghost use Rattle.life_report.specs.Reports.{report_text, HaveFunctions};
 ghost use Rattle.life_rules.specs.Listing.{AreProgramDiagnostics};
 ghost use Rattle.life_store.specs.NoFault.{NoFault};
+ghost use Rattle.life_cli.specs.Answer.{answer_in};
 ghost use Rattle.life_cli.specs.CheckedFile.{reported, verdict, AnswersFile, AnswersProgram, AnswersTree, IsWholeProgram};
 ghost use Rattle.life_cli.specs.Ends.{Reports, Serves};
 ghost use Rattle.life_cli.specs.Question.{most_bytes};
@@ -24,6 +25,7 @@ use life_parse::parse;
 use life_report::text_report;
 use life_rules::Diag;
 use life_sound::accept;
+use life_types::NoMemory;
 use std::alloc::Global;
 
 /// Serves a file of these bytes: it has a tree, or why it has none decides.
@@ -150,13 +152,20 @@ fn report<O: Sink>(
         (record { taken = O.taken out.old; faults = O.faults out.old })
         (record { taken = O.taken out.new; faults = O.faults out.new }) result }
 {
+    let reply = report_reply(alloc, program, found)?;
+    hand_out(reply, out)
+}
+
+fn report_reply(alloc: Global, program: &CoreProgram, found: &[Diag]) -> Result<Reply, NoMemory>
+    requires { HaveFunctions (program_of program.now) found.now }
+    ensures { IfOk result (λ reply. answer_in reply ≡ reported (program_of program.now) found.now) }
+{
     let text = text_report(alloc, program, found)?;
-    let reply = Reply {
+    Ok(Reply {
         status: verdict(found),
         out: text,
         err: Vec::new(alloc),
-    };
-    hand_out(reply, out)
+    })
 }
 
 fn verdict(found: &[Diag]) -> Status
