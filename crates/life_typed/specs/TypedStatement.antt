@@ -69,11 +69,11 @@ pub data StmtForm : Type 0 where
       (keyword : Place) → (start : Option ForStartForm) → (first_semicolon : Place) → (condition : Option Typed) → (second_semicolon : Place) →
       (step : Option SimpleForm) → (closing : Place) → (body : StmtForm) → StmtForm
   range_loop : (keyword : Place) → (local : ℕ) → (name : Identifier) → (colon : Place) → (range : Typed) → (closing : Place) → (body : StmtForm) → StmtForm
-  loop_break : Place → StmtForm
-  loop_continue : Place → StmtForm
+  loop_break : (keyword semicolon : Place) → StmtForm
+  loop_continue : (keyword semicolon : Place) → StmtForm
   returned : (keyword : Place) → (value : Option Typed) → (semicolon : Place) → StmtForm
   print : List ItemForm → (semicolon : Place) → StmtForm
-  assertion : (keyword : Place) → (condition : Typed) → (closing : Place) → StmtForm
+  assertion : (keyword : Place) → (condition : Typed) → (closing semicolon : Place) → StmtForm
   branch : (keyword : Place) → (condition : Typed) → (closing : Place) → (body : StmtForm) → StmtForm
   declaration : DeclarationForm → (semicolon : Place) → StmtForm
   no_more : StmtForm
@@ -135,11 +135,11 @@ stmt_step (open_stmt.For keyword start first_semicolon condition second_semicolo
     for_loop
     keyword (optional_view for_start_view start) first_semicolon (optional_view typed_view condition) second_semicolon (optional_view simple_view step_taken) closing (boxed_stmt body)
 stmt_step (open_stmt.RangeFor keyword id name colon range closing body) = range_loop keyword id name colon (typed_view range) closing (boxed_stmt body)
-stmt_step (open_stmt.Break place) = loop_break place
-stmt_step (open_stmt.Continue place) = loop_continue place
+stmt_step (open_stmt.Break keyword semicolon) = loop_break keyword semicolon
+stmt_step (open_stmt.Continue keyword semicolon) = loop_continue keyword semicolon
 stmt_step (open_stmt.Return keyword value semicolon) = returned keyword (optional_view typed_view value) semicolon
 stmt_step (open_stmt.Print items semicolon) = print (map item_view items.items) semicolon
-stmt_step (open_stmt.Assert keyword condition closing) = assertion keyword (typed_view condition) closing
+stmt_step (open_stmt.Assert keyword condition closing semicolon) = assertion keyword (typed_view condition) closing semicolon
 
 abbrev pub block_step : open_stmt.TypedBlock-F StmtForm StmtForm StmtForm StmtForm → StmtForm
 block_step b = block (stmt_forms b.items.items) b.closing

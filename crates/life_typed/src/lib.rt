@@ -27,7 +27,9 @@ pub use operators::{
     combined, dereferenced, indexed, is_condition, negated, promoted, takes_literals,
 };
 pub use statements::{can_step, compounded, is_printed, range_element};
-pub use typed_expr::{BinaryOperator, Category, ExprForm, ExprType, Method, TypedExpr};
+pub use typed_expr::{
+    BinaryOperator, Category, ExprForm, ExprType, Method, TypedExpr, TypedOperand,
+};
 pub use typed_program::{
     ParameterPromise, ResultPromise, Typed, TypedFunction, TypedLocal, TypedStruct,
 };

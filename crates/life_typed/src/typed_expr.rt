@@ -1,5 +1,9 @@
 // Expressions with their types.
-use life_types::{Place, Ty, TyId};
+ghost use Rattle.std.specs.Prelude.{◌≡◌, IfOk};
+ghost use Rattle.life_typed.specs.TypedForm.{applied, form_view, typed_view};
+
+use life_types::{NoMemory, Place, Ty, TyId};
+use std::vec::Vec;
 
 /// What an expression is before anything is initialised with it.
 #[derive(Clone, Copy, Debug, PartialEq, Eq)]
@@ -102,9 +106,24 @@ pub struct TypedExpr {
     pub category: Category,
     /// What it is made of.
     pub form: ExprForm,
+    /// What its form is applied to, if to an operand, as what is within that is applied to what is
+    /// within it: from the innermost operand on. So a chain of operators is as long as this list,
+    /// and no deeper than one of its operands.
+    pub within: Vec<TypedOperand>,
 }
 
-/// What an expression is made of.
+/// An operand to which what stands around or behind it is applied.
+#[cycle(typed_expr)]
+#[derive(Drop)]
+pub struct TypedOperand {
+    pub place: Place,
+    pub ty: ExprType,
+    pub category: Category,
+    pub form: ExprForm,
+}
+
+/// What an expression is made of. A form that is applied to an operand, the left one of two, doesn't
+/// hold it.
 #[cycle(typed_expr)]
 #[derive(Drop)]
 pub enum ExprForm {
@@ -134,7 +153,6 @@ pub enum ExprForm {
     },
     /// An expression in parentheses.
     Paren {
-        inner: Box<TypedExpr>,
         closing: Place,
     },
     /// `std::move` of a variable or parameter.
@@ -147,41 +165,63 @@ pub enum ExprForm {
     },
     /// `std::string(e)`.
     TextOf {
-        inner: Box<TypedExpr>,
         closing: Place,
     },
     /// `life::input()`.
     Input,
     /// A member of a struct, by its number there.
-    Member {
-        base: Box<TypedExpr>,
-        member: u32,
-    },
+    Member(u32),
     /// What an operand points to; `e->m` is the member of this.
-    Dereference(Box<TypedExpr>),
+    Dereference,
     /// `e[i]`.
     Index {
-        base: Box<TypedExpr>,
         index: Box<TypedExpr>,
         closing: Place,
     },
     /// A member function of one of the library's types.
     Method {
-        base: Box<TypedExpr>,
         method: Method,
         arguments: Vec<TypedExpr>,
         closing: Place,
     },
     /// `-e`.
-    Negate(Box<TypedExpr>),
+    Negate,
     /// `!e`.
-    Not(Box<TypedExpr>),
+    Not,
     /// `&e`.
-    AddressOf(Box<TypedExpr>),
+    AddressOf,
     /// Two operands with an operator between them.
     Binary {
         operator: BinaryOperator,
-        left: Box<TypedExpr>,
         right: Box<TypedExpr>,
     },
+}
+
+impl TypedExpr {
+    /// What a form makes of an operand to which it is applied.
+    #[tactic(auto, using(crate::proofs::Applied::applied_is))]
+    pub fn applied(
+        self,
+        place: Place,
+        ty: ExprType,
+        category: Category,
+        form: ExprForm,
+    ) -> Result<TypedExpr, NoMemory>
+        ensures { IfOk result (λ e. typed_view e ≡ applied (typed_view self) place ty category (form_view form)) }
+    {
+        let mut within = self.within;
+        within.push(TypedOperand {
+            place: self.place,
+            ty: self.ty,
+            category: self.category,
+            form: self.form,
+        })?;
+        Ok(TypedExpr {
+            place,
+            ty,
+            category,
+            form,
+            within,
+        })
+    }
 }

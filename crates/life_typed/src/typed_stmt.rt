@@ -126,10 +126,16 @@ pub enum TypedStmt {
         closing: Place,
         body: Box<TypedStmt>,
     },
-    /// `break`, by its place.
-    Break(Place),
-    /// `continue`, by its place.
-    Continue(Place),
+    /// A `break`.
+    Break {
+        keyword: Place,
+        semicolon: Place,
+    },
+    /// A `continue`.
+    Continue {
+        keyword: Place,
+        semicolon: Place,
+    },
     /// A `return`, with its value where the function has one.
     Return {
         keyword: Place,
@@ -146,6 +152,7 @@ pub enum TypedStmt {
         keyword: Place,
         condition: TypedExpr,
         closing: Place,
+        semicolon: Place,
     },
 }
 
