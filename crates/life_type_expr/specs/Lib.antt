@@ -1,0 +1,6 @@
+pub mod Expressions
+pub mod Lists
+pub mod Members
+pub mod Named
+pub mod Operands
+pub mod TargetViews

@@ -1,0 +1,13 @@
+pub mod Autos
+pub mod Bodies
+pub mod Conditions
+pub mod Declarations
+pub mod Each
+pub mod Ends
+pub mod Given
+pub mod RangeViews
+pub mod Ranges
+pub mod Returns
+pub mod Simples
+pub mod StatementViews
+pub mod Statements

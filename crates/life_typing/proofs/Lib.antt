@@ -1,0 +1,16 @@
+pub mod BlindAttributes
+pub mod BlindDeclarations
+pub mod BlindExpressions
+pub mod BlindFunctions
+pub mod BlindParameters
+pub mod BlindPrograms
+pub mod BlindSimples
+pub mod BlindStatements
+pub mod BlindSteps
+pub mod BlindTypes
+pub mod Changed
+pub mod MembersInTurn
+pub mod ParametersInTurn
+pub mod StructNumbers
+pub mod Telling
+pub mod TextsInTurn

@@ -1,0 +1,13 @@
+pub mod Answers
+pub mod Attributes
+pub mod Functions
+pub mod Headers
+pub mod Names
+pub mod Parameters
+pub mod Pieces
+pub mod Pointing
+pub mod Progress
+pub mod Promises
+pub mod Resolves
+pub mod StructTypes
+pub mod Structs

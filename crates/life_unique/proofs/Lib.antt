@@ -1,0 +1,17 @@
+pub mod DeclarationsFound
+pub mod ExpressionsFound
+pub mod ExpressionsFrom
+pub mod ExpressionsSeen
+pub mod Lists
+pub mod Operators
+pub mod OutsSeen
+pub mod ProgramsFound
+pub mod SimplesFound
+pub mod StatementsFound
+pub mod StatementsFrom
+pub mod StatementsSeen
+pub mod TargetsSeen
+pub mod Tokens
+pub mod TypesFound
+pub mod TypesFrom
+pub mod TypesSeen
