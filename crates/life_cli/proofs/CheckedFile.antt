@@ -1,12 +1,19 @@
 -- What the command needs of the answers to a file: there is at most one, and its status is a file's.
-use Rattle.std.proofs.Common.{◌≡◌, ℕ, Bool, true, false, List, [], ◌∷◌, ◌++◌, Option, None, Some, Err, refl, sym, ◌∙◌, ap, subst}
+use Rattle.std.proofs.Common.{◌≡◌, ℕ, Bool, true, false, List, [], ◌∷◌, ◌++◌, Option, None, Some, Result, Ok, Err, refl, sym, ◌∙◌, ap, subst}
 use Rattle.std.specs.Prelude.{slice_get, codes}
 use Rattle.life_core.specs.Function.{Function, Program}
 use Rattle.life_front.specs.Form.{Reading, Faulty, Foreign, Whole}
-use Rattle.life_parse.specs.Ends.{HasNoTree, IsOnlyFault, Ends as Parses}
+use Rattle.life_names.specs.Checked.{Ill}
+use Rattle.life_keys.specs.Keys.{file_tables}
+use Rattle.life_lex.specs.Readings.{whole}
+use Rattle.life_parse.specs.Ends.{HasNoTree, IsOnlyFault, IsSource, Ends as Parses}
 use Rattle.life_parse.specs.declared.fault.ParseFault.{ParseFault}
 use Rattle.life_parse.specs.declared.fault.ParseFault.TheVariants as parsing
 use Rattle.life_tree.specs.Views.{program_tree}
+use Rattle.life_tree.specs.declared.program.Program.{Program as Parsed}
+use Rattle.life_typed.specs.Programs.{ProgramForm}
+use Rattle.life_typing.proofs.BlindPrograms.{types_of_trees}
+use Rattle.life_typing.specs.Resolves.{resolved}
 use Rattle.life_types.specs.Places.{position_text}
 use Rattle.life_rules.proofs.Unique.{only_listing}
 use Rattle.life_rules.specs.declared.diag.Diag.{Diag}
@@ -14,7 +21,8 @@ use Rattle.life_store.specs.Meaning as meaning
 use Rattle.life_store.specs.Meaning.{Outcome}
 use Rattle.life_store.specs.NoFault.{IsNoFault, NoFault}
 use Rattle.life_cli.specs.Answer.{Answer, refusal}
-use Rattle.life_cli.specs.CheckedFile.{AnswersFile, AnswersParsing, AnswersProgram, AnswersReading, AnswersTree, Concludes, HasTree, RefusesTree, RunsDiagnosed, lex_fault_text, limit_text, verdict}
+use Rattle.life_cli.specs.CheckedFile.{AnswersFile, AnswersParsing, AnswersProgram, AnswersReading, AnswersResolved, AnswersTree, AnswersTyped, Concludes, RefusesTree, RunsDiagnosed, lex_fault_text, limit_text, verdict}
+use Rattle.life_cli.specs.IllFormed.{ill_text}
 use Rattle.life_cli.specs.Runs.{IsEnd, Ran, ended_as, run_with, setting_of}
 use Rattle.life_cli.specs.Status.{IsOfBytes}
 use Rattle.life_cli.specs.Words.{IsUnchecked}
@@ -22,7 +30,8 @@ use Rattle.life_cli.specs.declared.job.Command.{Command}
 use Rattle.life_cli.specs.declared.job.Command.TheVariants.{Check, Run}
 use Rattle.life_cli.specs.declared.job.RunOptions.{RunOptions}
 use Rattle.life_cli.specs.declared.status.Status.{Status}
-use Rattle.life_cli.specs.declared.status.Status.TheVariants.{Done, Diagnosed, Ill, Limit, Syntax, Trap, Fault, Steps}
+use Rattle.life_cli.specs.declared.status.Status.TheVariants as status
+use Rattle.life_cli.specs.declared.status.Status.TheVariants.{Done, Diagnosed, Limit, Syntax, Trap, Fault, Steps}
 
 head_or : Function → List Function → Function
 head_or f [] = f
@@ -63,14 +72,33 @@ one_answer_to command (Faulty fault) a b p q = p ∙ sym q
 one_answer_to command Foreign a b p q = p ∙ sym q
 one_answer_to command (Whole program) a b p q = one_program_answer command program a b p q
 
-one_tree_answer : (command : Command) (bytes : List ℕ) (a b : Answer) → AnswersTree command bytes a → AnswersTree command bytes b → a ≡ b
-one_tree_answer command bytes a b p q =
+one_typed_answer : (command : Command) (bytes : List ℕ) (a b : Answer) → AnswersTyped command bytes a → AnswersTyped command bytes b → a ≡ b
+one_typed_answer command bytes a b p q =
     one_answer_to command p.reading a b p.answered
     (subst (λ r. AnswersReading command r b) (p.read.only q.reading q.read.is) q.answered)
 
+one_resolved_answer : (command : Command) (bytes : List ℕ) (r : Result ProgramForm Ill) (a b : Answer) → AnswersResolved command bytes r a → AnswersResolved command bytes r b → a ≡ b
+one_resolved_answer command bytes (Ok typed) a b p q = one_typed_answer command bytes a b p q
+one_resolved_answer command bytes (Err e) a b p q = p ∙ sym q
+
+-- the types of a file hang on its tokens alone
+same_types : (bytes : List ℕ) (p q : Parsed) → Parses bytes (Ok p) → IsSource bytes q → resolved q ≡ resolved p
+same_types bytes p q parsed other =
+    let same : other.lexemes ≡ parsed.0.lexemes = (parsed.0.lexed.1 other.lexemes whole other.lexed.0).0 in
+    types_of_trees q p (parsed.1 other.lexemes other.lexed.0 (program_tree q) other.fits.program other.spelled)
+    (other.names ∙ ap (λ us. (file_tables us).names) same ∙ sym parsed.0.names)
+    (other.texts ∙ ap (λ us. (file_tables us).texts) same ∙ sym parsed.0.texts)
+
+-- so whatever stands for the file's tree, the answer is by the types of the one that was read
+pub of_tree : (command : Command) (bytes : List ℕ) (tree : Parsed) (a : Answer) → Parses bytes (Ok tree) → AnswersTree command bytes a → AnswersResolved command bytes (resolved tree) a
+of_tree command bytes tree a parsed is = subst (λ r. AnswersResolved command bytes r a) (same_types bytes tree is.tree parsed is.parsed.0) is.answered
+
+one_tree_answer : (command : Command) (bytes : List ℕ) (a b : Answer) → AnswersTree command bytes a → AnswersTree command bytes b → a ≡ b
+one_tree_answer command bytes a b p q = one_resolved_answer command bytes (resolved p.tree) a b p.answered (of_tree command bytes p.tree b p.parsed q)
+
 -- a file with a tree isn't one without
-pub one_way : (bytes : List ℕ) → HasTree bytes → HasNoTree bytes → ⊥
-one_way bytes has none = none has.1.lexemes has.1.lexed.0 (program_tree has.0) has.1.fits has.1.spelled
+pub one_way : (bytes : List ℕ) (tree : Parsed) → Parses bytes (Ok tree) → HasNoTree bytes → ⊥
+one_way bytes tree parsed none = none parsed.0.lexemes parsed.0.lexed.0 (program_tree tree) parsed.0.fits parsed.0.spelled
 
 has_none : (bytes : List ℕ) (fault : ParseFault) (a : Answer) → Parses bytes (Err fault) → RefusesTree fault a → HasNoTree bytes
 has_none bytes (parsing.Lex fault) a parsed is = parsed.1
@@ -97,9 +125,9 @@ only_reason bytes (parsing.Limit fault) g a b only had parsed is = only g parsed
 only_reason bytes parsing.NoMemory g a b only had parsed is = absurd had
 
 one_parsing : (command : Command) (bytes : List ℕ) (f g : Option ParseFault) (a b : Answer) → AnswersParsing command bytes f a → AnswersParsing command bytes g b → a ≡ b
-one_parsing command bytes None None a b p q = one_tree_answer command bytes a b p.1 q.1
-one_parsing command bytes None (Some g) a b p q = absurd (one_way bytes p.0 (has_none bytes g b q.0 q.2))
-one_parsing command bytes (Some f) None a b p q = absurd (one_way bytes q.0 (has_none bytes f a p.0 p.2))
+one_parsing command bytes None None a b p q = one_tree_answer command bytes a b p q
+one_parsing command bytes None (Some g) a b p q = absurd (one_way bytes p.tree p.parsed (has_none bytes g b q.0 q.2))
+one_parsing command bytes (Some f) None a b p q = absurd (one_way bytes q.tree q.parsed (has_none bytes f a p.0 p.2))
 one_parsing command bytes (Some f) (Some g) a b p q = one_refusal f a b p.2 (subst (λ h. RefusesTree h b) (only_reason bytes f g a b p.1 p.2 q.0 q.2) q.2)
 
 -- a file has at most one answer
@@ -139,8 +167,12 @@ status_to command (Faulty fault) answer is = has_status answer _ is tt
 status_to command Foreign answer is = has_status answer _ is tt
 status_to command (Whole p) answer is = conclusion_status command p is.main is.diagnostics answer is.concluded
 
+resolved_status : (command : Command) (bytes : List ℕ) (r : Result ProgramForm Ill) (answer : Answer) → AnswersResolved command bytes r answer → IsOfBytes answer.status
+resolved_status command bytes (Ok typed) answer is = status_to command is.reading answer is.answered
+resolved_status command bytes (Err e) answer is = has_status answer _ is tt
+
 parsing_status : (command : Command) (bytes : List ℕ) (fault : Option ParseFault) (answer : Answer) → AnswersParsing command bytes fault answer → IsOfBytes answer.status
-parsing_status command bytes None answer is = status_to command is.1.reading answer is.1.answered
+parsing_status command bytes None answer is = resolved_status command bytes (resolved is.tree) answer is.answered
 parsing_status command bytes (Some (parsing.Lex fault)) answer is = has_status answer _ is.2 tt
 parsing_status command bytes (Some (parsing.Refused k place)) answer is = has_status answer _ is.2 tt
 parsing_status command bytes (Some (parsing.Limit fault)) answer is = has_status answer _ is.2 tt
@@ -188,11 +220,15 @@ refused_fault a s text is e other = no_fault a s (ap (λ (x : Answer). x.status)
 
 fault_to : (command : Command) (reading : Reading) (a : Answer) → AnswersReading command reading a → a.status ≡ Fault → IsUnchecked command
 fault_to command (Faulty fault) a is e = absurd (refused_fault a Syntax (lex_fault_text fault) is e (λ h. cc))
-fault_to command Foreign a is e = absurd (refused_fault a Ill (codes "1:1: ill-formed: unsupported") is e (λ h. cc))
+fault_to command Foreign a is e = absurd (refused_fault a status.Ill (codes "1:1: ill-formed: unsupported") is e (λ h. cc))
 fault_to command (Whole p) a is e = concluded_fault command p is.main is.diagnostics a is.only_function is.safe is.concluded e
 
+resolved_fault : (command : Command) (bytes : List ℕ) (r : Result ProgramForm Ill) (a : Answer) → AnswersResolved command bytes r a → a.status ≡ Fault → IsUnchecked command
+resolved_fault command bytes (Ok typed) a is e = fault_to command is.reading a is.answered e
+resolved_fault command bytes (Err ill) a is e = absurd (refused_fault a status.Ill (ill_text ill.kind ill.place) is e (λ h. cc))
+
 parsing_fault : (command : Command) (bytes : List ℕ) (fault : Option ParseFault) (a : Answer) → AnswersParsing command bytes fault a → a.status ≡ Fault → IsUnchecked command
-parsing_fault command bytes None a is e = fault_to command is.1.reading a is.1.answered e
+parsing_fault command bytes None a is e = resolved_fault command bytes (resolved is.tree) a is.answered e
 parsing_fault command bytes (Some (parsing.Lex fault)) a is e = absurd (refused_fault a Syntax (lex_fault_text fault) is.2 e (λ h. cc))
 parsing_fault command bytes (Some (parsing.Refused k place)) a is e = absurd (refused_fault a Syntax (position_text place ++ codes ": syntax") is.2 e (λ h. cc))
 parsing_fault command bytes (Some (parsing.Limit fault)) a is e = absurd (refused_fault a Limit (limit_text fault.name fault.place) is.2 e (λ h. cc))

@@ -10,23 +10,32 @@ use Rattle.life_parse.specs.Ends.{IsOnlyFault, Ends as Parses}
 use Rattle.life_parse.specs.declared.fault.ParseFault.{ParseFault}
 use Rattle.life_parse.specs.declared.fault.ParseFault.TheVariants as parsing
 use Rattle.life_tree.specs.declared.program.Program.{Program as Parsed}
+use Rattle.life_names.specs.Checked.{Ill}
+use Rattle.life_names.specs.declared.fault.IllFault.{IllFault}
+use Rattle.life_names.specs.declared.fault.IllFault.TheVariants as faults
+use Rattle.life_names.specs.declared.fault.IllKind.{IllKind}
+use Rattle.life_typed.specs.Programs.{ProgramForm}
 use Rattle.life_types.specs.Places.{position_text}
+use Rattle.life_types.specs.declared.place.Place.{Place}
+use Rattle.life_typing.specs.Resolves.{resolved}
 use Rattle.life_rules.specs.Listing.{AreProgramDiagnostics}
 use Rattle.life_rules.specs.declared.diag.Diag.{Diag}
 use Rattle.life_store.specs.NoFault.{NoFault}
 use Rattle.life_rules.proofs.Unique.{only_listing}
-use Rattle.life_cli.proofs.CheckedFile.{one_way, same_function}
+use Rattle.life_cli.proofs.CheckedFile.{of_tree, one_way, same_function}
 use Rattle.life_cli.specs.Answer.{Answer, answer_in, line}
-use Rattle.life_cli.specs.CheckedFile.{AnswersFile, AnswersParsing, AnswersProgram, AnswersReading, AnswersTree, Concludes, HasTree, IsWholeProgram, RunsDiagnosed, lex_fault_text, limit_text, not_run, reported}
+use Rattle.life_cli.specs.CheckedFile.{AnswersFile, AnswersParsing, AnswersProgram, AnswersReading, AnswersResolved, AnswersTyped, Concludes, IsWholeProgram, RunsDiagnosed, lex_fault_text, limit_text, not_run, reported}
 use Rattle.life_cli.specs.Ends.{HandsOut, Port, Tells, Reports, Serves, ServesFront}
-use Rattle.life_cli.specs.Refusals.{TellsFault}
+use Rattle.life_cli.specs.IllFormed.{HasTypes, ill_text}
+use Rattle.life_cli.specs.Refusals.{TellsFault, TellsIll}
 use Rattle.life_cli.specs.Runs.{Ran, RanMain}
 use Rattle.life_cli.specs.declared.job.Command.{Command}
 use Rattle.life_cli.specs.declared.job.Command.TheVariants.{Check, Run}
 use Rattle.life_cli.specs.declared.job.RunOptions.{RunOptions}
 use Rattle.life_cli.specs.declared.reply.Reply.{Reply}
 use Rattle.life_cli.specs.declared.status.Status.{Status}
-use Rattle.life_cli.specs.declared.status.Status.TheVariants.{Ill, Limit, Syntax}
+use Rattle.life_cli.specs.declared.status.Status.TheVariants as status
+use Rattle.life_cli.specs.declared.status.Status.TheVariants.{Limit, Syntax}
 use Rattle.life_cli.specs.declared.stop.Stop.{Stop}
 use Rattle.life_cli.specs.declared.stop.Stop.TheVariants as stop
 use Rattle.life_cli.specs.declared.stop.Ending.{Ending}
@@ -70,37 +79,52 @@ report_serves p ds reply out out' result same hands = reply_serves (λ a. a ≡ 
 -- ---- files
 
 pub lexical_serves : (command : Command) (bytes : List ℕ) (fault : LexFault) (out : Port) (result : Result Ending Stop) → ReadsOnlyAs bytes (Faulty fault)
-    → Tells Syntax (lex_fault_text fault) result → Serves (AnswersTree command bytes) out out result
+    → Tells Syntax (lex_fault_text fault) result → Serves (AnswersTyped command bytes) out out result
 lexical_serves command bytes fault out result reads tells =
-    text_serves (AnswersTree command bytes) Syntax (line (lex_fault_text fault)) out result (record { reading = Faulty fault; read = reads; answered = refl }) tells
+    text_serves (AnswersTyped command bytes) Syntax (line (lex_fault_text fault)) out result (record { reading = Faulty fault; read = reads; answered = refl }) tells
 
 pub foreign_serves : (command : Command) (bytes : List ℕ) (out : Port) (result : Result Ending Stop) → ReadsOnlyAs bytes Foreign
-    → Tells Ill (codes "1:1: ill-formed: unsupported") result → Serves (AnswersTree command bytes) out out result
+    → Tells status.Ill (codes "1:1: ill-formed: unsupported") result → Serves (AnswersTyped command bytes) out out result
 foreign_serves command bytes out result reads tells =
-    text_serves (AnswersTree command bytes) Ill (line (codes "1:1: ill-formed: unsupported")) out result (record { reading = Foreign; read = reads; answered = refl }) tells
+    text_serves (AnswersTyped command bytes) status.Ill (line (codes "1:1: ill-formed: unsupported")) out result (record { reading = Foreign; read = reads; answered = refl }) tells
 
 pub whole_serves : (command : Command) (bytes : List ℕ) (p : Program) (out out' : Port) (result : Result Ending Stop) → ReadsOnlyAs bytes (Whole p)
-    → Serves (AnswersProgram command p) out out' result → Serves (AnswersTree command bytes) out out' result
+    → Serves (AnswersProgram command p) out out' result → Serves (AnswersTyped command bytes) out out' result
 whole_serves command bytes p out out' result reads =
-    serves_as (AnswersProgram command p) (AnswersTree command bytes) out out' result
+    serves_as (AnswersProgram command p) (AnswersTyped command bytes) out out' result
     (λ a is. record { reading = Whole p; read = reads; answered = is })
     (λ a is. subst (λ r. AnswersReading command r a) (reads.only is.reading is.read.is) is.answered)
 
 -- ---- trees
 
-tree_alone : (command : Command) (bytes : List ℕ) (fault : Option ParseFault) (a : Answer) → HasTree bytes → AnswersParsing command bytes fault a → AnswersTree command bytes a
-tree_alone command bytes None a has is = is.1
-tree_alone command bytes (Some (parsing.Lex fault)) a has is = absurd (one_way bytes has is.0.1)
-tree_alone command bytes (Some (parsing.Refused k place)) a has is = absurd (one_way bytes has is.0.1)
-tree_alone command bytes (Some (parsing.Limit fault)) a has is = absurd (one_way bytes has is.0.1)
-tree_alone command bytes (Some parsing.NoMemory) a has is = absurd is.2
+refused_serves : (command : Command) (bytes : List ℕ) (r : Result ProgramForm Ill) (kind : IllKind) (place : Place) (out : Port) (result : Result Ending Stop) → r ≡ Err (record { kind = kind; place = place })
+    → Tells status.Ill (ill_text kind place) result → Serves (AnswersResolved command bytes r) out out result
+refused_serves command bytes r kind place out result is tells =
+    subst (λ x. Serves (AnswersResolved command bytes x) out out result) (sym is)
+    (text_serves (AnswersResolved command bytes (Err (record { kind = kind; place = place }))) status.Ill (line (ill_text kind place)) out result refl tells)
+
+pub untyped_serves : (command : Command) (bytes : List ℕ) (tree : Parsed) (fault : IllFault) (out : Port) (result : Result Ending Stop) → HasTypes (Err fault) (resolved tree)
+    → TellsIll fault result → Serves (AnswersResolved command bytes (resolved tree)) out out result
+untyped_serves command bytes tree (faults.Ill kind place) out result is tells = refused_serves command bytes (resolved tree) kind place out result is tells
+untyped_serves command bytes tree faults.NoMemory out result is tells = rw tells (wants_memory (AnswersResolved command bytes (resolved tree)) out)
+
+pub typed_serves : (command : Command) (bytes : List ℕ) (tree : Parsed) (out out' : Port) (result : Result Ending Stop) → (typed : ProgramForm) × (resolved tree ≡ Ok typed)
+    → Serves (AnswersTyped command bytes) out out' result → Serves (AnswersResolved command bytes (resolved tree)) out out' result
+typed_serves command bytes tree out out' result is serves = subst (λ r. Serves (AnswersResolved command bytes r) out out' result) (sym is.1) serves
+
+tree_alone : (command : Command) (bytes : List ℕ) (p : Parsed) (fault : Option ParseFault) (a : Answer) → Parses bytes (Ok p) → AnswersParsing command bytes fault a → AnswersResolved command bytes (resolved p) a
+tree_alone command bytes p None a parsed is = of_tree command bytes p a parsed is
+tree_alone command bytes p (Some (parsing.Lex fault)) a parsed is = absurd (one_way bytes p parsed is.0.1)
+tree_alone command bytes p (Some (parsing.Refused k place)) a parsed is = absurd (one_way bytes p parsed is.0.1)
+tree_alone command bytes p (Some (parsing.Limit fault)) a parsed is = absurd (one_way bytes p parsed is.0.1)
+tree_alone command bytes p (Some parsing.NoMemory) a parsed is = absurd is.2
 
 pub tree_serves : (command : Command) (bytes : List ℕ) (p : Parsed) (out out' : Port) (result : Result Ending Stop) → Parses bytes (Ok p)
-    → Serves (AnswersTree command bytes) out out' result → Serves (AnswersFile command bytes) out out' result
+    → Serves (AnswersResolved command bytes (resolved p)) out out' result → Serves (AnswersFile command bytes) out out' result
 tree_serves command bytes p out out' result parsed =
-    serves_as (AnswersTree command bytes) (AnswersFile command bytes) out out' result
-    (λ a is. record { fault = None; answered = ((p, parsed.0), is) })
-    (λ a is. tree_alone command bytes is.fault a (p, parsed.0) is.answered)
+    serves_as (AnswersResolved command bytes (resolved p)) (AnswersFile command bytes) out out' result
+    (λ a is. record { fault = None; answered = record { tree = p; parsed = parsed; answered = is } })
+    (λ a is. tree_alone command bytes p is.fault a parsed is.answered)
 
 pub unparsed_serves : (command : Command) (bytes : List ℕ) (fault : ParseFault) (out : Port) (result : Result Ending Stop) → Parses bytes (Err fault) → IsOnlyFault bytes fault
     → TellsFault fault result → Serves (AnswersFile command bytes) out out result

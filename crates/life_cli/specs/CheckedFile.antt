@@ -1,5 +1,5 @@
 -- The answer to the bytes of a file.
-use Rattle.std.specs.Prelude.{◌≡◌, ◌++◌, ℕ, Bool, true, false, List, [], ◌∷◌, Option, None, Some, Err, codes}
+use Rattle.std.specs.Prelude.{◌≡◌, ◌++◌, ℕ, Bool, true, false, List, [], ◌∷◌, Option, None, Some, Result, Ok, Err, codes}
 use Rattle.life_types.specs.Places.{position_text}
 use Rattle.life_lex.specs.declared.fault.LexFault.{LexFault}
 use Rattle.life_lex.specs.declared.fault.LexFaultKind.{LexFaultKind}
@@ -12,21 +12,26 @@ use Rattle.life_rules.specs.Listing.{AreProgramDiagnostics}
 use Rattle.life_rules.specs.declared.diag.Diag.{Diag}
 use Rattle.life_report.specs.Reports.{report_text}
 use Rattle.life_front.specs.Form.{Reading, Faulty, Foreign, Whole, ReadsOnlyAs}
-use Rattle.life_parse.specs.Ends.{IsOnlyFault, IsSource, Ends as Parses}
+use Rattle.life_names.specs.Checked.{Ill}
+use Rattle.life_parse.specs.Ends.{IsOnlyFault, Ends as Parses}
 use Rattle.life_parse.specs.declared.fault.ParseFault.{ParseFault}
 use Rattle.life_parse.specs.declared.fault.ParseFault.TheVariants as parsing
 use Rattle.life_store.specs.NoFault.{NoFault}
 use Rattle.life_tree.specs.declared.limit.LimitName.{LimitName}
 use Rattle.life_tree.specs.declared.limit.LimitName.TheVariants as limits
 use Rattle.life_tree.specs.declared.program.Program.{Program as Parsed}
+use Rattle.life_typed.specs.Programs.{ProgramForm}
 use Rattle.life_types.specs.declared.place.Place.{Place}
+use Rattle.life_typing.specs.Resolves.{resolved}
 use Rattle.life_cli.specs.Answer.{Answer, refusal}
+use Rattle.life_cli.specs.IllFormed.{ill_text}
 use Rattle.life_cli.specs.Runs.{Ran}
 use Rattle.life_cli.specs.declared.job.Command.{Command}
 use Rattle.life_cli.specs.declared.job.Command.TheVariants.{Check, Run}
 use Rattle.life_cli.specs.declared.job.RunOptions.{RunOptions}
 use Rattle.life_cli.specs.declared.status.Status.{Status}
-use Rattle.life_cli.specs.declared.status.Status.TheVariants.{Done, Diagnosed, Ill, Limit, Syntax}
+use Rattle.life_cli.specs.declared.status.Status.TheVariants as status
+use Rattle.life_cli.specs.declared.status.Status.TheVariants.{Done, Diagnosed, Limit, Syntax}
 
 -- what a lexical fault is called
 abbrev pub lex_fault_name : LexFaultKind → List ℕ
@@ -107,22 +112,29 @@ pub record AnswersProgram (command : Command) (p : Program) (answer : Answer) : 
 -- the answer is one to what a file with a tree reads as: a file that isn't of the form that is built is ill-formed
 abbrev pub AnswersReading : Command → Reading → Answer → Type 0
 AnswersReading command (Faulty fault) answer = answer ≡ refusal Syntax (lex_fault_text fault)
-AnswersReading command Foreign answer = answer ≡ refusal Ill (codes "1:1: ill-formed: unsupported")
+AnswersReading command Foreign answer = answer ≡ refusal status.Ill (codes "1:1: ill-formed: unsupported")
 AnswersReading command (Whole p) answer = AnswersProgram command p answer
 
 -- the answer is the command's to the only reading of these bytes
-pub record AnswersTree (command : Command) (bytes : List ℕ) (answer : Answer) : Type 0 where
+pub record AnswersTyped (command : Command) (bytes : List ℕ) (answer : Answer) : Type 0 where
   pub reading : Reading
   pub read : ReadsOnlyAs bytes reading
   pub answered : AnswersReading command reading answer
 
--- the file is the tokens of a tree
-abbrev pub HasTree : List ℕ → Type 0
-HasTree bytes = (p : Parsed) × IsSource bytes p
+-- .. where its tree has types; else it is the first rule that the tree breaks
+abbrev pub AnswersResolved : Command → List ℕ → Result ProgramForm Ill → Answer → Type 0
+AnswersResolved command bytes (Ok typed) answer = AnswersTyped command bytes answer
+AnswersResolved command bytes (Err e) answer = answer ≡ refusal status.Ill (ill_text e.kind e.place)
 
--- .. to the one reason for which the file has no tree, or to what it reads as where it has one
+-- .. to the file's only tree
+pub record AnswersTree (command : Command) (bytes : List ℕ) (answer : Answer) : Type 0 where
+  pub tree : Parsed
+  pub parsed : Parses bytes (Ok tree)
+  pub answered : AnswersResolved command bytes (resolved tree) answer
+
+-- .. to the one reason for which the file has no tree, or to its tree
 abbrev pub AnswersParsing : Command → List ℕ → Option ParseFault → Answer → Type 0
-AnswersParsing command bytes None answer = HasTree bytes × AnswersTree command bytes answer
+AnswersParsing command bytes None answer = AnswersTree command bytes answer
 AnswersParsing command bytes (Some fault) answer = Parses bytes (Err fault) × IsOnlyFault bytes fault × RefusesTree fault answer
 
 -- the answer is the command's to a file of these bytes

@@ -1,6 +1,7 @@
 pub mod Answer
 pub mod CheckedFile
 pub mod Ends
+pub mod IllFormed
 pub mod Question
 pub mod Refusals
 pub mod Runs

@@ -1,10 +1,14 @@
 -- How it is told why a file has no tree.
 use Rattle.std.specs.Prelude.{◌≡◌, ◌++◌, Result, Err, codes}
+use Rattle.life_names.specs.declared.fault.IllFault.{IllFault}
+use Rattle.life_names.specs.declared.fault.IllFault.TheVariants as ill
 use Rattle.life_parse.specs.declared.fault.ParseFault.{ParseFault}
 use Rattle.life_parse.specs.declared.fault.ParseFault.TheVariants as parsing
 use Rattle.life_types.specs.Places.{position_text}
 use Rattle.life_cli.specs.CheckedFile.{lex_fault_text, limit_text}
 use Rattle.life_cli.specs.Ends.{Tells}
+use Rattle.life_cli.specs.IllFormed.{ill_text}
+use Rattle.life_cli.specs.declared.status.Status.TheVariants as status
 use Rattle.life_cli.specs.declared.status.Status.TheVariants.{Limit, Syntax}
 use Rattle.life_cli.specs.declared.stop.Ending.{Ending}
 use Rattle.life_cli.specs.declared.stop.Stop.{Stop}
@@ -16,3 +20,8 @@ TellsFault (parsing.Lex fault) result = Tells Syntax (lex_fault_text fault) resu
 TellsFault (parsing.Refused k place) result = Tells Syntax (position_text place ++ codes ": syntax") result
 TellsFault (parsing.Limit fault) result = Tells Limit (limit_text fault.name fault.place) result
 TellsFault parsing.NoMemory result = result ≡ Err stop.NoMemory
+
+-- .. and which rule a tree breaks
+abbrev pub TellsIll : IllFault → Result Ending Stop → Type 0
+TellsIll (ill.Ill kind place) result = Tells status.Ill (ill_text kind place) result
+TellsIll ill.NoMemory result = result ≡ Err stop.NoMemory

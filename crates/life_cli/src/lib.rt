@@ -18,6 +18,8 @@ pub use command::run_command;
 pub use status::Status;
 
 #[cfg(test)]
+mod ill_tests;
+#[cfg(test)]
 mod refusal_tests;
 #[cfg(test)]
 mod tests;

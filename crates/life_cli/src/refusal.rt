@@ -3,8 +3,9 @@ ghost use Rattle.std.specs.Prelude.{◌≡◌, ◌++◌, codes};
 ghost use Rattle.life_types.specs.Places.{position_text};
 ghost use Rattle.life_cli.specs.CheckedFile.{lex_fault_name, lex_fault_text, limit_name, limit_text};
 ghost use Rattle.life_cli.specs.Ends.{Tells};
-ghost use Rattle.life_cli.specs.Refusals.{TellsFault};
-ghost use Rattle.life_cli.specs.declared.status.Status.TheVariants.{Limit, NoFile, Syntax};
+ghost use Rattle.life_cli.specs.IllFormed.{ill_name, ill_text};
+ghost use Rattle.life_cli.specs.Refusals.{TellsFault, TellsIll};
+ghost use Rattle.life_cli.specs.declared.status.Status.TheVariants.{Ill, Limit, NoFile, Syntax};
 
 use crate::Status;
 use crate::stop::{Ending, Stop};
@@ -12,6 +13,7 @@ use life_lex::{LexFault, LexFaultKind};
 use life_parse::ParseFault;
 use life_tree::LimitName;
 use life_types::Place;
+use life_typing::{IllFault, IllKind};
 use std::alloc::Global;
 
 /// A line on err, and nothing on out.
@@ -71,6 +73,45 @@ fn refuse_limit(alloc: Global, name: LimitName, place: Option<Place>) -> Result<
             let text = format!(in alloc; "limit: {name}")?;
             tell(alloc, Status::Limit, text.as_str())
         }
+    }
+}
+
+/// The line for a tree that has no types.
+pub fn refuse_types(alloc: Global, fault: IllFault) -> Result<Ending, Stop>
+    ensures { TellsIll fault result }
+{
+    match fault {
+        IllFault::Ill { kind, place } => refuse_ill(alloc, kind, place),
+        IllFault::NoMemory => Err(Stop::NoMemory),
+    }
+}
+
+/// The line for a rule that is broken.
+fn refuse_ill(alloc: Global, kind: IllKind, place: Place) -> Result<Ending, Stop>
+    ensures { Tells Ill (ill_text kind place) result }
+{
+    let line = place.line;
+    let column = place.column;
+    let name = ill_name(kind);
+    let text = format!(in alloc; "{line}:{column}: ill-formed: {name}")?;
+    tell(alloc, Status::Ill, text.as_str())
+}
+
+fn ill_name(kind: IllKind) -> &'static str
+    ensures { result.now ≡ ill_name kind }
+{
+    match kind {
+        IllKind::UnknownName => "unknown-name",
+        IllKind::Redeclared => "redeclared",
+        IllKind::WrongType => "wrong-type",
+        IllKind::NotPlain => "not-plain",
+        IllKind::NotAssignable => "not-assignable",
+        IllKind::WrongArguments => "wrong-arguments",
+        IllKind::MissingReturn => "missing-return",
+        IllKind::ConstBroken => "const-broken",
+        IllKind::BadAttribute => "bad-attribute",
+        IllKind::NoBody => "no-body",
+        IllKind::Unsupported => "unsupported",
     }
 }
 

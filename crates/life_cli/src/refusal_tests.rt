@@ -4,19 +4,53 @@ use life_base::{MemFiles, MemSink};
 use std::alloc::Global;
 use std::test::Fail;
 
-// Files with a tree, which is of no form that is built so far.
-const WITH_TREES: &[&str] = &[
-    "int f(); int g(int a, const int* b);",
-    "struct S { int a; std::vector<std::vector<int>> b; gsl::span<const int> c; };",
-    "void f() { x * y; x & y = 3; x y{1, 2}; x = {}; x.y(); x->y[3] = 4; **x += 1; ++*x; x--; --x; }",
-    "void f() { if (a) if (b) ; else ; else if (c) {} else x = 1; }",
-    "void f() { for (int i = 0; i < 9; ++i) ; for (;;) {} for (auto& x : v) f(x); for (x = 1; ; ) ; }",
-    "void f() { for (std::string s : v) ; for (std::string(x).clear(); ; x()) ; }",
-    "void f() { std::string s; std::string(s).size(); std::make_unique<int>(); std::vector<int>::iterator it; }",
-    "void f() { std::cout << 1 + 2 << std::endl << std::string(s) + t << \"x\"; }",
-    "void f() { auto w = std::move(u); const auto& r = *u; long n = life::input(); assert(n > 0); }",
-    "[[life::nonnull]] [[gnu::pure]] [[std::ret(a, static)]] int* f([[life::keeps]] int* p, S q) { return p; }",
-    "void f() { while (a || b && c == d != e < f <= g + h - i * j / k % !-*&l) { break; continue; } return; }",
+// Files with a tree, and the line that tells the first rule that each breaks, or that it is of no form
+// that is built so far.
+const WITH_TREES: &[(&str, &str)] = &[
+    (
+        "int f(); int g(int a, const int* b);",
+        "1:5: ill-formed: no-body",
+    ),
+    (
+        "struct S { int a; std::vector<std::vector<int>> b; gsl::span<const int> c; };",
+        "1:1: ill-formed: unsupported",
+    ),
+    (
+        "void f() { x * y; x & y = 3; x y{1, 2}; x = {}; x.y(); x->y[3] = 4; **x += 1; ++*x; x--; --x; }",
+        "1:12: ill-formed: unknown-name",
+    ),
+    (
+        "void f() { if (a) if (b) ; else ; else if (c) {} else x = 1; }",
+        "1:16: ill-formed: unknown-name",
+    ),
+    (
+        "void f() { for (int i = 0; i < 9; ++i) ; for (;;) {} for (auto& x : v) f(x); for (x = 1; ; ) ; }",
+        "1:69: ill-formed: unknown-name",
+    ),
+    (
+        "void f() { for (std::string s : v) ; for (std::string(x).clear(); ; x()) ; }",
+        "1:33: ill-formed: unknown-name",
+    ),
+    (
+        "void f() { std::string s; std::string(s).size(); std::make_unique<int>(); std::vector<int>::iterator it; }",
+        "1:1: ill-formed: unsupported",
+    ),
+    (
+        "void f() { std::cout << 1 + 2 << std::endl << std::string(s) + t << \"x\"; }",
+        "1:59: ill-formed: unknown-name",
+    ),
+    (
+        "void f() { auto w = std::move(u); const auto& r = *u; long n = life::input(); assert(n > 0); }",
+        "1:31: ill-formed: unknown-name",
+    ),
+    (
+        "[[life::nonnull]] [[gnu::pure]] [[std::ret(a, static)]] int* f([[life::keeps]] int* p, S q) { return p; }",
+        "1:9: ill-formed: bad-attribute",
+    ),
+    (
+        "void f() { while (a || b && c == d != e < f <= g + h - i * j / k % !-*&l) { break; continue; } return; }",
+        "1:19: ill-formed: unknown-name",
+    ),
 ];
 
 // Files without one, and the place of the token that is refused.
@@ -41,7 +75,7 @@ const WITHOUT: &[(&str, &str)] = &[
 ];
 
 // The status and the line on err for a file of these bytes.
-fn checked(alloc: Global, text: &[u8]) -> Result<(Status, Vec<u8>), Fail> {
+pub(crate) fn checked(alloc: Global, text: &[u8]) -> Result<(Status, Vec<u8>), Fail> {
     let mut words = Vec::new(alloc);
     for word in ["lifecheck", "check", "a.cpp"] {
         words.push(word.to_string(alloc)?)?;
@@ -58,14 +92,11 @@ fn checked(alloc: Global, text: &[u8]) -> Result<(Status, Vec<u8>), Fail> {
 #[test]
 fn files_with_trees_and_without(rt: HostRuntime) -> Result<(), Fail> {
     let alloc = rt.alloc();
-    for text in WITH_TREES {
+    for (text, told) in WITH_TREES {
         let (status, line) = checked(alloc, text.as_bytes())?;
+        let wanted = format!(in alloc; "{told}\n")?;
         assert_eq!(rt; status, Status::Ill, "{text}");
-        assert_eq!(rt;
-            line.as_slice(),
-            b"1:1: ill-formed: unsupported\n".as_slice(),
-            "{text}"
-        );
+        assert_eq!(rt; line.as_slice(), wanted.as_bytes(), "{text}");
     }
     for (text, place) in WITHOUT {
         let (status, line) = checked(alloc, text.as_bytes())?;

@@ -4,9 +4,11 @@ ghost use Rattle.life_core.specs.Function.{program_of};
 ghost use Rattle.life_report.specs.Reports.{report_text, HaveFunctions};
 ghost use Rattle.life_rules.specs.Listing.{AreProgramDiagnostics};
 ghost use Rattle.life_store.specs.NoFault.{NoFault};
+ghost use Rattle.life_typing.specs.Resolves.{resolved};
+ghost use Rattle.life_cli.specs.CheckedFile.{reported, verdict, AnswersFile, AnswersProgram, AnswersResolved, AnswersTyped, IsWholeProgram};
 ghost use Rattle.life_cli.specs.Answer.{answer_in};
-ghost use Rattle.life_cli.specs.CheckedFile.{reported, verdict, AnswersFile, AnswersProgram, AnswersTree, IsWholeProgram};
 ghost use Rattle.life_cli.specs.Ends.{Reports, Serves};
+ghost use Rattle.life_cli.specs.IllFormed.{HasTypes};
 ghost use Rattle.life_cli.specs.Question.{most_bytes};
 ghost use Rattle.life_cli.specs.Words.{HasFewSteps};
 ghost use Rattle.life_cli.specs.declared.status.Status.TheVariants.{Diagnosed};
@@ -15,7 +17,7 @@ use crate::Status;
 use crate::checker::program_diagnostics;
 use crate::execute::execute;
 use crate::job::Command;
-use crate::refusal::{refuse_lexical, refuse_tree, tell};
+use crate::refusal::{refuse_lexical, refuse_tree, refuse_types, tell};
 use crate::reply::{Reply, hand_out};
 use crate::stop::{Ending, Stop};
 use life_base::Sink;
@@ -25,7 +27,9 @@ use life_parse::parse;
 use life_report::text_report;
 use life_rules::Diag;
 use life_sound::accept;
+use life_tree::Program;
 use life_types::NoMemory;
+use life_typing::{IllFault, resolve};
 use std::alloc::Global;
 
 /// Serves a file of these bytes: it has a tree, or why it has none decides.
@@ -43,14 +47,45 @@ pub fn serve_bytes<O: Sink>(
         (record { taken = O.taken out.new; faults = O.faults out.new }) result }
 {
     match parse(alloc, bytes) {
-        Ok(_) => serve_tree(alloc, command, bytes, out),
+        Ok(tree) => serve_tree(alloc, command, &tree, bytes, out),
         Err(fault) => refuse_tree(alloc, fault),
     }
 }
 
-// Serves a file that has a tree: what it reads as decides.
-#[tactic(auto, using(crate::proofs::Served::lexical_serves, crate::proofs::Served::foreign_serves, crate::proofs::Served::whole_serves))]
+// Serves a file that has a tree: the tree has types, or the first rule that it breaks decides.
+#[tactic(auto, using(crate::proofs::Served::untyped_serves, crate::proofs::Served::typed_serves))]
 fn serve_tree<O: Sink>(
+    alloc: Global,
+    command: Command,
+    tree: &Program,
+    bytes: &[u8],
+    out: &mut O,
+) -> Result<Ending, Stop>
+    requires short { length bytes.now ≤ most_bytes }
+    requires few { HasFewSteps command }
+    ensures { Serves (AnswersResolved command bytes.now (resolved tree.now))
+        (record { taken = O.taken out.old; faults = O.faults out.old })
+        (record { taken = O.taken out.new; faults = O.faults out.new }) result }
+{
+    match has_types(alloc, tree) {
+        Ok(()) => serve_typed(alloc, command, bytes, out),
+        Err(fault) => refuse_types(alloc, fault),
+    }
+}
+
+// Whether the tree has types, or which rule it breaks first.
+fn has_types(alloc: Global, tree: &Program) -> Result<(), IllFault>
+    ensures { HasTypes result (resolved tree.now) }
+{
+    match resolve(alloc, tree) {
+        Ok(_) => Ok(()),
+        Err(fault) => Err(fault),
+    }
+}
+
+// Serves a file whose tree has types: what it reads as decides.
+#[tactic(auto, using(crate::proofs::Served::lexical_serves, crate::proofs::Served::foreign_serves, crate::proofs::Served::whole_serves))]
+fn serve_typed<O: Sink>(
     alloc: Global,
     command: Command,
     bytes: &[u8],
@@ -58,7 +93,7 @@ fn serve_tree<O: Sink>(
 ) -> Result<Ending, Stop>
     requires short { length bytes.now ≤ most_bytes }
     requires few { HasFewSteps command }
-    ensures { Serves (AnswersTree command bytes.now)
+    ensures { Serves (AnswersTyped command bytes.now)
         (record { taken = O.taken out.old; faults = O.faults out.old })
         (record { taken = O.taken out.new; faults = O.faults out.new }) result }
 {

@@ -1,6 +1,5 @@
+use Rattle.life_cli.proofs.Served.{untyped_serves}
 use Rattle.life_cli.proofs.serve.serve_tree.Goals as goal
 
-pub serve_program-requires-clause-whole : goal.serve_program-requires-clause-whole
-serve_program-requires-clause-whole g c =
-    let single = c.in-Ok.ensures.single in
-    record { main = single.main; only = single.only; within = single.is.within; proper = c.in-Ok.ensures.proper; longs = c.in-Ok.ensures.longs }
+pub returns-in-Err : goal.returns-in-Err
+returns-in-Err g c = untyped_serves c.args.command c.args.bytes.now c.args.tree.now c.in-Err.fault _ c.refuse_types.result c.in-Err.ensures c.refuse_types.ensures
