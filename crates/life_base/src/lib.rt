@@ -17,6 +17,3 @@ pub use memory::MemFiles;
 pub use pieces::{MOST_BYTES, PIECE, ReadError, read_rest, write_whole};
 pub use sink::MemSink;
 pub use steps::Steps;
-
-#[cfg(test)]
-mod tests;

@@ -5,8 +5,6 @@
 mod before;
 mod keyer;
 mod literal;
-#[cfg(test)]
-mod tests;
 mod tokens;
 mod words;
 

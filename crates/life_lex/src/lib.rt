@@ -25,8 +25,6 @@ mod mark;
 mod number;
 mod position;
 mod scan;
-#[cfg(test)]
-mod tests;
 mod token;
 mod token_list;
 mod token_scan;

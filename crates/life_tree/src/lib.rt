@@ -21,8 +21,6 @@ mod primary;
 mod program;
 mod simple;
 mod stmt;
-#[cfg(test)]
-mod tests;
 mod token;
 mod type_name;
 mod write_expr;

@@ -11,8 +11,6 @@ mod misfit;
 mod operators;
 mod statements;
 mod strings;
-#[cfg(test)]
-mod tests;
 mod typed_expr;
 mod typed_program;
 mod typed_stmt;

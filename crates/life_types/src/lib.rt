@@ -11,6 +11,3 @@ pub use memory::NoMemory;
 pub use place::Place;
 pub use table::{TypeTable, class_of, holds_owner, holds_unique, is_plain, is_slot, words_of};
 pub use ty::{Class, NameId, Ty, TyId};
-
-#[cfg(test)]
-mod tests;

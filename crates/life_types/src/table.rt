@@ -1,9 +1,9 @@
 // The table that numbers the types of a program.
-ghost use Rattle.std.specs.Prelude.{◌≡◌, ℕ, ◌<◌, ◌-◌, ◌^◌, ◌∷◌, ◌++◌, [], false, length, min, IfOk, OnErr, OnOk, Some, slice_get};
+ghost use Rattle.std.specs.Prelude.{◌≡◌, ℕ, ◌<◌, ◌-◌, ◌^◌, ◌∷◌, ◌++◌, [], false, length, map, min, IfOk, OnErr, OnOk, Some, slice_get};
 ghost use Rattle.std.specs.List.{list_any};
 ghost use Rattle.life_types.specs.declared.ty.TyId.{TyId};
 ghost use Rattle.life_types.specs.contracts.ty.TyPartialEq.TheImpl.{ghosts as compared};
-ghost use Rattle.life_types.specs.Facts.{facts};
+ghost use Rattle.life_types.specs.Facts.{facts, ids_of};
 ghost use Rattle.life_types.specs.Trees.{holds_owner, holds_unique, is_plain, members_at, struct_of, tree_at, tree_of, words, IsOrdered};
 ghost use Rattle.life_types.specs.Types.{class_at, is_slot_at, is_slot_target, with_type, HasEachOnce, HasParts, HasTypes};
 
@@ -43,6 +43,15 @@ impl TypeTable {
             types: IndexMap::new(alloc),
             structs: Vec::new(alloc),
         }
+    }
+
+    /// A table with the same types and structs. It takes memory for both.
+    pub fn copied(&self, alloc: Global) -> Result<TypeTable, NoMemory>
+        ensures { IfOk result (λ copy. copy ≡ self.now) }
+    {
+        let types = self.types.clone()?;
+        let structs = copied_structs(alloc, &self.structs)?;
+        Ok(TypeTable { types, structs })
     }
 
     /// The number of the type: that of an equal type if the table has one, else the next number.
@@ -182,6 +191,22 @@ impl TypeTable {
         }
         all
     }
+}
+
+fn copied_members(members: &Vec<TyId>) -> Result<Vec<TyId>, NoMemory>
+    ensures { IfOk result (λ copy. copy.items ≡ members.now.items) }
+{
+    Ok(members.clone()?)
+}
+
+fn copied_structs(alloc: Global, structs: &[Vec<TyId>]) -> Result<Vec<Vec<TyId>>, NoMemory>
+    ensures { IfOk result (λ copies. map ids_of copies.items ≡ map ids_of structs.now) }
+{
+    let mut copies = Vec::new(alloc);
+    'structs: for members in structs {
+        copies.push(copied_members(members)?)?;
+    }
+    Ok(copies)
 }
 
 /// The class of the type with this number. `void`, and a number that the table doesn't have, count

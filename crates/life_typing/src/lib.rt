@@ -15,8 +15,6 @@ mod promises;
 mod resolves;
 mod struct_types;
 mod structs;
-#[cfg(test)]
-mod tests;
 
 pub use laws::types_depend_on_the_tree_alone;
 pub use life_names::{IllFault, IllKind};

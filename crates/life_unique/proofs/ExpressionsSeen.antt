@@ -1,7 +1,7 @@
 -- A fold over an expression that looks at no address, and at no list's room, sees no difference when the expression is settled.
 -- For each type: what is claimed of it, a layer of parts of which it holds, and that it holds of what such a layer makes.
 use Rattle.std.proofs.Common.{◌≡◌, List, [], ◌∷◌, None, Some, map, refl, ap, sym, subst, ◌∙◌}
-use Rattle.life_unique.proofs.Lists.{same_settled}
+use Rattle.life_unique.proofs.Lists.{Both, same_settled}
 use Rattle.life_tree.specs.declared.primary.PostfixPart.{PostfixPart, roll-PostfixPart}
 use Rattle.life_tree.specs.declared.primary.Primary.{Primary, roll-Primary}
 use Rattle.life_tree.specs.declared.primary.Unary.{Unary, roll-Unary}
@@ -25,8 +25,12 @@ use Rattle.life_tree.specs.declared.primary.PostfixPart.TheFolds.{fold-roll-Post
 use Rattle.life_tree.specs.declared.primary.PostfixPart.TheFolds.{ind-Additive, ind-Expr, ind-InitList, ind-Postfix}
 use Rattle.life_tree.specs.declared.primary.PostfixPart.TheFolds.{map-PostfixPart, map-Primary, map-Unary, map-Additive, map-AdditivePart, map-Multiplicative, map-MultiplicativePart, map-Equality, map-EqualityPart, map-Relational, map-RelationalPart, map-AndPart, map-Arguments, map-Expr, map-InitList, map-LogicalAnd, map-OrPart, map-Postfix}
 use Rattle.life_tree.specs.declared.primary.PostfixPart.TheOpen as open_expr
+use Rattle.life_unique.proofs.ExpressionLayers.{settle_part, settle_primary, settle_unary, settle_additive, settle_additive_part, settle_multiplicative, settle_multiplicative_part, settle_equality, settle_equality_part, settle_relational, settle_relational_part, settle_and_part, settle_arguments, settle_expr, settle_init_list, settle_logical_and, settle_or_part, settle_postfix}
+use Rattle.life_unique.proofs.ExpressionLayers.{Claims, Layer-PostfixPart, Layer-Primary, Layer-Unary, Layer-Additive, Layer-AdditivePart, Layer-Multiplicative, Layer-MultiplicativePart, Layer-Equality, Layer-EqualityPart, Layer-Relational, Layer-RelationalPart, Layer-AndPart, Layer-Arguments, Layer-Expr, Layer-InitList, Layer-LogicalAnd, Layer-OrPart, Layer-Postfix}
+use Rattle.life_unique.proofs.ExpressionLayers.{parts_part, parts_primary, parts_unary, parts_additive, parts_additive_part, parts_multiplicative, parts_multiplicative_part, parts_equality, parts_equality_part, parts_relational, parts_relational_part, parts_and_part, parts_arguments, parts_expr, parts_init_list, parts_logical_and, parts_or_part, parts_postfix}
+use Rattle.life_unique.proofs.ExpressionLayers.{settled_of_part, settled_of_primary, settled_of_unary, settled_of_additive, settled_of_additive_part, settled_of_multiplicative, settled_of_multiplicative_part, settled_of_equality, settled_of_equality_part, settled_of_relational, settled_of_relational_part, settled_of_and_part, settled_of_arguments, settled_of_expr, settled_of_init_list, settled_of_logical_and, settled_of_or_part, settled_of_postfix}
+use Rattle.life_unique.specs.SettledExpressions.{Opened-PostfixPart, Opened-Primary, Opened-Unary, Opened-Additive, Opened-AdditivePart, Opened-Multiplicative, Opened-MultiplicativePart, Opened-Equality, Opened-EqualityPart, Opened-Relational, Opened-RelationalPart, Opened-AndPart, Opened-Arguments, Opened-Expr, Opened-InitList, Opened-LogicalAnd, Opened-OrPart, Opened-Postfix}
 use Rattle.life_unique.specs.SettledExpressions.{bare_part, bare_primary, bare_unary, bare_additive, bare_multiplicative, bare_equality, bare_relational, bare_arguments, bare_expr, bare_init_list, bare_logical_and, bare_postfix}
-use Rattle.life_unique.specs.SettledExpressions.{kept_part, kept_primary, kept_unary, kept_additive, kept_multiplicative, kept_equality, kept_relational, kept_arguments, kept_expr, kept_init_list, kept_logical_and, kept_postfix}
 use Rattle.life_unique.specs.SettledExpressions.{settled_part, settled_primary, settled_unary, settled_additive, settled_additive_part, settled_multiplicative, settled_multiplicative_part, settled_equality, settled_equality_part, settled_relational, settled_relational_part, settled_and_part, settled_arguments, settled_expr, settled_init_list, settled_logical_and, settled_or_part, settled_postfix}
 
 module _ (A B C D E F G H I J K L M N O P Q R : Type 0)
@@ -61,58 +65,94 @@ module _ (A B C D E F G H I J K L M N O P Q R : Type 0)
     (logical_and_blind : (l : open_expr.LogicalAnd-F A B C D E F G H I J K L M N O P Q R) → logical_and_step (bare_logical_and l) ≡ logical_and_step l)
     (postfix_blind : (l : open_expr.Postfix-F A B C D E F G H I J K L M N O P Q R) → postfix_step (bare_postfix l) ≡ postfix_step l) where
   abbrev of_part : PostfixPart → A
-  of_part = fold-PostfixPart A B C D E F G H I J K L M N O P Q R part_step primary_step unary_step additive_step additive_part_step multiplicative_step multiplicative_part_step equality_step equality_part_step relational_step relational_part_step and_part_step arguments_step expr_step init_list_step logical_and_step or_part_step postfix_step
+  of_part = fold-PostfixPart A B C D E F G H I J K L M N O P Q R
+      part_step primary_step unary_step additive_step additive_part_step multiplicative_step multiplicative_part_step equality_step equality_part_step relational_step relational_part_step
+      and_part_step arguments_step expr_step init_list_step logical_and_step or_part_step postfix_step
 
   abbrev of_primary : Primary → B
-  of_primary = fold-Primary A B C D E F G H I J K L M N O P Q R part_step primary_step unary_step additive_step additive_part_step multiplicative_step multiplicative_part_step equality_step equality_part_step relational_step relational_part_step and_part_step arguments_step expr_step init_list_step logical_and_step or_part_step postfix_step
+  of_primary = fold-Primary A B C D E F G H I J K L M N O P Q R
+      part_step primary_step unary_step additive_step additive_part_step multiplicative_step multiplicative_part_step equality_step equality_part_step relational_step relational_part_step
+      and_part_step arguments_step expr_step init_list_step logical_and_step or_part_step postfix_step
 
   abbrev of_unary : Unary → C
-  of_unary = fold-Unary A B C D E F G H I J K L M N O P Q R part_step primary_step unary_step additive_step additive_part_step multiplicative_step multiplicative_part_step equality_step equality_part_step relational_step relational_part_step and_part_step arguments_step expr_step init_list_step logical_and_step or_part_step postfix_step
+  of_unary = fold-Unary A B C D E F G H I J K L M N O P Q R
+      part_step primary_step unary_step additive_step additive_part_step multiplicative_step multiplicative_part_step equality_step equality_part_step relational_step relational_part_step
+      and_part_step arguments_step expr_step init_list_step logical_and_step or_part_step postfix_step
 
   abbrev of_additive : Additive → D
-  of_additive = fold-Additive A B C D E F G H I J K L M N O P Q R part_step primary_step unary_step additive_step additive_part_step multiplicative_step multiplicative_part_step equality_step equality_part_step relational_step relational_part_step and_part_step arguments_step expr_step init_list_step logical_and_step or_part_step postfix_step
+  of_additive = fold-Additive A B C D E F G H I J K L M N O P Q R
+      part_step primary_step unary_step additive_step additive_part_step multiplicative_step multiplicative_part_step equality_step equality_part_step relational_step relational_part_step
+      and_part_step arguments_step expr_step init_list_step logical_and_step or_part_step postfix_step
 
   abbrev of_additive_part : AdditivePart → E
-  of_additive_part = fold-AdditivePart A B C D E F G H I J K L M N O P Q R part_step primary_step unary_step additive_step additive_part_step multiplicative_step multiplicative_part_step equality_step equality_part_step relational_step relational_part_step and_part_step arguments_step expr_step init_list_step logical_and_step or_part_step postfix_step
+  of_additive_part = fold-AdditivePart A B C D E F G H I J K L M N O P Q R
+      part_step primary_step unary_step additive_step additive_part_step multiplicative_step multiplicative_part_step equality_step equality_part_step relational_step relational_part_step
+      and_part_step arguments_step expr_step init_list_step logical_and_step or_part_step postfix_step
 
   abbrev of_multiplicative : Multiplicative → F
-  of_multiplicative = fold-Multiplicative A B C D E F G H I J K L M N O P Q R part_step primary_step unary_step additive_step additive_part_step multiplicative_step multiplicative_part_step equality_step equality_part_step relational_step relational_part_step and_part_step arguments_step expr_step init_list_step logical_and_step or_part_step postfix_step
+  of_multiplicative = fold-Multiplicative A B C D E F G H I J K L M N O P Q R
+      part_step primary_step unary_step additive_step additive_part_step multiplicative_step multiplicative_part_step equality_step equality_part_step relational_step relational_part_step
+      and_part_step arguments_step expr_step init_list_step logical_and_step or_part_step postfix_step
 
   abbrev of_multiplicative_part : MultiplicativePart → G
-  of_multiplicative_part = fold-MultiplicativePart A B C D E F G H I J K L M N O P Q R part_step primary_step unary_step additive_step additive_part_step multiplicative_step multiplicative_part_step equality_step equality_part_step relational_step relational_part_step and_part_step arguments_step expr_step init_list_step logical_and_step or_part_step postfix_step
+  of_multiplicative_part = fold-MultiplicativePart A B C D E F G H I J K L M N O P Q R
+      part_step primary_step unary_step additive_step additive_part_step multiplicative_step multiplicative_part_step equality_step equality_part_step relational_step relational_part_step
+      and_part_step arguments_step expr_step init_list_step logical_and_step or_part_step postfix_step
 
   abbrev of_equality : Equality → H
-  of_equality = fold-Equality A B C D E F G H I J K L M N O P Q R part_step primary_step unary_step additive_step additive_part_step multiplicative_step multiplicative_part_step equality_step equality_part_step relational_step relational_part_step and_part_step arguments_step expr_step init_list_step logical_and_step or_part_step postfix_step
+  of_equality = fold-Equality A B C D E F G H I J K L M N O P Q R
+      part_step primary_step unary_step additive_step additive_part_step multiplicative_step multiplicative_part_step equality_step equality_part_step relational_step relational_part_step
+      and_part_step arguments_step expr_step init_list_step logical_and_step or_part_step postfix_step
 
   abbrev of_equality_part : EqualityPart → I
-  of_equality_part = fold-EqualityPart A B C D E F G H I J K L M N O P Q R part_step primary_step unary_step additive_step additive_part_step multiplicative_step multiplicative_part_step equality_step equality_part_step relational_step relational_part_step and_part_step arguments_step expr_step init_list_step logical_and_step or_part_step postfix_step
+  of_equality_part = fold-EqualityPart A B C D E F G H I J K L M N O P Q R
+      part_step primary_step unary_step additive_step additive_part_step multiplicative_step multiplicative_part_step equality_step equality_part_step relational_step relational_part_step
+      and_part_step arguments_step expr_step init_list_step logical_and_step or_part_step postfix_step
 
   abbrev of_relational : Relational → J
-  of_relational = fold-Relational A B C D E F G H I J K L M N O P Q R part_step primary_step unary_step additive_step additive_part_step multiplicative_step multiplicative_part_step equality_step equality_part_step relational_step relational_part_step and_part_step arguments_step expr_step init_list_step logical_and_step or_part_step postfix_step
+  of_relational = fold-Relational A B C D E F G H I J K L M N O P Q R
+      part_step primary_step unary_step additive_step additive_part_step multiplicative_step multiplicative_part_step equality_step equality_part_step relational_step relational_part_step
+      and_part_step arguments_step expr_step init_list_step logical_and_step or_part_step postfix_step
 
   abbrev of_relational_part : RelationalPart → K
-  of_relational_part = fold-RelationalPart A B C D E F G H I J K L M N O P Q R part_step primary_step unary_step additive_step additive_part_step multiplicative_step multiplicative_part_step equality_step equality_part_step relational_step relational_part_step and_part_step arguments_step expr_step init_list_step logical_and_step or_part_step postfix_step
+  of_relational_part = fold-RelationalPart A B C D E F G H I J K L M N O P Q R
+      part_step primary_step unary_step additive_step additive_part_step multiplicative_step multiplicative_part_step equality_step equality_part_step relational_step relational_part_step
+      and_part_step arguments_step expr_step init_list_step logical_and_step or_part_step postfix_step
 
   abbrev of_and_part : AndPart → L
-  of_and_part = fold-AndPart A B C D E F G H I J K L M N O P Q R part_step primary_step unary_step additive_step additive_part_step multiplicative_step multiplicative_part_step equality_step equality_part_step relational_step relational_part_step and_part_step arguments_step expr_step init_list_step logical_and_step or_part_step postfix_step
+  of_and_part = fold-AndPart A B C D E F G H I J K L M N O P Q R
+      part_step primary_step unary_step additive_step additive_part_step multiplicative_step multiplicative_part_step equality_step equality_part_step relational_step relational_part_step
+      and_part_step arguments_step expr_step init_list_step logical_and_step or_part_step postfix_step
 
   abbrev of_arguments : Arguments → M
-  of_arguments = fold-Arguments A B C D E F G H I J K L M N O P Q R part_step primary_step unary_step additive_step additive_part_step multiplicative_step multiplicative_part_step equality_step equality_part_step relational_step relational_part_step and_part_step arguments_step expr_step init_list_step logical_and_step or_part_step postfix_step
+  of_arguments = fold-Arguments A B C D E F G H I J K L M N O P Q R
+      part_step primary_step unary_step additive_step additive_part_step multiplicative_step multiplicative_part_step equality_step equality_part_step relational_step relational_part_step
+      and_part_step arguments_step expr_step init_list_step logical_and_step or_part_step postfix_step
 
   abbrev of_expr : Expr → N
-  of_expr = fold-Expr A B C D E F G H I J K L M N O P Q R part_step primary_step unary_step additive_step additive_part_step multiplicative_step multiplicative_part_step equality_step equality_part_step relational_step relational_part_step and_part_step arguments_step expr_step init_list_step logical_and_step or_part_step postfix_step
+  of_expr = fold-Expr A B C D E F G H I J K L M N O P Q R
+      part_step primary_step unary_step additive_step additive_part_step multiplicative_step multiplicative_part_step equality_step equality_part_step relational_step relational_part_step
+      and_part_step arguments_step expr_step init_list_step logical_and_step or_part_step postfix_step
 
   abbrev of_init_list : InitList → O
-  of_init_list = fold-InitList A B C D E F G H I J K L M N O P Q R part_step primary_step unary_step additive_step additive_part_step multiplicative_step multiplicative_part_step equality_step equality_part_step relational_step relational_part_step and_part_step arguments_step expr_step init_list_step logical_and_step or_part_step postfix_step
+  of_init_list = fold-InitList A B C D E F G H I J K L M N O P Q R
+      part_step primary_step unary_step additive_step additive_part_step multiplicative_step multiplicative_part_step equality_step equality_part_step relational_step relational_part_step
+      and_part_step arguments_step expr_step init_list_step logical_and_step or_part_step postfix_step
 
   abbrev of_logical_and : LogicalAnd → P
-  of_logical_and = fold-LogicalAnd A B C D E F G H I J K L M N O P Q R part_step primary_step unary_step additive_step additive_part_step multiplicative_step multiplicative_part_step equality_step equality_part_step relational_step relational_part_step and_part_step arguments_step expr_step init_list_step logical_and_step or_part_step postfix_step
+  of_logical_and = fold-LogicalAnd A B C D E F G H I J K L M N O P Q R
+      part_step primary_step unary_step additive_step additive_part_step multiplicative_step multiplicative_part_step equality_step equality_part_step relational_step relational_part_step
+      and_part_step arguments_step expr_step init_list_step logical_and_step or_part_step postfix_step
 
   abbrev of_or_part : OrPart → Q
-  of_or_part = fold-OrPart A B C D E F G H I J K L M N O P Q R part_step primary_step unary_step additive_step additive_part_step multiplicative_step multiplicative_part_step equality_step equality_part_step relational_step relational_part_step and_part_step arguments_step expr_step init_list_step logical_and_step or_part_step postfix_step
+  of_or_part = fold-OrPart A B C D E F G H I J K L M N O P Q R
+      part_step primary_step unary_step additive_step additive_part_step multiplicative_step multiplicative_part_step equality_step equality_part_step relational_step relational_part_step
+      and_part_step arguments_step expr_step init_list_step logical_and_step or_part_step postfix_step
 
   abbrev of_postfix : Postfix → R
-  of_postfix = fold-Postfix A B C D E F G H I J K L M N O P Q R part_step primary_step unary_step additive_step additive_part_step multiplicative_step multiplicative_part_step equality_step equality_part_step relational_step relational_part_step and_part_step arguments_step expr_step init_list_step logical_and_step or_part_step postfix_step
+  of_postfix = fold-Postfix A B C D E F G H I J K L M N O P Q R
+      part_step primary_step unary_step additive_step additive_part_step multiplicative_step multiplicative_part_step equality_step equality_part_step relational_step relational_part_step
+      and_part_step arguments_step expr_step init_list_step logical_and_step or_part_step postfix_step
 
   abbrev Seen-PostfixPart : PostfixPart → Type 0
   Seen-PostfixPart x = of_part (settled_part x) ≡ of_part x
@@ -168,593 +208,270 @@ module _ (A B C D E F G H I J K L M N O P Q R : Type 0)
   abbrev Seen-Postfix : Postfix → Type 0
   Seen-Postfix x = of_postfix (settled_postfix x) ≡ of_postfix x
 
-  -- a part, and that it is seen as before
-  abbrev Both-PostfixPart : Type 0
-  Both-PostfixPart = (x : PostfixPart) × Seen-PostfixPart x
-
-  abbrev Both-Primary : Type 0
-  Both-Primary = (x : Primary) × Seen-Primary x
-
-  abbrev Both-Unary : Type 0
-  Both-Unary = (x : Unary) × Seen-Unary x
-
-  abbrev Both-Additive : Type 0
-  Both-Additive = (x : Additive) × Seen-Additive x
-
-  abbrev Both-AdditivePart : Type 0
-  Both-AdditivePart = (x : AdditivePart) × Seen-AdditivePart x
-
-  abbrev Both-Multiplicative : Type 0
-  Both-Multiplicative = (x : Multiplicative) × Seen-Multiplicative x
-
-  abbrev Both-MultiplicativePart : Type 0
-  Both-MultiplicativePart = (x : MultiplicativePart) × Seen-MultiplicativePart x
-
-  abbrev Both-Equality : Type 0
-  Both-Equality = (x : Equality) × Seen-Equality x
-
-  abbrev Both-EqualityPart : Type 0
-  Both-EqualityPart = (x : EqualityPart) × Seen-EqualityPart x
-
-  abbrev Both-Relational : Type 0
-  Both-Relational = (x : Relational) × Seen-Relational x
-
-  abbrev Both-RelationalPart : Type 0
-  Both-RelationalPart = (x : RelationalPart) × Seen-RelationalPart x
-
-  abbrev Both-AndPart : Type 0
-  Both-AndPart = (x : AndPart) × Seen-AndPart x
-
-  abbrev Both-Arguments : Type 0
-  Both-Arguments = (x : Arguments) × Seen-Arguments x
-
-  abbrev Both-Expr : Type 0
-  Both-Expr = (x : Expr) × Seen-Expr x
-
-  abbrev Both-InitList : Type 0
-  Both-InitList = (x : InitList) × Seen-InitList x
-
-  abbrev Both-LogicalAnd : Type 0
-  Both-LogicalAnd = (x : LogicalAnd) × Seen-LogicalAnd x
-
-  abbrev Both-OrPart : Type 0
-  Both-OrPart = (x : OrPart) × Seen-OrPart x
-
-  abbrev Both-Postfix : Type 0
-  Both-Postfix = (x : Postfix) × Seen-Postfix x
-
-  -- one layer of such parts, and without that
-  abbrev Layer-PostfixPart : Type 0
-  Layer-PostfixPart = open_expr.PostfixPart-F
-      Both-PostfixPart Both-Primary Both-Unary Both-Additive Both-AdditivePart Both-Multiplicative Both-MultiplicativePart Both-Equality Both-EqualityPart Both-Relational Both-RelationalPart Both-AndPart Both-Arguments Both-Expr
-      Both-InitList Both-LogicalAnd Both-OrPart Both-Postfix
-
-  abbrev Layer-Primary : Type 0
-  Layer-Primary = open_expr.Primary-F
-      Both-PostfixPart Both-Primary Both-Unary Both-Additive Both-AdditivePart Both-Multiplicative Both-MultiplicativePart Both-Equality Both-EqualityPart Both-Relational Both-RelationalPart Both-AndPart Both-Arguments Both-Expr
-      Both-InitList Both-LogicalAnd Both-OrPart Both-Postfix
-
-  abbrev Layer-Unary : Type 0
-  Layer-Unary = open_expr.Unary-F
-      Both-PostfixPart Both-Primary Both-Unary Both-Additive Both-AdditivePart Both-Multiplicative Both-MultiplicativePart Both-Equality Both-EqualityPart Both-Relational Both-RelationalPart Both-AndPart Both-Arguments Both-Expr
-      Both-InitList Both-LogicalAnd Both-OrPart Both-Postfix
-
-  abbrev Layer-Additive : Type 0
-  Layer-Additive = open_expr.Additive-F
-      Both-PostfixPart Both-Primary Both-Unary Both-Additive Both-AdditivePart Both-Multiplicative Both-MultiplicativePart Both-Equality Both-EqualityPart Both-Relational Both-RelationalPart Both-AndPart Both-Arguments Both-Expr
-      Both-InitList Both-LogicalAnd Both-OrPart Both-Postfix
-
-  abbrev Layer-AdditivePart : Type 0
-  Layer-AdditivePart = open_expr.AdditivePart-F
-      Both-PostfixPart Both-Primary Both-Unary Both-Additive Both-AdditivePart Both-Multiplicative Both-MultiplicativePart Both-Equality Both-EqualityPart Both-Relational Both-RelationalPart Both-AndPart Both-Arguments Both-Expr
-      Both-InitList Both-LogicalAnd Both-OrPart Both-Postfix
-
-  abbrev Layer-Multiplicative : Type 0
-  Layer-Multiplicative = open_expr.Multiplicative-F
-      Both-PostfixPart Both-Primary Both-Unary Both-Additive Both-AdditivePart Both-Multiplicative Both-MultiplicativePart Both-Equality Both-EqualityPart Both-Relational Both-RelationalPart Both-AndPart Both-Arguments Both-Expr
-      Both-InitList Both-LogicalAnd Both-OrPart Both-Postfix
-
-  abbrev Layer-MultiplicativePart : Type 0
-  Layer-MultiplicativePart = open_expr.MultiplicativePart-F
-      Both-PostfixPart Both-Primary Both-Unary Both-Additive Both-AdditivePart Both-Multiplicative Both-MultiplicativePart Both-Equality Both-EqualityPart Both-Relational Both-RelationalPart Both-AndPart Both-Arguments Both-Expr
-      Both-InitList Both-LogicalAnd Both-OrPart Both-Postfix
-
-  abbrev Layer-Equality : Type 0
-  Layer-Equality = open_expr.Equality-F
-      Both-PostfixPart Both-Primary Both-Unary Both-Additive Both-AdditivePart Both-Multiplicative Both-MultiplicativePart Both-Equality Both-EqualityPart Both-Relational Both-RelationalPart Both-AndPart Both-Arguments Both-Expr
-      Both-InitList Both-LogicalAnd Both-OrPart Both-Postfix
-
-  abbrev Layer-EqualityPart : Type 0
-  Layer-EqualityPart = open_expr.EqualityPart-F
-      Both-PostfixPart Both-Primary Both-Unary Both-Additive Both-AdditivePart Both-Multiplicative Both-MultiplicativePart Both-Equality Both-EqualityPart Both-Relational Both-RelationalPart Both-AndPart Both-Arguments Both-Expr
-      Both-InitList Both-LogicalAnd Both-OrPart Both-Postfix
-
-  abbrev Layer-Relational : Type 0
-  Layer-Relational = open_expr.Relational-F
-      Both-PostfixPart Both-Primary Both-Unary Both-Additive Both-AdditivePart Both-Multiplicative Both-MultiplicativePart Both-Equality Both-EqualityPart Both-Relational Both-RelationalPart Both-AndPart Both-Arguments Both-Expr
-      Both-InitList Both-LogicalAnd Both-OrPart Both-Postfix
-
-  abbrev Layer-RelationalPart : Type 0
-  Layer-RelationalPart = open_expr.RelationalPart-F
-      Both-PostfixPart Both-Primary Both-Unary Both-Additive Both-AdditivePart Both-Multiplicative Both-MultiplicativePart Both-Equality Both-EqualityPart Both-Relational Both-RelationalPart Both-AndPart Both-Arguments Both-Expr
-      Both-InitList Both-LogicalAnd Both-OrPart Both-Postfix
-
-  abbrev Layer-AndPart : Type 0
-  Layer-AndPart = open_expr.AndPart-F
-      Both-PostfixPart Both-Primary Both-Unary Both-Additive Both-AdditivePart Both-Multiplicative Both-MultiplicativePart Both-Equality Both-EqualityPart Both-Relational Both-RelationalPart Both-AndPart Both-Arguments Both-Expr
-      Both-InitList Both-LogicalAnd Both-OrPart Both-Postfix
-
-  abbrev Layer-Arguments : Type 0
-  Layer-Arguments = open_expr.Arguments-F
-      Both-PostfixPart Both-Primary Both-Unary Both-Additive Both-AdditivePart Both-Multiplicative Both-MultiplicativePart Both-Equality Both-EqualityPart Both-Relational Both-RelationalPart Both-AndPart Both-Arguments Both-Expr
-      Both-InitList Both-LogicalAnd Both-OrPart Both-Postfix
-
-  abbrev Layer-Expr : Type 0
-  Layer-Expr = open_expr.Expr-F
-      Both-PostfixPart Both-Primary Both-Unary Both-Additive Both-AdditivePart Both-Multiplicative Both-MultiplicativePart Both-Equality Both-EqualityPart Both-Relational Both-RelationalPart Both-AndPart Both-Arguments Both-Expr
-      Both-InitList Both-LogicalAnd Both-OrPart Both-Postfix
-
-  abbrev Layer-InitList : Type 0
-  Layer-InitList = open_expr.InitList-F
-      Both-PostfixPart Both-Primary Both-Unary Both-Additive Both-AdditivePart Both-Multiplicative Both-MultiplicativePart Both-Equality Both-EqualityPart Both-Relational Both-RelationalPart Both-AndPart Both-Arguments Both-Expr
-      Both-InitList Both-LogicalAnd Both-OrPart Both-Postfix
-
-  abbrev Layer-LogicalAnd : Type 0
-  Layer-LogicalAnd = open_expr.LogicalAnd-F
-      Both-PostfixPart Both-Primary Both-Unary Both-Additive Both-AdditivePart Both-Multiplicative Both-MultiplicativePart Both-Equality Both-EqualityPart Both-Relational Both-RelationalPart Both-AndPart Both-Arguments Both-Expr
-      Both-InitList Both-LogicalAnd Both-OrPart Both-Postfix
-
-  abbrev Layer-OrPart : Type 0
-  Layer-OrPart = open_expr.OrPart-F
-      Both-PostfixPart Both-Primary Both-Unary Both-Additive Both-AdditivePart Both-Multiplicative Both-MultiplicativePart Both-Equality Both-EqualityPart Both-Relational Both-RelationalPart Both-AndPart Both-Arguments Both-Expr
-      Both-InitList Both-LogicalAnd Both-OrPart Both-Postfix
-
-  abbrev Layer-Postfix : Type 0
-  Layer-Postfix = open_expr.Postfix-F
-      Both-PostfixPart Both-Primary Both-Unary Both-Additive Both-AdditivePart Both-Multiplicative Both-MultiplicativePart Both-Equality Both-EqualityPart Both-Relational Both-RelationalPart Both-AndPart Both-Arguments Both-Expr
-      Both-InitList Both-LogicalAnd Both-OrPart Both-Postfix
-
-  abbrev parts_part : Layer-PostfixPart → open_expr.PostfixPart-F PostfixPart Primary Unary Additive AdditivePart Multiplicative MultiplicativePart Equality EqualityPart Relational RelationalPart AndPart Arguments Expr InitList LogicalAnd OrPart Postfix
-  parts_part = map-PostfixPart
-      Both-PostfixPart Both-Primary Both-Unary Both-Additive Both-AdditivePart Both-Multiplicative Both-MultiplicativePart Both-Equality Both-EqualityPart Both-Relational Both-RelationalPart Both-AndPart Both-Arguments Both-Expr
-      Both-InitList Both-LogicalAnd Both-OrPart Both-Postfix
-      PostfixPart Primary Unary Additive AdditivePart Multiplicative MultiplicativePart Equality EqualityPart Relational RelationalPart AndPart Arguments Expr InitList LogicalAnd OrPart Postfix
-      (λ z. z.0) (λ z. z.0) (λ z. z.0) (λ z. z.0) (λ z. z.0) (λ z. z.0) (λ z. z.0) (λ z. z.0) (λ z. z.0) (λ z. z.0) (λ z. z.0) (λ z. z.0) (λ z. z.0) (λ z. z.0) (λ z. z.0) (λ z. z.0) (λ z. z.0) (λ z. z.0)
-
-  abbrev parts_primary : Layer-Primary → open_expr.Primary-F PostfixPart Primary Unary Additive AdditivePart Multiplicative MultiplicativePart Equality EqualityPart Relational RelationalPart AndPart Arguments Expr InitList LogicalAnd OrPart Postfix
-  parts_primary = map-Primary
-      Both-PostfixPart Both-Primary Both-Unary Both-Additive Both-AdditivePart Both-Multiplicative Both-MultiplicativePart Both-Equality Both-EqualityPart Both-Relational Both-RelationalPart Both-AndPart Both-Arguments Both-Expr
-      Both-InitList Both-LogicalAnd Both-OrPart Both-Postfix
-      PostfixPart Primary Unary Additive AdditivePart Multiplicative MultiplicativePart Equality EqualityPart Relational RelationalPart AndPart Arguments Expr InitList LogicalAnd OrPart Postfix
-      (λ z. z.0) (λ z. z.0) (λ z. z.0) (λ z. z.0) (λ z. z.0) (λ z. z.0) (λ z. z.0) (λ z. z.0) (λ z. z.0) (λ z. z.0) (λ z. z.0) (λ z. z.0) (λ z. z.0) (λ z. z.0) (λ z. z.0) (λ z. z.0) (λ z. z.0) (λ z. z.0)
-
-  abbrev parts_unary : Layer-Unary → open_expr.Unary-F PostfixPart Primary Unary Additive AdditivePart Multiplicative MultiplicativePart Equality EqualityPart Relational RelationalPart AndPart Arguments Expr InitList LogicalAnd OrPart Postfix
-  parts_unary = map-Unary
-      Both-PostfixPart Both-Primary Both-Unary Both-Additive Both-AdditivePart Both-Multiplicative Both-MultiplicativePart Both-Equality Both-EqualityPart Both-Relational Both-RelationalPart Both-AndPart Both-Arguments Both-Expr
-      Both-InitList Both-LogicalAnd Both-OrPart Both-Postfix
-      PostfixPart Primary Unary Additive AdditivePart Multiplicative MultiplicativePart Equality EqualityPart Relational RelationalPart AndPart Arguments Expr InitList LogicalAnd OrPart Postfix
-      (λ z. z.0) (λ z. z.0) (λ z. z.0) (λ z. z.0) (λ z. z.0) (λ z. z.0) (λ z. z.0) (λ z. z.0) (λ z. z.0) (λ z. z.0) (λ z. z.0) (λ z. z.0) (λ z. z.0) (λ z. z.0) (λ z. z.0) (λ z. z.0) (λ z. z.0) (λ z. z.0)
-
-  abbrev parts_additive : Layer-Additive → open_expr.Additive-F PostfixPart Primary Unary Additive AdditivePart Multiplicative MultiplicativePart Equality EqualityPart Relational RelationalPart AndPart Arguments Expr InitList LogicalAnd OrPart Postfix
-  parts_additive = map-Additive
-      Both-PostfixPart Both-Primary Both-Unary Both-Additive Both-AdditivePart Both-Multiplicative Both-MultiplicativePart Both-Equality Both-EqualityPart Both-Relational Both-RelationalPart Both-AndPart Both-Arguments Both-Expr
-      Both-InitList Both-LogicalAnd Both-OrPart Both-Postfix
-      PostfixPart Primary Unary Additive AdditivePart Multiplicative MultiplicativePart Equality EqualityPart Relational RelationalPart AndPart Arguments Expr InitList LogicalAnd OrPart Postfix
-      (λ z. z.0) (λ z. z.0) (λ z. z.0) (λ z. z.0) (λ z. z.0) (λ z. z.0) (λ z. z.0) (λ z. z.0) (λ z. z.0) (λ z. z.0) (λ z. z.0) (λ z. z.0) (λ z. z.0) (λ z. z.0) (λ z. z.0) (λ z. z.0) (λ z. z.0) (λ z. z.0)
-
-  abbrev parts_additive_part : Layer-AdditivePart → open_expr.AdditivePart-F PostfixPart Primary Unary Additive AdditivePart Multiplicative MultiplicativePart Equality EqualityPart Relational RelationalPart AndPart Arguments Expr InitList LogicalAnd OrPart Postfix
-  parts_additive_part = map-AdditivePart
-      Both-PostfixPart Both-Primary Both-Unary Both-Additive Both-AdditivePart Both-Multiplicative Both-MultiplicativePart Both-Equality Both-EqualityPart Both-Relational Both-RelationalPart Both-AndPart Both-Arguments Both-Expr
-      Both-InitList Both-LogicalAnd Both-OrPart Both-Postfix
-      PostfixPart Primary Unary Additive AdditivePart Multiplicative MultiplicativePart Equality EqualityPart Relational RelationalPart AndPart Arguments Expr InitList LogicalAnd OrPart Postfix
-      (λ z. z.0) (λ z. z.0) (λ z. z.0) (λ z. z.0) (λ z. z.0) (λ z. z.0) (λ z. z.0) (λ z. z.0) (λ z. z.0) (λ z. z.0) (λ z. z.0) (λ z. z.0) (λ z. z.0) (λ z. z.0) (λ z. z.0) (λ z. z.0) (λ z. z.0) (λ z. z.0)
-
-  abbrev parts_multiplicative : Layer-Multiplicative → open_expr.Multiplicative-F PostfixPart Primary Unary Additive AdditivePart Multiplicative MultiplicativePart Equality EqualityPart Relational RelationalPart AndPart Arguments Expr InitList LogicalAnd OrPart Postfix
-  parts_multiplicative = map-Multiplicative
-      Both-PostfixPart Both-Primary Both-Unary Both-Additive Both-AdditivePart Both-Multiplicative Both-MultiplicativePart Both-Equality Both-EqualityPart Both-Relational Both-RelationalPart Both-AndPart Both-Arguments Both-Expr
-      Both-InitList Both-LogicalAnd Both-OrPart Both-Postfix
-      PostfixPart Primary Unary Additive AdditivePart Multiplicative MultiplicativePart Equality EqualityPart Relational RelationalPart AndPart Arguments Expr InitList LogicalAnd OrPart Postfix
-      (λ z. z.0) (λ z. z.0) (λ z. z.0) (λ z. z.0) (λ z. z.0) (λ z. z.0) (λ z. z.0) (λ z. z.0) (λ z. z.0) (λ z. z.0) (λ z. z.0) (λ z. z.0) (λ z. z.0) (λ z. z.0) (λ z. z.0) (λ z. z.0) (λ z. z.0) (λ z. z.0)
-
-  abbrev parts_multiplicative_part : Layer-MultiplicativePart → open_expr.MultiplicativePart-F PostfixPart Primary Unary Additive AdditivePart Multiplicative MultiplicativePart Equality EqualityPart Relational RelationalPart AndPart Arguments Expr InitList LogicalAnd OrPart Postfix
-  parts_multiplicative_part = map-MultiplicativePart
-      Both-PostfixPart Both-Primary Both-Unary Both-Additive Both-AdditivePart Both-Multiplicative Both-MultiplicativePart Both-Equality Both-EqualityPart Both-Relational Both-RelationalPart Both-AndPart Both-Arguments Both-Expr
-      Both-InitList Both-LogicalAnd Both-OrPart Both-Postfix
-      PostfixPart Primary Unary Additive AdditivePart Multiplicative MultiplicativePart Equality EqualityPart Relational RelationalPart AndPart Arguments Expr InitList LogicalAnd OrPart Postfix
-      (λ z. z.0) (λ z. z.0) (λ z. z.0) (λ z. z.0) (λ z. z.0) (λ z. z.0) (λ z. z.0) (λ z. z.0) (λ z. z.0) (λ z. z.0) (λ z. z.0) (λ z. z.0) (λ z. z.0) (λ z. z.0) (λ z. z.0) (λ z. z.0) (λ z. z.0) (λ z. z.0)
-
-  abbrev parts_equality : Layer-Equality → open_expr.Equality-F PostfixPart Primary Unary Additive AdditivePart Multiplicative MultiplicativePart Equality EqualityPart Relational RelationalPart AndPart Arguments Expr InitList LogicalAnd OrPart Postfix
-  parts_equality = map-Equality
-      Both-PostfixPart Both-Primary Both-Unary Both-Additive Both-AdditivePart Both-Multiplicative Both-MultiplicativePart Both-Equality Both-EqualityPart Both-Relational Both-RelationalPart Both-AndPart Both-Arguments Both-Expr
-      Both-InitList Both-LogicalAnd Both-OrPart Both-Postfix
-      PostfixPart Primary Unary Additive AdditivePart Multiplicative MultiplicativePart Equality EqualityPart Relational RelationalPart AndPart Arguments Expr InitList LogicalAnd OrPart Postfix
-      (λ z. z.0) (λ z. z.0) (λ z. z.0) (λ z. z.0) (λ z. z.0) (λ z. z.0) (λ z. z.0) (λ z. z.0) (λ z. z.0) (λ z. z.0) (λ z. z.0) (λ z. z.0) (λ z. z.0) (λ z. z.0) (λ z. z.0) (λ z. z.0) (λ z. z.0) (λ z. z.0)
-
-  abbrev parts_equality_part : Layer-EqualityPart → open_expr.EqualityPart-F PostfixPart Primary Unary Additive AdditivePart Multiplicative MultiplicativePart Equality EqualityPart Relational RelationalPart AndPart Arguments Expr InitList LogicalAnd OrPart Postfix
-  parts_equality_part = map-EqualityPart
-      Both-PostfixPart Both-Primary Both-Unary Both-Additive Both-AdditivePart Both-Multiplicative Both-MultiplicativePart Both-Equality Both-EqualityPart Both-Relational Both-RelationalPart Both-AndPart Both-Arguments Both-Expr
-      Both-InitList Both-LogicalAnd Both-OrPart Both-Postfix
-      PostfixPart Primary Unary Additive AdditivePart Multiplicative MultiplicativePart Equality EqualityPart Relational RelationalPart AndPart Arguments Expr InitList LogicalAnd OrPart Postfix
-      (λ z. z.0) (λ z. z.0) (λ z. z.0) (λ z. z.0) (λ z. z.0) (λ z. z.0) (λ z. z.0) (λ z. z.0) (λ z. z.0) (λ z. z.0) (λ z. z.0) (λ z. z.0) (λ z. z.0) (λ z. z.0) (λ z. z.0) (λ z. z.0) (λ z. z.0) (λ z. z.0)
-
-  abbrev parts_relational : Layer-Relational → open_expr.Relational-F PostfixPart Primary Unary Additive AdditivePart Multiplicative MultiplicativePart Equality EqualityPart Relational RelationalPart AndPart Arguments Expr InitList LogicalAnd OrPart Postfix
-  parts_relational = map-Relational
-      Both-PostfixPart Both-Primary Both-Unary Both-Additive Both-AdditivePart Both-Multiplicative Both-MultiplicativePart Both-Equality Both-EqualityPart Both-Relational Both-RelationalPart Both-AndPart Both-Arguments Both-Expr
-      Both-InitList Both-LogicalAnd Both-OrPart Both-Postfix
-      PostfixPart Primary Unary Additive AdditivePart Multiplicative MultiplicativePart Equality EqualityPart Relational RelationalPart AndPart Arguments Expr InitList LogicalAnd OrPart Postfix
-      (λ z. z.0) (λ z. z.0) (λ z. z.0) (λ z. z.0) (λ z. z.0) (λ z. z.0) (λ z. z.0) (λ z. z.0) (λ z. z.0) (λ z. z.0) (λ z. z.0) (λ z. z.0) (λ z. z.0) (λ z. z.0) (λ z. z.0) (λ z. z.0) (λ z. z.0) (λ z. z.0)
-
-  abbrev parts_relational_part : Layer-RelationalPart → open_expr.RelationalPart-F PostfixPart Primary Unary Additive AdditivePart Multiplicative MultiplicativePart Equality EqualityPart Relational RelationalPart AndPart Arguments Expr InitList LogicalAnd OrPart Postfix
-  parts_relational_part = map-RelationalPart
-      Both-PostfixPart Both-Primary Both-Unary Both-Additive Both-AdditivePart Both-Multiplicative Both-MultiplicativePart Both-Equality Both-EqualityPart Both-Relational Both-RelationalPart Both-AndPart Both-Arguments Both-Expr
-      Both-InitList Both-LogicalAnd Both-OrPart Both-Postfix
-      PostfixPart Primary Unary Additive AdditivePart Multiplicative MultiplicativePart Equality EqualityPart Relational RelationalPart AndPart Arguments Expr InitList LogicalAnd OrPart Postfix
-      (λ z. z.0) (λ z. z.0) (λ z. z.0) (λ z. z.0) (λ z. z.0) (λ z. z.0) (λ z. z.0) (λ z. z.0) (λ z. z.0) (λ z. z.0) (λ z. z.0) (λ z. z.0) (λ z. z.0) (λ z. z.0) (λ z. z.0) (λ z. z.0) (λ z. z.0) (λ z. z.0)
-
-  abbrev parts_and_part : Layer-AndPart → open_expr.AndPart-F PostfixPart Primary Unary Additive AdditivePart Multiplicative MultiplicativePart Equality EqualityPart Relational RelationalPart AndPart Arguments Expr InitList LogicalAnd OrPart Postfix
-  parts_and_part = map-AndPart
-      Both-PostfixPart Both-Primary Both-Unary Both-Additive Both-AdditivePart Both-Multiplicative Both-MultiplicativePart Both-Equality Both-EqualityPart Both-Relational Both-RelationalPart Both-AndPart Both-Arguments Both-Expr
-      Both-InitList Both-LogicalAnd Both-OrPart Both-Postfix
-      PostfixPart Primary Unary Additive AdditivePart Multiplicative MultiplicativePart Equality EqualityPart Relational RelationalPart AndPart Arguments Expr InitList LogicalAnd OrPart Postfix
-      (λ z. z.0) (λ z. z.0) (λ z. z.0) (λ z. z.0) (λ z. z.0) (λ z. z.0) (λ z. z.0) (λ z. z.0) (λ z. z.0) (λ z. z.0) (λ z. z.0) (λ z. z.0) (λ z. z.0) (λ z. z.0) (λ z. z.0) (λ z. z.0) (λ z. z.0) (λ z. z.0)
-
-  abbrev parts_arguments : Layer-Arguments → open_expr.Arguments-F PostfixPart Primary Unary Additive AdditivePart Multiplicative MultiplicativePart Equality EqualityPart Relational RelationalPart AndPart Arguments Expr InitList LogicalAnd OrPart Postfix
-  parts_arguments = map-Arguments
-      Both-PostfixPart Both-Primary Both-Unary Both-Additive Both-AdditivePart Both-Multiplicative Both-MultiplicativePart Both-Equality Both-EqualityPart Both-Relational Both-RelationalPart Both-AndPart Both-Arguments Both-Expr
-      Both-InitList Both-LogicalAnd Both-OrPart Both-Postfix
-      PostfixPart Primary Unary Additive AdditivePart Multiplicative MultiplicativePart Equality EqualityPart Relational RelationalPart AndPart Arguments Expr InitList LogicalAnd OrPart Postfix
-      (λ z. z.0) (λ z. z.0) (λ z. z.0) (λ z. z.0) (λ z. z.0) (λ z. z.0) (λ z. z.0) (λ z. z.0) (λ z. z.0) (λ z. z.0) (λ z. z.0) (λ z. z.0) (λ z. z.0) (λ z. z.0) (λ z. z.0) (λ z. z.0) (λ z. z.0) (λ z. z.0)
-
-  abbrev parts_expr : Layer-Expr → open_expr.Expr-F PostfixPart Primary Unary Additive AdditivePart Multiplicative MultiplicativePart Equality EqualityPart Relational RelationalPart AndPart Arguments Expr InitList LogicalAnd OrPart Postfix
-  parts_expr = map-Expr
-      Both-PostfixPart Both-Primary Both-Unary Both-Additive Both-AdditivePart Both-Multiplicative Both-MultiplicativePart Both-Equality Both-EqualityPart Both-Relational Both-RelationalPart Both-AndPart Both-Arguments Both-Expr
-      Both-InitList Both-LogicalAnd Both-OrPart Both-Postfix
-      PostfixPart Primary Unary Additive AdditivePart Multiplicative MultiplicativePart Equality EqualityPart Relational RelationalPart AndPart Arguments Expr InitList LogicalAnd OrPart Postfix
-      (λ z. z.0) (λ z. z.0) (λ z. z.0) (λ z. z.0) (λ z. z.0) (λ z. z.0) (λ z. z.0) (λ z. z.0) (λ z. z.0) (λ z. z.0) (λ z. z.0) (λ z. z.0) (λ z. z.0) (λ z. z.0) (λ z. z.0) (λ z. z.0) (λ z. z.0) (λ z. z.0)
-
-  abbrev parts_init_list : Layer-InitList → open_expr.InitList-F PostfixPart Primary Unary Additive AdditivePart Multiplicative MultiplicativePart Equality EqualityPart Relational RelationalPart AndPart Arguments Expr InitList LogicalAnd OrPart Postfix
-  parts_init_list = map-InitList
-      Both-PostfixPart Both-Primary Both-Unary Both-Additive Both-AdditivePart Both-Multiplicative Both-MultiplicativePart Both-Equality Both-EqualityPart Both-Relational Both-RelationalPart Both-AndPart Both-Arguments Both-Expr
-      Both-InitList Both-LogicalAnd Both-OrPart Both-Postfix
-      PostfixPart Primary Unary Additive AdditivePart Multiplicative MultiplicativePart Equality EqualityPart Relational RelationalPart AndPart Arguments Expr InitList LogicalAnd OrPart Postfix
-      (λ z. z.0) (λ z. z.0) (λ z. z.0) (λ z. z.0) (λ z. z.0) (λ z. z.0) (λ z. z.0) (λ z. z.0) (λ z. z.0) (λ z. z.0) (λ z. z.0) (λ z. z.0) (λ z. z.0) (λ z. z.0) (λ z. z.0) (λ z. z.0) (λ z. z.0) (λ z. z.0)
-
-  abbrev parts_logical_and : Layer-LogicalAnd → open_expr.LogicalAnd-F PostfixPart Primary Unary Additive AdditivePart Multiplicative MultiplicativePart Equality EqualityPart Relational RelationalPart AndPart Arguments Expr InitList LogicalAnd OrPart Postfix
-  parts_logical_and = map-LogicalAnd
-      Both-PostfixPart Both-Primary Both-Unary Both-Additive Both-AdditivePart Both-Multiplicative Both-MultiplicativePart Both-Equality Both-EqualityPart Both-Relational Both-RelationalPart Both-AndPart Both-Arguments Both-Expr
-      Both-InitList Both-LogicalAnd Both-OrPart Both-Postfix
-      PostfixPart Primary Unary Additive AdditivePart Multiplicative MultiplicativePart Equality EqualityPart Relational RelationalPart AndPart Arguments Expr InitList LogicalAnd OrPart Postfix
-      (λ z. z.0) (λ z. z.0) (λ z. z.0) (λ z. z.0) (λ z. z.0) (λ z. z.0) (λ z. z.0) (λ z. z.0) (λ z. z.0) (λ z. z.0) (λ z. z.0) (λ z. z.0) (λ z. z.0) (λ z. z.0) (λ z. z.0) (λ z. z.0) (λ z. z.0) (λ z. z.0)
-
-  abbrev parts_or_part : Layer-OrPart → open_expr.OrPart-F PostfixPart Primary Unary Additive AdditivePart Multiplicative MultiplicativePart Equality EqualityPart Relational RelationalPart AndPart Arguments Expr InitList LogicalAnd OrPart Postfix
-  parts_or_part = map-OrPart
-      Both-PostfixPart Both-Primary Both-Unary Both-Additive Both-AdditivePart Both-Multiplicative Both-MultiplicativePart Both-Equality Both-EqualityPart Both-Relational Both-RelationalPart Both-AndPart Both-Arguments Both-Expr
-      Both-InitList Both-LogicalAnd Both-OrPart Both-Postfix
-      PostfixPart Primary Unary Additive AdditivePart Multiplicative MultiplicativePart Equality EqualityPart Relational RelationalPart AndPart Arguments Expr InitList LogicalAnd OrPart Postfix
-      (λ z. z.0) (λ z. z.0) (λ z. z.0) (λ z. z.0) (λ z. z.0) (λ z. z.0) (λ z. z.0) (λ z. z.0) (λ z. z.0) (λ z. z.0) (λ z. z.0) (λ z. z.0) (λ z. z.0) (λ z. z.0) (λ z. z.0) (λ z. z.0) (λ z. z.0) (λ z. z.0)
-
-  abbrev parts_postfix : Layer-Postfix → open_expr.Postfix-F PostfixPart Primary Unary Additive AdditivePart Multiplicative MultiplicativePart Equality EqualityPart Relational RelationalPart AndPart Arguments Expr InitList LogicalAnd OrPart Postfix
-  parts_postfix = map-Postfix
-      Both-PostfixPart Both-Primary Both-Unary Both-Additive Both-AdditivePart Both-Multiplicative Both-MultiplicativePart Both-Equality Both-EqualityPart Both-Relational Both-RelationalPart Both-AndPart Both-Arguments Both-Expr
-      Both-InitList Both-LogicalAnd Both-OrPart Both-Postfix
-      PostfixPart Primary Unary Additive AdditivePart Multiplicative MultiplicativePart Equality EqualityPart Relational RelationalPart AndPart Arguments Expr InitList LogicalAnd OrPart Postfix
-      (λ z. z.0) (λ z. z.0) (λ z. z.0) (λ z. z.0) (λ z. z.0) (λ z. z.0) (λ z. z.0) (λ z. z.0) (λ z. z.0) (λ z. z.0) (λ z. z.0) (λ z. z.0) (λ z. z.0) (λ z. z.0) (λ z. z.0) (λ z. z.0) (λ z. z.0) (λ z. z.0)
-
-  -- .. settled and then seen, and seen at once
-  abbrev settled_parts_part : Layer-PostfixPart → open_expr.PostfixPart-F PostfixPart Primary Unary Additive AdditivePart Multiplicative MultiplicativePart Equality EqualityPart Relational RelationalPart AndPart Arguments Expr InitList LogicalAnd OrPart Postfix
-  settled_parts_part l = map-PostfixPart PostfixPart Primary Unary Additive AdditivePart Multiplicative MultiplicativePart Equality EqualityPart Relational RelationalPart AndPart Arguments Expr InitList LogicalAnd OrPart Postfix PostfixPart Primary Unary Additive AdditivePart Multiplicative MultiplicativePart Equality EqualityPart Relational RelationalPart AndPart Arguments Expr InitList LogicalAnd OrPart Postfix
-      settled_part settled_primary settled_unary settled_additive settled_additive_part settled_multiplicative settled_multiplicative_part settled_equality settled_equality_part settled_relational settled_relational_part settled_and_part
-      settled_arguments settled_expr settled_init_list settled_logical_and settled_or_part settled_postfix (parts_part l)
-
-  abbrev before_part : Layer-PostfixPart → open_expr.PostfixPart-F A B C D E F G H I J K L M N O P Q R
-  before_part l = map-PostfixPart PostfixPart Primary Unary Additive AdditivePart Multiplicative MultiplicativePart Equality EqualityPart Relational RelationalPart AndPart Arguments Expr InitList LogicalAnd OrPart Postfix A B C D E F G H I J K L M N O P Q R
-      of_part of_primary of_unary of_additive of_additive_part of_multiplicative of_multiplicative_part of_equality of_equality_part of_relational of_relational_part of_and_part of_arguments of_expr of_init_list of_logical_and of_or_part
-      of_postfix (settled_parts_part l)
-
-  abbrev after_part : Layer-PostfixPart → open_expr.PostfixPart-F A B C D E F G H I J K L M N O P Q R
-  after_part l = map-PostfixPart PostfixPart Primary Unary Additive AdditivePart Multiplicative MultiplicativePart Equality EqualityPart Relational RelationalPart AndPart Arguments Expr InitList LogicalAnd OrPart Postfix A B C D E F G H I J K L M N O P Q R
-      of_part of_primary of_unary of_additive of_additive_part of_multiplicative of_multiplicative_part of_equality of_equality_part of_relational of_relational_part of_and_part of_arguments of_expr of_init_list of_logical_and of_or_part
-      of_postfix (parts_part l)
-
-  abbrev settled_parts_primary : Layer-Primary → open_expr.Primary-F PostfixPart Primary Unary Additive AdditivePart Multiplicative MultiplicativePart Equality EqualityPart Relational RelationalPart AndPart Arguments Expr InitList LogicalAnd OrPart Postfix
-  settled_parts_primary l = map-Primary PostfixPart Primary Unary Additive AdditivePart Multiplicative MultiplicativePart Equality EqualityPart Relational RelationalPart AndPart Arguments Expr InitList LogicalAnd OrPart Postfix PostfixPart Primary Unary Additive AdditivePart Multiplicative MultiplicativePart Equality EqualityPart Relational RelationalPart AndPart Arguments Expr InitList LogicalAnd OrPart Postfix
-      settled_part settled_primary settled_unary settled_additive settled_additive_part settled_multiplicative settled_multiplicative_part settled_equality settled_equality_part settled_relational settled_relational_part settled_and_part
-      settled_arguments settled_expr settled_init_list settled_logical_and settled_or_part settled_postfix (parts_primary l)
-
-  abbrev before_primary : Layer-Primary → open_expr.Primary-F A B C D E F G H I J K L M N O P Q R
-  before_primary l = map-Primary PostfixPart Primary Unary Additive AdditivePart Multiplicative MultiplicativePart Equality EqualityPart Relational RelationalPart AndPart Arguments Expr InitList LogicalAnd OrPart Postfix A B C D E F G H I J K L M N O P Q R
-      of_part of_primary of_unary of_additive of_additive_part of_multiplicative of_multiplicative_part of_equality of_equality_part of_relational of_relational_part of_and_part of_arguments of_expr of_init_list of_logical_and of_or_part
-      of_postfix (settled_parts_primary l)
-
-  abbrev after_primary : Layer-Primary → open_expr.Primary-F A B C D E F G H I J K L M N O P Q R
-  after_primary l = map-Primary PostfixPart Primary Unary Additive AdditivePart Multiplicative MultiplicativePart Equality EqualityPart Relational RelationalPart AndPart Arguments Expr InitList LogicalAnd OrPart Postfix A B C D E F G H I J K L M N O P Q R
-      of_part of_primary of_unary of_additive of_additive_part of_multiplicative of_multiplicative_part of_equality of_equality_part of_relational of_relational_part of_and_part of_arguments of_expr of_init_list of_logical_and of_or_part
-      of_postfix (parts_primary l)
-
-  abbrev settled_parts_unary : Layer-Unary → open_expr.Unary-F PostfixPart Primary Unary Additive AdditivePart Multiplicative MultiplicativePart Equality EqualityPart Relational RelationalPart AndPart Arguments Expr InitList LogicalAnd OrPart Postfix
-  settled_parts_unary l = map-Unary PostfixPart Primary Unary Additive AdditivePart Multiplicative MultiplicativePart Equality EqualityPart Relational RelationalPart AndPart Arguments Expr InitList LogicalAnd OrPart Postfix PostfixPart Primary Unary Additive AdditivePart Multiplicative MultiplicativePart Equality EqualityPart Relational RelationalPart AndPart Arguments Expr InitList LogicalAnd OrPart Postfix
-      settled_part settled_primary settled_unary settled_additive settled_additive_part settled_multiplicative settled_multiplicative_part settled_equality settled_equality_part settled_relational settled_relational_part settled_and_part
-      settled_arguments settled_expr settled_init_list settled_logical_and settled_or_part settled_postfix (parts_unary l)
-
-  abbrev before_unary : Layer-Unary → open_expr.Unary-F A B C D E F G H I J K L M N O P Q R
-  before_unary l = map-Unary PostfixPart Primary Unary Additive AdditivePart Multiplicative MultiplicativePart Equality EqualityPart Relational RelationalPart AndPart Arguments Expr InitList LogicalAnd OrPart Postfix A B C D E F G H I J K L M N O P Q R
-      of_part of_primary of_unary of_additive of_additive_part of_multiplicative of_multiplicative_part of_equality of_equality_part of_relational of_relational_part of_and_part of_arguments of_expr of_init_list of_logical_and of_or_part
-      of_postfix (settled_parts_unary l)
-
-  abbrev after_unary : Layer-Unary → open_expr.Unary-F A B C D E F G H I J K L M N O P Q R
-  after_unary l = map-Unary PostfixPart Primary Unary Additive AdditivePart Multiplicative MultiplicativePart Equality EqualityPart Relational RelationalPart AndPart Arguments Expr InitList LogicalAnd OrPart Postfix A B C D E F G H I J K L M N O P Q R
-      of_part of_primary of_unary of_additive of_additive_part of_multiplicative of_multiplicative_part of_equality of_equality_part of_relational of_relational_part of_and_part of_arguments of_expr of_init_list of_logical_and of_or_part
-      of_postfix (parts_unary l)
-
-  abbrev settled_parts_additive : Layer-Additive → open_expr.Additive-F PostfixPart Primary Unary Additive AdditivePart Multiplicative MultiplicativePart Equality EqualityPart Relational RelationalPart AndPart Arguments Expr InitList LogicalAnd OrPart Postfix
-  settled_parts_additive l = map-Additive PostfixPart Primary Unary Additive AdditivePart Multiplicative MultiplicativePart Equality EqualityPart Relational RelationalPart AndPart Arguments Expr InitList LogicalAnd OrPart Postfix PostfixPart Primary Unary Additive AdditivePart Multiplicative MultiplicativePart Equality EqualityPart Relational RelationalPart AndPart Arguments Expr InitList LogicalAnd OrPart Postfix
-      settled_part settled_primary settled_unary settled_additive settled_additive_part settled_multiplicative settled_multiplicative_part settled_equality settled_equality_part settled_relational settled_relational_part settled_and_part
-      settled_arguments settled_expr settled_init_list settled_logical_and settled_or_part settled_postfix (parts_additive l)
-
-  abbrev before_additive : Layer-Additive → open_expr.Additive-F A B C D E F G H I J K L M N O P Q R
-  before_additive l = map-Additive PostfixPart Primary Unary Additive AdditivePart Multiplicative MultiplicativePart Equality EqualityPart Relational RelationalPart AndPart Arguments Expr InitList LogicalAnd OrPart Postfix A B C D E F G H I J K L M N O P Q R
-      of_part of_primary of_unary of_additive of_additive_part of_multiplicative of_multiplicative_part of_equality of_equality_part of_relational of_relational_part of_and_part of_arguments of_expr of_init_list of_logical_and of_or_part
-      of_postfix (bare_additive (settled_parts_additive l))
-
-  abbrev after_additive : Layer-Additive → open_expr.Additive-F A B C D E F G H I J K L M N O P Q R
-  after_additive l = map-Additive PostfixPart Primary Unary Additive AdditivePart Multiplicative MultiplicativePart Equality EqualityPart Relational RelationalPart AndPart Arguments Expr InitList LogicalAnd OrPart Postfix A B C D E F G H I J K L M N O P Q R
-      of_part of_primary of_unary of_additive of_additive_part of_multiplicative of_multiplicative_part of_equality of_equality_part of_relational of_relational_part of_and_part of_arguments of_expr of_init_list of_logical_and of_or_part
-      of_postfix (parts_additive l)
-
-  abbrev settled_parts_additive_part : Layer-AdditivePart → open_expr.AdditivePart-F PostfixPart Primary Unary Additive AdditivePart Multiplicative MultiplicativePart Equality EqualityPart Relational RelationalPart AndPart Arguments Expr InitList LogicalAnd OrPart Postfix
-  settled_parts_additive_part l = map-AdditivePart PostfixPart Primary Unary Additive AdditivePart Multiplicative MultiplicativePart Equality EqualityPart Relational RelationalPart AndPart Arguments Expr InitList LogicalAnd OrPart Postfix PostfixPart Primary Unary Additive AdditivePart Multiplicative MultiplicativePart Equality EqualityPart Relational RelationalPart AndPart Arguments Expr InitList LogicalAnd OrPart Postfix
-      settled_part settled_primary settled_unary settled_additive settled_additive_part settled_multiplicative settled_multiplicative_part settled_equality settled_equality_part settled_relational settled_relational_part settled_and_part
-      settled_arguments settled_expr settled_init_list settled_logical_and settled_or_part settled_postfix (parts_additive_part l)
-
-  abbrev before_additive_part : Layer-AdditivePart → open_expr.AdditivePart-F A B C D E F G H I J K L M N O P Q R
-  before_additive_part l = map-AdditivePart PostfixPart Primary Unary Additive AdditivePart Multiplicative MultiplicativePart Equality EqualityPart Relational RelationalPart AndPart Arguments Expr InitList LogicalAnd OrPart Postfix A B C D E F G H I J K L M N O P Q R
-      of_part of_primary of_unary of_additive of_additive_part of_multiplicative of_multiplicative_part of_equality of_equality_part of_relational of_relational_part of_and_part of_arguments of_expr of_init_list of_logical_and of_or_part
-      of_postfix (settled_parts_additive_part l)
-
-  abbrev after_additive_part : Layer-AdditivePart → open_expr.AdditivePart-F A B C D E F G H I J K L M N O P Q R
-  after_additive_part l = map-AdditivePart PostfixPart Primary Unary Additive AdditivePart Multiplicative MultiplicativePart Equality EqualityPart Relational RelationalPart AndPart Arguments Expr InitList LogicalAnd OrPart Postfix A B C D E F G H I J K L M N O P Q R
-      of_part of_primary of_unary of_additive of_additive_part of_multiplicative of_multiplicative_part of_equality of_equality_part of_relational of_relational_part of_and_part of_arguments of_expr of_init_list of_logical_and of_or_part
-      of_postfix (parts_additive_part l)
-
-  abbrev settled_parts_multiplicative : Layer-Multiplicative → open_expr.Multiplicative-F PostfixPart Primary Unary Additive AdditivePart Multiplicative MultiplicativePart Equality EqualityPart Relational RelationalPart AndPart Arguments Expr InitList LogicalAnd OrPart Postfix
-  settled_parts_multiplicative l = map-Multiplicative PostfixPart Primary Unary Additive AdditivePart Multiplicative MultiplicativePart Equality EqualityPart Relational RelationalPart AndPart Arguments Expr InitList LogicalAnd OrPart Postfix PostfixPart Primary Unary Additive AdditivePart Multiplicative MultiplicativePart Equality EqualityPart Relational RelationalPart AndPart Arguments Expr InitList LogicalAnd OrPart Postfix
-      settled_part settled_primary settled_unary settled_additive settled_additive_part settled_multiplicative settled_multiplicative_part settled_equality settled_equality_part settled_relational settled_relational_part settled_and_part
-      settled_arguments settled_expr settled_init_list settled_logical_and settled_or_part settled_postfix (parts_multiplicative l)
-
-  abbrev before_multiplicative : Layer-Multiplicative → open_expr.Multiplicative-F A B C D E F G H I J K L M N O P Q R
-  before_multiplicative l = map-Multiplicative PostfixPart Primary Unary Additive AdditivePart Multiplicative MultiplicativePart Equality EqualityPart Relational RelationalPart AndPart Arguments Expr InitList LogicalAnd OrPart Postfix A B C D E F G H I J K L M N O P Q R
-      of_part of_primary of_unary of_additive of_additive_part of_multiplicative of_multiplicative_part of_equality of_equality_part of_relational of_relational_part of_and_part of_arguments of_expr of_init_list of_logical_and of_or_part
-      of_postfix (bare_multiplicative (settled_parts_multiplicative l))
-
-  abbrev after_multiplicative : Layer-Multiplicative → open_expr.Multiplicative-F A B C D E F G H I J K L M N O P Q R
-  after_multiplicative l = map-Multiplicative PostfixPart Primary Unary Additive AdditivePart Multiplicative MultiplicativePart Equality EqualityPart Relational RelationalPart AndPart Arguments Expr InitList LogicalAnd OrPart Postfix A B C D E F G H I J K L M N O P Q R
-      of_part of_primary of_unary of_additive of_additive_part of_multiplicative of_multiplicative_part of_equality of_equality_part of_relational of_relational_part of_and_part of_arguments of_expr of_init_list of_logical_and of_or_part
-      of_postfix (parts_multiplicative l)
-
-  abbrev settled_parts_multiplicative_part : Layer-MultiplicativePart → open_expr.MultiplicativePart-F PostfixPart Primary Unary Additive AdditivePart Multiplicative MultiplicativePart Equality EqualityPart Relational RelationalPart AndPart Arguments Expr InitList LogicalAnd OrPart Postfix
-  settled_parts_multiplicative_part l = map-MultiplicativePart PostfixPart Primary Unary Additive AdditivePart Multiplicative MultiplicativePart Equality EqualityPart Relational RelationalPart AndPart Arguments Expr InitList LogicalAnd OrPart Postfix PostfixPart Primary Unary Additive AdditivePart Multiplicative MultiplicativePart Equality EqualityPart Relational RelationalPart AndPart Arguments Expr InitList LogicalAnd OrPart Postfix
-      settled_part settled_primary settled_unary settled_additive settled_additive_part settled_multiplicative settled_multiplicative_part settled_equality settled_equality_part settled_relational settled_relational_part settled_and_part
-      settled_arguments settled_expr settled_init_list settled_logical_and settled_or_part settled_postfix (parts_multiplicative_part l)
-
-  abbrev before_multiplicative_part : Layer-MultiplicativePart → open_expr.MultiplicativePart-F A B C D E F G H I J K L M N O P Q R
-  before_multiplicative_part l = map-MultiplicativePart PostfixPart Primary Unary Additive AdditivePart Multiplicative MultiplicativePart Equality EqualityPart Relational RelationalPart AndPart Arguments Expr InitList LogicalAnd OrPart Postfix A B C D E F G H I J K L M N O P Q R
-      of_part of_primary of_unary of_additive of_additive_part of_multiplicative of_multiplicative_part of_equality of_equality_part of_relational of_relational_part of_and_part of_arguments of_expr of_init_list of_logical_and of_or_part
-      of_postfix (settled_parts_multiplicative_part l)
-
-  abbrev after_multiplicative_part : Layer-MultiplicativePart → open_expr.MultiplicativePart-F A B C D E F G H I J K L M N O P Q R
-  after_multiplicative_part l = map-MultiplicativePart PostfixPart Primary Unary Additive AdditivePart Multiplicative MultiplicativePart Equality EqualityPart Relational RelationalPart AndPart Arguments Expr InitList LogicalAnd OrPart Postfix A B C D E F G H I J K L M N O P Q R
-      of_part of_primary of_unary of_additive of_additive_part of_multiplicative of_multiplicative_part of_equality of_equality_part of_relational of_relational_part of_and_part of_arguments of_expr of_init_list of_logical_and of_or_part
-      of_postfix (parts_multiplicative_part l)
-
-  abbrev settled_parts_equality : Layer-Equality → open_expr.Equality-F PostfixPart Primary Unary Additive AdditivePart Multiplicative MultiplicativePart Equality EqualityPart Relational RelationalPart AndPart Arguments Expr InitList LogicalAnd OrPart Postfix
-  settled_parts_equality l = map-Equality PostfixPart Primary Unary Additive AdditivePart Multiplicative MultiplicativePart Equality EqualityPart Relational RelationalPart AndPart Arguments Expr InitList LogicalAnd OrPart Postfix PostfixPart Primary Unary Additive AdditivePart Multiplicative MultiplicativePart Equality EqualityPart Relational RelationalPart AndPart Arguments Expr InitList LogicalAnd OrPart Postfix
-      settled_part settled_primary settled_unary settled_additive settled_additive_part settled_multiplicative settled_multiplicative_part settled_equality settled_equality_part settled_relational settled_relational_part settled_and_part
-      settled_arguments settled_expr settled_init_list settled_logical_and settled_or_part settled_postfix (parts_equality l)
-
-  abbrev before_equality : Layer-Equality → open_expr.Equality-F A B C D E F G H I J K L M N O P Q R
-  before_equality l = map-Equality PostfixPart Primary Unary Additive AdditivePart Multiplicative MultiplicativePart Equality EqualityPart Relational RelationalPart AndPart Arguments Expr InitList LogicalAnd OrPart Postfix A B C D E F G H I J K L M N O P Q R
-      of_part of_primary of_unary of_additive of_additive_part of_multiplicative of_multiplicative_part of_equality of_equality_part of_relational of_relational_part of_and_part of_arguments of_expr of_init_list of_logical_and of_or_part
-      of_postfix (bare_equality (settled_parts_equality l))
-
-  abbrev after_equality : Layer-Equality → open_expr.Equality-F A B C D E F G H I J K L M N O P Q R
-  after_equality l = map-Equality PostfixPart Primary Unary Additive AdditivePart Multiplicative MultiplicativePart Equality EqualityPart Relational RelationalPart AndPart Arguments Expr InitList LogicalAnd OrPart Postfix A B C D E F G H I J K L M N O P Q R
-      of_part of_primary of_unary of_additive of_additive_part of_multiplicative of_multiplicative_part of_equality of_equality_part of_relational of_relational_part of_and_part of_arguments of_expr of_init_list of_logical_and of_or_part
-      of_postfix (parts_equality l)
-
-  abbrev settled_parts_equality_part : Layer-EqualityPart → open_expr.EqualityPart-F PostfixPart Primary Unary Additive AdditivePart Multiplicative MultiplicativePart Equality EqualityPart Relational RelationalPart AndPart Arguments Expr InitList LogicalAnd OrPart Postfix
-  settled_parts_equality_part l = map-EqualityPart PostfixPart Primary Unary Additive AdditivePart Multiplicative MultiplicativePart Equality EqualityPart Relational RelationalPart AndPart Arguments Expr InitList LogicalAnd OrPart Postfix PostfixPart Primary Unary Additive AdditivePart Multiplicative MultiplicativePart Equality EqualityPart Relational RelationalPart AndPart Arguments Expr InitList LogicalAnd OrPart Postfix
-      settled_part settled_primary settled_unary settled_additive settled_additive_part settled_multiplicative settled_multiplicative_part settled_equality settled_equality_part settled_relational settled_relational_part settled_and_part
-      settled_arguments settled_expr settled_init_list settled_logical_and settled_or_part settled_postfix (parts_equality_part l)
-
-  abbrev before_equality_part : Layer-EqualityPart → open_expr.EqualityPart-F A B C D E F G H I J K L M N O P Q R
-  before_equality_part l = map-EqualityPart PostfixPart Primary Unary Additive AdditivePart Multiplicative MultiplicativePart Equality EqualityPart Relational RelationalPart AndPart Arguments Expr InitList LogicalAnd OrPart Postfix A B C D E F G H I J K L M N O P Q R
-      of_part of_primary of_unary of_additive of_additive_part of_multiplicative of_multiplicative_part of_equality of_equality_part of_relational of_relational_part of_and_part of_arguments of_expr of_init_list of_logical_and of_or_part
-      of_postfix (settled_parts_equality_part l)
-
-  abbrev after_equality_part : Layer-EqualityPart → open_expr.EqualityPart-F A B C D E F G H I J K L M N O P Q R
-  after_equality_part l = map-EqualityPart PostfixPart Primary Unary Additive AdditivePart Multiplicative MultiplicativePart Equality EqualityPart Relational RelationalPart AndPart Arguments Expr InitList LogicalAnd OrPart Postfix A B C D E F G H I J K L M N O P Q R
-      of_part of_primary of_unary of_additive of_additive_part of_multiplicative of_multiplicative_part of_equality of_equality_part of_relational of_relational_part of_and_part of_arguments of_expr of_init_list of_logical_and of_or_part
-      of_postfix (parts_equality_part l)
-
-  abbrev settled_parts_relational : Layer-Relational → open_expr.Relational-F PostfixPart Primary Unary Additive AdditivePart Multiplicative MultiplicativePart Equality EqualityPart Relational RelationalPart AndPart Arguments Expr InitList LogicalAnd OrPart Postfix
-  settled_parts_relational l = map-Relational PostfixPart Primary Unary Additive AdditivePart Multiplicative MultiplicativePart Equality EqualityPart Relational RelationalPart AndPart Arguments Expr InitList LogicalAnd OrPart Postfix PostfixPart Primary Unary Additive AdditivePart Multiplicative MultiplicativePart Equality EqualityPart Relational RelationalPart AndPart Arguments Expr InitList LogicalAnd OrPart Postfix
-      settled_part settled_primary settled_unary settled_additive settled_additive_part settled_multiplicative settled_multiplicative_part settled_equality settled_equality_part settled_relational settled_relational_part settled_and_part
-      settled_arguments settled_expr settled_init_list settled_logical_and settled_or_part settled_postfix (parts_relational l)
-
-  abbrev before_relational : Layer-Relational → open_expr.Relational-F A B C D E F G H I J K L M N O P Q R
-  before_relational l = map-Relational PostfixPart Primary Unary Additive AdditivePart Multiplicative MultiplicativePart Equality EqualityPart Relational RelationalPart AndPart Arguments Expr InitList LogicalAnd OrPart Postfix A B C D E F G H I J K L M N O P Q R
-      of_part of_primary of_unary of_additive of_additive_part of_multiplicative of_multiplicative_part of_equality of_equality_part of_relational of_relational_part of_and_part of_arguments of_expr of_init_list of_logical_and of_or_part
-      of_postfix (bare_relational (settled_parts_relational l))
-
-  abbrev after_relational : Layer-Relational → open_expr.Relational-F A B C D E F G H I J K L M N O P Q R
-  after_relational l = map-Relational PostfixPart Primary Unary Additive AdditivePart Multiplicative MultiplicativePart Equality EqualityPart Relational RelationalPart AndPart Arguments Expr InitList LogicalAnd OrPart Postfix A B C D E F G H I J K L M N O P Q R
-      of_part of_primary of_unary of_additive of_additive_part of_multiplicative of_multiplicative_part of_equality of_equality_part of_relational of_relational_part of_and_part of_arguments of_expr of_init_list of_logical_and of_or_part
-      of_postfix (parts_relational l)
-
-  abbrev settled_parts_relational_part : Layer-RelationalPart → open_expr.RelationalPart-F PostfixPart Primary Unary Additive AdditivePart Multiplicative MultiplicativePart Equality EqualityPart Relational RelationalPart AndPart Arguments Expr InitList LogicalAnd OrPart Postfix
-  settled_parts_relational_part l = map-RelationalPart PostfixPart Primary Unary Additive AdditivePart Multiplicative MultiplicativePart Equality EqualityPart Relational RelationalPart AndPart Arguments Expr InitList LogicalAnd OrPart Postfix PostfixPart Primary Unary Additive AdditivePart Multiplicative MultiplicativePart Equality EqualityPart Relational RelationalPart AndPart Arguments Expr InitList LogicalAnd OrPart Postfix
-      settled_part settled_primary settled_unary settled_additive settled_additive_part settled_multiplicative settled_multiplicative_part settled_equality settled_equality_part settled_relational settled_relational_part settled_and_part
-      settled_arguments settled_expr settled_init_list settled_logical_and settled_or_part settled_postfix (parts_relational_part l)
-
-  abbrev before_relational_part : Layer-RelationalPart → open_expr.RelationalPart-F A B C D E F G H I J K L M N O P Q R
-  before_relational_part l = map-RelationalPart PostfixPart Primary Unary Additive AdditivePart Multiplicative MultiplicativePart Equality EqualityPart Relational RelationalPart AndPart Arguments Expr InitList LogicalAnd OrPart Postfix A B C D E F G H I J K L M N O P Q R
-      of_part of_primary of_unary of_additive of_additive_part of_multiplicative of_multiplicative_part of_equality of_equality_part of_relational of_relational_part of_and_part of_arguments of_expr of_init_list of_logical_and of_or_part
-      of_postfix (settled_parts_relational_part l)
-
-  abbrev after_relational_part : Layer-RelationalPart → open_expr.RelationalPart-F A B C D E F G H I J K L M N O P Q R
-  after_relational_part l = map-RelationalPart PostfixPart Primary Unary Additive AdditivePart Multiplicative MultiplicativePart Equality EqualityPart Relational RelationalPart AndPart Arguments Expr InitList LogicalAnd OrPart Postfix A B C D E F G H I J K L M N O P Q R
-      of_part of_primary of_unary of_additive of_additive_part of_multiplicative of_multiplicative_part of_equality of_equality_part of_relational of_relational_part of_and_part of_arguments of_expr of_init_list of_logical_and of_or_part
-      of_postfix (parts_relational_part l)
-
-  abbrev settled_parts_and_part : Layer-AndPart → open_expr.AndPart-F PostfixPart Primary Unary Additive AdditivePart Multiplicative MultiplicativePart Equality EqualityPart Relational RelationalPart AndPart Arguments Expr InitList LogicalAnd OrPart Postfix
-  settled_parts_and_part l = map-AndPart PostfixPart Primary Unary Additive AdditivePart Multiplicative MultiplicativePart Equality EqualityPart Relational RelationalPart AndPart Arguments Expr InitList LogicalAnd OrPart Postfix PostfixPart Primary Unary Additive AdditivePart Multiplicative MultiplicativePart Equality EqualityPart Relational RelationalPart AndPart Arguments Expr InitList LogicalAnd OrPart Postfix
-      settled_part settled_primary settled_unary settled_additive settled_additive_part settled_multiplicative settled_multiplicative_part settled_equality settled_equality_part settled_relational settled_relational_part settled_and_part
-      settled_arguments settled_expr settled_init_list settled_logical_and settled_or_part settled_postfix (parts_and_part l)
-
-  abbrev before_and_part : Layer-AndPart → open_expr.AndPart-F A B C D E F G H I J K L M N O P Q R
-  before_and_part l = map-AndPart PostfixPart Primary Unary Additive AdditivePart Multiplicative MultiplicativePart Equality EqualityPart Relational RelationalPart AndPart Arguments Expr InitList LogicalAnd OrPart Postfix A B C D E F G H I J K L M N O P Q R
-      of_part of_primary of_unary of_additive of_additive_part of_multiplicative of_multiplicative_part of_equality of_equality_part of_relational of_relational_part of_and_part of_arguments of_expr of_init_list of_logical_and of_or_part
-      of_postfix (settled_parts_and_part l)
-
-  abbrev after_and_part : Layer-AndPart → open_expr.AndPart-F A B C D E F G H I J K L M N O P Q R
-  after_and_part l = map-AndPart PostfixPart Primary Unary Additive AdditivePart Multiplicative MultiplicativePart Equality EqualityPart Relational RelationalPart AndPart Arguments Expr InitList LogicalAnd OrPart Postfix A B C D E F G H I J K L M N O P Q R
-      of_part of_primary of_unary of_additive of_additive_part of_multiplicative of_multiplicative_part of_equality of_equality_part of_relational of_relational_part of_and_part of_arguments of_expr of_init_list of_logical_and of_or_part
-      of_postfix (parts_and_part l)
-
-  abbrev settled_parts_arguments : Layer-Arguments → open_expr.Arguments-F PostfixPart Primary Unary Additive AdditivePart Multiplicative MultiplicativePart Equality EqualityPart Relational RelationalPart AndPart Arguments Expr InitList LogicalAnd OrPart Postfix
-  settled_parts_arguments l = map-Arguments PostfixPart Primary Unary Additive AdditivePart Multiplicative MultiplicativePart Equality EqualityPart Relational RelationalPart AndPart Arguments Expr InitList LogicalAnd OrPart Postfix PostfixPart Primary Unary Additive AdditivePart Multiplicative MultiplicativePart Equality EqualityPart Relational RelationalPart AndPart Arguments Expr InitList LogicalAnd OrPart Postfix
-      settled_part settled_primary settled_unary settled_additive settled_additive_part settled_multiplicative settled_multiplicative_part settled_equality settled_equality_part settled_relational settled_relational_part settled_and_part
-      settled_arguments settled_expr settled_init_list settled_logical_and settled_or_part settled_postfix (parts_arguments l)
-
-  abbrev before_arguments : Layer-Arguments → open_expr.Arguments-F A B C D E F G H I J K L M N O P Q R
-  before_arguments l = map-Arguments PostfixPart Primary Unary Additive AdditivePart Multiplicative MultiplicativePart Equality EqualityPart Relational RelationalPart AndPart Arguments Expr InitList LogicalAnd OrPart Postfix A B C D E F G H I J K L M N O P Q R
-      of_part of_primary of_unary of_additive of_additive_part of_multiplicative of_multiplicative_part of_equality of_equality_part of_relational of_relational_part of_and_part of_arguments of_expr of_init_list of_logical_and of_or_part
-      of_postfix (bare_arguments (settled_parts_arguments l))
-
-  abbrev after_arguments : Layer-Arguments → open_expr.Arguments-F A B C D E F G H I J K L M N O P Q R
-  after_arguments l = map-Arguments PostfixPart Primary Unary Additive AdditivePart Multiplicative MultiplicativePart Equality EqualityPart Relational RelationalPart AndPart Arguments Expr InitList LogicalAnd OrPart Postfix A B C D E F G H I J K L M N O P Q R
-      of_part of_primary of_unary of_additive of_additive_part of_multiplicative of_multiplicative_part of_equality of_equality_part of_relational of_relational_part of_and_part of_arguments of_expr of_init_list of_logical_and of_or_part
-      of_postfix (parts_arguments l)
-
-  abbrev settled_parts_expr : Layer-Expr → open_expr.Expr-F PostfixPart Primary Unary Additive AdditivePart Multiplicative MultiplicativePart Equality EqualityPart Relational RelationalPart AndPart Arguments Expr InitList LogicalAnd OrPart Postfix
-  settled_parts_expr l = map-Expr PostfixPart Primary Unary Additive AdditivePart Multiplicative MultiplicativePart Equality EqualityPart Relational RelationalPart AndPart Arguments Expr InitList LogicalAnd OrPart Postfix PostfixPart Primary Unary Additive AdditivePart Multiplicative MultiplicativePart Equality EqualityPart Relational RelationalPart AndPart Arguments Expr InitList LogicalAnd OrPart Postfix
-      settled_part settled_primary settled_unary settled_additive settled_additive_part settled_multiplicative settled_multiplicative_part settled_equality settled_equality_part settled_relational settled_relational_part settled_and_part
-      settled_arguments settled_expr settled_init_list settled_logical_and settled_or_part settled_postfix (parts_expr l)
-
-  abbrev before_expr : Layer-Expr → open_expr.Expr-F A B C D E F G H I J K L M N O P Q R
-  before_expr l = map-Expr PostfixPart Primary Unary Additive AdditivePart Multiplicative MultiplicativePart Equality EqualityPart Relational RelationalPart AndPart Arguments Expr InitList LogicalAnd OrPart Postfix A B C D E F G H I J K L M N O P Q R
-      of_part of_primary of_unary of_additive of_additive_part of_multiplicative of_multiplicative_part of_equality of_equality_part of_relational of_relational_part of_and_part of_arguments of_expr of_init_list of_logical_and of_or_part
-      of_postfix (bare_expr (settled_parts_expr l))
-
-  abbrev after_expr : Layer-Expr → open_expr.Expr-F A B C D E F G H I J K L M N O P Q R
-  after_expr l = map-Expr PostfixPart Primary Unary Additive AdditivePart Multiplicative MultiplicativePart Equality EqualityPart Relational RelationalPart AndPart Arguments Expr InitList LogicalAnd OrPart Postfix A B C D E F G H I J K L M N O P Q R
-      of_part of_primary of_unary of_additive of_additive_part of_multiplicative of_multiplicative_part of_equality of_equality_part of_relational of_relational_part of_and_part of_arguments of_expr of_init_list of_logical_and of_or_part
-      of_postfix (parts_expr l)
-
-  abbrev settled_parts_init_list : Layer-InitList → open_expr.InitList-F PostfixPart Primary Unary Additive AdditivePart Multiplicative MultiplicativePart Equality EqualityPart Relational RelationalPart AndPart Arguments Expr InitList LogicalAnd OrPart Postfix
-  settled_parts_init_list l = map-InitList PostfixPart Primary Unary Additive AdditivePart Multiplicative MultiplicativePart Equality EqualityPart Relational RelationalPart AndPart Arguments Expr InitList LogicalAnd OrPart Postfix PostfixPart Primary Unary Additive AdditivePart Multiplicative MultiplicativePart Equality EqualityPart Relational RelationalPart AndPart Arguments Expr InitList LogicalAnd OrPart Postfix
-      settled_part settled_primary settled_unary settled_additive settled_additive_part settled_multiplicative settled_multiplicative_part settled_equality settled_equality_part settled_relational settled_relational_part settled_and_part
-      settled_arguments settled_expr settled_init_list settled_logical_and settled_or_part settled_postfix (parts_init_list l)
-
-  abbrev before_init_list : Layer-InitList → open_expr.InitList-F A B C D E F G H I J K L M N O P Q R
-  before_init_list l = map-InitList PostfixPart Primary Unary Additive AdditivePart Multiplicative MultiplicativePart Equality EqualityPart Relational RelationalPart AndPart Arguments Expr InitList LogicalAnd OrPart Postfix A B C D E F G H I J K L M N O P Q R
-      of_part of_primary of_unary of_additive of_additive_part of_multiplicative of_multiplicative_part of_equality of_equality_part of_relational of_relational_part of_and_part of_arguments of_expr of_init_list of_logical_and of_or_part
-      of_postfix (bare_init_list (settled_parts_init_list l))
-
-  abbrev after_init_list : Layer-InitList → open_expr.InitList-F A B C D E F G H I J K L M N O P Q R
-  after_init_list l = map-InitList PostfixPart Primary Unary Additive AdditivePart Multiplicative MultiplicativePart Equality EqualityPart Relational RelationalPart AndPart Arguments Expr InitList LogicalAnd OrPart Postfix A B C D E F G H I J K L M N O P Q R
-      of_part of_primary of_unary of_additive of_additive_part of_multiplicative of_multiplicative_part of_equality of_equality_part of_relational of_relational_part of_and_part of_arguments of_expr of_init_list of_logical_and of_or_part
-      of_postfix (parts_init_list l)
-
-  abbrev settled_parts_logical_and : Layer-LogicalAnd → open_expr.LogicalAnd-F PostfixPart Primary Unary Additive AdditivePart Multiplicative MultiplicativePart Equality EqualityPart Relational RelationalPart AndPart Arguments Expr InitList LogicalAnd OrPart Postfix
-  settled_parts_logical_and l = map-LogicalAnd PostfixPart Primary Unary Additive AdditivePart Multiplicative MultiplicativePart Equality EqualityPart Relational RelationalPart AndPart Arguments Expr InitList LogicalAnd OrPart Postfix PostfixPart Primary Unary Additive AdditivePart Multiplicative MultiplicativePart Equality EqualityPart Relational RelationalPart AndPart Arguments Expr InitList LogicalAnd OrPart Postfix
-      settled_part settled_primary settled_unary settled_additive settled_additive_part settled_multiplicative settled_multiplicative_part settled_equality settled_equality_part settled_relational settled_relational_part settled_and_part
-      settled_arguments settled_expr settled_init_list settled_logical_and settled_or_part settled_postfix (parts_logical_and l)
-
-  abbrev before_logical_and : Layer-LogicalAnd → open_expr.LogicalAnd-F A B C D E F G H I J K L M N O P Q R
-  before_logical_and l = map-LogicalAnd PostfixPart Primary Unary Additive AdditivePart Multiplicative MultiplicativePart Equality EqualityPart Relational RelationalPart AndPart Arguments Expr InitList LogicalAnd OrPart Postfix A B C D E F G H I J K L M N O P Q R
-      of_part of_primary of_unary of_additive of_additive_part of_multiplicative of_multiplicative_part of_equality of_equality_part of_relational of_relational_part of_and_part of_arguments of_expr of_init_list of_logical_and of_or_part
-      of_postfix (bare_logical_and (settled_parts_logical_and l))
-
-  abbrev after_logical_and : Layer-LogicalAnd → open_expr.LogicalAnd-F A B C D E F G H I J K L M N O P Q R
-  after_logical_and l = map-LogicalAnd PostfixPart Primary Unary Additive AdditivePart Multiplicative MultiplicativePart Equality EqualityPart Relational RelationalPart AndPart Arguments Expr InitList LogicalAnd OrPart Postfix A B C D E F G H I J K L M N O P Q R
-      of_part of_primary of_unary of_additive of_additive_part of_multiplicative of_multiplicative_part of_equality of_equality_part of_relational of_relational_part of_and_part of_arguments of_expr of_init_list of_logical_and of_or_part
-      of_postfix (parts_logical_and l)
-
-  abbrev settled_parts_or_part : Layer-OrPart → open_expr.OrPart-F PostfixPart Primary Unary Additive AdditivePart Multiplicative MultiplicativePart Equality EqualityPart Relational RelationalPart AndPart Arguments Expr InitList LogicalAnd OrPart Postfix
-  settled_parts_or_part l = map-OrPart PostfixPart Primary Unary Additive AdditivePart Multiplicative MultiplicativePart Equality EqualityPart Relational RelationalPart AndPart Arguments Expr InitList LogicalAnd OrPart Postfix PostfixPart Primary Unary Additive AdditivePart Multiplicative MultiplicativePart Equality EqualityPart Relational RelationalPart AndPart Arguments Expr InitList LogicalAnd OrPart Postfix
-      settled_part settled_primary settled_unary settled_additive settled_additive_part settled_multiplicative settled_multiplicative_part settled_equality settled_equality_part settled_relational settled_relational_part settled_and_part
-      settled_arguments settled_expr settled_init_list settled_logical_and settled_or_part settled_postfix (parts_or_part l)
-
-  abbrev before_or_part : Layer-OrPart → open_expr.OrPart-F A B C D E F G H I J K L M N O P Q R
-  before_or_part l = map-OrPart PostfixPart Primary Unary Additive AdditivePart Multiplicative MultiplicativePart Equality EqualityPart Relational RelationalPart AndPart Arguments Expr InitList LogicalAnd OrPart Postfix A B C D E F G H I J K L M N O P Q R
-      of_part of_primary of_unary of_additive of_additive_part of_multiplicative of_multiplicative_part of_equality of_equality_part of_relational of_relational_part of_and_part of_arguments of_expr of_init_list of_logical_and of_or_part
-      of_postfix (settled_parts_or_part l)
-
-  abbrev after_or_part : Layer-OrPart → open_expr.OrPart-F A B C D E F G H I J K L M N O P Q R
-  after_or_part l = map-OrPart PostfixPart Primary Unary Additive AdditivePart Multiplicative MultiplicativePart Equality EqualityPart Relational RelationalPart AndPart Arguments Expr InitList LogicalAnd OrPart Postfix A B C D E F G H I J K L M N O P Q R
-      of_part of_primary of_unary of_additive of_additive_part of_multiplicative of_multiplicative_part of_equality of_equality_part of_relational of_relational_part of_and_part of_arguments of_expr of_init_list of_logical_and of_or_part
-      of_postfix (parts_or_part l)
-
-  abbrev settled_parts_postfix : Layer-Postfix → open_expr.Postfix-F PostfixPart Primary Unary Additive AdditivePart Multiplicative MultiplicativePart Equality EqualityPart Relational RelationalPart AndPart Arguments Expr InitList LogicalAnd OrPart Postfix
-  settled_parts_postfix l = map-Postfix PostfixPart Primary Unary Additive AdditivePart Multiplicative MultiplicativePart Equality EqualityPart Relational RelationalPart AndPart Arguments Expr InitList LogicalAnd OrPart Postfix PostfixPart Primary Unary Additive AdditivePart Multiplicative MultiplicativePart Equality EqualityPart Relational RelationalPart AndPart Arguments Expr InitList LogicalAnd OrPart Postfix
-      settled_part settled_primary settled_unary settled_additive settled_additive_part settled_multiplicative settled_multiplicative_part settled_equality settled_equality_part settled_relational settled_relational_part settled_and_part
-      settled_arguments settled_expr settled_init_list settled_logical_and settled_or_part settled_postfix (parts_postfix l)
-
-  abbrev before_postfix : Layer-Postfix → open_expr.Postfix-F A B C D E F G H I J K L M N O P Q R
-  before_postfix l = map-Postfix PostfixPart Primary Unary Additive AdditivePart Multiplicative MultiplicativePart Equality EqualityPart Relational RelationalPart AndPart Arguments Expr InitList LogicalAnd OrPart Postfix A B C D E F G H I J K L M N O P Q R
-      of_part of_primary of_unary of_additive of_additive_part of_multiplicative of_multiplicative_part of_equality of_equality_part of_relational of_relational_part of_and_part of_arguments of_expr of_init_list of_logical_and of_or_part
-      of_postfix (bare_postfix (settled_parts_postfix l))
-
-  abbrev after_postfix : Layer-Postfix → open_expr.Postfix-F A B C D E F G H I J K L M N O P Q R
-  after_postfix l = map-Postfix PostfixPart Primary Unary Additive AdditivePart Multiplicative MultiplicativePart Equality EqualityPart Relational RelationalPart AndPart Arguments Expr InitList LogicalAnd OrPart Postfix A B C D E F G H I J K L M N O P Q R
-      of_part of_primary of_unary of_additive of_additive_part of_multiplicative of_multiplicative_part of_equality of_equality_part of_relational of_relational_part of_and_part of_arguments of_expr of_init_list of_logical_and of_or_part
-      of_postfix (parts_postfix l)
+  abbrev claims : Claims
+  claims = record {
+    part = Seen-PostfixPart;
+    primary = Seen-Primary;
+    unary = Seen-Unary;
+    additive = Seen-Additive;
+    additive_part = Seen-AdditivePart;
+    multiplicative = Seen-Multiplicative;
+    multiplicative_part = Seen-MultiplicativePart;
+    equality = Seen-Equality;
+    equality_part = Seen-EqualityPart;
+    relational = Seen-Relational;
+    relational_part = Seen-RelationalPart;
+    and_part = Seen-AndPart;
+    arguments = Seen-Arguments;
+    expr = Seen-Expr;
+    init_list = Seen-InitList;
+    logical_and = Seen-LogicalAnd;
+    or_part = Seen-OrPart;
+    postfix = Seen-Postfix;
+  }
+
+  -- what is seen of a layer's parts
+  abbrev of_parts_part : Opened-PostfixPart → open_expr.PostfixPart-F A B C D E F G H I J K L M N O P Q R
+  of_parts_part = map-PostfixPart PostfixPart Primary Unary Additive AdditivePart Multiplicative MultiplicativePart Equality EqualityPart Relational RelationalPart AndPart Arguments Expr InitList LogicalAnd OrPart Postfix
+      A B C D E F G H I J K L M N O P Q R
+      of_part of_primary of_unary of_additive of_additive_part of_multiplicative of_multiplicative_part of_equality of_equality_part of_relational of_relational_part of_and_part of_arguments of_expr
+      of_init_list of_logical_and of_or_part of_postfix
+
+  abbrev of_parts_primary : Opened-Primary → open_expr.Primary-F A B C D E F G H I J K L M N O P Q R
+  of_parts_primary = map-Primary PostfixPart Primary Unary Additive AdditivePart Multiplicative MultiplicativePart Equality EqualityPart Relational RelationalPart AndPart Arguments Expr InitList LogicalAnd OrPart Postfix
+      A B C D E F G H I J K L M N O P Q R
+      of_part of_primary of_unary of_additive of_additive_part of_multiplicative of_multiplicative_part of_equality of_equality_part of_relational of_relational_part of_and_part of_arguments of_expr
+      of_init_list of_logical_and of_or_part of_postfix
+
+  abbrev of_parts_unary : Opened-Unary → open_expr.Unary-F A B C D E F G H I J K L M N O P Q R
+  of_parts_unary = map-Unary PostfixPart Primary Unary Additive AdditivePart Multiplicative MultiplicativePart Equality EqualityPart Relational RelationalPart AndPart Arguments Expr InitList LogicalAnd OrPart Postfix
+      A B C D E F G H I J K L M N O P Q R
+      of_part of_primary of_unary of_additive of_additive_part of_multiplicative of_multiplicative_part of_equality of_equality_part of_relational of_relational_part of_and_part of_arguments of_expr
+      of_init_list of_logical_and of_or_part of_postfix
+
+  abbrev of_parts_additive : Opened-Additive → open_expr.Additive-F A B C D E F G H I J K L M N O P Q R
+  of_parts_additive = map-Additive PostfixPart Primary Unary Additive AdditivePart Multiplicative MultiplicativePart Equality EqualityPart Relational RelationalPart AndPart Arguments Expr InitList LogicalAnd OrPart Postfix
+      A B C D E F G H I J K L M N O P Q R
+      of_part of_primary of_unary of_additive of_additive_part of_multiplicative of_multiplicative_part of_equality of_equality_part of_relational of_relational_part of_and_part of_arguments of_expr
+      of_init_list of_logical_and of_or_part of_postfix
+
+  abbrev of_parts_additive_part : Opened-AdditivePart → open_expr.AdditivePart-F A B C D E F G H I J K L M N O P Q R
+  of_parts_additive_part = map-AdditivePart PostfixPart Primary Unary Additive AdditivePart Multiplicative MultiplicativePart Equality EqualityPart Relational RelationalPart AndPart Arguments Expr InitList LogicalAnd OrPart Postfix
+      A B C D E F G H I J K L M N O P Q R
+      of_part of_primary of_unary of_additive of_additive_part of_multiplicative of_multiplicative_part of_equality of_equality_part of_relational of_relational_part of_and_part of_arguments of_expr
+      of_init_list of_logical_and of_or_part of_postfix
+
+  abbrev of_parts_multiplicative : Opened-Multiplicative → open_expr.Multiplicative-F A B C D E F G H I J K L M N O P Q R
+  of_parts_multiplicative = map-Multiplicative PostfixPart Primary Unary Additive AdditivePart Multiplicative MultiplicativePart Equality EqualityPart Relational RelationalPart AndPart Arguments Expr InitList LogicalAnd OrPart Postfix
+      A B C D E F G H I J K L M N O P Q R
+      of_part of_primary of_unary of_additive of_additive_part of_multiplicative of_multiplicative_part of_equality of_equality_part of_relational of_relational_part of_and_part of_arguments of_expr
+      of_init_list of_logical_and of_or_part of_postfix
+
+  abbrev of_parts_multiplicative_part : Opened-MultiplicativePart → open_expr.MultiplicativePart-F A B C D E F G H I J K L M N O P Q R
+  of_parts_multiplicative_part = map-MultiplicativePart PostfixPart Primary Unary Additive AdditivePart Multiplicative MultiplicativePart Equality EqualityPart Relational RelationalPart AndPart Arguments Expr InitList LogicalAnd OrPart Postfix
+      A B C D E F G H I J K L M N O P Q R
+      of_part of_primary of_unary of_additive of_additive_part of_multiplicative of_multiplicative_part of_equality of_equality_part of_relational of_relational_part of_and_part of_arguments of_expr
+      of_init_list of_logical_and of_or_part of_postfix
+
+  abbrev of_parts_equality : Opened-Equality → open_expr.Equality-F A B C D E F G H I J K L M N O P Q R
+  of_parts_equality = map-Equality PostfixPart Primary Unary Additive AdditivePart Multiplicative MultiplicativePart Equality EqualityPart Relational RelationalPart AndPart Arguments Expr InitList LogicalAnd OrPart Postfix
+      A B C D E F G H I J K L M N O P Q R
+      of_part of_primary of_unary of_additive of_additive_part of_multiplicative of_multiplicative_part of_equality of_equality_part of_relational of_relational_part of_and_part of_arguments of_expr
+      of_init_list of_logical_and of_or_part of_postfix
+
+  abbrev of_parts_equality_part : Opened-EqualityPart → open_expr.EqualityPart-F A B C D E F G H I J K L M N O P Q R
+  of_parts_equality_part = map-EqualityPart PostfixPart Primary Unary Additive AdditivePart Multiplicative MultiplicativePart Equality EqualityPart Relational RelationalPart AndPart Arguments Expr InitList LogicalAnd OrPart Postfix
+      A B C D E F G H I J K L M N O P Q R
+      of_part of_primary of_unary of_additive of_additive_part of_multiplicative of_multiplicative_part of_equality of_equality_part of_relational of_relational_part of_and_part of_arguments of_expr
+      of_init_list of_logical_and of_or_part of_postfix
+
+  abbrev of_parts_relational : Opened-Relational → open_expr.Relational-F A B C D E F G H I J K L M N O P Q R
+  of_parts_relational = map-Relational PostfixPart Primary Unary Additive AdditivePart Multiplicative MultiplicativePart Equality EqualityPart Relational RelationalPart AndPart Arguments Expr InitList LogicalAnd OrPart Postfix
+      A B C D E F G H I J K L M N O P Q R
+      of_part of_primary of_unary of_additive of_additive_part of_multiplicative of_multiplicative_part of_equality of_equality_part of_relational of_relational_part of_and_part of_arguments of_expr
+      of_init_list of_logical_and of_or_part of_postfix
+
+  abbrev of_parts_relational_part : Opened-RelationalPart → open_expr.RelationalPart-F A B C D E F G H I J K L M N O P Q R
+  of_parts_relational_part = map-RelationalPart PostfixPart Primary Unary Additive AdditivePart Multiplicative MultiplicativePart Equality EqualityPart Relational RelationalPart AndPart Arguments Expr InitList LogicalAnd OrPart Postfix
+      A B C D E F G H I J K L M N O P Q R
+      of_part of_primary of_unary of_additive of_additive_part of_multiplicative of_multiplicative_part of_equality of_equality_part of_relational of_relational_part of_and_part of_arguments of_expr
+      of_init_list of_logical_and of_or_part of_postfix
+
+  abbrev of_parts_and_part : Opened-AndPart → open_expr.AndPart-F A B C D E F G H I J K L M N O P Q R
+  of_parts_and_part = map-AndPart PostfixPart Primary Unary Additive AdditivePart Multiplicative MultiplicativePart Equality EqualityPart Relational RelationalPart AndPart Arguments Expr InitList LogicalAnd OrPart Postfix
+      A B C D E F G H I J K L M N O P Q R
+      of_part of_primary of_unary of_additive of_additive_part of_multiplicative of_multiplicative_part of_equality of_equality_part of_relational of_relational_part of_and_part of_arguments of_expr
+      of_init_list of_logical_and of_or_part of_postfix
+
+  abbrev of_parts_arguments : Opened-Arguments → open_expr.Arguments-F A B C D E F G H I J K L M N O P Q R
+  of_parts_arguments = map-Arguments PostfixPart Primary Unary Additive AdditivePart Multiplicative MultiplicativePart Equality EqualityPart Relational RelationalPart AndPart Arguments Expr InitList LogicalAnd OrPart Postfix
+      A B C D E F G H I J K L M N O P Q R
+      of_part of_primary of_unary of_additive of_additive_part of_multiplicative of_multiplicative_part of_equality of_equality_part of_relational of_relational_part of_and_part of_arguments of_expr
+      of_init_list of_logical_and of_or_part of_postfix
+
+  abbrev of_parts_expr : Opened-Expr → open_expr.Expr-F A B C D E F G H I J K L M N O P Q R
+  of_parts_expr = map-Expr PostfixPart Primary Unary Additive AdditivePart Multiplicative MultiplicativePart Equality EqualityPart Relational RelationalPart AndPart Arguments Expr InitList LogicalAnd OrPart Postfix
+      A B C D E F G H I J K L M N O P Q R
+      of_part of_primary of_unary of_additive of_additive_part of_multiplicative of_multiplicative_part of_equality of_equality_part of_relational of_relational_part of_and_part of_arguments of_expr
+      of_init_list of_logical_and of_or_part of_postfix
+
+  abbrev of_parts_init_list : Opened-InitList → open_expr.InitList-F A B C D E F G H I J K L M N O P Q R
+  of_parts_init_list = map-InitList PostfixPart Primary Unary Additive AdditivePart Multiplicative MultiplicativePart Equality EqualityPart Relational RelationalPart AndPart Arguments Expr InitList LogicalAnd OrPart Postfix
+      A B C D E F G H I J K L M N O P Q R
+      of_part of_primary of_unary of_additive of_additive_part of_multiplicative of_multiplicative_part of_equality of_equality_part of_relational of_relational_part of_and_part of_arguments of_expr
+      of_init_list of_logical_and of_or_part of_postfix
+
+  abbrev of_parts_logical_and : Opened-LogicalAnd → open_expr.LogicalAnd-F A B C D E F G H I J K L M N O P Q R
+  of_parts_logical_and = map-LogicalAnd PostfixPart Primary Unary Additive AdditivePart Multiplicative MultiplicativePart Equality EqualityPart Relational RelationalPart AndPart Arguments Expr InitList LogicalAnd OrPart Postfix
+      A B C D E F G H I J K L M N O P Q R
+      of_part of_primary of_unary of_additive of_additive_part of_multiplicative of_multiplicative_part of_equality of_equality_part of_relational of_relational_part of_and_part of_arguments of_expr
+      of_init_list of_logical_and of_or_part of_postfix
+
+  abbrev of_parts_or_part : Opened-OrPart → open_expr.OrPart-F A B C D E F G H I J K L M N O P Q R
+  of_parts_or_part = map-OrPart PostfixPart Primary Unary Additive AdditivePart Multiplicative MultiplicativePart Equality EqualityPart Relational RelationalPart AndPart Arguments Expr InitList LogicalAnd OrPart Postfix
+      A B C D E F G H I J K L M N O P Q R
+      of_part of_primary of_unary of_additive of_additive_part of_multiplicative of_multiplicative_part of_equality of_equality_part of_relational of_relational_part of_and_part of_arguments of_expr
+      of_init_list of_logical_and of_or_part of_postfix
+
+  abbrev of_parts_postfix : Opened-Postfix → open_expr.Postfix-F A B C D E F G H I J K L M N O P Q R
+  of_parts_postfix = map-Postfix PostfixPart Primary Unary Additive AdditivePart Multiplicative MultiplicativePart Equality EqualityPart Relational RelationalPart AndPart Arguments Expr InitList LogicalAnd OrPart Postfix
+      A B C D E F G H I J K L M N O P Q R
+      of_part of_primary of_unary of_additive of_additive_part of_multiplicative of_multiplicative_part of_equality of_equality_part of_relational of_relational_part of_and_part of_arguments of_expr
+      of_init_list of_logical_and of_or_part of_postfix
+
+  -- .. and of what is made of it
+  part_rolled : (l : Opened-PostfixPart) → of_part (roll-PostfixPart l) ≡ part_step (of_parts_part l)
+  part_rolled = fold-roll-PostfixPart A B C D E F G H I J K L M N O P Q R
+      part_step primary_step unary_step additive_step additive_part_step multiplicative_step multiplicative_part_step equality_step equality_part_step relational_step relational_part_step
+      and_part_step arguments_step expr_step init_list_step logical_and_step or_part_step postfix_step
+
+  primary_rolled : (l : Opened-Primary) → of_primary (roll-Primary l) ≡ primary_step (of_parts_primary l)
+  primary_rolled = fold-roll-Primary A B C D E F G H I J K L M N O P Q R
+      part_step primary_step unary_step additive_step additive_part_step multiplicative_step multiplicative_part_step equality_step equality_part_step relational_step relational_part_step
+      and_part_step arguments_step expr_step init_list_step logical_and_step or_part_step postfix_step
+
+  unary_rolled : (l : Opened-Unary) → of_unary (roll-Unary l) ≡ unary_step (of_parts_unary l)
+  unary_rolled = fold-roll-Unary A B C D E F G H I J K L M N O P Q R
+      part_step primary_step unary_step additive_step additive_part_step multiplicative_step multiplicative_part_step equality_step equality_part_step relational_step relational_part_step
+      and_part_step arguments_step expr_step init_list_step logical_and_step or_part_step postfix_step
+
+  additive_rolled : (l : Opened-Additive) → of_additive (roll-Additive l) ≡ additive_step (of_parts_additive l)
+  additive_rolled = fold-roll-Additive A B C D E F G H I J K L M N O P Q R
+      part_step primary_step unary_step additive_step additive_part_step multiplicative_step multiplicative_part_step equality_step equality_part_step relational_step relational_part_step
+      and_part_step arguments_step expr_step init_list_step logical_and_step or_part_step postfix_step
+
+  additive_part_rolled : (l : Opened-AdditivePart) → of_additive_part (roll-AdditivePart l) ≡ additive_part_step (of_parts_additive_part l)
+  additive_part_rolled = fold-roll-AdditivePart A B C D E F G H I J K L M N O P Q R
+      part_step primary_step unary_step additive_step additive_part_step multiplicative_step multiplicative_part_step equality_step equality_part_step relational_step relational_part_step
+      and_part_step arguments_step expr_step init_list_step logical_and_step or_part_step postfix_step
+
+  multiplicative_rolled : (l : Opened-Multiplicative) → of_multiplicative (roll-Multiplicative l) ≡ multiplicative_step (of_parts_multiplicative l)
+  multiplicative_rolled = fold-roll-Multiplicative A B C D E F G H I J K L M N O P Q R
+      part_step primary_step unary_step additive_step additive_part_step multiplicative_step multiplicative_part_step equality_step equality_part_step relational_step relational_part_step
+      and_part_step arguments_step expr_step init_list_step logical_and_step or_part_step postfix_step
+
+  multiplicative_part_rolled : (l : Opened-MultiplicativePart) → of_multiplicative_part (roll-MultiplicativePart l) ≡ multiplicative_part_step (of_parts_multiplicative_part l)
+  multiplicative_part_rolled = fold-roll-MultiplicativePart A B C D E F G H I J K L M N O P Q R
+      part_step primary_step unary_step additive_step additive_part_step multiplicative_step multiplicative_part_step equality_step equality_part_step relational_step relational_part_step
+      and_part_step arguments_step expr_step init_list_step logical_and_step or_part_step postfix_step
+
+  equality_rolled : (l : Opened-Equality) → of_equality (roll-Equality l) ≡ equality_step (of_parts_equality l)
+  equality_rolled = fold-roll-Equality A B C D E F G H I J K L M N O P Q R
+      part_step primary_step unary_step additive_step additive_part_step multiplicative_step multiplicative_part_step equality_step equality_part_step relational_step relational_part_step
+      and_part_step arguments_step expr_step init_list_step logical_and_step or_part_step postfix_step
+
+  equality_part_rolled : (l : Opened-EqualityPart) → of_equality_part (roll-EqualityPart l) ≡ equality_part_step (of_parts_equality_part l)
+  equality_part_rolled = fold-roll-EqualityPart A B C D E F G H I J K L M N O P Q R
+      part_step primary_step unary_step additive_step additive_part_step multiplicative_step multiplicative_part_step equality_step equality_part_step relational_step relational_part_step
+      and_part_step arguments_step expr_step init_list_step logical_and_step or_part_step postfix_step
+
+  relational_rolled : (l : Opened-Relational) → of_relational (roll-Relational l) ≡ relational_step (of_parts_relational l)
+  relational_rolled = fold-roll-Relational A B C D E F G H I J K L M N O P Q R
+      part_step primary_step unary_step additive_step additive_part_step multiplicative_step multiplicative_part_step equality_step equality_part_step relational_step relational_part_step
+      and_part_step arguments_step expr_step init_list_step logical_and_step or_part_step postfix_step
+
+  relational_part_rolled : (l : Opened-RelationalPart) → of_relational_part (roll-RelationalPart l) ≡ relational_part_step (of_parts_relational_part l)
+  relational_part_rolled = fold-roll-RelationalPart A B C D E F G H I J K L M N O P Q R
+      part_step primary_step unary_step additive_step additive_part_step multiplicative_step multiplicative_part_step equality_step equality_part_step relational_step relational_part_step
+      and_part_step arguments_step expr_step init_list_step logical_and_step or_part_step postfix_step
+
+  and_part_rolled : (l : Opened-AndPart) → of_and_part (roll-AndPart l) ≡ and_part_step (of_parts_and_part l)
+  and_part_rolled = fold-roll-AndPart A B C D E F G H I J K L M N O P Q R
+      part_step primary_step unary_step additive_step additive_part_step multiplicative_step multiplicative_part_step equality_step equality_part_step relational_step relational_part_step
+      and_part_step arguments_step expr_step init_list_step logical_and_step or_part_step postfix_step
+
+  arguments_rolled : (l : Opened-Arguments) → of_arguments (roll-Arguments l) ≡ arguments_step (of_parts_arguments l)
+  arguments_rolled = fold-roll-Arguments A B C D E F G H I J K L M N O P Q R
+      part_step primary_step unary_step additive_step additive_part_step multiplicative_step multiplicative_part_step equality_step equality_part_step relational_step relational_part_step
+      and_part_step arguments_step expr_step init_list_step logical_and_step or_part_step postfix_step
+
+  expr_rolled : (l : Opened-Expr) → of_expr (roll-Expr l) ≡ expr_step (of_parts_expr l)
+  expr_rolled = fold-roll-Expr A B C D E F G H I J K L M N O P Q R
+      part_step primary_step unary_step additive_step additive_part_step multiplicative_step multiplicative_part_step equality_step equality_part_step relational_step relational_part_step
+      and_part_step arguments_step expr_step init_list_step logical_and_step or_part_step postfix_step
+
+  init_list_rolled : (l : Opened-InitList) → of_init_list (roll-InitList l) ≡ init_list_step (of_parts_init_list l)
+  init_list_rolled = fold-roll-InitList A B C D E F G H I J K L M N O P Q R
+      part_step primary_step unary_step additive_step additive_part_step multiplicative_step multiplicative_part_step equality_step equality_part_step relational_step relational_part_step
+      and_part_step arguments_step expr_step init_list_step logical_and_step or_part_step postfix_step
+
+  logical_and_rolled : (l : Opened-LogicalAnd) → of_logical_and (roll-LogicalAnd l) ≡ logical_and_step (of_parts_logical_and l)
+  logical_and_rolled = fold-roll-LogicalAnd A B C D E F G H I J K L M N O P Q R
+      part_step primary_step unary_step additive_step additive_part_step multiplicative_step multiplicative_part_step equality_step equality_part_step relational_step relational_part_step
+      and_part_step arguments_step expr_step init_list_step logical_and_step or_part_step postfix_step
+
+  or_part_rolled : (l : Opened-OrPart) → of_or_part (roll-OrPart l) ≡ or_part_step (of_parts_or_part l)
+  or_part_rolled = fold-roll-OrPart A B C D E F G H I J K L M N O P Q R
+      part_step primary_step unary_step additive_step additive_part_step multiplicative_step multiplicative_part_step equality_step equality_part_step relational_step relational_part_step
+      and_part_step arguments_step expr_step init_list_step logical_and_step or_part_step postfix_step
+
+  postfix_rolled : (l : Opened-Postfix) → of_postfix (roll-Postfix l) ≡ postfix_step (of_parts_postfix l)
+  postfix_rolled = fold-roll-Postfix A B C D E F G H I J K L M N O P Q R
+      part_step primary_step unary_step additive_step additive_part_step multiplicative_step multiplicative_part_step equality_step equality_part_step relational_step relational_part_step
+      and_part_step arguments_step expr_step init_list_step logical_and_step or_part_step postfix_step
 
   -- lists of parts
-  additive_part_row : (xs : List Both-AdditivePart) → map of_additive_part (map settled_additive_part (map (λ z. z.0) xs)) ≡ map of_additive_part (map (λ z. z.0) xs)
+  additive_part_row : (xs : List (Both Seen-AdditivePart)) → map of_additive_part (map settled_additive_part (map (λ z. z.0) xs)) ≡ map of_additive_part (map (λ z. z.0) xs)
   additive_part_row [] = refl
   additive_part_row (x ∷ xs) = λ i. x.1 i ∷ additive_part_row xs i
 
-  multiplicative_part_row : (xs : List Both-MultiplicativePart) → map of_multiplicative_part (map settled_multiplicative_part (map (λ z. z.0) xs)) ≡ map of_multiplicative_part (map (λ z. z.0) xs)
+  multiplicative_part_row : (xs : List (Both Seen-MultiplicativePart)) → map of_multiplicative_part (map settled_multiplicative_part (map (λ z. z.0) xs)) ≡ map of_multiplicative_part (map (λ z. z.0) xs)
   multiplicative_part_row [] = refl
   multiplicative_part_row (x ∷ xs) = λ i. x.1 i ∷ multiplicative_part_row xs i
 
-  equality_part_row : (xs : List Both-EqualityPart) → map of_equality_part (map settled_equality_part (map (λ z. z.0) xs)) ≡ map of_equality_part (map (λ z. z.0) xs)
+  equality_part_row : (xs : List (Both Seen-EqualityPart)) → map of_equality_part (map settled_equality_part (map (λ z. z.0) xs)) ≡ map of_equality_part (map (λ z. z.0) xs)
   equality_part_row [] = refl
   equality_part_row (x ∷ xs) = λ i. x.1 i ∷ equality_part_row xs i
 
-  relational_part_row : (xs : List Both-RelationalPart) → map of_relational_part (map settled_relational_part (map (λ z. z.0) xs)) ≡ map of_relational_part (map (λ z. z.0) xs)
+  relational_part_row : (xs : List (Both Seen-RelationalPart)) → map of_relational_part (map settled_relational_part (map (λ z. z.0) xs)) ≡ map of_relational_part (map (λ z. z.0) xs)
   relational_part_row [] = refl
   relational_part_row (x ∷ xs) = λ i. x.1 i ∷ relational_part_row xs i
 
-  or_part_row : (xs : List Both-OrPart) → map of_or_part (map settled_or_part (map (λ z. z.0) xs)) ≡ map of_or_part (map (λ z. z.0) xs)
+  or_part_row : (xs : List (Both Seen-OrPart)) → map of_or_part (map settled_or_part (map (λ z. z.0) xs)) ≡ map of_or_part (map (λ z. z.0) xs)
   or_part_row [] = refl
   or_part_row (x ∷ xs) = λ i. x.1 i ∷ or_part_row xs i
 
-  and_part_row : (xs : List Both-AndPart) → map of_and_part (map settled_and_part (map (λ z. z.0) xs)) ≡ map of_and_part (map (λ z. z.0) xs)
+  and_part_row : (xs : List (Both Seen-AndPart)) → map of_and_part (map settled_and_part (map (λ z. z.0) xs)) ≡ map of_and_part (map (λ z. z.0) xs)
   and_part_row [] = refl
   and_part_row (x ∷ xs) = λ i. x.1 i ∷ and_part_row xs i
 
-  part_row : (xs : List Both-PostfixPart) → map of_part (map settled_part (map (λ z. z.0) xs)) ≡ map of_part (map (λ z. z.0) xs)
+  part_row : (xs : List (Both Seen-PostfixPart)) → map of_part (map settled_part (map (λ z. z.0) xs)) ≡ map of_part (map (λ z. z.0) xs)
   part_row [] = refl
   part_row (x ∷ xs) = λ i. x.1 i ∷ part_row xs i
 
-  expr_row : (xs : List Both-Expr) → map of_expr (map settled_expr (map (λ z. z.0) xs)) ≡ map of_expr (map (λ z. z.0) xs)
+  expr_row : (xs : List (Both Seen-Expr)) → map of_expr (map settled_expr (map (λ z. z.0) xs)) ≡ map of_expr (map (λ z. z.0) xs)
   expr_row [] = refl
   expr_row (x ∷ xs) = λ i. x.1 i ∷ expr_row xs i
 
   -- .. are one, over parts that are seen as before
-  part_layer : (l : Layer-PostfixPart)
-      → before_part l ≡ after_part l
+  part_layer : (l : Layer-PostfixPart claims) → of_parts_part (settle_part (parts_part claims l)) ≡ of_parts_part (parts_part claims l)
   part_layer (open_expr.Member mark name None) = refl
   part_layer (open_expr.Member mark name (Some l)) = λ i. open_expr.Member mark name (Some (l.1 i))
   part_layer (open_expr.Arrow mark name None) = refl
   part_layer (open_expr.Arrow mark name (Some l)) = λ i. open_expr.Arrow mark name (Some (l.1 i))
   part_layer (open_expr.Index opening index closing) = λ i. open_expr.Index opening (record { ptr = index.ptr; alloc = index.alloc; value = index.value.1 i }) closing
 
-  primary_layer : (l : Layer-Primary)
-      → before_primary l ≡ after_primary l
+  primary_layer : (l : Layer-Primary claims) → of_parts_primary (settle_primary (parts_primary claims l)) ≡ of_parts_primary (parts_primary claims l)
   primary_layer (open_expr.Call name l) = λ i. open_expr.Call name (l.1 i)
   primary_layer (open_expr.Construct name l) = λ i. open_expr.Construct name (l.1 i)
   primary_layer (open_expr.Paren opening inner closing) = λ i. open_expr.Paren opening (record { ptr = inner.ptr; alloc = inner.alloc; value = inner.value.1 i }) closing
@@ -762,273 +479,239 @@ module _ (A B C D E F G H I J K L M N O P Q R : Type 0)
   primary_layer (open_expr.TextOf name opening inner closing) = λ i. open_expr.TextOf name opening (record { ptr = inner.ptr; alloc = inner.alloc; value = inner.value.1 i }) closing
   primary_layer _ = refl
 
-  unary_layer : (l : Layer-Unary)
-      → before_unary l ≡ after_unary l
+  unary_layer : (l : Layer-Unary claims) → of_parts_unary (settle_unary (parts_unary claims l)) ≡ of_parts_unary (parts_unary claims l)
   unary_layer (open_expr.Prefix operator place operand) = λ i. open_expr.Prefix operator place (record { ptr = operand.ptr; alloc = operand.alloc; value = operand.value.1 i })
   unary_layer (open_expr.Plain operand) = λ i. open_expr.Plain (operand.1 i)
 
-  additive_layer : (l : Layer-Additive)
-      → bare_additive (before_additive l) ≡ bare_additive (after_additive l)
-  additive_layer l = λ i. record { first = l.first.1 i; more = same_settled (before_additive l).more (after_additive l).more (additive_part_row l.more.items) i }
+  additive_layer : (l : Layer-Additive claims) →
+      bare_additive (of_parts_additive (bare_additive (settle_additive (parts_additive claims l)))) ≡ bare_additive (of_parts_additive (parts_additive claims l))
+  additive_layer l = λ i. record { first = l.first.1 i; more = same_settled (of_parts_additive (bare_additive (settle_additive (parts_additive claims l)))).more (of_parts_additive (parts_additive claims l)).more (additive_part_row l.more.items) i }
 
-  additive_part_layer : (l : Layer-AdditivePart)
-      → before_additive_part l ≡ after_additive_part l
+  additive_part_layer : (l : Layer-AdditivePart claims) → of_parts_additive_part (settle_additive_part (parts_additive_part claims l)) ≡ of_parts_additive_part (parts_additive_part claims l)
   additive_part_layer l = λ i. record { operator = l.operator; place = l.place; operand = l.operand.1 i }
 
-  multiplicative_layer : (l : Layer-Multiplicative)
-      → bare_multiplicative (before_multiplicative l) ≡ bare_multiplicative (after_multiplicative l)
-  multiplicative_layer l = λ i. record { first = l.first.1 i; more = same_settled (before_multiplicative l).more (after_multiplicative l).more (multiplicative_part_row l.more.items) i }
+  multiplicative_layer : (l : Layer-Multiplicative claims) →
+      bare_multiplicative (of_parts_multiplicative (bare_multiplicative (settle_multiplicative (parts_multiplicative claims l)))) ≡ bare_multiplicative (of_parts_multiplicative (parts_multiplicative claims l))
+  multiplicative_layer l = λ i. record { first = l.first.1 i; more = same_settled (of_parts_multiplicative (bare_multiplicative (settle_multiplicative (parts_multiplicative claims l)))).more (of_parts_multiplicative (parts_multiplicative claims l)).more (multiplicative_part_row l.more.items) i }
 
-  multiplicative_part_layer : (l : Layer-MultiplicativePart)
-      → before_multiplicative_part l ≡ after_multiplicative_part l
+  multiplicative_part_layer : (l : Layer-MultiplicativePart claims) → of_parts_multiplicative_part (settle_multiplicative_part (parts_multiplicative_part claims l)) ≡ of_parts_multiplicative_part (parts_multiplicative_part claims l)
   multiplicative_part_layer l = λ i. record { operator = l.operator; place = l.place; operand = l.operand.1 i }
 
-  equality_layer : (l : Layer-Equality)
-      → bare_equality (before_equality l) ≡ bare_equality (after_equality l)
-  equality_layer l = λ i. record { first = l.first.1 i; more = same_settled (before_equality l).more (after_equality l).more (equality_part_row l.more.items) i }
+  equality_layer : (l : Layer-Equality claims) →
+      bare_equality (of_parts_equality (bare_equality (settle_equality (parts_equality claims l)))) ≡ bare_equality (of_parts_equality (parts_equality claims l))
+  equality_layer l = λ i. record { first = l.first.1 i; more = same_settled (of_parts_equality (bare_equality (settle_equality (parts_equality claims l)))).more (of_parts_equality (parts_equality claims l)).more (equality_part_row l.more.items) i }
 
-  equality_part_layer : (l : Layer-EqualityPart)
-      → before_equality_part l ≡ after_equality_part l
+  equality_part_layer : (l : Layer-EqualityPart claims) → of_parts_equality_part (settle_equality_part (parts_equality_part claims l)) ≡ of_parts_equality_part (parts_equality_part claims l)
   equality_part_layer l = λ i. record { operator = l.operator; place = l.place; operand = l.operand.1 i }
 
-  relational_layer : (l : Layer-Relational)
-      → bare_relational (before_relational l) ≡ bare_relational (after_relational l)
-  relational_layer l = λ i. record { first = l.first.1 i; more = same_settled (before_relational l).more (after_relational l).more (relational_part_row l.more.items) i }
+  relational_layer : (l : Layer-Relational claims) →
+      bare_relational (of_parts_relational (bare_relational (settle_relational (parts_relational claims l)))) ≡ bare_relational (of_parts_relational (parts_relational claims l))
+  relational_layer l = λ i. record { first = l.first.1 i; more = same_settled (of_parts_relational (bare_relational (settle_relational (parts_relational claims l)))).more (of_parts_relational (parts_relational claims l)).more (relational_part_row l.more.items) i }
 
-  relational_part_layer : (l : Layer-RelationalPart)
-      → before_relational_part l ≡ after_relational_part l
+  relational_part_layer : (l : Layer-RelationalPart claims) → of_parts_relational_part (settle_relational_part (parts_relational_part claims l)) ≡ of_parts_relational_part (parts_relational_part claims l)
   relational_part_layer l = λ i. record { operator = l.operator; place = l.place; operand = l.operand.1 i }
 
-  and_part_layer : (l : Layer-AndPart)
-      → before_and_part l ≡ after_and_part l
+  and_part_layer : (l : Layer-AndPart claims) → of_parts_and_part (settle_and_part (parts_and_part claims l)) ≡ of_parts_and_part (parts_and_part claims l)
   and_part_layer l = λ i. record { place = l.place; operand = l.operand.1 i }
 
-  arguments_layer : (l : Layer-Arguments)
-      → bare_arguments (before_arguments l) ≡ bare_arguments (after_arguments l)
-  arguments_layer l = λ i. record { opening = l.opening; list = same_settled (before_arguments l).list (after_arguments l).list (expr_row l.list.items) i; closing = l.closing }
+  arguments_layer : (l : Layer-Arguments claims) →
+      bare_arguments (of_parts_arguments (bare_arguments (settle_arguments (parts_arguments claims l)))) ≡ bare_arguments (of_parts_arguments (parts_arguments claims l))
+  arguments_layer l = λ i. record { opening = l.opening; list = same_settled (of_parts_arguments (bare_arguments (settle_arguments (parts_arguments claims l)))).list (of_parts_arguments (parts_arguments claims l)).list (expr_row l.list.items) i; closing = l.closing }
 
-  expr_layer : (l : Layer-Expr)
-      → bare_expr (before_expr l) ≡ bare_expr (after_expr l)
-  expr_layer l = λ i. record { first = l.first.1 i; more = same_settled (before_expr l).more (after_expr l).more (or_part_row l.more.items) i }
+  expr_layer : (l : Layer-Expr claims) →
+      bare_expr (of_parts_expr (bare_expr (settle_expr (parts_expr claims l)))) ≡ bare_expr (of_parts_expr (parts_expr claims l))
+  expr_layer l = λ i. record { first = l.first.1 i; more = same_settled (of_parts_expr (bare_expr (settle_expr (parts_expr claims l)))).more (of_parts_expr (parts_expr claims l)).more (or_part_row l.more.items) i }
 
-  init_list_layer : (l : Layer-InitList)
-      → bare_init_list (before_init_list l) ≡ bare_init_list (after_init_list l)
-  init_list_layer l = λ i. record { opening = l.opening; list = same_settled (before_init_list l).list (after_init_list l).list (expr_row l.list.items) i; closing = l.closing }
+  init_list_layer : (l : Layer-InitList claims) →
+      bare_init_list (of_parts_init_list (bare_init_list (settle_init_list (parts_init_list claims l)))) ≡ bare_init_list (of_parts_init_list (parts_init_list claims l))
+  init_list_layer l = λ i. record { opening = l.opening; list = same_settled (of_parts_init_list (bare_init_list (settle_init_list (parts_init_list claims l)))).list (of_parts_init_list (parts_init_list claims l)).list (expr_row l.list.items) i; closing = l.closing }
 
-  logical_and_layer : (l : Layer-LogicalAnd)
-      → bare_logical_and (before_logical_and l) ≡ bare_logical_and (after_logical_and l)
-  logical_and_layer l = λ i. record { first = l.first.1 i; more = same_settled (before_logical_and l).more (after_logical_and l).more (and_part_row l.more.items) i }
+  logical_and_layer : (l : Layer-LogicalAnd claims) →
+      bare_logical_and (of_parts_logical_and (bare_logical_and (settle_logical_and (parts_logical_and claims l)))) ≡ bare_logical_and (of_parts_logical_and (parts_logical_and claims l))
+  logical_and_layer l = λ i. record { first = l.first.1 i; more = same_settled (of_parts_logical_and (bare_logical_and (settle_logical_and (parts_logical_and claims l)))).more (of_parts_logical_and (parts_logical_and claims l)).more (and_part_row l.more.items) i }
 
-  or_part_layer : (l : Layer-OrPart)
-      → before_or_part l ≡ after_or_part l
+  or_part_layer : (l : Layer-OrPart claims) → of_parts_or_part (settle_or_part (parts_or_part claims l)) ≡ of_parts_or_part (parts_or_part claims l)
   or_part_layer l = λ i. record { place = l.place; operand = l.operand.1 i }
 
-  postfix_layer : (l : Layer-Postfix)
-      → bare_postfix (before_postfix l) ≡ bare_postfix (after_postfix l)
-  postfix_layer l = λ i. record { primary = l.primary.1 i; parts = same_settled (before_postfix l).parts (after_postfix l).parts (part_row l.parts.items) i }
+  postfix_layer : (l : Layer-Postfix claims) →
+      bare_postfix (of_parts_postfix (bare_postfix (settle_postfix (parts_postfix claims l)))) ≡ bare_postfix (of_parts_postfix (parts_postfix claims l))
+  postfix_layer l = λ i. record { primary = l.primary.1 i; parts = same_settled (of_parts_postfix (bare_postfix (settle_postfix (parts_postfix claims l)))).parts (of_parts_postfix (parts_postfix claims l)).parts (part_row l.parts.items) i }
 
   -- a layer's own boxes aren't looked at
-  part_bare : (l : open_expr.PostfixPart-F PostfixPart Primary Unary Additive AdditivePart Multiplicative MultiplicativePart Equality EqualityPart Relational RelationalPart AndPart Arguments Expr InitList LogicalAnd OrPart Postfix)
-      → part_step (map-PostfixPart PostfixPart Primary Unary Additive AdditivePart Multiplicative MultiplicativePart Equality EqualityPart Relational RelationalPart AndPart Arguments Expr InitList LogicalAnd OrPart Postfix A B C D E F G H I J K L M N O P Q R
-      of_part of_primary of_unary of_additive of_additive_part of_multiplicative of_multiplicative_part of_equality of_equality_part of_relational of_relational_part of_and_part of_arguments of_expr of_init_list of_logical_and
-      of_or_part of_postfix (bare_part l))
-      ≡ part_step (map-PostfixPart PostfixPart Primary Unary Additive AdditivePart Multiplicative MultiplicativePart Equality EqualityPart Relational RelationalPart AndPart Arguments Expr InitList LogicalAnd OrPart Postfix A B C D E F G H I J K L M N O P Q R
-      of_part of_primary of_unary of_additive of_additive_part of_multiplicative of_multiplicative_part of_equality of_equality_part of_relational of_relational_part of_and_part of_arguments of_expr of_init_list of_logical_and
-      of_or_part of_postfix l)
+  part_bare : (l : Opened-PostfixPart) → part_step (of_parts_part (bare_part l)) ≡ part_step (of_parts_part l)
   part_bare (open_expr.Index opening index closing) = part_blind (open_expr.Index opening (record { ptr = index.ptr; alloc = index.alloc; value = of_expr index.value }) closing)
   part_bare (open_expr.Member mark name l) = refl
   part_bare (open_expr.Arrow mark name l) = refl
 
-  primary_bare : (l : open_expr.Primary-F PostfixPart Primary Unary Additive AdditivePart Multiplicative MultiplicativePart Equality EqualityPart Relational RelationalPart AndPart Arguments Expr InitList LogicalAnd OrPart Postfix)
-      → primary_step (map-Primary PostfixPart Primary Unary Additive AdditivePart Multiplicative MultiplicativePart Equality EqualityPart Relational RelationalPart AndPart Arguments Expr InitList LogicalAnd OrPart Postfix A B C D E F G H I J K L M N O P Q R
-      of_part of_primary of_unary of_additive of_additive_part of_multiplicative of_multiplicative_part of_equality of_equality_part of_relational of_relational_part of_and_part of_arguments of_expr of_init_list of_logical_and
-      of_or_part of_postfix (bare_primary l))
-      ≡ primary_step (map-Primary PostfixPart Primary Unary Additive AdditivePart Multiplicative MultiplicativePart Equality EqualityPart Relational RelationalPart AndPart Arguments Expr InitList LogicalAnd OrPart Postfix A B C D E F G H I J K L M N O P Q R
-      of_part of_primary of_unary of_additive of_additive_part of_multiplicative of_multiplicative_part of_equality of_equality_part of_relational of_relational_part of_and_part of_arguments of_expr of_init_list of_logical_and
-      of_or_part of_postfix l)
+  primary_bare : (l : Opened-Primary) → primary_step (of_parts_primary (bare_primary l)) ≡ primary_step (of_parts_primary l)
   primary_bare (open_expr.Paren opening inner closing) = primary_blind (open_expr.Paren opening (record { ptr = inner.ptr; alloc = inner.alloc; value = of_expr inner.value }) closing)
   primary_bare (open_expr.MakeUnique name element l) = primary_blind (open_expr.MakeUnique name element (of_arguments l))
   primary_bare (open_expr.TextOf name opening inner closing) = primary_blind (open_expr.TextOf name opening (record { ptr = inner.ptr; alloc = inner.alloc; value = of_expr inner.value }) closing)
   primary_bare _ = refl
 
-  unary_bare : (l : open_expr.Unary-F PostfixPart Primary Unary Additive AdditivePart Multiplicative MultiplicativePart Equality EqualityPart Relational RelationalPart AndPart Arguments Expr InitList LogicalAnd OrPart Postfix)
-      → unary_step (map-Unary PostfixPart Primary Unary Additive AdditivePart Multiplicative MultiplicativePart Equality EqualityPart Relational RelationalPart AndPart Arguments Expr InitList LogicalAnd OrPart Postfix A B C D E F G H I J K L M N O P Q R
-      of_part of_primary of_unary of_additive of_additive_part of_multiplicative of_multiplicative_part of_equality of_equality_part of_relational of_relational_part of_and_part of_arguments of_expr of_init_list of_logical_and
-      of_or_part of_postfix (bare_unary l))
-      ≡ unary_step (map-Unary PostfixPart Primary Unary Additive AdditivePart Multiplicative MultiplicativePart Equality EqualityPart Relational RelationalPart AndPart Arguments Expr InitList LogicalAnd OrPart Postfix A B C D E F G H I J K L M N O P Q R
-      of_part of_primary of_unary of_additive of_additive_part of_multiplicative of_multiplicative_part of_equality of_equality_part of_relational of_relational_part of_and_part of_arguments of_expr of_init_list of_logical_and
-      of_or_part of_postfix l)
+  unary_bare : (l : Opened-Unary) → unary_step (of_parts_unary (bare_unary l)) ≡ unary_step (of_parts_unary l)
   unary_bare (open_expr.Prefix operator place operand) = unary_blind (open_expr.Prefix operator place (record { ptr = operand.ptr; alloc = operand.alloc; value = of_unary operand.value }))
   unary_bare (open_expr.Plain operand) = refl
 
-  part_made : (x : open_expr.PostfixPart-F PostfixPart Primary Unary Additive AdditivePart Multiplicative MultiplicativePart Equality EqualityPart Relational RelationalPart AndPart Arguments Expr InitList LogicalAnd OrPart Postfix) (l : Layer-PostfixPart) → parts_part l ≡ x → Seen-PostfixPart (roll-PostfixPart x)
+  part_made : (x : Opened-PostfixPart) (l : Layer-PostfixPart claims) → parts_part claims l ≡ x → Seen-PostfixPart (roll-PostfixPart x)
   part_made x l e = subst (λ z. Seen-PostfixPart (roll-PostfixPart z)) e
-      (ap of_part (fold-roll-PostfixPart PostfixPart Primary Unary Additive AdditivePart Multiplicative MultiplicativePart Equality EqualityPart Relational RelationalPart AndPart Arguments Expr InitList LogicalAnd OrPart Postfix
-      kept_part kept_primary kept_unary kept_additive roll-AdditivePart kept_multiplicative roll-MultiplicativePart kept_equality roll-EqualityPart kept_relational roll-RelationalPart roll-AndPart kept_arguments kept_expr
-      kept_init_list kept_logical_and roll-OrPart kept_postfix (parts_part l))
-      ∙ fold-roll-PostfixPart A B C D E F G H I J K L M N O P Q R part_step primary_step unary_step additive_step additive_part_step multiplicative_step multiplicative_part_step equality_step equality_part_step relational_step relational_part_step and_part_step arguments_step expr_step init_list_step logical_and_step or_part_step postfix_step (bare_part (settled_parts_part l))
-      ∙ part_bare (settled_parts_part l) ∙ ap part_step (part_layer l) ∙ sym (fold-roll-PostfixPart A B C D E F G H I J K L M N O P Q R part_step primary_step unary_step additive_step additive_part_step multiplicative_step multiplicative_part_step equality_step equality_part_step relational_step relational_part_step and_part_step arguments_step expr_step init_list_step logical_and_step or_part_step postfix_step (parts_part l)))
+      (ap of_part (settled_of_part (parts_part claims l))
+      ∙ part_rolled (bare_part (settle_part (parts_part claims l)))
+      ∙ part_bare (settle_part (parts_part claims l)) ∙ ap part_step (part_layer l) ∙ sym (part_rolled (parts_part claims l)))
 
-  primary_made : (x : open_expr.Primary-F PostfixPart Primary Unary Additive AdditivePart Multiplicative MultiplicativePart Equality EqualityPart Relational RelationalPart AndPart Arguments Expr InitList LogicalAnd OrPart Postfix) (l : Layer-Primary) → parts_primary l ≡ x → Seen-Primary (roll-Primary x)
+  primary_made : (x : Opened-Primary) (l : Layer-Primary claims) → parts_primary claims l ≡ x → Seen-Primary (roll-Primary x)
   primary_made x l e = subst (λ z. Seen-Primary (roll-Primary z)) e
-      (ap of_primary (fold-roll-Primary PostfixPart Primary Unary Additive AdditivePart Multiplicative MultiplicativePart Equality EqualityPart Relational RelationalPart AndPart Arguments Expr InitList LogicalAnd OrPart Postfix
-      kept_part kept_primary kept_unary kept_additive roll-AdditivePart kept_multiplicative roll-MultiplicativePart kept_equality roll-EqualityPart kept_relational roll-RelationalPart roll-AndPart kept_arguments kept_expr
-      kept_init_list kept_logical_and roll-OrPart kept_postfix (parts_primary l))
-      ∙ fold-roll-Primary A B C D E F G H I J K L M N O P Q R part_step primary_step unary_step additive_step additive_part_step multiplicative_step multiplicative_part_step equality_step equality_part_step relational_step relational_part_step and_part_step arguments_step expr_step init_list_step logical_and_step or_part_step postfix_step (bare_primary (settled_parts_primary l))
-      ∙ primary_bare (settled_parts_primary l) ∙ ap primary_step (primary_layer l) ∙ sym (fold-roll-Primary A B C D E F G H I J K L M N O P Q R part_step primary_step unary_step additive_step additive_part_step multiplicative_step multiplicative_part_step equality_step equality_part_step relational_step relational_part_step and_part_step arguments_step expr_step init_list_step logical_and_step or_part_step postfix_step (parts_primary l)))
+      (ap of_primary (settled_of_primary (parts_primary claims l))
+      ∙ primary_rolled (bare_primary (settle_primary (parts_primary claims l)))
+      ∙ primary_bare (settle_primary (parts_primary claims l)) ∙ ap primary_step (primary_layer l) ∙ sym (primary_rolled (parts_primary claims l)))
 
-  unary_made : (x : open_expr.Unary-F PostfixPart Primary Unary Additive AdditivePart Multiplicative MultiplicativePart Equality EqualityPart Relational RelationalPart AndPart Arguments Expr InitList LogicalAnd OrPart Postfix) (l : Layer-Unary) → parts_unary l ≡ x → Seen-Unary (roll-Unary x)
+  unary_made : (x : Opened-Unary) (l : Layer-Unary claims) → parts_unary claims l ≡ x → Seen-Unary (roll-Unary x)
   unary_made x l e = subst (λ z. Seen-Unary (roll-Unary z)) e
-      (ap of_unary (fold-roll-Unary PostfixPart Primary Unary Additive AdditivePart Multiplicative MultiplicativePart Equality EqualityPart Relational RelationalPart AndPart Arguments Expr InitList LogicalAnd OrPart Postfix
-      kept_part kept_primary kept_unary kept_additive roll-AdditivePart kept_multiplicative roll-MultiplicativePart kept_equality roll-EqualityPart kept_relational roll-RelationalPart roll-AndPart kept_arguments kept_expr
-      kept_init_list kept_logical_and roll-OrPart kept_postfix (parts_unary l))
-      ∙ fold-roll-Unary A B C D E F G H I J K L M N O P Q R part_step primary_step unary_step additive_step additive_part_step multiplicative_step multiplicative_part_step equality_step equality_part_step relational_step relational_part_step and_part_step arguments_step expr_step init_list_step logical_and_step or_part_step postfix_step (bare_unary (settled_parts_unary l))
-      ∙ unary_bare (settled_parts_unary l) ∙ ap unary_step (unary_layer l) ∙ sym (fold-roll-Unary A B C D E F G H I J K L M N O P Q R part_step primary_step unary_step additive_step additive_part_step multiplicative_step multiplicative_part_step equality_step equality_part_step relational_step relational_part_step and_part_step arguments_step expr_step init_list_step logical_and_step or_part_step postfix_step (parts_unary l)))
+      (ap of_unary (settled_of_unary (parts_unary claims l))
+      ∙ unary_rolled (bare_unary (settle_unary (parts_unary claims l)))
+      ∙ unary_bare (settle_unary (parts_unary claims l)) ∙ ap unary_step (unary_layer l) ∙ sym (unary_rolled (parts_unary claims l)))
 
-  additive_made : (x : open_expr.Additive-F PostfixPart Primary Unary Additive AdditivePart Multiplicative MultiplicativePart Equality EqualityPart Relational RelationalPart AndPart Arguments Expr InitList LogicalAnd OrPart Postfix) (l : Layer-Additive) → parts_additive l ≡ x → Seen-Additive (roll-Additive x)
+  additive_made : (x : Opened-Additive) (l : Layer-Additive claims) → parts_additive claims l ≡ x → Seen-Additive (roll-Additive x)
   additive_made x l e = subst (λ z. Seen-Additive (roll-Additive z)) e
-      (ap of_additive (fold-roll-Additive PostfixPart Primary Unary Additive AdditivePart Multiplicative MultiplicativePart Equality EqualityPart Relational RelationalPart AndPart Arguments Expr InitList LogicalAnd OrPart Postfix
-      kept_part kept_primary kept_unary kept_additive roll-AdditivePart kept_multiplicative roll-MultiplicativePart kept_equality roll-EqualityPart kept_relational roll-RelationalPart roll-AndPart kept_arguments kept_expr
-      kept_init_list kept_logical_and roll-OrPart kept_postfix (parts_additive l))
-      ∙ fold-roll-Additive A B C D E F G H I J K L M N O P Q R part_step primary_step unary_step additive_step additive_part_step multiplicative_step multiplicative_part_step equality_step equality_part_step relational_step relational_part_step and_part_step arguments_step expr_step init_list_step logical_and_step or_part_step postfix_step (bare_additive (settled_parts_additive l))
-      ∙ sym (additive_blind (before_additive l)) ∙ ap additive_step (additive_layer l) ∙ additive_blind (after_additive l) ∙ sym (fold-roll-Additive A B C D E F G H I J K L M N O P Q R part_step primary_step unary_step additive_step additive_part_step multiplicative_step multiplicative_part_step equality_step equality_part_step relational_step relational_part_step and_part_step arguments_step expr_step init_list_step logical_and_step or_part_step postfix_step (parts_additive l)))
+      (ap of_additive (settled_of_additive (parts_additive claims l))
+      ∙ additive_rolled (bare_additive (settle_additive (parts_additive claims l)))
+      ∙ sym (additive_blind (of_parts_additive (bare_additive (settle_additive (parts_additive claims l)))))
+      ∙ ap additive_step (additive_layer l)
+      ∙ additive_blind (of_parts_additive (parts_additive claims l))
+      ∙ sym (additive_rolled (parts_additive claims l)))
 
-  additive_part_made : (x : open_expr.AdditivePart-F PostfixPart Primary Unary Additive AdditivePart Multiplicative MultiplicativePart Equality EqualityPart Relational RelationalPart AndPart Arguments Expr InitList LogicalAnd OrPart Postfix) (l : Layer-AdditivePart) → parts_additive_part l ≡ x → Seen-AdditivePart (roll-AdditivePart x)
+  additive_part_made : (x : Opened-AdditivePart) (l : Layer-AdditivePart claims) → parts_additive_part claims l ≡ x → Seen-AdditivePart (roll-AdditivePart x)
   additive_part_made x l e = subst (λ z. Seen-AdditivePart (roll-AdditivePart z)) e
-      (ap of_additive_part (fold-roll-AdditivePart PostfixPart Primary Unary Additive AdditivePart Multiplicative MultiplicativePart Equality EqualityPart Relational RelationalPart AndPart Arguments Expr InitList LogicalAnd OrPart Postfix
-      kept_part kept_primary kept_unary kept_additive roll-AdditivePart kept_multiplicative roll-MultiplicativePart kept_equality roll-EqualityPart kept_relational roll-RelationalPart roll-AndPart kept_arguments kept_expr
-      kept_init_list kept_logical_and roll-OrPart kept_postfix (parts_additive_part l))
-      ∙ fold-roll-AdditivePart A B C D E F G H I J K L M N O P Q R part_step primary_step unary_step additive_step additive_part_step multiplicative_step multiplicative_part_step equality_step equality_part_step relational_step relational_part_step and_part_step arguments_step expr_step init_list_step logical_and_step or_part_step postfix_step (settled_parts_additive_part l)
-      ∙ ap additive_part_step (additive_part_layer l) ∙ sym (fold-roll-AdditivePart A B C D E F G H I J K L M N O P Q R part_step primary_step unary_step additive_step additive_part_step multiplicative_step multiplicative_part_step equality_step equality_part_step relational_step relational_part_step and_part_step arguments_step expr_step init_list_step logical_and_step or_part_step postfix_step (parts_additive_part l)))
+      (ap of_additive_part (settled_of_additive_part (parts_additive_part claims l))
+      ∙ additive_part_rolled (settle_additive_part (parts_additive_part claims l))
+      ∙ ap additive_part_step (additive_part_layer l) ∙ sym (additive_part_rolled (parts_additive_part claims l)))
 
-  multiplicative_made : (x : open_expr.Multiplicative-F PostfixPart Primary Unary Additive AdditivePart Multiplicative MultiplicativePart Equality EqualityPart Relational RelationalPart AndPart Arguments Expr InitList LogicalAnd OrPart Postfix) (l : Layer-Multiplicative) → parts_multiplicative l ≡ x → Seen-Multiplicative (roll-Multiplicative x)
+  multiplicative_made : (x : Opened-Multiplicative) (l : Layer-Multiplicative claims) → parts_multiplicative claims l ≡ x → Seen-Multiplicative (roll-Multiplicative x)
   multiplicative_made x l e = subst (λ z. Seen-Multiplicative (roll-Multiplicative z)) e
-      (ap of_multiplicative (fold-roll-Multiplicative PostfixPart Primary Unary Additive AdditivePart Multiplicative MultiplicativePart Equality EqualityPart Relational RelationalPart AndPart Arguments Expr InitList LogicalAnd OrPart Postfix
-      kept_part kept_primary kept_unary kept_additive roll-AdditivePart kept_multiplicative roll-MultiplicativePart kept_equality roll-EqualityPart kept_relational roll-RelationalPart roll-AndPart kept_arguments kept_expr
-      kept_init_list kept_logical_and roll-OrPart kept_postfix (parts_multiplicative l))
-      ∙ fold-roll-Multiplicative A B C D E F G H I J K L M N O P Q R part_step primary_step unary_step additive_step additive_part_step multiplicative_step multiplicative_part_step equality_step equality_part_step relational_step relational_part_step and_part_step arguments_step expr_step init_list_step logical_and_step or_part_step postfix_step (bare_multiplicative (settled_parts_multiplicative l))
-      ∙ sym (multiplicative_blind (before_multiplicative l)) ∙ ap multiplicative_step (multiplicative_layer l) ∙ multiplicative_blind (after_multiplicative l) ∙ sym (fold-roll-Multiplicative A B C D E F G H I J K L M N O P Q R part_step primary_step unary_step additive_step additive_part_step multiplicative_step multiplicative_part_step equality_step equality_part_step relational_step relational_part_step and_part_step arguments_step expr_step init_list_step logical_and_step or_part_step postfix_step (parts_multiplicative l)))
+      (ap of_multiplicative (settled_of_multiplicative (parts_multiplicative claims l))
+      ∙ multiplicative_rolled (bare_multiplicative (settle_multiplicative (parts_multiplicative claims l)))
+      ∙ sym (multiplicative_blind (of_parts_multiplicative (bare_multiplicative (settle_multiplicative (parts_multiplicative claims l)))))
+      ∙ ap multiplicative_step (multiplicative_layer l)
+      ∙ multiplicative_blind (of_parts_multiplicative (parts_multiplicative claims l))
+      ∙ sym (multiplicative_rolled (parts_multiplicative claims l)))
 
-  multiplicative_part_made : (x : open_expr.MultiplicativePart-F PostfixPart Primary Unary Additive AdditivePart Multiplicative MultiplicativePart Equality EqualityPart Relational RelationalPart AndPart Arguments Expr InitList LogicalAnd OrPart Postfix) (l : Layer-MultiplicativePart) → parts_multiplicative_part l ≡ x → Seen-MultiplicativePart (roll-MultiplicativePart x)
+  multiplicative_part_made : (x : Opened-MultiplicativePart) (l : Layer-MultiplicativePart claims) → parts_multiplicative_part claims l ≡ x → Seen-MultiplicativePart (roll-MultiplicativePart x)
   multiplicative_part_made x l e = subst (λ z. Seen-MultiplicativePart (roll-MultiplicativePart z)) e
-      (ap of_multiplicative_part (fold-roll-MultiplicativePart PostfixPart Primary Unary Additive AdditivePart Multiplicative MultiplicativePart Equality EqualityPart Relational RelationalPart AndPart Arguments Expr InitList LogicalAnd OrPart Postfix
-      kept_part kept_primary kept_unary kept_additive roll-AdditivePart kept_multiplicative roll-MultiplicativePart kept_equality roll-EqualityPart kept_relational roll-RelationalPart roll-AndPart kept_arguments kept_expr
-      kept_init_list kept_logical_and roll-OrPart kept_postfix (parts_multiplicative_part l))
-      ∙ fold-roll-MultiplicativePart A B C D E F G H I J K L M N O P Q R part_step primary_step unary_step additive_step additive_part_step multiplicative_step multiplicative_part_step equality_step equality_part_step relational_step relational_part_step and_part_step arguments_step expr_step init_list_step logical_and_step or_part_step postfix_step (settled_parts_multiplicative_part l)
-      ∙ ap multiplicative_part_step (multiplicative_part_layer l) ∙ sym (fold-roll-MultiplicativePart A B C D E F G H I J K L M N O P Q R part_step primary_step unary_step additive_step additive_part_step multiplicative_step multiplicative_part_step equality_step equality_part_step relational_step relational_part_step and_part_step arguments_step expr_step init_list_step logical_and_step or_part_step postfix_step (parts_multiplicative_part l)))
+      (ap of_multiplicative_part (settled_of_multiplicative_part (parts_multiplicative_part claims l))
+      ∙ multiplicative_part_rolled (settle_multiplicative_part (parts_multiplicative_part claims l))
+      ∙ ap multiplicative_part_step (multiplicative_part_layer l) ∙ sym (multiplicative_part_rolled (parts_multiplicative_part claims l)))
 
-  equality_made : (x : open_expr.Equality-F PostfixPart Primary Unary Additive AdditivePart Multiplicative MultiplicativePart Equality EqualityPart Relational RelationalPart AndPart Arguments Expr InitList LogicalAnd OrPart Postfix) (l : Layer-Equality) → parts_equality l ≡ x → Seen-Equality (roll-Equality x)
+  equality_made : (x : Opened-Equality) (l : Layer-Equality claims) → parts_equality claims l ≡ x → Seen-Equality (roll-Equality x)
   equality_made x l e = subst (λ z. Seen-Equality (roll-Equality z)) e
-      (ap of_equality (fold-roll-Equality PostfixPart Primary Unary Additive AdditivePart Multiplicative MultiplicativePart Equality EqualityPart Relational RelationalPart AndPart Arguments Expr InitList LogicalAnd OrPart Postfix
-      kept_part kept_primary kept_unary kept_additive roll-AdditivePart kept_multiplicative roll-MultiplicativePart kept_equality roll-EqualityPart kept_relational roll-RelationalPart roll-AndPart kept_arguments kept_expr
-      kept_init_list kept_logical_and roll-OrPart kept_postfix (parts_equality l))
-      ∙ fold-roll-Equality A B C D E F G H I J K L M N O P Q R part_step primary_step unary_step additive_step additive_part_step multiplicative_step multiplicative_part_step equality_step equality_part_step relational_step relational_part_step and_part_step arguments_step expr_step init_list_step logical_and_step or_part_step postfix_step (bare_equality (settled_parts_equality l))
-      ∙ sym (equality_blind (before_equality l)) ∙ ap equality_step (equality_layer l) ∙ equality_blind (after_equality l) ∙ sym (fold-roll-Equality A B C D E F G H I J K L M N O P Q R part_step primary_step unary_step additive_step additive_part_step multiplicative_step multiplicative_part_step equality_step equality_part_step relational_step relational_part_step and_part_step arguments_step expr_step init_list_step logical_and_step or_part_step postfix_step (parts_equality l)))
+      (ap of_equality (settled_of_equality (parts_equality claims l))
+      ∙ equality_rolled (bare_equality (settle_equality (parts_equality claims l)))
+      ∙ sym (equality_blind (of_parts_equality (bare_equality (settle_equality (parts_equality claims l)))))
+      ∙ ap equality_step (equality_layer l)
+      ∙ equality_blind (of_parts_equality (parts_equality claims l))
+      ∙ sym (equality_rolled (parts_equality claims l)))
 
-  equality_part_made : (x : open_expr.EqualityPart-F PostfixPart Primary Unary Additive AdditivePart Multiplicative MultiplicativePart Equality EqualityPart Relational RelationalPart AndPart Arguments Expr InitList LogicalAnd OrPart Postfix) (l : Layer-EqualityPart) → parts_equality_part l ≡ x → Seen-EqualityPart (roll-EqualityPart x)
+  equality_part_made : (x : Opened-EqualityPart) (l : Layer-EqualityPart claims) → parts_equality_part claims l ≡ x → Seen-EqualityPart (roll-EqualityPart x)
   equality_part_made x l e = subst (λ z. Seen-EqualityPart (roll-EqualityPart z)) e
-      (ap of_equality_part (fold-roll-EqualityPart PostfixPart Primary Unary Additive AdditivePart Multiplicative MultiplicativePart Equality EqualityPart Relational RelationalPart AndPart Arguments Expr InitList LogicalAnd OrPart Postfix
-      kept_part kept_primary kept_unary kept_additive roll-AdditivePart kept_multiplicative roll-MultiplicativePart kept_equality roll-EqualityPart kept_relational roll-RelationalPart roll-AndPart kept_arguments kept_expr
-      kept_init_list kept_logical_and roll-OrPart kept_postfix (parts_equality_part l))
-      ∙ fold-roll-EqualityPart A B C D E F G H I J K L M N O P Q R part_step primary_step unary_step additive_step additive_part_step multiplicative_step multiplicative_part_step equality_step equality_part_step relational_step relational_part_step and_part_step arguments_step expr_step init_list_step logical_and_step or_part_step postfix_step (settled_parts_equality_part l)
-      ∙ ap equality_part_step (equality_part_layer l) ∙ sym (fold-roll-EqualityPart A B C D E F G H I J K L M N O P Q R part_step primary_step unary_step additive_step additive_part_step multiplicative_step multiplicative_part_step equality_step equality_part_step relational_step relational_part_step and_part_step arguments_step expr_step init_list_step logical_and_step or_part_step postfix_step (parts_equality_part l)))
+      (ap of_equality_part (settled_of_equality_part (parts_equality_part claims l))
+      ∙ equality_part_rolled (settle_equality_part (parts_equality_part claims l))
+      ∙ ap equality_part_step (equality_part_layer l) ∙ sym (equality_part_rolled (parts_equality_part claims l)))
 
-  relational_made : (x : open_expr.Relational-F PostfixPart Primary Unary Additive AdditivePart Multiplicative MultiplicativePart Equality EqualityPart Relational RelationalPart AndPart Arguments Expr InitList LogicalAnd OrPart Postfix) (l : Layer-Relational) → parts_relational l ≡ x → Seen-Relational (roll-Relational x)
+  relational_made : (x : Opened-Relational) (l : Layer-Relational claims) → parts_relational claims l ≡ x → Seen-Relational (roll-Relational x)
   relational_made x l e = subst (λ z. Seen-Relational (roll-Relational z)) e
-      (ap of_relational (fold-roll-Relational PostfixPart Primary Unary Additive AdditivePart Multiplicative MultiplicativePart Equality EqualityPart Relational RelationalPart AndPart Arguments Expr InitList LogicalAnd OrPart Postfix
-      kept_part kept_primary kept_unary kept_additive roll-AdditivePart kept_multiplicative roll-MultiplicativePart kept_equality roll-EqualityPart kept_relational roll-RelationalPart roll-AndPart kept_arguments kept_expr
-      kept_init_list kept_logical_and roll-OrPart kept_postfix (parts_relational l))
-      ∙ fold-roll-Relational A B C D E F G H I J K L M N O P Q R part_step primary_step unary_step additive_step additive_part_step multiplicative_step multiplicative_part_step equality_step equality_part_step relational_step relational_part_step and_part_step arguments_step expr_step init_list_step logical_and_step or_part_step postfix_step (bare_relational (settled_parts_relational l))
-      ∙ sym (relational_blind (before_relational l)) ∙ ap relational_step (relational_layer l) ∙ relational_blind (after_relational l) ∙ sym (fold-roll-Relational A B C D E F G H I J K L M N O P Q R part_step primary_step unary_step additive_step additive_part_step multiplicative_step multiplicative_part_step equality_step equality_part_step relational_step relational_part_step and_part_step arguments_step expr_step init_list_step logical_and_step or_part_step postfix_step (parts_relational l)))
+      (ap of_relational (settled_of_relational (parts_relational claims l))
+      ∙ relational_rolled (bare_relational (settle_relational (parts_relational claims l)))
+      ∙ sym (relational_blind (of_parts_relational (bare_relational (settle_relational (parts_relational claims l)))))
+      ∙ ap relational_step (relational_layer l)
+      ∙ relational_blind (of_parts_relational (parts_relational claims l))
+      ∙ sym (relational_rolled (parts_relational claims l)))
 
-  relational_part_made : (x : open_expr.RelationalPart-F PostfixPart Primary Unary Additive AdditivePart Multiplicative MultiplicativePart Equality EqualityPart Relational RelationalPart AndPart Arguments Expr InitList LogicalAnd OrPart Postfix) (l : Layer-RelationalPart) → parts_relational_part l ≡ x → Seen-RelationalPart (roll-RelationalPart x)
+  relational_part_made : (x : Opened-RelationalPart) (l : Layer-RelationalPart claims) → parts_relational_part claims l ≡ x → Seen-RelationalPart (roll-RelationalPart x)
   relational_part_made x l e = subst (λ z. Seen-RelationalPart (roll-RelationalPart z)) e
-      (ap of_relational_part (fold-roll-RelationalPart PostfixPart Primary Unary Additive AdditivePart Multiplicative MultiplicativePart Equality EqualityPart Relational RelationalPart AndPart Arguments Expr InitList LogicalAnd OrPart Postfix
-      kept_part kept_primary kept_unary kept_additive roll-AdditivePart kept_multiplicative roll-MultiplicativePart kept_equality roll-EqualityPart kept_relational roll-RelationalPart roll-AndPart kept_arguments kept_expr
-      kept_init_list kept_logical_and roll-OrPart kept_postfix (parts_relational_part l))
-      ∙ fold-roll-RelationalPart A B C D E F G H I J K L M N O P Q R part_step primary_step unary_step additive_step additive_part_step multiplicative_step multiplicative_part_step equality_step equality_part_step relational_step relational_part_step and_part_step arguments_step expr_step init_list_step logical_and_step or_part_step postfix_step (settled_parts_relational_part l)
-      ∙ ap relational_part_step (relational_part_layer l) ∙ sym (fold-roll-RelationalPart A B C D E F G H I J K L M N O P Q R part_step primary_step unary_step additive_step additive_part_step multiplicative_step multiplicative_part_step equality_step equality_part_step relational_step relational_part_step and_part_step arguments_step expr_step init_list_step logical_and_step or_part_step postfix_step (parts_relational_part l)))
+      (ap of_relational_part (settled_of_relational_part (parts_relational_part claims l))
+      ∙ relational_part_rolled (settle_relational_part (parts_relational_part claims l))
+      ∙ ap relational_part_step (relational_part_layer l) ∙ sym (relational_part_rolled (parts_relational_part claims l)))
 
-  and_part_made : (x : open_expr.AndPart-F PostfixPart Primary Unary Additive AdditivePart Multiplicative MultiplicativePart Equality EqualityPart Relational RelationalPart AndPart Arguments Expr InitList LogicalAnd OrPart Postfix) (l : Layer-AndPart) → parts_and_part l ≡ x → Seen-AndPart (roll-AndPart x)
+  and_part_made : (x : Opened-AndPart) (l : Layer-AndPart claims) → parts_and_part claims l ≡ x → Seen-AndPart (roll-AndPart x)
   and_part_made x l e = subst (λ z. Seen-AndPart (roll-AndPart z)) e
-      (ap of_and_part (fold-roll-AndPart PostfixPart Primary Unary Additive AdditivePart Multiplicative MultiplicativePart Equality EqualityPart Relational RelationalPart AndPart Arguments Expr InitList LogicalAnd OrPart Postfix
-      kept_part kept_primary kept_unary kept_additive roll-AdditivePart kept_multiplicative roll-MultiplicativePart kept_equality roll-EqualityPart kept_relational roll-RelationalPart roll-AndPart kept_arguments kept_expr
-      kept_init_list kept_logical_and roll-OrPart kept_postfix (parts_and_part l))
-      ∙ fold-roll-AndPart A B C D E F G H I J K L M N O P Q R part_step primary_step unary_step additive_step additive_part_step multiplicative_step multiplicative_part_step equality_step equality_part_step relational_step relational_part_step and_part_step arguments_step expr_step init_list_step logical_and_step or_part_step postfix_step (settled_parts_and_part l)
-      ∙ ap and_part_step (and_part_layer l) ∙ sym (fold-roll-AndPart A B C D E F G H I J K L M N O P Q R part_step primary_step unary_step additive_step additive_part_step multiplicative_step multiplicative_part_step equality_step equality_part_step relational_step relational_part_step and_part_step arguments_step expr_step init_list_step logical_and_step or_part_step postfix_step (parts_and_part l)))
+      (ap of_and_part (settled_of_and_part (parts_and_part claims l))
+      ∙ and_part_rolled (settle_and_part (parts_and_part claims l))
+      ∙ ap and_part_step (and_part_layer l) ∙ sym (and_part_rolled (parts_and_part claims l)))
 
-  arguments_made : (x : open_expr.Arguments-F PostfixPart Primary Unary Additive AdditivePart Multiplicative MultiplicativePart Equality EqualityPart Relational RelationalPart AndPart Arguments Expr InitList LogicalAnd OrPart Postfix) (l : Layer-Arguments) → parts_arguments l ≡ x → Seen-Arguments (roll-Arguments x)
+  arguments_made : (x : Opened-Arguments) (l : Layer-Arguments claims) → parts_arguments claims l ≡ x → Seen-Arguments (roll-Arguments x)
   arguments_made x l e = subst (λ z. Seen-Arguments (roll-Arguments z)) e
-      (ap of_arguments (fold-roll-Arguments PostfixPart Primary Unary Additive AdditivePart Multiplicative MultiplicativePart Equality EqualityPart Relational RelationalPart AndPart Arguments Expr InitList LogicalAnd OrPart Postfix
-      kept_part kept_primary kept_unary kept_additive roll-AdditivePart kept_multiplicative roll-MultiplicativePart kept_equality roll-EqualityPart kept_relational roll-RelationalPart roll-AndPart kept_arguments kept_expr
-      kept_init_list kept_logical_and roll-OrPart kept_postfix (parts_arguments l))
-      ∙ fold-roll-Arguments A B C D E F G H I J K L M N O P Q R part_step primary_step unary_step additive_step additive_part_step multiplicative_step multiplicative_part_step equality_step equality_part_step relational_step relational_part_step and_part_step arguments_step expr_step init_list_step logical_and_step or_part_step postfix_step (bare_arguments (settled_parts_arguments l))
-      ∙ sym (arguments_blind (before_arguments l)) ∙ ap arguments_step (arguments_layer l) ∙ arguments_blind (after_arguments l) ∙ sym (fold-roll-Arguments A B C D E F G H I J K L M N O P Q R part_step primary_step unary_step additive_step additive_part_step multiplicative_step multiplicative_part_step equality_step equality_part_step relational_step relational_part_step and_part_step arguments_step expr_step init_list_step logical_and_step or_part_step postfix_step (parts_arguments l)))
+      (ap of_arguments (settled_of_arguments (parts_arguments claims l))
+      ∙ arguments_rolled (bare_arguments (settle_arguments (parts_arguments claims l)))
+      ∙ sym (arguments_blind (of_parts_arguments (bare_arguments (settle_arguments (parts_arguments claims l)))))
+      ∙ ap arguments_step (arguments_layer l)
+      ∙ arguments_blind (of_parts_arguments (parts_arguments claims l))
+      ∙ sym (arguments_rolled (parts_arguments claims l)))
 
-  expr_made : (x : open_expr.Expr-F PostfixPart Primary Unary Additive AdditivePart Multiplicative MultiplicativePart Equality EqualityPart Relational RelationalPart AndPart Arguments Expr InitList LogicalAnd OrPart Postfix) (l : Layer-Expr) → parts_expr l ≡ x → Seen-Expr (roll-Expr x)
+  expr_made : (x : Opened-Expr) (l : Layer-Expr claims) → parts_expr claims l ≡ x → Seen-Expr (roll-Expr x)
   expr_made x l e = subst (λ z. Seen-Expr (roll-Expr z)) e
-      (ap of_expr (fold-roll-Expr PostfixPart Primary Unary Additive AdditivePart Multiplicative MultiplicativePart Equality EqualityPart Relational RelationalPart AndPart Arguments Expr InitList LogicalAnd OrPart Postfix
-      kept_part kept_primary kept_unary kept_additive roll-AdditivePart kept_multiplicative roll-MultiplicativePart kept_equality roll-EqualityPart kept_relational roll-RelationalPart roll-AndPart kept_arguments kept_expr
-      kept_init_list kept_logical_and roll-OrPart kept_postfix (parts_expr l))
-      ∙ fold-roll-Expr A B C D E F G H I J K L M N O P Q R part_step primary_step unary_step additive_step additive_part_step multiplicative_step multiplicative_part_step equality_step equality_part_step relational_step relational_part_step and_part_step arguments_step expr_step init_list_step logical_and_step or_part_step postfix_step (bare_expr (settled_parts_expr l))
-      ∙ sym (expr_blind (before_expr l)) ∙ ap expr_step (expr_layer l) ∙ expr_blind (after_expr l) ∙ sym (fold-roll-Expr A B C D E F G H I J K L M N O P Q R part_step primary_step unary_step additive_step additive_part_step multiplicative_step multiplicative_part_step equality_step equality_part_step relational_step relational_part_step and_part_step arguments_step expr_step init_list_step logical_and_step or_part_step postfix_step (parts_expr l)))
+      (ap of_expr (settled_of_expr (parts_expr claims l))
+      ∙ expr_rolled (bare_expr (settle_expr (parts_expr claims l)))
+      ∙ sym (expr_blind (of_parts_expr (bare_expr (settle_expr (parts_expr claims l)))))
+      ∙ ap expr_step (expr_layer l)
+      ∙ expr_blind (of_parts_expr (parts_expr claims l))
+      ∙ sym (expr_rolled (parts_expr claims l)))
 
-  init_list_made : (x : open_expr.InitList-F PostfixPart Primary Unary Additive AdditivePart Multiplicative MultiplicativePart Equality EqualityPart Relational RelationalPart AndPart Arguments Expr InitList LogicalAnd OrPart Postfix) (l : Layer-InitList) → parts_init_list l ≡ x → Seen-InitList (roll-InitList x)
+  init_list_made : (x : Opened-InitList) (l : Layer-InitList claims) → parts_init_list claims l ≡ x → Seen-InitList (roll-InitList x)
   init_list_made x l e = subst (λ z. Seen-InitList (roll-InitList z)) e
-      (ap of_init_list (fold-roll-InitList PostfixPart Primary Unary Additive AdditivePart Multiplicative MultiplicativePart Equality EqualityPart Relational RelationalPart AndPart Arguments Expr InitList LogicalAnd OrPart Postfix
-      kept_part kept_primary kept_unary kept_additive roll-AdditivePart kept_multiplicative roll-MultiplicativePart kept_equality roll-EqualityPart kept_relational roll-RelationalPart roll-AndPart kept_arguments kept_expr
-      kept_init_list kept_logical_and roll-OrPart kept_postfix (parts_init_list l))
-      ∙ fold-roll-InitList A B C D E F G H I J K L M N O P Q R part_step primary_step unary_step additive_step additive_part_step multiplicative_step multiplicative_part_step equality_step equality_part_step relational_step relational_part_step and_part_step arguments_step expr_step init_list_step logical_and_step or_part_step postfix_step (bare_init_list (settled_parts_init_list l))
-      ∙ sym (init_list_blind (before_init_list l)) ∙ ap init_list_step (init_list_layer l) ∙ init_list_blind (after_init_list l) ∙ sym (fold-roll-InitList A B C D E F G H I J K L M N O P Q R part_step primary_step unary_step additive_step additive_part_step multiplicative_step multiplicative_part_step equality_step equality_part_step relational_step relational_part_step and_part_step arguments_step expr_step init_list_step logical_and_step or_part_step postfix_step (parts_init_list l)))
+      (ap of_init_list (settled_of_init_list (parts_init_list claims l))
+      ∙ init_list_rolled (bare_init_list (settle_init_list (parts_init_list claims l)))
+      ∙ sym (init_list_blind (of_parts_init_list (bare_init_list (settle_init_list (parts_init_list claims l)))))
+      ∙ ap init_list_step (init_list_layer l)
+      ∙ init_list_blind (of_parts_init_list (parts_init_list claims l))
+      ∙ sym (init_list_rolled (parts_init_list claims l)))
 
-  logical_and_made : (x : open_expr.LogicalAnd-F PostfixPart Primary Unary Additive AdditivePart Multiplicative MultiplicativePart Equality EqualityPart Relational RelationalPart AndPart Arguments Expr InitList LogicalAnd OrPart Postfix) (l : Layer-LogicalAnd) → parts_logical_and l ≡ x → Seen-LogicalAnd (roll-LogicalAnd x)
+  logical_and_made : (x : Opened-LogicalAnd) (l : Layer-LogicalAnd claims) → parts_logical_and claims l ≡ x → Seen-LogicalAnd (roll-LogicalAnd x)
   logical_and_made x l e = subst (λ z. Seen-LogicalAnd (roll-LogicalAnd z)) e
-      (ap of_logical_and (fold-roll-LogicalAnd PostfixPart Primary Unary Additive AdditivePart Multiplicative MultiplicativePart Equality EqualityPart Relational RelationalPart AndPart Arguments Expr InitList LogicalAnd OrPart Postfix
-      kept_part kept_primary kept_unary kept_additive roll-AdditivePart kept_multiplicative roll-MultiplicativePart kept_equality roll-EqualityPart kept_relational roll-RelationalPart roll-AndPart kept_arguments kept_expr
-      kept_init_list kept_logical_and roll-OrPart kept_postfix (parts_logical_and l))
-      ∙ fold-roll-LogicalAnd A B C D E F G H I J K L M N O P Q R part_step primary_step unary_step additive_step additive_part_step multiplicative_step multiplicative_part_step equality_step equality_part_step relational_step relational_part_step and_part_step arguments_step expr_step init_list_step logical_and_step or_part_step postfix_step (bare_logical_and (settled_parts_logical_and l))
-      ∙ sym (logical_and_blind (before_logical_and l)) ∙ ap logical_and_step (logical_and_layer l) ∙ logical_and_blind (after_logical_and l) ∙ sym (fold-roll-LogicalAnd A B C D E F G H I J K L M N O P Q R part_step primary_step unary_step additive_step additive_part_step multiplicative_step multiplicative_part_step equality_step equality_part_step relational_step relational_part_step and_part_step arguments_step expr_step init_list_step logical_and_step or_part_step postfix_step (parts_logical_and l)))
+      (ap of_logical_and (settled_of_logical_and (parts_logical_and claims l))
+      ∙ logical_and_rolled (bare_logical_and (settle_logical_and (parts_logical_and claims l)))
+      ∙ sym (logical_and_blind (of_parts_logical_and (bare_logical_and (settle_logical_and (parts_logical_and claims l)))))
+      ∙ ap logical_and_step (logical_and_layer l)
+      ∙ logical_and_blind (of_parts_logical_and (parts_logical_and claims l))
+      ∙ sym (logical_and_rolled (parts_logical_and claims l)))
 
-  or_part_made : (x : open_expr.OrPart-F PostfixPart Primary Unary Additive AdditivePart Multiplicative MultiplicativePart Equality EqualityPart Relational RelationalPart AndPart Arguments Expr InitList LogicalAnd OrPart Postfix) (l : Layer-OrPart) → parts_or_part l ≡ x → Seen-OrPart (roll-OrPart x)
+  or_part_made : (x : Opened-OrPart) (l : Layer-OrPart claims) → parts_or_part claims l ≡ x → Seen-OrPart (roll-OrPart x)
   or_part_made x l e = subst (λ z. Seen-OrPart (roll-OrPart z)) e
-      (ap of_or_part (fold-roll-OrPart PostfixPart Primary Unary Additive AdditivePart Multiplicative MultiplicativePart Equality EqualityPart Relational RelationalPart AndPart Arguments Expr InitList LogicalAnd OrPart Postfix
-      kept_part kept_primary kept_unary kept_additive roll-AdditivePart kept_multiplicative roll-MultiplicativePart kept_equality roll-EqualityPart kept_relational roll-RelationalPart roll-AndPart kept_arguments kept_expr
-      kept_init_list kept_logical_and roll-OrPart kept_postfix (parts_or_part l))
-      ∙ fold-roll-OrPart A B C D E F G H I J K L M N O P Q R part_step primary_step unary_step additive_step additive_part_step multiplicative_step multiplicative_part_step equality_step equality_part_step relational_step relational_part_step and_part_step arguments_step expr_step init_list_step logical_and_step or_part_step postfix_step (settled_parts_or_part l)
-      ∙ ap or_part_step (or_part_layer l) ∙ sym (fold-roll-OrPart A B C D E F G H I J K L M N O P Q R part_step primary_step unary_step additive_step additive_part_step multiplicative_step multiplicative_part_step equality_step equality_part_step relational_step relational_part_step and_part_step arguments_step expr_step init_list_step logical_and_step or_part_step postfix_step (parts_or_part l)))
+      (ap of_or_part (settled_of_or_part (parts_or_part claims l))
+      ∙ or_part_rolled (settle_or_part (parts_or_part claims l))
+      ∙ ap or_part_step (or_part_layer l) ∙ sym (or_part_rolled (parts_or_part claims l)))
 
-  postfix_made : (x : open_expr.Postfix-F PostfixPart Primary Unary Additive AdditivePart Multiplicative MultiplicativePart Equality EqualityPart Relational RelationalPart AndPart Arguments Expr InitList LogicalAnd OrPart Postfix) (l : Layer-Postfix) → parts_postfix l ≡ x → Seen-Postfix (roll-Postfix x)
+  postfix_made : (x : Opened-Postfix) (l : Layer-Postfix claims) → parts_postfix claims l ≡ x → Seen-Postfix (roll-Postfix x)
   postfix_made x l e = subst (λ z. Seen-Postfix (roll-Postfix z)) e
-      (ap of_postfix (fold-roll-Postfix PostfixPart Primary Unary Additive AdditivePart Multiplicative MultiplicativePart Equality EqualityPart Relational RelationalPart AndPart Arguments Expr InitList LogicalAnd OrPart Postfix
-      kept_part kept_primary kept_unary kept_additive roll-AdditivePart kept_multiplicative roll-MultiplicativePart kept_equality roll-EqualityPart kept_relational roll-RelationalPart roll-AndPart kept_arguments kept_expr
-      kept_init_list kept_logical_and roll-OrPart kept_postfix (parts_postfix l))
-      ∙ fold-roll-Postfix A B C D E F G H I J K L M N O P Q R part_step primary_step unary_step additive_step additive_part_step multiplicative_step multiplicative_part_step equality_step equality_part_step relational_step relational_part_step and_part_step arguments_step expr_step init_list_step logical_and_step or_part_step postfix_step (bare_postfix (settled_parts_postfix l))
-      ∙ sym (postfix_blind (before_postfix l)) ∙ ap postfix_step (postfix_layer l) ∙ postfix_blind (after_postfix l) ∙ sym (fold-roll-Postfix A B C D E F G H I J K L M N O P Q R part_step primary_step unary_step additive_step additive_part_step multiplicative_step multiplicative_part_step equality_step equality_part_step relational_step relational_part_step and_part_step arguments_step expr_step init_list_step logical_and_step or_part_step postfix_step (parts_postfix l)))
+      (ap of_postfix (settled_of_postfix (parts_postfix claims l))
+      ∙ postfix_rolled (bare_postfix (settle_postfix (parts_postfix claims l)))
+      ∙ sym (postfix_blind (of_parts_postfix (bare_postfix (settle_postfix (parts_postfix claims l)))))
+      ∙ ap postfix_step (postfix_layer l)
+      ∙ postfix_blind (of_parts_postfix (parts_postfix claims l))
+      ∙ sym (postfix_rolled (parts_postfix claims l)))
 
   pub additive_seen : (x : Additive) → Seen-Additive x
   additive_seen = ind-Additive
-      Seen-PostfixPart Seen-Primary Seen-Unary Seen-Additive Seen-AdditivePart Seen-Multiplicative Seen-MultiplicativePart Seen-Equality Seen-EqualityPart Seen-Relational Seen-RelationalPart Seen-AndPart Seen-Arguments Seen-Expr
-      Seen-InitList Seen-LogicalAnd Seen-OrPart Seen-Postfix
-      part_made primary_made unary_made additive_made additive_part_made multiplicative_made multiplicative_part_made equality_made equality_part_made relational_made relational_part_made and_part_made arguments_made expr_made
-      init_list_made logical_and_made or_part_made postfix_made
+      Seen-PostfixPart Seen-Primary Seen-Unary Seen-Additive Seen-AdditivePart Seen-Multiplicative Seen-MultiplicativePart Seen-Equality Seen-EqualityPart Seen-Relational Seen-RelationalPart
+      Seen-AndPart Seen-Arguments Seen-Expr Seen-InitList Seen-LogicalAnd Seen-OrPart Seen-Postfix
+      part_made primary_made unary_made additive_made additive_part_made multiplicative_made multiplicative_part_made equality_made equality_part_made relational_made relational_part_made
+      and_part_made arguments_made expr_made init_list_made logical_and_made or_part_made postfix_made
 
   pub expr_seen : (x : Expr) → Seen-Expr x
   expr_seen = ind-Expr
-      Seen-PostfixPart Seen-Primary Seen-Unary Seen-Additive Seen-AdditivePart Seen-Multiplicative Seen-MultiplicativePart Seen-Equality Seen-EqualityPart Seen-Relational Seen-RelationalPart Seen-AndPart Seen-Arguments Seen-Expr
-      Seen-InitList Seen-LogicalAnd Seen-OrPart Seen-Postfix
-      part_made primary_made unary_made additive_made additive_part_made multiplicative_made multiplicative_part_made equality_made equality_part_made relational_made relational_part_made and_part_made arguments_made expr_made
-      init_list_made logical_and_made or_part_made postfix_made
+      Seen-PostfixPart Seen-Primary Seen-Unary Seen-Additive Seen-AdditivePart Seen-Multiplicative Seen-MultiplicativePart Seen-Equality Seen-EqualityPart Seen-Relational Seen-RelationalPart
+      Seen-AndPart Seen-Arguments Seen-Expr Seen-InitList Seen-LogicalAnd Seen-OrPart Seen-Postfix
+      part_made primary_made unary_made additive_made additive_part_made multiplicative_made multiplicative_part_made equality_made equality_part_made relational_made relational_part_made
+      and_part_made arguments_made expr_made init_list_made logical_and_made or_part_made postfix_made
 
   pub init_list_seen : (x : InitList) → Seen-InitList x
   init_list_seen = ind-InitList
-      Seen-PostfixPart Seen-Primary Seen-Unary Seen-Additive Seen-AdditivePart Seen-Multiplicative Seen-MultiplicativePart Seen-Equality Seen-EqualityPart Seen-Relational Seen-RelationalPart Seen-AndPart Seen-Arguments Seen-Expr
-      Seen-InitList Seen-LogicalAnd Seen-OrPart Seen-Postfix
-      part_made primary_made unary_made additive_made additive_part_made multiplicative_made multiplicative_part_made equality_made equality_part_made relational_made relational_part_made and_part_made arguments_made expr_made
-      init_list_made logical_and_made or_part_made postfix_made
+      Seen-PostfixPart Seen-Primary Seen-Unary Seen-Additive Seen-AdditivePart Seen-Multiplicative Seen-MultiplicativePart Seen-Equality Seen-EqualityPart Seen-Relational Seen-RelationalPart
+      Seen-AndPart Seen-Arguments Seen-Expr Seen-InitList Seen-LogicalAnd Seen-OrPart Seen-Postfix
+      part_made primary_made unary_made additive_made additive_part_made multiplicative_made multiplicative_part_made equality_made equality_part_made relational_made relational_part_made
+      and_part_made arguments_made expr_made init_list_made logical_and_made or_part_made postfix_made
 
   pub postfix_seen : (x : Postfix) → Seen-Postfix x
   postfix_seen = ind-Postfix
-      Seen-PostfixPart Seen-Primary Seen-Unary Seen-Additive Seen-AdditivePart Seen-Multiplicative Seen-MultiplicativePart Seen-Equality Seen-EqualityPart Seen-Relational Seen-RelationalPart Seen-AndPart Seen-Arguments Seen-Expr
-      Seen-InitList Seen-LogicalAnd Seen-OrPart Seen-Postfix
-      part_made primary_made unary_made additive_made additive_part_made multiplicative_made multiplicative_part_made equality_made equality_part_made relational_made relational_part_made and_part_made arguments_made expr_made
-      init_list_made logical_and_made or_part_made postfix_made
+      Seen-PostfixPart Seen-Primary Seen-Unary Seen-Additive Seen-AdditivePart Seen-Multiplicative Seen-MultiplicativePart Seen-Equality Seen-EqualityPart Seen-Relational Seen-RelationalPart
+      Seen-AndPart Seen-Arguments Seen-Expr Seen-InitList Seen-LogicalAnd Seen-OrPart Seen-Postfix
+      part_made primary_made unary_made additive_made additive_part_made multiplicative_made multiplicative_part_made equality_made equality_part_made relational_made relational_part_made
+      and_part_made arguments_made expr_made init_list_made logical_and_made or_part_made postfix_made

@@ -1,4 +1,5 @@
 pub mod DeclarationsFound
+pub mod ExpressionLayers
 pub mod ExpressionsFound
 pub mod ExpressionsFrom
 pub mod ExpressionsSeen
@@ -7,11 +8,14 @@ pub mod Operators
 pub mod OutsSeen
 pub mod ProgramsFound
 pub mod SimplesFound
+pub mod StatementLayers
 pub mod StatementsFound
 pub mod StatementsFrom
 pub mod StatementsSeen
+pub mod TargetLayers
 pub mod TargetsSeen
 pub mod Tokens
+pub mod TypeLayers
 pub mod TypesFound
 pub mod TypesFrom
 pub mod TypesSeen

@@ -34,3 +34,7 @@ list_found g f v xs e = ap (listed g) e ∙ listed_is g (map f v.items) _
 
 pub settled_is : {A : Type 0} (g : Global) (v : Vec A Global) (xs : List A) → xs ≡ v.items → listed g xs ≡ settled_list v
 settled_is g v xs e = ap (listed g) e ∙ listed_is g v.items (few_items v)
+
+-- a value, and that something holds of it
+abbrev pub Both : {A : Type 0} → (A → Type 0) → Type 0
+Both {A = A} holds = (x : A) × holds x

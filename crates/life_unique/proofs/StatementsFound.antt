@@ -23,7 +23,7 @@ use Rattle.life_unique.specs.SettledStatements.{settled_print_item, settled_prin
 use Rattle.life_unique.specs.Standing.{boxed_at, box_of}
 use Rattle.life_unique.proofs.DeclarationsFound.{from_declaration, declaration_found, declared_type_found}
 use Rattle.life_unique.proofs.ExpressionsFound.{additive_found, additive_is_node, expr_found, expr_is_nothing}
-use Rattle.life_unique.proofs.Lists.{listed, listed_is, list_found}
+use Rattle.life_unique.proofs.Lists.{Both, listed, listed_is, list_found}
 use Rattle.life_unique.proofs.SimplesFound.{simple_found}
 use Rattle.life_unique.proofs.StatementsFrom.{is_if, is_statement, optional_expr, optional_simple, from_print_item, from_print_part, print_parts, start_of, rest_of, for_by}
 use Rattle.life_unique.proofs.StatementsFrom.{from_item, from_plain, from_stmt, from_block, from_branch, from_else, from_else_if, from_for, from_if, from_range_for, items, more_of, last_of}
@@ -38,10 +38,15 @@ use Rattle.life_tree.specs.declared.stmt.ElseIf.{ElseIf, roll-ElseIf}
 use Rattle.life_tree.specs.declared.stmt.For.{For, roll-For}
 use Rattle.life_tree.specs.declared.stmt.If.{If, roll-If}
 use Rattle.life_tree.specs.declared.stmt.RangeFor.{RangeFor, roll-RangeFor}
-use Rattle.life_tree.specs.declared.stmt.BlockItem.TheFolds.{fold-roll-BlockItem, fold-roll-PlainStmt, fold-roll-Stmt, fold-roll-Block, fold-roll-Branch, fold-roll-Else, fold-roll-ElseIf, fold-roll-For, fold-roll-If, fold-roll-RangeFor}
 use Rattle.life_tree.specs.declared.stmt.BlockItem.TheFolds.{ind-Block}
-use Rattle.life_tree.specs.declared.stmt.BlockItem.TheFolds.{map-BlockItem, map-PlainStmt, map-Stmt, map-Block, map-Branch, map-Else, map-ElseIf, map-For, map-If, map-RangeFor}
 use Rattle.life_tree.specs.declared.stmt.BlockItem.TheOpen as open_stmt
+use Rattle.life_unique.proofs.StatementLayers.{trees_item, trees_plain, trees_stmt, trees_block, trees_branch, trees_else, trees_else_if, trees_for, trees_if, trees_range_for}
+use Rattle.life_unique.proofs.StatementLayers.{tree_of_item, tree_of_plain, tree_of_stmt, tree_of_block, tree_of_branch, tree_of_else, tree_of_else_if, tree_of_for, tree_of_if, tree_of_range_for}
+use Rattle.life_unique.proofs.StatementLayers.{settled_of_item, settled_of_plain, settled_of_stmt, settled_of_block, settled_of_branch, settled_of_else, settled_of_else_if, settled_of_for, settled_of_if, settled_of_range_for}
+use Rattle.life_unique.proofs.StatementLayers.{settle_item, settle_plain, settle_stmt, settle_block, settle_branch, settle_else, settle_else_if, settle_for, settle_if, settle_range_for}
+use Rattle.life_unique.proofs.StatementLayers.{Claims, Layer-BlockItem, Layer-PlainStmt, Layer-Stmt, Layer-Block, Layer-Branch, Layer-Else, Layer-ElseIf, Layer-For, Layer-If, Layer-RangeFor}
+use Rattle.life_unique.proofs.StatementLayers.{parts_item, parts_plain, parts_stmt, parts_block, parts_branch, parts_else, parts_else_if, parts_for, parts_if, parts_range_for}
+use Rattle.life_unique.specs.SettledStatements.{Opened-BlockItem, Opened-PlainStmt, Opened-Stmt, Opened-Block, Opened-Branch, Opened-Else, Opened-ElseIf, Opened-For, Opened-If, Opened-RangeFor}
 use Rattle.life_tree.specs.Views.{block_item_step, plain_step, stmt_step, block_step, branch_step, else_step, else_if_step, for_step, if_step, range_for_step}
 use Rattle.life_tree.specs.Views.{block_item_tree, plain_stmt_tree, stmt_tree, block_tree, branch_view, else_tree, else_if_view, for_tree, if_tree, range_for_tree}
 use Rattle.life_unique.specs.SettledStatements.{kept_item, kept_plain, kept_stmt, kept_block, kept_branch, kept_else, kept_for, kept_if, kept_range_for}
@@ -156,156 +161,38 @@ module _ (g : Global) where
   abbrev Found-RangeFor : RangeFor → Type 0
   Found-RangeFor x = from_range_for g (range_for_tree x) ≡ settled_range_for x
 
-  -- a part, and that it is found
-  abbrev Both-BlockItem : Type 0
-  Both-BlockItem = (x : BlockItem) × Found-BlockItem x
-
-  abbrev Both-PlainStmt : Type 0
-  Both-PlainStmt = (x : PlainStmt) × Found-PlainStmt x
-
-  abbrev Both-Stmt : Type 0
-  Both-Stmt = (x : Stmt) × Found-Stmt x
-
-  abbrev Both-Block : Type 0
-  Both-Block = (x : Block) × Found-Block x
-
-  abbrev Both-Branch : Type 0
-  Both-Branch = (x : Branch) × Found-Branch x
-
-  abbrev Both-Else : Type 0
-  Both-Else = (x : Else) × Found-Else x
-
-  abbrev Both-ElseIf : Type 0
-  Both-ElseIf = (x : ElseIf) × Found-ElseIf x
-
-  abbrev Both-For : Type 0
-  Both-For = (x : For) × Found-For x
-
-  abbrev Both-If : Type 0
-  Both-If = (x : If) × Found-If x
-
-  abbrev Both-RangeFor : Type 0
-  Both-RangeFor = (x : RangeFor) × Found-RangeFor x
-
-  -- one layer of such parts, and without that
-  abbrev Layer-BlockItem : Type 0
-  Layer-BlockItem = open_stmt.BlockItem-F
-      Both-BlockItem Both-PlainStmt Both-Stmt Both-Block Both-Branch Both-Else Both-ElseIf Both-For Both-If Both-RangeFor
-
-  abbrev Layer-PlainStmt : Type 0
-  Layer-PlainStmt = open_stmt.PlainStmt-F
-      Both-BlockItem Both-PlainStmt Both-Stmt Both-Block Both-Branch Both-Else Both-ElseIf Both-For Both-If Both-RangeFor
-
-  abbrev Layer-Stmt : Type 0
-  Layer-Stmt = open_stmt.Stmt-F
-      Both-BlockItem Both-PlainStmt Both-Stmt Both-Block Both-Branch Both-Else Both-ElseIf Both-For Both-If Both-RangeFor
-
-  abbrev Layer-Block : Type 0
-  Layer-Block = open_stmt.Block-F
-      Both-BlockItem Both-PlainStmt Both-Stmt Both-Block Both-Branch Both-Else Both-ElseIf Both-For Both-If Both-RangeFor
-
-  abbrev Layer-Branch : Type 0
-  Layer-Branch = open_stmt.Branch-F
-      Both-BlockItem Both-PlainStmt Both-Stmt Both-Block Both-Branch Both-Else Both-ElseIf Both-For Both-If Both-RangeFor
-
-  abbrev Layer-Else : Type 0
-  Layer-Else = open_stmt.Else-F
-      Both-BlockItem Both-PlainStmt Both-Stmt Both-Block Both-Branch Both-Else Both-ElseIf Both-For Both-If Both-RangeFor
-
-  abbrev Layer-ElseIf : Type 0
-  Layer-ElseIf = open_stmt.ElseIf-F
-      Both-BlockItem Both-PlainStmt Both-Stmt Both-Block Both-Branch Both-Else Both-ElseIf Both-For Both-If Both-RangeFor
-
-  abbrev Layer-For : Type 0
-  Layer-For = open_stmt.For-F
-      Both-BlockItem Both-PlainStmt Both-Stmt Both-Block Both-Branch Both-Else Both-ElseIf Both-For Both-If Both-RangeFor
-
-  abbrev Layer-If : Type 0
-  Layer-If = open_stmt.If-F
-      Both-BlockItem Both-PlainStmt Both-Stmt Both-Block Both-Branch Both-Else Both-ElseIf Both-For Both-If Both-RangeFor
-
-  abbrev Layer-RangeFor : Type 0
-  Layer-RangeFor = open_stmt.RangeFor-F
-      Both-BlockItem Both-PlainStmt Both-Stmt Both-Block Both-Branch Both-Else Both-ElseIf Both-For Both-If Both-RangeFor
-
-  abbrev parts_item : Layer-BlockItem → open_stmt.BlockItem-F BlockItem PlainStmt Stmt Block Branch Else ElseIf For If RangeFor
-  parts_item = map-BlockItem
-      Both-BlockItem Both-PlainStmt Both-Stmt Both-Block Both-Branch Both-Else Both-ElseIf Both-For Both-If Both-RangeFor
-      BlockItem PlainStmt Stmt Block Branch Else ElseIf For If RangeFor
-      (λ z. z.0) (λ z. z.0) (λ z. z.0) (λ z. z.0) (λ z. z.0) (λ z. z.0) (λ z. z.0) (λ z. z.0) (λ z. z.0) (λ z. z.0)
-
-  abbrev parts_plain : Layer-PlainStmt → open_stmt.PlainStmt-F BlockItem PlainStmt Stmt Block Branch Else ElseIf For If RangeFor
-  parts_plain = map-PlainStmt
-      Both-BlockItem Both-PlainStmt Both-Stmt Both-Block Both-Branch Both-Else Both-ElseIf Both-For Both-If Both-RangeFor
-      BlockItem PlainStmt Stmt Block Branch Else ElseIf For If RangeFor
-      (λ z. z.0) (λ z. z.0) (λ z. z.0) (λ z. z.0) (λ z. z.0) (λ z. z.0) (λ z. z.0) (λ z. z.0) (λ z. z.0) (λ z. z.0)
-
-  abbrev parts_stmt : Layer-Stmt → open_stmt.Stmt-F BlockItem PlainStmt Stmt Block Branch Else ElseIf For If RangeFor
-  parts_stmt = map-Stmt
-      Both-BlockItem Both-PlainStmt Both-Stmt Both-Block Both-Branch Both-Else Both-ElseIf Both-For Both-If Both-RangeFor
-      BlockItem PlainStmt Stmt Block Branch Else ElseIf For If RangeFor
-      (λ z. z.0) (λ z. z.0) (λ z. z.0) (λ z. z.0) (λ z. z.0) (λ z. z.0) (λ z. z.0) (λ z. z.0) (λ z. z.0) (λ z. z.0)
-
-  abbrev parts_block : Layer-Block → open_stmt.Block-F BlockItem PlainStmt Stmt Block Branch Else ElseIf For If RangeFor
-  parts_block = map-Block
-      Both-BlockItem Both-PlainStmt Both-Stmt Both-Block Both-Branch Both-Else Both-ElseIf Both-For Both-If Both-RangeFor
-      BlockItem PlainStmt Stmt Block Branch Else ElseIf For If RangeFor
-      (λ z. z.0) (λ z. z.0) (λ z. z.0) (λ z. z.0) (λ z. z.0) (λ z. z.0) (λ z. z.0) (λ z. z.0) (λ z. z.0) (λ z. z.0)
-
-  abbrev parts_branch : Layer-Branch → open_stmt.Branch-F BlockItem PlainStmt Stmt Block Branch Else ElseIf For If RangeFor
-  parts_branch = map-Branch
-      Both-BlockItem Both-PlainStmt Both-Stmt Both-Block Both-Branch Both-Else Both-ElseIf Both-For Both-If Both-RangeFor
-      BlockItem PlainStmt Stmt Block Branch Else ElseIf For If RangeFor
-      (λ z. z.0) (λ z. z.0) (λ z. z.0) (λ z. z.0) (λ z. z.0) (λ z. z.0) (λ z. z.0) (λ z. z.0) (λ z. z.0) (λ z. z.0)
-
-  abbrev parts_else : Layer-Else → open_stmt.Else-F BlockItem PlainStmt Stmt Block Branch Else ElseIf For If RangeFor
-  parts_else = map-Else
-      Both-BlockItem Both-PlainStmt Both-Stmt Both-Block Both-Branch Both-Else Both-ElseIf Both-For Both-If Both-RangeFor
-      BlockItem PlainStmt Stmt Block Branch Else ElseIf For If RangeFor
-      (λ z. z.0) (λ z. z.0) (λ z. z.0) (λ z. z.0) (λ z. z.0) (λ z. z.0) (λ z. z.0) (λ z. z.0) (λ z. z.0) (λ z. z.0)
-
-  abbrev parts_else_if : Layer-ElseIf → open_stmt.ElseIf-F BlockItem PlainStmt Stmt Block Branch Else ElseIf For If RangeFor
-  parts_else_if = map-ElseIf
-      Both-BlockItem Both-PlainStmt Both-Stmt Both-Block Both-Branch Both-Else Both-ElseIf Both-For Both-If Both-RangeFor
-      BlockItem PlainStmt Stmt Block Branch Else ElseIf For If RangeFor
-      (λ z. z.0) (λ z. z.0) (λ z. z.0) (λ z. z.0) (λ z. z.0) (λ z. z.0) (λ z. z.0) (λ z. z.0) (λ z. z.0) (λ z. z.0)
-
-  abbrev parts_for : Layer-For → open_stmt.For-F BlockItem PlainStmt Stmt Block Branch Else ElseIf For If RangeFor
-  parts_for = map-For
-      Both-BlockItem Both-PlainStmt Both-Stmt Both-Block Both-Branch Both-Else Both-ElseIf Both-For Both-If Both-RangeFor
-      BlockItem PlainStmt Stmt Block Branch Else ElseIf For If RangeFor
-      (λ z. z.0) (λ z. z.0) (λ z. z.0) (λ z. z.0) (λ z. z.0) (λ z. z.0) (λ z. z.0) (λ z. z.0) (λ z. z.0) (λ z. z.0)
-
-  abbrev parts_if : Layer-If → open_stmt.If-F BlockItem PlainStmt Stmt Block Branch Else ElseIf For If RangeFor
-  parts_if = map-If
-      Both-BlockItem Both-PlainStmt Both-Stmt Both-Block Both-Branch Both-Else Both-ElseIf Both-For Both-If Both-RangeFor
-      BlockItem PlainStmt Stmt Block Branch Else ElseIf For If RangeFor
-      (λ z. z.0) (λ z. z.0) (λ z. z.0) (λ z. z.0) (λ z. z.0) (λ z. z.0) (λ z. z.0) (λ z. z.0) (λ z. z.0) (λ z. z.0)
-
-  abbrev parts_range_for : Layer-RangeFor → open_stmt.RangeFor-F BlockItem PlainStmt Stmt Block Branch Else ElseIf For If RangeFor
-  parts_range_for = map-RangeFor
-      Both-BlockItem Both-PlainStmt Both-Stmt Both-Block Both-Branch Both-Else Both-ElseIf Both-For Both-If Both-RangeFor
-      BlockItem PlainStmt Stmt Block Branch Else ElseIf For If RangeFor
-      (λ z. z.0) (λ z. z.0) (λ z. z.0) (λ z. z.0) (λ z. z.0) (λ z. z.0) (λ z. z.0) (λ z. z.0) (λ z. z.0) (λ z. z.0)
+  abbrev claims : Claims
+  claims = record {
+    item = Found-BlockItem;
+    plain = Found-PlainStmt;
+    stmt = Found-Stmt;
+    block = Found-Block;
+    branch = Found-Branch;
+    else_ = Found-Else;
+    else_if = Found-ElseIf;
+    for_ = Found-For;
+    if_ = Found-If;
+    range_for = Found-RangeFor;
+  }
 
   -- lists of parts
-  item_row : (xs : List Both-BlockItem) → items g (list_tree (map block_item_tree (map (λ z. z.0) xs))) ≡ map settled_item (map (λ z. z.0) xs)
+  item_row : (xs : List (Both Found-BlockItem)) → items g (list_tree (map block_item_tree (map (λ z. z.0) xs))) ≡ map settled_item (map (λ z. z.0) xs)
   item_row [] = refl
   item_row (x ∷ xs) = λ i. x.1 i ∷ item_row xs i
 
-  more_row : (xs : List Both-ElseIf) (last : Option Tree) → more_of g (else_part_tree [] last) ≡ []
+  more_row : (xs : List (Both Found-ElseIf)) (last : Option Tree) → more_of g (else_part_tree [] last) ≡ []
       → more_of g (else_part_tree (map else_if_view (map (λ z. z.0) xs)) last) ≡ map settled_else_if (map (λ z. z.0) xs)
   more_row [] last e = e
   more_row (x ∷ xs) last e = λ i. x.1 i ∷ more_row xs last e i
 
-  last_row : (xs : List Both-ElseIf) (last : Option Tree) → last_of g (else_part_tree (map else_if_view (map (λ z. z.0) xs)) last) ≡ last_of g (else_part_tree [] last)
+  last_row : (xs : List (Both Found-ElseIf)) (last : Option Tree) → last_of g (else_part_tree (map else_if_view (map (λ z. z.0) xs)) last) ≡ last_of g (else_part_tree [] last)
   last_row [] last = refl
   last_row (x ∷ xs) last = last_row xs last
 
   -- with an `else`, and without
-  if_by : (first : Both-Branch) (more : Vec Both-ElseIf Global) (last : Option Both-Else)
-      → from_if g (if_step (map-If BlockItem PlainStmt Stmt Block Branch Else ElseIf For If RangeFor Tree Tree Tree Tree BranchView Tree ElseIfView Tree Tree Tree block_item_tree plain_stmt_tree stmt_tree block_tree branch_view else_tree else_if_view for_tree if_tree range_for_tree (parts_if (record { first = first; more = more; last = last }))))
-      ≡ kept_if (map-If BlockItem PlainStmt Stmt Block Branch Else ElseIf For If RangeFor BlockItem PlainStmt Stmt Block Branch Else ElseIf For If RangeFor settled_item settled_plain settled_stmt settled_block settled_branch settled_else settled_else_if settled_for settled_if settled_range_for (parts_if (record { first = first; more = more; last = last })))
+  if_by : (first : (Both Found-Branch)) (more : Vec (Both Found-ElseIf) Global) (last : Option (Both Found-Else))
+      → from_if g (if_step (trees_if (parts_if claims (record { first = first; more = more; last = last }))))
+      ≡ kept_if (settle_if (parts_if claims (record { first = first; more = more; last = last })))
   if_by first more None =
       (λ i. roll-If (record { first = first.1 i; more = listed g (more_row more.items None refl i); last = last_row more.items None i }))
       ∙ ap (λ z. roll-If (record { first = settled_branch first.0; more = z; last = None })) (listed_is g (map settled_else_if (map (λ z. z.0) more.items)) _)
@@ -318,21 +205,17 @@ module _ (g : Global) where
       ∙ ap (λ z. roll-If (record { first = settled_branch first.0; more = z; last = Some (settled_else e.0) })) (listed_is g (map settled_else_if (map (λ z. z.0) more.items)) _)
 
   -- .. is found of parts that are
-  item_layer : (l : Layer-BlockItem)
-      → from_item g (block_item_step (map-BlockItem BlockItem PlainStmt Stmt Block Branch Else ElseIf For If RangeFor Tree Tree Tree Tree BranchView Tree ElseIfView Tree Tree Tree
-      block_item_tree plain_stmt_tree stmt_tree block_tree branch_view else_tree else_if_view for_tree if_tree range_for_tree (parts_item l)))
-      ≡ kept_item (map-BlockItem BlockItem PlainStmt Stmt Block Branch Else ElseIf For If RangeFor BlockItem PlainStmt Stmt Block Branch Else ElseIf For If RangeFor
-      settled_item settled_plain settled_stmt settled_block settled_branch settled_else settled_else_if settled_for settled_if settled_range_for (parts_item l))
+  item_layer : (l : Layer-BlockItem claims)
+      → from_item g (block_item_step (trees_item (parts_item claims l)))
+      ≡ kept_item (settle_item (parts_item claims l))
   item_layer (open_stmt.Declare d semicolon) = λ i. roll-BlockItem (open_stmt.Declare (boxed_at g (declaration_found g d.value i)) semicolon)
   item_layer (open_stmt.Stmt s) = λ i.
       if stmt_is_statement s.0 i then roll-BlockItem (open_stmt.Stmt (s.1 i))
       else roll-BlockItem (open_stmt.Declare (boxed_at g (from_declaration g (front (stmt_tree s.0)))) (place_of (behind (stmt_tree s.0))))
 
-  plain_layer : (l : Layer-PlainStmt)
-      → from_plain g (plain_step (map-PlainStmt BlockItem PlainStmt Stmt Block Branch Else ElseIf For If RangeFor Tree Tree Tree Tree BranchView Tree ElseIfView Tree Tree Tree
-      block_item_tree plain_stmt_tree stmt_tree block_tree branch_view else_tree else_if_view for_tree if_tree range_for_tree (parts_plain l)))
-      ≡ kept_plain (map-PlainStmt BlockItem PlainStmt Stmt Block Branch Else ElseIf For If RangeFor BlockItem PlainStmt Stmt Block Branch Else ElseIf For If RangeFor
-      settled_item settled_plain settled_stmt settled_block settled_branch settled_else settled_else_if settled_for settled_if settled_range_for (parts_plain l))
+  plain_layer : (l : Layer-PlainStmt claims)
+      → from_plain g (plain_step (trees_plain (parts_plain claims l)))
+      ≡ kept_plain (settle_plain (parts_plain claims l))
   plain_layer (open_stmt.Block b) = plain_block b.0 ∙ (λ i. roll-PlainStmt (open_stmt.Block (b.1 i)))
   plain_layer (open_stmt.Empty place) = refl
   plain_layer (open_stmt.Simple s semicolon) = λ i. roll-PlainStmt (open_stmt.Simple (boxed_at g (simple_found g s.value i)) semicolon)
@@ -348,29 +231,23 @@ module _ (g : Global) where
   plain_layer (open_stmt.Assert keyword opening condition closing semicolon) = λ i.
       roll-PlainStmt (open_stmt.Assert keyword opening (boxed_at g (expr_found g condition.value i)) closing semicolon)
 
-  stmt_layer : (l : Layer-Stmt)
-      → from_stmt g (stmt_step (map-Stmt BlockItem PlainStmt Stmt Block Branch Else ElseIf For If RangeFor Tree Tree Tree Tree BranchView Tree ElseIfView Tree Tree Tree
-      block_item_tree plain_stmt_tree stmt_tree block_tree branch_view else_tree else_if_view for_tree if_tree range_for_tree (parts_stmt l)))
-      ≡ kept_stmt (map-Stmt BlockItem PlainStmt Stmt Block Branch Else ElseIf For If RangeFor BlockItem PlainStmt Stmt Block Branch Else ElseIf For If RangeFor
-      settled_item settled_plain settled_stmt settled_block settled_branch settled_else settled_else_if settled_for settled_if settled_range_for (parts_stmt l))
+  stmt_layer : (l : Layer-Stmt claims)
+      → from_stmt g (stmt_step (trees_stmt (parts_stmt claims l)))
+      ≡ kept_stmt (settle_stmt (parts_stmt claims l))
   stmt_layer (open_stmt.If b) = λ i.
       if if_is_if b.value.0 i then roll-Stmt (open_stmt.If (boxed_at g (b.value.1 i))) else roll-Stmt (open_stmt.Plain (from_plain g (if_tree b.value.0)))
   stmt_layer (open_stmt.Plain s) = λ i.
       if plain_is_if s.0 i then roll-Stmt (open_stmt.If (boxed_at g (from_if g (plain_stmt_tree s.0)))) else roll-Stmt (open_stmt.Plain (s.1 i))
 
-  block_layer : (l : Layer-Block)
-      → from_block g (block_step (map-Block BlockItem PlainStmt Stmt Block Branch Else ElseIf For If RangeFor Tree Tree Tree Tree BranchView Tree ElseIfView Tree Tree Tree
-      block_item_tree plain_stmt_tree stmt_tree block_tree branch_view else_tree else_if_view for_tree if_tree range_for_tree (parts_block l)))
-      ≡ kept_block (map-Block BlockItem PlainStmt Stmt Block Branch Else ElseIf For If RangeFor BlockItem PlainStmt Stmt Block Branch Else ElseIf For If RangeFor
-      settled_item settled_plain settled_stmt settled_block settled_branch settled_else settled_else_if settled_for settled_if settled_range_for (parts_block l))
+  block_layer : (l : Layer-Block claims)
+      → from_block g (block_step (trees_block (parts_block claims l)))
+      ≡ kept_block (settle_block (parts_block claims l))
   block_layer l = (λ i. roll-Block (record { opening = l.opening; items = listed g (item_row l.items.items i); closing = l.closing }))
       ∙ ap (λ z. roll-Block (record { opening = l.opening; items = z; closing = l.closing })) (listed_is g (map settled_item (map (λ z. z.0) l.items.items)) _)
 
-  branch_layer : (l : Layer-Branch)
-      → from_branch g (branch_step (map-Branch BlockItem PlainStmt Stmt Block Branch Else ElseIf For If RangeFor Tree Tree Tree Tree BranchView Tree ElseIfView Tree Tree Tree
-      block_item_tree plain_stmt_tree stmt_tree block_tree branch_view else_tree else_if_view for_tree if_tree range_for_tree (parts_branch l)))
-      ≡ kept_branch (map-Branch BlockItem PlainStmt Stmt Block Branch Else ElseIf For If RangeFor BlockItem PlainStmt Stmt Block Branch Else ElseIf For If RangeFor
-      settled_item settled_plain settled_stmt settled_block settled_branch settled_else settled_else_if settled_for settled_if settled_range_for (parts_branch l))
+  branch_layer : (l : Layer-Branch claims)
+      → from_branch g (branch_step (trees_branch (parts_branch claims l)))
+      ≡ kept_branch (settle_branch (parts_branch claims l))
   branch_layer l = λ i. roll-Branch (record {
     keyword = l.keyword;
     opening = l.opening;
@@ -379,25 +256,19 @@ module _ (g : Global) where
     body = boxed_at g (l.body.value.1 i);
   })
 
-  else_layer : (l : Layer-Else)
-      → from_else g (else_step (map-Else BlockItem PlainStmt Stmt Block Branch Else ElseIf For If RangeFor Tree Tree Tree Tree BranchView Tree ElseIfView Tree Tree Tree
-      block_item_tree plain_stmt_tree stmt_tree block_tree branch_view else_tree else_if_view for_tree if_tree range_for_tree (parts_else l)))
-      ≡ kept_else (map-Else BlockItem PlainStmt Stmt Block Branch Else ElseIf For If RangeFor BlockItem PlainStmt Stmt Block Branch Else ElseIf For If RangeFor
-      settled_item settled_plain settled_stmt settled_block settled_branch settled_else settled_else_if settled_for settled_if settled_range_for (parts_else l))
+  else_layer : (l : Layer-Else claims)
+      → from_else g (else_step (trees_else (parts_else claims l)))
+      ≡ kept_else (settle_else (parts_else claims l))
   else_layer l = λ i. roll-Else (record { keyword = l.keyword; body = boxed_at g (l.body.value.1 i) })
 
-  else_if_layer : (l : Layer-ElseIf)
-      → from_else_if g (else_if_step (map-ElseIf BlockItem PlainStmt Stmt Block Branch Else ElseIf For If RangeFor Tree Tree Tree Tree BranchView Tree ElseIfView Tree Tree Tree
-      block_item_tree plain_stmt_tree stmt_tree block_tree branch_view else_tree else_if_view for_tree if_tree range_for_tree (parts_else_if l)))
-      ≡ roll-ElseIf (map-ElseIf BlockItem PlainStmt Stmt Block Branch Else ElseIf For If RangeFor BlockItem PlainStmt Stmt Block Branch Else ElseIf For If RangeFor
-      settled_item settled_plain settled_stmt settled_block settled_branch settled_else settled_else_if settled_for settled_if settled_range_for (parts_else_if l))
+  else_if_layer : (l : Layer-ElseIf claims)
+      → from_else_if g (else_if_step (trees_else_if (parts_else_if claims l)))
+      ≡ roll-ElseIf (settle_else_if (parts_else_if claims l))
   else_if_layer l = λ i. roll-ElseIf (record { keyword = l.keyword; branch = l.branch.1 i })
 
-  for_layer : (l : Layer-For)
-      → from_for g (for_step (map-For BlockItem PlainStmt Stmt Block Branch Else ElseIf For If RangeFor Tree Tree Tree Tree BranchView Tree ElseIfView Tree Tree Tree
-      block_item_tree plain_stmt_tree stmt_tree block_tree branch_view else_tree else_if_view for_tree if_tree range_for_tree (parts_for l)))
-      ≡ kept_for (map-For BlockItem PlainStmt Stmt Block Branch Else ElseIf For If RangeFor BlockItem PlainStmt Stmt Block Branch Else ElseIf For If RangeFor
-      settled_item settled_plain settled_stmt settled_block settled_branch settled_else settled_else_if settled_for settled_if settled_range_for (parts_for l))
+  for_layer : (l : Layer-For claims)
+      → from_for g (for_step (trees_for (parts_for claims l)))
+      ≡ kept_for (settle_for (parts_for claims l))
   for_layer l =
       let rest : Tree = derived (for_rest_tree l.first_semicolon l.condition l.second_semicolon l.step) in
       (λ i. for_by g l.keyword l.opening (start_is l.start rest i) (derived (rest_is l.start rest i)) l.closing (l.body.value.1 i))
@@ -413,18 +284,14 @@ module _ (g : Global) where
         body = boxed_at g (settled_stmt l.body.value.0);
       }))
 
-  if_layer : (l : Layer-If)
-      → from_if g (if_step (map-If BlockItem PlainStmt Stmt Block Branch Else ElseIf For If RangeFor Tree Tree Tree Tree BranchView Tree ElseIfView Tree Tree Tree
-      block_item_tree plain_stmt_tree stmt_tree block_tree branch_view else_tree else_if_view for_tree if_tree range_for_tree (parts_if l)))
-      ≡ kept_if (map-If BlockItem PlainStmt Stmt Block Branch Else ElseIf For If RangeFor BlockItem PlainStmt Stmt Block Branch Else ElseIf For If RangeFor
-      settled_item settled_plain settled_stmt settled_block settled_branch settled_else settled_else_if settled_for settled_if settled_range_for (parts_if l))
+  if_layer : (l : Layer-If claims)
+      → from_if g (if_step (trees_if (parts_if claims l)))
+      ≡ kept_if (settle_if (parts_if claims l))
   if_layer l = if_by l.first l.more l.last
 
-  range_for_layer : (l : Layer-RangeFor)
-      → from_range_for g (range_for_step (map-RangeFor BlockItem PlainStmt Stmt Block Branch Else ElseIf For If RangeFor Tree Tree Tree Tree BranchView Tree ElseIfView Tree Tree Tree
-      block_item_tree plain_stmt_tree stmt_tree block_tree branch_view else_tree else_if_view for_tree if_tree range_for_tree (parts_range_for l)))
-      ≡ kept_range_for (map-RangeFor BlockItem PlainStmt Stmt Block Branch Else ElseIf For If RangeFor BlockItem PlainStmt Stmt Block Branch Else ElseIf For If RangeFor
-      settled_item settled_plain settled_stmt settled_block settled_branch settled_else settled_else_if settled_for settled_if settled_range_for (parts_range_for l))
+  range_for_layer : (l : Layer-RangeFor claims)
+      → from_range_for g (range_for_step (trees_range_for (parts_range_for claims l)))
+      ≡ kept_range_for (settle_range_for (parts_range_for claims l))
   range_for_layer l = λ i. roll-RangeFor (record {
     keyword = l.keyword;
     opening = l.opening;
@@ -436,75 +303,45 @@ module _ (g : Global) where
     body = boxed_at g (l.body.value.1 i);
   })
 
-  item_made : (x : open_stmt.BlockItem-F BlockItem PlainStmt Stmt Block Branch Else ElseIf For If RangeFor) (l : Layer-BlockItem) → parts_item l ≡ x → Found-BlockItem (roll-BlockItem x)
+  item_made : (x : Opened-BlockItem) (l : Layer-BlockItem claims) → parts_item claims l ≡ x → Found-BlockItem (roll-BlockItem x)
   item_made x l e = subst (λ z. Found-BlockItem (roll-BlockItem z)) e
-      (ap (λ t. from_item g t) (fold-roll-BlockItem Tree Tree Tree Tree BranchView Tree ElseIfView Tree Tree Tree
-      block_item_step plain_step stmt_step block_step branch_step else_step else_if_step for_step if_step range_for_step _)
-      ∙ item_layer l ∙ sym (fold-roll-BlockItem BlockItem PlainStmt Stmt Block Branch Else ElseIf For If RangeFor
-      kept_item kept_plain kept_stmt kept_block kept_branch kept_else roll-ElseIf kept_for kept_if kept_range_for _))
+      (ap (λ t. from_item g t) (tree_of_item (parts_item claims l)) ∙ item_layer l ∙ sym (settled_of_item (parts_item claims l)))
 
-  plain_made : (x : open_stmt.PlainStmt-F BlockItem PlainStmt Stmt Block Branch Else ElseIf For If RangeFor) (l : Layer-PlainStmt) → parts_plain l ≡ x → Found-PlainStmt (roll-PlainStmt x)
+  plain_made : (x : Opened-PlainStmt) (l : Layer-PlainStmt claims) → parts_plain claims l ≡ x → Found-PlainStmt (roll-PlainStmt x)
   plain_made x l e = subst (λ z. Found-PlainStmt (roll-PlainStmt z)) e
-      (ap (λ t. from_plain g t) (fold-roll-PlainStmt Tree Tree Tree Tree BranchView Tree ElseIfView Tree Tree Tree
-      block_item_step plain_step stmt_step block_step branch_step else_step else_if_step for_step if_step range_for_step _)
-      ∙ plain_layer l ∙ sym (fold-roll-PlainStmt BlockItem PlainStmt Stmt Block Branch Else ElseIf For If RangeFor
-      kept_item kept_plain kept_stmt kept_block kept_branch kept_else roll-ElseIf kept_for kept_if kept_range_for _))
+      (ap (λ t. from_plain g t) (tree_of_plain (parts_plain claims l)) ∙ plain_layer l ∙ sym (settled_of_plain (parts_plain claims l)))
 
-  stmt_made : (x : open_stmt.Stmt-F BlockItem PlainStmt Stmt Block Branch Else ElseIf For If RangeFor) (l : Layer-Stmt) → parts_stmt l ≡ x → Found-Stmt (roll-Stmt x)
+  stmt_made : (x : Opened-Stmt) (l : Layer-Stmt claims) → parts_stmt claims l ≡ x → Found-Stmt (roll-Stmt x)
   stmt_made x l e = subst (λ z. Found-Stmt (roll-Stmt z)) e
-      (ap (λ t. from_stmt g t) (fold-roll-Stmt Tree Tree Tree Tree BranchView Tree ElseIfView Tree Tree Tree
-      block_item_step plain_step stmt_step block_step branch_step else_step else_if_step for_step if_step range_for_step _)
-      ∙ stmt_layer l ∙ sym (fold-roll-Stmt BlockItem PlainStmt Stmt Block Branch Else ElseIf For If RangeFor
-      kept_item kept_plain kept_stmt kept_block kept_branch kept_else roll-ElseIf kept_for kept_if kept_range_for _))
+      (ap (λ t. from_stmt g t) (tree_of_stmt (parts_stmt claims l)) ∙ stmt_layer l ∙ sym (settled_of_stmt (parts_stmt claims l)))
 
-  block_made : (x : open_stmt.Block-F BlockItem PlainStmt Stmt Block Branch Else ElseIf For If RangeFor) (l : Layer-Block) → parts_block l ≡ x → Found-Block (roll-Block x)
+  block_made : (x : Opened-Block) (l : Layer-Block claims) → parts_block claims l ≡ x → Found-Block (roll-Block x)
   block_made x l e = subst (λ z. Found-Block (roll-Block z)) e
-      (ap (λ t. from_block g t) (fold-roll-Block Tree Tree Tree Tree BranchView Tree ElseIfView Tree Tree Tree
-      block_item_step plain_step stmt_step block_step branch_step else_step else_if_step for_step if_step range_for_step _)
-      ∙ block_layer l ∙ sym (fold-roll-Block BlockItem PlainStmt Stmt Block Branch Else ElseIf For If RangeFor
-      kept_item kept_plain kept_stmt kept_block kept_branch kept_else roll-ElseIf kept_for kept_if kept_range_for _))
+      (ap (λ t. from_block g t) (tree_of_block (parts_block claims l)) ∙ block_layer l ∙ sym (settled_of_block (parts_block claims l)))
 
-  branch_made : (x : open_stmt.Branch-F BlockItem PlainStmt Stmt Block Branch Else ElseIf For If RangeFor) (l : Layer-Branch) → parts_branch l ≡ x → Found-Branch (roll-Branch x)
+  branch_made : (x : Opened-Branch) (l : Layer-Branch claims) → parts_branch claims l ≡ x → Found-Branch (roll-Branch x)
   branch_made x l e = subst (λ z. Found-Branch (roll-Branch z)) e
-      (ap (λ t. from_branch g t) (fold-roll-Branch Tree Tree Tree Tree BranchView Tree ElseIfView Tree Tree Tree
-      block_item_step plain_step stmt_step block_step branch_step else_step else_if_step for_step if_step range_for_step _)
-      ∙ branch_layer l ∙ sym (fold-roll-Branch BlockItem PlainStmt Stmt Block Branch Else ElseIf For If RangeFor
-      kept_item kept_plain kept_stmt kept_block kept_branch kept_else roll-ElseIf kept_for kept_if kept_range_for _))
+      (ap (λ t. from_branch g t) (tree_of_branch (parts_branch claims l)) ∙ branch_layer l ∙ sym (settled_of_branch (parts_branch claims l)))
 
-  else_made : (x : open_stmt.Else-F BlockItem PlainStmt Stmt Block Branch Else ElseIf For If RangeFor) (l : Layer-Else) → parts_else l ≡ x → Found-Else (roll-Else x)
+  else_made : (x : Opened-Else) (l : Layer-Else claims) → parts_else claims l ≡ x → Found-Else (roll-Else x)
   else_made x l e = subst (λ z. Found-Else (roll-Else z)) e
-      (ap (λ t. from_else g t) (fold-roll-Else Tree Tree Tree Tree BranchView Tree ElseIfView Tree Tree Tree
-      block_item_step plain_step stmt_step block_step branch_step else_step else_if_step for_step if_step range_for_step _)
-      ∙ else_layer l ∙ sym (fold-roll-Else BlockItem PlainStmt Stmt Block Branch Else ElseIf For If RangeFor
-      kept_item kept_plain kept_stmt kept_block kept_branch kept_else roll-ElseIf kept_for kept_if kept_range_for _))
+      (ap (λ t. from_else g t) (tree_of_else (parts_else claims l)) ∙ else_layer l ∙ sym (settled_of_else (parts_else claims l)))
 
-  else_if_made : (x : open_stmt.ElseIf-F BlockItem PlainStmt Stmt Block Branch Else ElseIf For If RangeFor) (l : Layer-ElseIf) → parts_else_if l ≡ x → Found-ElseIf (roll-ElseIf x)
+  else_if_made : (x : Opened-ElseIf) (l : Layer-ElseIf claims) → parts_else_if claims l ≡ x → Found-ElseIf (roll-ElseIf x)
   else_if_made x l e = subst (λ z. Found-ElseIf (roll-ElseIf z)) e
-      (ap (λ t. from_else_if g t) (fold-roll-ElseIf Tree Tree Tree Tree BranchView Tree ElseIfView Tree Tree Tree
-      block_item_step plain_step stmt_step block_step branch_step else_step else_if_step for_step if_step range_for_step _)
-      ∙ else_if_layer l ∙ sym (fold-roll-ElseIf BlockItem PlainStmt Stmt Block Branch Else ElseIf For If RangeFor
-      kept_item kept_plain kept_stmt kept_block kept_branch kept_else roll-ElseIf kept_for kept_if kept_range_for _))
+      (ap (λ t. from_else_if g t) (tree_of_else_if (parts_else_if claims l)) ∙ else_if_layer l ∙ sym (settled_of_else_if (parts_else_if claims l)))
 
-  for_made : (x : open_stmt.For-F BlockItem PlainStmt Stmt Block Branch Else ElseIf For If RangeFor) (l : Layer-For) → parts_for l ≡ x → Found-For (roll-For x)
+  for_made : (x : Opened-For) (l : Layer-For claims) → parts_for claims l ≡ x → Found-For (roll-For x)
   for_made x l e = subst (λ z. Found-For (roll-For z)) e
-      (ap (λ t. from_for g t) (fold-roll-For Tree Tree Tree Tree BranchView Tree ElseIfView Tree Tree Tree
-      block_item_step plain_step stmt_step block_step branch_step else_step else_if_step for_step if_step range_for_step _)
-      ∙ for_layer l ∙ sym (fold-roll-For BlockItem PlainStmt Stmt Block Branch Else ElseIf For If RangeFor
-      kept_item kept_plain kept_stmt kept_block kept_branch kept_else roll-ElseIf kept_for kept_if kept_range_for _))
+      (ap (λ t. from_for g t) (tree_of_for (parts_for claims l)) ∙ for_layer l ∙ sym (settled_of_for (parts_for claims l)))
 
-  if_made : (x : open_stmt.If-F BlockItem PlainStmt Stmt Block Branch Else ElseIf For If RangeFor) (l : Layer-If) → parts_if l ≡ x → Found-If (roll-If x)
+  if_made : (x : Opened-If) (l : Layer-If claims) → parts_if claims l ≡ x → Found-If (roll-If x)
   if_made x l e = subst (λ z. Found-If (roll-If z)) e
-      (ap (λ t. from_if g t) (fold-roll-If Tree Tree Tree Tree BranchView Tree ElseIfView Tree Tree Tree
-      block_item_step plain_step stmt_step block_step branch_step else_step else_if_step for_step if_step range_for_step _)
-      ∙ if_layer l ∙ sym (fold-roll-If BlockItem PlainStmt Stmt Block Branch Else ElseIf For If RangeFor
-      kept_item kept_plain kept_stmt kept_block kept_branch kept_else roll-ElseIf kept_for kept_if kept_range_for _))
+      (ap (λ t. from_if g t) (tree_of_if (parts_if claims l)) ∙ if_layer l ∙ sym (settled_of_if (parts_if claims l)))
 
-  range_for_made : (x : open_stmt.RangeFor-F BlockItem PlainStmt Stmt Block Branch Else ElseIf For If RangeFor) (l : Layer-RangeFor) → parts_range_for l ≡ x → Found-RangeFor (roll-RangeFor x)
+  range_for_made : (x : Opened-RangeFor) (l : Layer-RangeFor claims) → parts_range_for claims l ≡ x → Found-RangeFor (roll-RangeFor x)
   range_for_made x l e = subst (λ z. Found-RangeFor (roll-RangeFor z)) e
-      (ap (λ t. from_range_for g t) (fold-roll-RangeFor Tree Tree Tree Tree BranchView Tree ElseIfView Tree Tree Tree
-      block_item_step plain_step stmt_step block_step branch_step else_step else_if_step for_step if_step range_for_step _)
-      ∙ range_for_layer l ∙ sym (fold-roll-RangeFor BlockItem PlainStmt Stmt Block Branch Else ElseIf For If RangeFor
-      kept_item kept_plain kept_stmt kept_block kept_branch kept_else roll-ElseIf kept_for kept_if kept_range_for _))
+      (ap (λ t. from_range_for g t) (tree_of_range_for (parts_range_for claims l)) ∙ range_for_layer l ∙ sym (settled_of_range_for (parts_range_for claims l)))
 
   pub block_found : (x : Block) → Found-Block x
   block_found = ind-Block

@@ -77,54 +77,98 @@ abbrev pub bare_postfix : {A B C D E F G H I J K L M N O P Q R : Type 0}
     → open_expr.Postfix-F A B C D E F G H I J K L M N O P Q R → open_expr.Postfix-F A B C D E F G H I J K L M N O P Q R
 bare_postfix e = record e { parts = settled_list e.parts }
 
+-- ---- one layer of a whole
+
+abbrev pub Opened-PostfixPart : Type 0
+Opened-PostfixPart = open_expr.PostfixPart-F PostfixPart Primary Unary Additive AdditivePart Multiplicative MultiplicativePart Equality EqualityPart Relational RelationalPart AndPart Arguments Expr InitList LogicalAnd OrPart Postfix
+
+abbrev pub Opened-Primary : Type 0
+Opened-Primary = open_expr.Primary-F PostfixPart Primary Unary Additive AdditivePart Multiplicative MultiplicativePart Equality EqualityPart Relational RelationalPart AndPart Arguments Expr InitList LogicalAnd OrPart Postfix
+
+abbrev pub Opened-Unary : Type 0
+Opened-Unary = open_expr.Unary-F PostfixPart Primary Unary Additive AdditivePart Multiplicative MultiplicativePart Equality EqualityPart Relational RelationalPart AndPart Arguments Expr InitList LogicalAnd OrPart Postfix
+
+abbrev pub Opened-Additive : Type 0
+Opened-Additive = open_expr.Additive-F PostfixPart Primary Unary Additive AdditivePart Multiplicative MultiplicativePart Equality EqualityPart Relational RelationalPart AndPart Arguments Expr InitList LogicalAnd OrPart Postfix
+
+abbrev pub Opened-AdditivePart : Type 0
+Opened-AdditivePart = open_expr.AdditivePart-F PostfixPart Primary Unary Additive AdditivePart Multiplicative MultiplicativePart Equality EqualityPart Relational RelationalPart AndPart Arguments Expr InitList LogicalAnd OrPart Postfix
+
+abbrev pub Opened-Multiplicative : Type 0
+Opened-Multiplicative = open_expr.Multiplicative-F PostfixPart Primary Unary Additive AdditivePart Multiplicative MultiplicativePart Equality EqualityPart Relational RelationalPart AndPart Arguments Expr InitList LogicalAnd OrPart Postfix
+
+abbrev pub Opened-MultiplicativePart : Type 0
+Opened-MultiplicativePart = open_expr.MultiplicativePart-F PostfixPart Primary Unary Additive AdditivePart Multiplicative MultiplicativePart Equality EqualityPart Relational RelationalPart AndPart Arguments Expr InitList LogicalAnd OrPart Postfix
+
+abbrev pub Opened-Equality : Type 0
+Opened-Equality = open_expr.Equality-F PostfixPart Primary Unary Additive AdditivePart Multiplicative MultiplicativePart Equality EqualityPart Relational RelationalPart AndPart Arguments Expr InitList LogicalAnd OrPart Postfix
+
+abbrev pub Opened-EqualityPart : Type 0
+Opened-EqualityPart = open_expr.EqualityPart-F PostfixPart Primary Unary Additive AdditivePart Multiplicative MultiplicativePart Equality EqualityPart Relational RelationalPart AndPart Arguments Expr InitList LogicalAnd OrPart Postfix
+
+abbrev pub Opened-Relational : Type 0
+Opened-Relational = open_expr.Relational-F PostfixPart Primary Unary Additive AdditivePart Multiplicative MultiplicativePart Equality EqualityPart Relational RelationalPart AndPart Arguments Expr InitList LogicalAnd OrPart Postfix
+
+abbrev pub Opened-RelationalPart : Type 0
+Opened-RelationalPart = open_expr.RelationalPart-F PostfixPart Primary Unary Additive AdditivePart Multiplicative MultiplicativePart Equality EqualityPart Relational RelationalPart AndPart Arguments Expr InitList LogicalAnd OrPart Postfix
+
+abbrev pub Opened-AndPart : Type 0
+Opened-AndPart = open_expr.AndPart-F PostfixPart Primary Unary Additive AdditivePart Multiplicative MultiplicativePart Equality EqualityPart Relational RelationalPart AndPart Arguments Expr InitList LogicalAnd OrPart Postfix
+
+abbrev pub Opened-Arguments : Type 0
+Opened-Arguments = open_expr.Arguments-F PostfixPart Primary Unary Additive AdditivePart Multiplicative MultiplicativePart Equality EqualityPart Relational RelationalPart AndPart Arguments Expr InitList LogicalAnd OrPart Postfix
+
+abbrev pub Opened-Expr : Type 0
+Opened-Expr = open_expr.Expr-F PostfixPart Primary Unary Additive AdditivePart Multiplicative MultiplicativePart Equality EqualityPart Relational RelationalPart AndPart Arguments Expr InitList LogicalAnd OrPart Postfix
+
+abbrev pub Opened-InitList : Type 0
+Opened-InitList = open_expr.InitList-F PostfixPart Primary Unary Additive AdditivePart Multiplicative MultiplicativePart Equality EqualityPart Relational RelationalPart AndPart Arguments Expr InitList LogicalAnd OrPart Postfix
+
+abbrev pub Opened-LogicalAnd : Type 0
+Opened-LogicalAnd = open_expr.LogicalAnd-F PostfixPart Primary Unary Additive AdditivePart Multiplicative MultiplicativePart Equality EqualityPart Relational RelationalPart AndPart Arguments Expr InitList LogicalAnd OrPart Postfix
+
+abbrev pub Opened-OrPart : Type 0
+Opened-OrPart = open_expr.OrPart-F PostfixPart Primary Unary Additive AdditivePart Multiplicative MultiplicativePart Equality EqualityPart Relational RelationalPart AndPart Arguments Expr InitList LogicalAnd OrPart Postfix
+
+abbrev pub Opened-Postfix : Type 0
+Opened-Postfix = open_expr.Postfix-F PostfixPart Primary Unary Additive AdditivePart Multiplicative MultiplicativePart Equality EqualityPart Relational RelationalPart AndPart Arguments Expr InitList LogicalAnd OrPart Postfix
+
 -- ---- .. of parts that are settled
 
-abbrev pub kept_part : open_expr.PostfixPart-F PostfixPart Primary Unary Additive AdditivePart Multiplicative MultiplicativePart Equality EqualityPart Relational RelationalPart AndPart Arguments Expr InitList LogicalAnd OrPart Postfix
-    → PostfixPart
+abbrev pub kept_part : Opened-PostfixPart → PostfixPart
 kept_part l = roll-PostfixPart (bare_part l)
 
-abbrev pub kept_primary : open_expr.Primary-F PostfixPart Primary Unary Additive AdditivePart Multiplicative MultiplicativePart Equality EqualityPart Relational RelationalPart AndPart Arguments Expr InitList LogicalAnd OrPart Postfix
-    → Primary
+abbrev pub kept_primary : Opened-Primary → Primary
 kept_primary l = roll-Primary (bare_primary l)
 
-abbrev pub kept_unary : open_expr.Unary-F PostfixPart Primary Unary Additive AdditivePart Multiplicative MultiplicativePart Equality EqualityPart Relational RelationalPart AndPart Arguments Expr InitList LogicalAnd OrPart Postfix
-    → Unary
+abbrev pub kept_unary : Opened-Unary → Unary
 kept_unary l = roll-Unary (bare_unary l)
 
-abbrev pub kept_additive : open_expr.Additive-F PostfixPart Primary Unary Additive AdditivePart Multiplicative MultiplicativePart Equality EqualityPart Relational RelationalPart AndPart Arguments Expr InitList LogicalAnd OrPart Postfix
-    → Additive
+abbrev pub kept_additive : Opened-Additive → Additive
 kept_additive l = roll-Additive (bare_additive l)
 
-abbrev pub kept_multiplicative : open_expr.Multiplicative-F PostfixPart Primary Unary Additive AdditivePart Multiplicative MultiplicativePart Equality EqualityPart Relational RelationalPart AndPart Arguments Expr InitList LogicalAnd OrPart Postfix
-    → Multiplicative
+abbrev pub kept_multiplicative : Opened-Multiplicative → Multiplicative
 kept_multiplicative l = roll-Multiplicative (bare_multiplicative l)
 
-abbrev pub kept_equality : open_expr.Equality-F PostfixPart Primary Unary Additive AdditivePart Multiplicative MultiplicativePart Equality EqualityPart Relational RelationalPart AndPart Arguments Expr InitList LogicalAnd OrPart Postfix
-    → Equality
+abbrev pub kept_equality : Opened-Equality → Equality
 kept_equality l = roll-Equality (bare_equality l)
 
-abbrev pub kept_relational : open_expr.Relational-F PostfixPart Primary Unary Additive AdditivePart Multiplicative MultiplicativePart Equality EqualityPart Relational RelationalPart AndPart Arguments Expr InitList LogicalAnd OrPart Postfix
-    → Relational
+abbrev pub kept_relational : Opened-Relational → Relational
 kept_relational l = roll-Relational (bare_relational l)
 
-abbrev pub kept_arguments : open_expr.Arguments-F PostfixPart Primary Unary Additive AdditivePart Multiplicative MultiplicativePart Equality EqualityPart Relational RelationalPart AndPart Arguments Expr InitList LogicalAnd OrPart Postfix
-    → Arguments
+abbrev pub kept_arguments : Opened-Arguments → Arguments
 kept_arguments l = roll-Arguments (bare_arguments l)
 
-abbrev pub kept_expr : open_expr.Expr-F PostfixPart Primary Unary Additive AdditivePart Multiplicative MultiplicativePart Equality EqualityPart Relational RelationalPart AndPart Arguments Expr InitList LogicalAnd OrPart Postfix
-    → Expr
+abbrev pub kept_expr : Opened-Expr → Expr
 kept_expr l = roll-Expr (bare_expr l)
 
-abbrev pub kept_init_list : open_expr.InitList-F PostfixPart Primary Unary Additive AdditivePart Multiplicative MultiplicativePart Equality EqualityPart Relational RelationalPart AndPart Arguments Expr InitList LogicalAnd OrPart Postfix
-    → InitList
+abbrev pub kept_init_list : Opened-InitList → InitList
 kept_init_list l = roll-InitList (bare_init_list l)
 
-abbrev pub kept_logical_and : open_expr.LogicalAnd-F PostfixPart Primary Unary Additive AdditivePart Multiplicative MultiplicativePart Equality EqualityPart Relational RelationalPart AndPart Arguments Expr InitList LogicalAnd OrPart Postfix
-    → LogicalAnd
+abbrev pub kept_logical_and : Opened-LogicalAnd → LogicalAnd
 kept_logical_and l = roll-LogicalAnd (bare_logical_and l)
 
-abbrev pub kept_postfix : open_expr.Postfix-F PostfixPart Primary Unary Additive AdditivePart Multiplicative MultiplicativePart Equality EqualityPart Relational RelationalPart AndPart Arguments Expr InitList LogicalAnd OrPart Postfix
-    → Postfix
+abbrev pub kept_postfix : Opened-Postfix → Postfix
 kept_postfix l = roll-Postfix (bare_postfix l)
 
 -- ---- the whole

@@ -13,7 +13,12 @@ abbrev pub bare_target : {A : Type 0} → open_target.Target-F A → open_target
 bare_target (open_target.Dereference star operand) = open_target.Dereference star (settled_box operand)
 bare_target (open_target.Plain operand) = open_target.Plain (settled_postfix operand)
 
-abbrev pub kept_target : open_target.Target-F Target → Target
+-- ---- one layer of a whole
+
+abbrev pub Opened-Target : Type 0
+Opened-Target = open_target.Target-F Target
+
+abbrev pub kept_target : Opened-Target → Target
 kept_target l = roll-Target (bare_target l)
 
 abbrev pub settled_target : Target → Target

@@ -80,33 +80,65 @@ bare_if i = record i { more = settled_list i.more }
 abbrev pub bare_range_for : {A B C D E F G H I J : Type 0} → open_stmt.RangeFor-F A B C D E F G H I J → open_stmt.RangeFor-F A B C D E F G H I J
 bare_range_for f = record f { ty = settled_declared_type f.ty; range = box_of settled_expr f.range; body = settled_box f.body }
 
+-- ---- one layer of a whole
+
+abbrev pub Opened-BlockItem : Type 0
+Opened-BlockItem = open_stmt.BlockItem-F BlockItem PlainStmt Stmt Block Branch Else ElseIf For If RangeFor
+
+abbrev pub Opened-PlainStmt : Type 0
+Opened-PlainStmt = open_stmt.PlainStmt-F BlockItem PlainStmt Stmt Block Branch Else ElseIf For If RangeFor
+
+abbrev pub Opened-Stmt : Type 0
+Opened-Stmt = open_stmt.Stmt-F BlockItem PlainStmt Stmt Block Branch Else ElseIf For If RangeFor
+
+abbrev pub Opened-Block : Type 0
+Opened-Block = open_stmt.Block-F BlockItem PlainStmt Stmt Block Branch Else ElseIf For If RangeFor
+
+abbrev pub Opened-Branch : Type 0
+Opened-Branch = open_stmt.Branch-F BlockItem PlainStmt Stmt Block Branch Else ElseIf For If RangeFor
+
+abbrev pub Opened-Else : Type 0
+Opened-Else = open_stmt.Else-F BlockItem PlainStmt Stmt Block Branch Else ElseIf For If RangeFor
+
+abbrev pub Opened-ElseIf : Type 0
+Opened-ElseIf = open_stmt.ElseIf-F BlockItem PlainStmt Stmt Block Branch Else ElseIf For If RangeFor
+
+abbrev pub Opened-For : Type 0
+Opened-For = open_stmt.For-F BlockItem PlainStmt Stmt Block Branch Else ElseIf For If RangeFor
+
+abbrev pub Opened-If : Type 0
+Opened-If = open_stmt.If-F BlockItem PlainStmt Stmt Block Branch Else ElseIf For If RangeFor
+
+abbrev pub Opened-RangeFor : Type 0
+Opened-RangeFor = open_stmt.RangeFor-F BlockItem PlainStmt Stmt Block Branch Else ElseIf For If RangeFor
+
 -- ---- .. of parts that are settled
 
-abbrev pub kept_item : open_stmt.BlockItem-F BlockItem PlainStmt Stmt Block Branch Else ElseIf For If RangeFor → BlockItem
+abbrev pub kept_item : Opened-BlockItem → BlockItem
 kept_item l = roll-BlockItem (bare_item l)
 
-abbrev pub kept_plain : open_stmt.PlainStmt-F BlockItem PlainStmt Stmt Block Branch Else ElseIf For If RangeFor → PlainStmt
+abbrev pub kept_plain : Opened-PlainStmt → PlainStmt
 kept_plain l = roll-PlainStmt (bare_plain l)
 
-abbrev pub kept_stmt : open_stmt.Stmt-F BlockItem PlainStmt Stmt Block Branch Else ElseIf For If RangeFor → Stmt
+abbrev pub kept_stmt : Opened-Stmt → Stmt
 kept_stmt l = roll-Stmt (bare_stmt l)
 
-abbrev pub kept_block : open_stmt.Block-F BlockItem PlainStmt Stmt Block Branch Else ElseIf For If RangeFor → Block
+abbrev pub kept_block : Opened-Block → Block
 kept_block l = roll-Block (bare_block l)
 
-abbrev pub kept_branch : open_stmt.Branch-F BlockItem PlainStmt Stmt Block Branch Else ElseIf For If RangeFor → Branch
+abbrev pub kept_branch : Opened-Branch → Branch
 kept_branch l = roll-Branch (bare_branch l)
 
-abbrev pub kept_else : open_stmt.Else-F BlockItem PlainStmt Stmt Block Branch Else ElseIf For If RangeFor → Else
+abbrev pub kept_else : Opened-Else → Else
 kept_else l = roll-Else (bare_else l)
 
-abbrev pub kept_for : open_stmt.For-F BlockItem PlainStmt Stmt Block Branch Else ElseIf For If RangeFor → For
+abbrev pub kept_for : Opened-For → For
 kept_for l = roll-For (bare_for l)
 
-abbrev pub kept_if : open_stmt.If-F BlockItem PlainStmt Stmt Block Branch Else ElseIf For If RangeFor → If
+abbrev pub kept_if : Opened-If → If
 kept_if l = roll-If (bare_if l)
 
-abbrev pub kept_range_for : open_stmt.RangeFor-F BlockItem PlainStmt Stmt Block Branch Else ElseIf For If RangeFor → RangeFor
+abbrev pub kept_range_for : Opened-RangeFor → RangeFor
 kept_range_for l = roll-RangeFor (bare_range_for l)
 
 -- ---- the whole

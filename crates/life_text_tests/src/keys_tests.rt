@@ -1,5 +1,5 @@
 // The tokens of a small text, written out by hand.
-use crate::keyed;
+use life_keys::keyed;
 use life_lex::tokens_of_file;
 use life_tree::{TokenKey, fixed};
 use life_types::NameId;

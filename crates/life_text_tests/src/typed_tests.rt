@@ -1,5 +1,5 @@
 // A few rows of each table.
-use crate::{
+use life_typed::{
     BOOL, BinaryOperator, CHAR, Category, ExprType, INT, LONG, Method, MethodParameters, Misfit,
     SIZE, TEXT, VIEW, VOID, base_types, can_step, combined, compounded, dereferenced, fits,
     has_method, indexed, is_condition, is_printed, is_value, method_answer, method_named,

@@ -1,6 +1,6 @@
 // A few files as trees, and the rules that they break with the places. Of every rule the contract of
 // `resolve` says it.
-use crate::{IllFault, IllKind, resolve};
+use life_typing::{IllFault, IllKind, resolve};
 use life_tree::{
     Base, Block, Definition, Function, FunctionBody, Identifier, Member, Parameter, Program,
     ResultType, StructDefinition, TypeName,

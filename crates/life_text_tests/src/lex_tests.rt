@@ -1,8 +1,8 @@
 //! Files with known tokens and faults.
 
-use crate::LexFaultKind::{BadByte, NumberTooLarge, UnclosedComment, UnclosedText};
-use crate::TokenKind::{Char, Keyword, Mark, Name, Number, Text};
-use crate::{LexFault, LexFaultKind, LexStop, Lexer, TokenKind, tokens_of_file};
+use life_lex::LexFaultKind::{BadByte, NumberTooLarge, UnclosedComment, UnclosedText};
+use life_lex::TokenKind::{Char, Keyword, Mark, Name, Number, Text};
+use life_lex::{LexFault, LexFaultKind, LexStop, Lexer, TokenKind, tokens_of_file};
 use life_types::Place;
 use std::process::Abort;
 use std::test::Fail;

@@ -1,5 +1,5 @@
 // The table over a few types: their numbers, what stands at each, and what follows from their parts.
-use crate::{
+use life_types::{
     Class, Ty, TyId, TypeTable, class_of, holds_owner, holds_unique, is_plain, is_slot, words_of,
 };
 use std::test::Fail;

@@ -1,6 +1,6 @@
 // The tokens of a small program, written out by hand. Of every rule the contract of `write_tokens`
 // says it; the crates above write whole files back.
-use crate::{
+use life_tree::{
     Base, Definition, Function, FunctionBody, Identifier, Member, Parameter, Program, ResultType,
     StructDefinition, Suffix, TokenKey, TypeName, fixed, write_tokens,
 };

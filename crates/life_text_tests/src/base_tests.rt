@@ -1,7 +1,7 @@
 // Files and sinks over memory, over a disk and over a stream.
 ghost use Rattle.std.specs.Prelude.{◌≤◌};
 
-use crate::{
+use life_base::{
     DiskFiles, Failed, Files, MemFiles, MemSink, ReadError, Sink, StreamSink, read_rest,
     write_whole,
 };
