@@ -85,7 +85,26 @@ def faults_file():
     return "\n".join(lines).encode() + b"\n"
 
 
+def functions_file():
+    """200 small functions, each with a loop, a branch and a pointer, and each calls the one before."""
+    lines = ["int f0(int n) { return n; }"]
+    for n in range(1, 200):
+        lines += [
+            f"int f{n}(int n) {{",
+            "  int best = 0;",
+            "  int* p = nullptr;",
+            "  for (int i = 0; i < n; ++i) {",
+            f"    if (i % 3 == 1) {{ p = &best; }} else if (p != nullptr && *p < i) {{ *p = f{n - 1}(i); }}",
+            "  }",
+            "  return best;",
+            "}",
+        ]
+    lines += ["int main() { return f199(3); }"]
+    return "\n".join(lines).encode() + b"\n"
+
+
 FILES = [
+    ("200 small functions", functions_file),
     ("one comment, 1 MiB", comment_file),
     ("tokens, 1 MiB", names_file),
     ("usual code, 1 MiB", usual_file),

@@ -1,9 +1,10 @@
--- The functions of a program with one, and those that diagnostics are about.
-use Rattle.std.proofs.Common.{◌≡◌, ◌<◌, List, [], ◌∷◌, length, map, ap, ◌∙◌, get_or}
+-- The functions of a program, and those that diagnostics are about.
+use Rattle.std.proofs.Common.{◌<◌, ◌^◌, List, length, map, arith}
 use Rattle.std.specs.Prelude.{Contains}
 use Rattle.std.proofs.lemmas.Option.{slice_get_within}
+use Rattle.std.proofs.lemmas.List.{length-map}
 use Rattle.std.proofs.lemmas.List.Elements.{All-contains_itself, All-weaker}
-use Rattle.life_core.specs.Function.{Function, Program, function_of}
+use Rattle.life_core.specs.Function.{Program, function_of}
 use Rattle.life_core.specs.declared.program.CoreFn.{CoreFn}
 use Rattle.life_report.specs.Reports.{HaveFunctions}
 use Rattle.life_rules.specs.Listing.{AreProgramDiagnostics}
@@ -15,13 +16,6 @@ have_functions p ds listed =
     All-weaker (Contains ds) (λ (d : Diag). d.function < length p.functions)
     (λ d h. let is = listed.only d h in slice_get_within p.functions d.function is.0 is.1.0) ds (All-contains_itself ds)
 
--- the first function is the only one
-pub first_function : (fs : List CoreFn) (main : Function) (f : CoreFn) → map function_of fs ≡ main ∷ [] → f ≡ get_or fs 0 f → function_of f ≡ main
-first_function [] main f only is = absurd (none main only)
-  where
-    none : (m : Function) → [] ≡ m ∷ [] → ⊥
-    none m e = cc
-first_function (g ∷ gs) main f only is = ap function_of is ∙ same (function_of g) main (map function_of gs) only
-  where
-    same : (a b : Function) (as-rest : List Function) → a ∷ as-rest ≡ b ∷ [] → a ≡ b
-    same a b rest e = cc
+-- the numbers tell the functions apart
+pub few_functions : (fs : List CoreFn) → length (map function_of fs) < 2 ^ 32 → length fs < 2 ^ 32
+few_functions fs few = omega (arith, length-map fs function_of, few)

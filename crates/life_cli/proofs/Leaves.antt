@@ -1,106 +1,114 @@
--- The work where it ends: in a refusal by the words or the name, or in the reply to a file's bytes.
-use Rattle.std.proofs.Common.{◌≡◌, ◌≤◌, ◌++◌, ℕ, List, Option, None, Some, IsSome, IfOk, Result, Ok, Err, length, true, refl, sym, ap, subst, ◌∙◌, arith}
-use Rattle.std.specs.Prelude.{codes}
+-- The work where it ends: by the words, by the file, or by what its bytes come to.
+use Rattle.std.proofs.Common.{◌≡◌, ◌++◌, ℕ, List, Option, None, Some, IfSome, IfOk, Result, Ok, Err, refl, sym, subst}
+use Rattle.std.specs.Prelude.{codes, option_map}
 use Rattle.std.proofs.KnownBytes.{Appends-nil}
-use Rattle.life_base.specs.Edges.{Directory, IsAbsent, Starts}
-use Rattle.life_cli.proofs.CheckedFile.{fault_is_unchecked, status_of_bytes}
+use Rattle.std.proofs.lemmas.Result.{IfOk-weaker}
+use Rattle.life_base.specs.Edges.{Directory}
+use Rattle.life_core.specs.Function.{Program}
+use Rattle.life_rules.specs.declared.diag.Diag.{Diag}
 use Rattle.life_cli.proofs.Fronts.{gains_nothing}
-use Rattle.life_cli.proofs.Questions.{the_answer}
-use Rattle.life_cli.specs.Answer.{Answer, refusal}
-use Rattle.life_cli.specs.CheckedFile.{AnswersFile}
-use Rattle.life_cli.specs.Ends.{IsReady, Port, Tells, Serves, Works}
-use Rattle.life_cli.specs.Question.{Absent, Bytes, IsAnswer, NoJob, Question, asked, file_asked, found, most_bytes}
-use Rattle.life_cli.specs.Status.{IsOfBytes, IsSettled}
-use Rattle.life_cli.specs.Words.{IsUnchecked, Job}
-use Rattle.life_cli.specs.declared.job.Command.{Command}
+use Rattle.life_cli.proofs.Questions.{the_answer, to_examined}
+use Rattle.life_cli.proofs.Served.{ending_serves}
+use Rattle.life_cli.proofs.Statuses.{faultless_fits, fits_as}
+use Rattle.life_cli.proofs.Working.{are_asked, fetched_on, on_as, refusal_on, serves_on}
+use Rattle.life_cli.specs.Answer.{refusal}
+use Rattle.life_cli.specs.CheckedFile.{ExaminesFile}
+use Rattle.life_cli.specs.Findings.{Checked, ComesTo, Examined, Refused, ending_answer}
+use Rattle.life_cli.specs.Ends.{IsReady, Port, Tells, Works, WorksOn}
+use Rattle.life_cli.specs.FileText.{Absent, Fetches, Holds, TooLong, file_text}
+use Rattle.life_cli.specs.Question.{IsAnswer, NoJob, OfFile, OfProgram, Question, asked, program_asked, text_asked}
+use Rattle.life_cli.specs.Status.{IsFaultless, IsOfJob, IsSettled}
+use Rattle.life_cli.specs.Words.{AsksUnchecked, IsUnchecked, Job}
+use Rattle.life_cli.specs.declared.fetch.Fetched.TheVariants as fetched
 use Rattle.life_cli.specs.declared.status.Status.{Status}
-use Rattle.life_cli.specs.declared.status.Status.TheVariants.{Fault, NoFile, NoMemory, ReadFault, Usage, WriteFault}
+use Rattle.life_cli.specs.declared.status.Status.TheVariants.{Fault, Limit, NoFile, Usage}
+use Rattle.life_cli.specs.declared.stop.Ending.{Ending}
 use Rattle.life_cli.specs.declared.stop.Stop.{Stop}
 use Rattle.life_cli.specs.declared.stop.Stop.TheVariants as stop
-use Rattle.life_cli.specs.declared.stop.Ending.{Ending}
 
-settled_of_bytes : (status : Status) → IsOfBytes status → IsSettled status
-settled_of_bytes NoMemory is = absurd is
-settled_of_bytes ReadFault is = absurd is
-settled_of_bytes WriteFault is = absurd is
-settled_of_bytes _ is = tt
+-- ---- words
 
--- what is asked of the file that was started is what is asked of the job
-file_found : (job : Job) (directory : Directory) (rest : Option (List ℕ)) → IsSome (directory job.file) × (rest ≡ directory job.file) → file_asked job.command rest ≡ Some (found job (directory job.file))
-file_found job directory rest starts = elim (directory job.file) as (λ there. IsSome there → rest ≡ there → file_asked job.command rest ≡ Some (found job there)) [
-  | None ↦ λ there same. cc
-  | Some bytes ↦ λ there same. ap (file_asked job.command) same
-] starts.0 starts.1
-
-module _ (question : Question) (status : Status) (text : List ℕ) (is : IsAnswer question (refusal status text)) (settled : IsSettled status) (reads reads' : ℕ) (quiet : reads' ≡ reads) (out : Port) where
+module _ (question : Question) (status : Status) (text : List ℕ) (is : IsAnswer question (refusal status text)) (settled : IsSettled status) (reads : ℕ) (out : Port) where
   -- a refusal that is the answer
-  pub refused : (result : Result Ending Stop) → Tells status text result → Works (Some question) reads reads' out out result
+  refused : (result : Result Ending Stop) → Tells status text result → Works (Some question) reads reads out out result
   refused (Ok ending) tells = record {
     settled = subst IsSettled (sym tells.0) settled;
-    read_faults = quiet;
+    read_faults = refl;
     out_faults = refl;
     answer = the_answer question (refusal status text) (IsReady out out ending) is
         (record { status_is = tells.0; on_out = Appends-nil out.taken; on_err = tells.1 });
   }
-  refused (Err stop.NoMemory) tells = record { read_faults = quiet; out_faults = refl; front = gains_nothing (Some question) out.taken }
+  refused (Err stop.NoMemory) tells = record { read_faults = refl; out_faults = refl; front = gains_nothing (Some question) out.taken }
   refused (Err stop.ReadFault) tells = absurd tells
   refused (Err stop.WriteFault) tells = absurd tells
-
--- work that is as asked is so where nothing is known of what is asked
-pub unknown_works : (asked : Option Question) (reads reads' : ℕ) (out out' : Port) (result : Result Ending Stop)
-    → Works asked reads reads' out out' result → Works None reads reads' out out' result
-unknown_works asked reads reads' out out' (Ok ending) work =
-    record { settled = work.settled; read_faults = work.read_faults; out_faults = work.out_faults; answer = record { some = tt; each = tt } }
-unknown_works asked reads reads' out out' (Err stop.NoMemory) work =
-    record { read_faults = work.read_faults; out_faults = work.out_faults; front = record { gained = tt } }
-unknown_works asked reads reads' out out' (Err stop.ReadFault) work = work
-unknown_works asked reads reads' out out' (Err stop.WriteFault) work =
-    record { read_faults = work.read_faults; out_faults = work.out_faults; front = record { gained = tt } }
 
 -- the words were no job
 pub no_job_works : (job : Option Job) (held : Option Directory) (reads : ℕ) (out : Port) (result : Result Ending Stop) → job ≡ None
     → Tells Usage (codes "usage: lifecheck COMMAND FILE [OPTIONS]") result → Works (asked job held) reads reads out out result
-no_job_works None held reads out result none tells = refused NoJob Usage (codes "usage: lifecheck COMMAND FILE [OPTIONS]") refl tt reads reads refl out result tells
+no_job_works None held reads out result none tells = refused NoJob Usage (codes "usage: lifecheck COMMAND FILE [OPTIONS]") refl tt reads out result tells
 no_job_works (Some job) held reads out result none tells = cc
 
-module _ (held : Option Directory) (job : Job) (reads reads' : ℕ) (out out' : Port) (result : Result Ending Stop) where
-  -- no file had the name
-  pub absent_works : IsAbsent held job.file → reads' ≡ reads → Tells NoFile (codes "no file " ++ job.file) result → Works (asked (Some job) held) reads reads' out out result
-  absent_works absent quiet tells = elim held as (λ h. IsAbsent h job.file → Works (asked (Some job) h) reads reads' out out result) [
-    | None ↦ λ _. unknown_works (Some (Absent job.file)) reads reads' out out result (refused (Absent job.file) NoFile (codes "no file " ++ job.file) refl tt reads reads' quiet out result tells)
-    | Some directory ↦ λ absent. rw absent (refused (Absent job.file) NoFile (codes "no file " ++ job.file) refl tt reads reads' quiet out result tells)
-  ] absent
+-- the words were this job
+module _ (held : Option Directory) (reads reads' : ℕ) (out out' : Port) (result : Result Ending Stop) (job : Job) (words : Option Job) (is : Some job ≡ words)
+    (on : WorksOn (asked (Some job) held) (IsUnchecked job.command) reads reads' out out' result) where
+  pub job_works : Works (asked words held) reads reads' out out' result
+  job_works = subst (λ j. Works (asked j held) reads reads' out out' result) is on.works
 
-  -- the file of the name was started
-  pub started_works : (rest : Option (List ℕ)) → Starts held job.file true rest → Works (file_asked job.command rest) reads reads' out out' result → Works (asked (Some job) held) reads reads' out out' result
-  started_works rest starts work = elim held as (λ h. Starts h job.file true rest → Works (asked (Some job) h) reads reads' out out' result) [
-    | None ↦ λ _. unknown_works (file_asked job.command rest) reads reads' out out' result work
-    | Some directory ↦ λ starts. let same : file_asked job.command rest ≡ asked (Some job) (Some directory) = file_found job directory rest starts in
-        subst (λ q. Works q reads reads' out out' result) same work
-  ] starts
+  pub job_is_there : IfOk result (λ (ending : Ending). ending.status ≡ Usage → words ≡ None)
+  job_is_there = IfOk-weaker result (λ (e : Ending). IsOfJob e.status) (λ (e : Ending). e.status ≡ Usage → words ≡ None) (λ e of_job same. absurd (subst IsOfJob same of_job)) on.status
 
-module _ (command : Command) (bytes : List ℕ) (few : length bytes ≤ most_bytes) (out out' : Port) where
-  within : (answer : Answer) → AnswersFile command bytes answer → IsAnswer (Bytes command bytes) answer
-  within answer is = record { too_many = λ many. absurd (omega arith); read = λ _. is }
+  pub job_is_unchecked : IfOk result (λ (ending : Ending). ending.status ≡ Fault → AsksUnchecked words)
+  job_is_unchecked = IfOk-weaker result (λ (e : Ending). e.status ≡ Fault → IsUnchecked job.command) (λ (e : Ending). e.status ≡ Fault → AsksUnchecked words) (λ e may same. subst AsksUnchecked is (may same)) on.fault
 
-  -- the work that serves the file's bytes is as asked
-  pub served_works : (result : Result Ending Stop) → Serves (AnswersFile command bytes) out out' result → Works (Some (Bytes command bytes)) 0 0 out out' result
-  served_works (Ok ending) serves = record {
-    settled = subst IsSettled (sym serves.ready.status_is) (settled_of_bytes serves.answer.status (status_of_bytes command bytes serves.answer serves.is_such));
-    read_faults = refl;
-    out_faults = serves.out_faults;
-    answer = the_answer (Bytes command bytes) serves.answer (IsReady out out' ending) (within serves.answer serves.is_such) serves.ready;
-  }
-  served_works (Err stop.NoMemory) serves = record { read_faults = refl; out_faults = serves.out_faults; front = record { gained = λ answer is. serves.front answer (is.read few) } }
-  served_works (Err stop.ReadFault) serves = absurd serves
-  served_works (Err stop.WriteFault) serves = record { read_faults = refl; out_faults = serves.out_faults; front = record { gained = λ answer is. serves.front answer (is.read few) } }
+-- ---- the file of a job
 
-  -- and its status is one of a file's
-  pub served_status : (result : Result Ending Stop) → Serves (AnswersFile command bytes) out out' result → IfOk result (λ ending. IsOfBytes ending.status)
-  served_status (Ok ending) serves = subst IsOfBytes (sym serves.ready.status_is) (status_of_bytes command bytes serves.answer serves.is_such)
-  served_status (Err _) serves = tt
+module _ (job : Job) (held : Option Directory) (MayFault : Type 0) (reads reads' : ℕ) (out : Port) where
+  pub absent_file : (told : Result Ending Stop) → Fetches (option_map (λ directory. file_text (directory job.file)) held) reads reads' (Ok fetched.Absent) → Tells NoFile (codes "no file " ++ job.file) told
+      → WorksOn (asked (Some job) held) MayFault reads reads' out out told
+  absent_file told got tells =
+      fetched_on held (OfFile job) job.file Absent MayFault reads reads' out out told got.1.0
+      (refusal_on held (λ d. OfFile job d Absent) MayFault NoFile (codes "no file " ++ job.file) (λ d a is. is) (λ d a is. is) tt reads reads' got.0 out told tells)
 
--- a fault comes where the file was to be run unchecked alone
-pub served_fault : (command : Command) (bytes : List ℕ) (out out' : Port) (result : Result Ending Stop) → Serves (AnswersFile command bytes) out out' result → IfOk result (λ ending. ending.status ≡ Fault → IsUnchecked command)
-served_fault command bytes out out' (Ok ending) serves = λ e. fault_is_unchecked command bytes serves.answer serves.is_such (sym serves.ready.status_is ∙ e)
-served_fault command bytes out out' (Err _) serves = tt
+  pub long_file : (told : Result Ending Stop) → Fetches (option_map (λ directory. file_text (directory job.file)) held) reads reads' (Ok fetched.TooLong) → Tells Limit (codes "limit: file") told
+      → WorksOn (asked (Some job) held) MayFault reads reads' out out told
+  long_file told got tells =
+      fetched_on held (OfFile job) job.file TooLong MayFault reads reads' out out told got.1.0
+      (refusal_on held (λ d. OfFile job d TooLong) MayFault Limit (codes "limit: file") (λ d a is. is) (λ d a is. is) tt reads reads' got.0 out told tells)
+
+  -- the files are the same after a read, and no count rose
+  pub bytes_file : (bytes : List ℕ) (held' : Option Directory) (mid : ℕ) → held' ≡ held → mid ≡ reads → IfSome (option_map (λ directory. file_text (directory job.file)) held) (λ t. t ≡ Holds bytes)
+      → (out' : Port) (result : Result Ending Stop) → WorksOn (text_asked job (Holds bytes) held') MayFault mid reads' out out' result → WorksOn (asked (Some job) held) MayFault reads reads' out out' result
+  unfolding text_asked
+  bytes_file bytes held' mid same quiet is out' result on =
+      fetched_on held (OfFile job) job.file (Holds bytes) MayFault reads reads' out out' result is
+      (subst (λ (h : Option Directory). WorksOn (option_map (λ d. OfFile job d (Holds bytes)) h) MayFault reads reads' out out' result) same
+      (subst (λ (n : ℕ). WorksOn (option_map (λ d. OfFile job d (Holds bytes)) held') MayFault n reads' out out' result) quiet on))
+
+-- ---- what the bytes come to
+
+module _ (job : Job) (bytes : List ℕ) (held : Option Directory) (MayFault : Type 0) (reads reads' : ℕ) (out : Port) where
+  pub refused_file : (ending : Ending) → ExaminesFile bytes (Refused (ending_answer ending)) × IsFaultless ending.status → reads' ≡ reads
+      → WorksOn (text_asked job (Holds bytes) held) MayFault reads reads' out out (Ok ending)
+  unfolding text_asked
+  refused_file ending is quiet =
+      serves_on (option_map (λ d. OfFile job d (Holds bytes)) held) MayFault (λ a. a ≡ ending_answer ending)
+      (are_asked held (λ d. OfFile job d (Holds bytes)) (λ a. a ≡ ending_answer ending)
+      (λ d a same. record { examined = Refused (ending_answer ending); file = is.0; answered = same })
+      (λ d a answers. to_examined d job.command bytes (Refused (ending_answer ending)) a is.0 answers))
+      (λ a same. fits_as MayFault a (ending_answer ending) same (faultless_fits MayFault ending.status is.1)) reads reads' quiet out out (Ok ending) (ending_serves ending out)
+
+  pub checked_file : (p : Program) (ds : List Diag) → ExaminesFile bytes (Checked p ds) → (out' : Port) (result : Result Ending Stop)
+      → WorksOn (program_asked job.command p ds held) MayFault reads reads' out out' result → WorksOn (text_asked job (Holds bytes) held) MayFault reads reads' out out' result
+  unfolding text_asked program_asked
+  checked_file p ds is out' result on =
+      on_as held (λ d. OfProgram job.command d p ds) (λ d. OfFile job d (Holds bytes))
+      (λ d a answers. record { examined = Checked p ds; file = is; answered = answers })
+      (λ d a answers. to_examined d job.command bytes (Checked p ds) a is answers)
+      MayFault MayFault (λ may. may) reads reads' out out' result on
+
+-- memory was wanted before it was known what the bytes come to
+pub unexamined_on : (asked : Option Question) (MayFault : Type 0) (P : Examined → Type 0) (reads : ℕ) (out : Port) (reason : Stop) → ComesTo P (Err reason) → WorksOn asked MayFault reads reads out out (Err reason)
+unexamined_on asked MayFault P reads out stop.NoMemory h =
+    record { works = record { read_faults = refl; out_faults = refl; front = gains_nothing asked out.taken }; status = tt; fault = tt }
+unexamined_on asked MayFault P reads out stop.ReadFault h = absurd h
+unexamined_on asked MayFault P reads out stop.WriteFault h = absurd h

@@ -1,14 +1,14 @@
 -- How a command ends: its status, what out and err have gained, and which counts of faults rose.
-use Rattle.std.specs.Prelude.{◌≡◌, ◌⊎◌, ℕ, List, [], Option, Result, Ok, Err, codes}
+use Rattle.std.specs.Prelude.{◌≡◌, ◌⊎◌, ℕ, List, [], Option, Result, Ok, Err, IfOk, codes}
 use Rattle.std.specs.Io.KnownBytes.{Appends}
 use Rattle.life_base.specs.Causes.{Rose}
 use Rattle.life_base.specs.Edges.{AppendsFront}
 use Rattle.life_cli.specs.Answer.{Answer, answer_in, line}
 use Rattle.life_cli.specs.Question.{EachAnswer, Question, TheAnswer}
-use Rattle.life_cli.specs.Status.{IsSettled}
+use Rattle.life_cli.specs.Status.{IsOfJob, IsSettled}
 use Rattle.life_cli.specs.declared.reply.Reply.{Reply}
 use Rattle.life_cli.specs.declared.status.Status.{Status}
-use Rattle.life_cli.specs.declared.status.Status.TheVariants.{NoMemory, ReadFault, WriteFault}
+use Rattle.life_cli.specs.declared.status.Status.TheVariants.{Fault, NoMemory, ReadFault, WriteFault}
 use Rattle.life_cli.specs.declared.stop.Stop.{Stop}
 use Rattle.life_cli.specs.declared.stop.Stop.TheVariants as stop
 use Rattle.life_cli.specs.declared.stop.Ending.{Ending}
@@ -108,6 +108,14 @@ Serves IsSuch out out' (Ok ending) = ServesWell IsSuch out out' ending
 Serves IsSuch out out' (Err stop.NoMemory) = ServesWithoutMemory IsSuch out out'
 Serves IsSuch out out' (Err stop.ReadFault) = ⊥
 Serves IsSuch out out' (Err stop.WriteFault) = ServesToWriteFault IsSuch out out'
+
+-- ---- the work on a job, of which a part may be done
+
+-- it is as asked; its status is a job's, and a fault of a run comes where it may
+pub record WorksOn (asked : Option Question) (MayFault : Type 0) (reads reads' : ℕ) (out out' : Port) (result : Result Ending Stop) : Type 0 where
+  pub works : Works asked reads reads' out out' result
+  pub status : IfOk result (λ (ending : Ending). IsOfJob ending.status)
+  pub fault : IfOk result (λ (ending : Ending). ending.status ≡ Fault → MayFault)
 
 -- ---- the text on err
 

@@ -1,11 +1,7 @@
 -- What is told of a tree that isn't well formed.
-use Rattle.std.specs.Prelude.{◌≡◌, ◌++◌, ℕ, List, Result, Ok, Err, codes}
-use Rattle.life_names.specs.Checked.{Ill}
-use Rattle.life_names.specs.declared.fault.IllFault.{IllFault}
-use Rattle.life_names.specs.declared.fault.IllFault.TheVariants as faults
+use Rattle.std.specs.Prelude.{◌++◌, ℕ, List, codes}
 use Rattle.life_names.specs.declared.fault.IllKind.{IllKind}
 use Rattle.life_names.specs.declared.fault.IllKind.TheVariants.{UnknownName, Redeclared, WrongType, NotPlain, NotAssignable, WrongArguments, MissingReturn, ConstBroken, BadAttribute, NoBody, Unsupported}
-use Rattle.life_typed.specs.Programs.{ProgramForm}
 use Rattle.life_types.specs.Places.{position_text}
 use Rattle.life_types.specs.declared.place.Place.{Place}
 
@@ -25,9 +21,3 @@ ill_name Unsupported = codes "unsupported"
 
 abbrev pub ill_text : IllKind → Place → List ℕ
 ill_text kind place = position_text place ++ codes ": ill-formed: " ++ ill_name kind
-
--- whether a tree has types, or which rule it breaks first
-abbrev pub HasTypes : Result (Unit {0}) IllFault → Result ProgramForm Ill → Type 0
-HasTypes (Ok x) typed = (p : ProgramForm) × (typed ≡ Ok p)
-HasTypes (Err faults.NoMemory) typed = Unit {0}
-HasTypes (Err (faults.Ill kind place)) typed = typed ≡ Err (record { kind = kind; place = place })

@@ -1,11 +1,17 @@
 pub mod Answer
 pub mod CheckedFile
+pub mod Concluding
 pub mod Ends
+pub mod Entry
+pub mod FileText
+pub mod Findings
 pub mod IllFormed
+pub mod InputFile
 pub mod Question
 pub mod Refusals
 pub mod Runs
 pub mod Status
 pub mod Stops
 pub mod Told
+pub mod WholeProgram
 pub mod Words

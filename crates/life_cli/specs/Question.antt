@@ -1,46 +1,56 @@
 -- What the words and the files ask, and the answers to it.
-use Rattle.std.specs.Prelude.{◌≡◌, ◌++◌, ◌<◌, ◌≤◌, ℕ, List, Option, Some, None, IfSome, codes, length, option_map}
+use Rattle.std.specs.Prelude.{◌≡◌, ◌++◌, ℕ, List, Option, Some, None, IfSome, codes, option_map}
 use Rattle.life_base.specs.Edges.{Directory}
+use Rattle.life_core.specs.Function.{Program}
+use Rattle.life_rules.specs.declared.diag.Diag.{Diag}
 use Rattle.life_cli.specs.Answer.{Answer, refusal}
-use Rattle.life_cli.specs.CheckedFile.{AnswersFile}
-use Rattle.life_cli.specs.Words.{Job}
-use Rattle.life_cli.specs.declared.job.Command.{Command}
+use Rattle.life_cli.specs.Concluding.{AnswersFile, AnswersProgram}
+use Rattle.life_cli.specs.FileText.{FileText, Absent, TooLong, Holds, file_text}
+use Rattle.life_cli.specs.InputFile.{Numbers, input_of}
+use Rattle.life_cli.specs.Runs.{RanWith}
+use Rattle.life_cli.specs.Words.{Command, Job}
+use Rattle.life_cli.specs.declared.job.RunOptions.{RunOptions}
 use Rattle.life_cli.specs.declared.status.Status.TheVariants.{Limit, Usage, NoFile}
 
--- the words are no job, or no file has the name, or the file of the command has these bytes
+-- the words are no job; or a job is to be done with a file, or a command with a program and its diagnostics, where the files are these;
+-- or a program is to be run from the entry of a name, with an input
 pub data Question : Type 0 where
   NoJob : Question
-  Absent : List ℕ → Question
-  Bytes : Command → List ℕ → Question
+  OfFile : Job → Directory → FileText → Question
+  OfProgram : Command → Directory → Program → List Diag → Question
+  OfRun : RunOptions → List ℕ → Program → Numbers → Question
 
--- a file has at most so many bytes
-abbrev pub most_bytes : ℕ
-most_bytes = 1048576
-
--- the answer to a file of these bytes, which may be too many
-pub record AnswersBytes (command : Command) (bytes : List ℕ) (answer : Answer) : Type 0 where
-  pub too_many : most_bytes < length bytes → answer ≡ refusal Limit (codes "limit: file")
-  pub read : length bytes ≤ most_bytes → AnswersFile command bytes answer
+-- the answer is the job's to its file
+abbrev pub AnswersText : Job → Directory → FileText → Answer → Type 0
+AnswersText job directory Absent answer = answer ≡ refusal NoFile (codes "no file " ++ job.file)
+AnswersText job directory TooLong answer = answer ≡ refusal Limit (codes "limit: file")
+AnswersText job directory (Holds bytes) answer = AnswersFile job.command directory bytes answer
 
 -- the answer is one to the question
 abbrev pub IsAnswer : Question → Answer → Type 0
 IsAnswer NoJob answer = answer ≡ refusal Usage (codes "usage: lifecheck COMMAND FILE [OPTIONS]")
-IsAnswer (Absent name) answer = answer ≡ refusal NoFile (codes "no file " ++ name)
-IsAnswer (Bytes command bytes) answer = AnswersBytes command bytes answer
+IsAnswer (OfFile job directory text) answer = AnswersText job directory text answer
+IsAnswer (OfProgram command directory p ds) answer = AnswersProgram command directory p ds answer
+IsAnswer (OfRun options entry p input) answer = RanWith options entry p input answer
 
--- what a file of the job's name comes to
-abbrev pub found : Job → Option (List ℕ) → Question
-found job None = Absent job.file
-found job (Some bytes) = Bytes job.command bytes
+-- ---- what is asked, as far as the files tell what it rests on
 
--- what is asked, as far as the files tell what it rests on
+-- .. of a job whose file is this
+unfoldable pub text_asked : Job → FileText → Option Directory → Option Question
+text_asked job text held = option_map (λ directory. OfFile job directory text) held
+
+unfoldable pub program_asked : Command → Program → List Diag → Option Directory → Option Question
+program_asked command p ds held = option_map (λ directory. OfProgram command directory p ds) held
+
+-- .. of a run with the input of the file of a name, or without one
+unfoldable pub run_asked : RunOptions → List ℕ → Program → Option (List ℕ) → Option Directory → Option Question
+run_asked options entry p name held = option_map (λ directory. OfRun options entry p (input_of name directory)) held
+
 abbrev pub asked : Option Job → Option Directory → Option Question
 asked None held = Some NoJob
-asked (Some job) held = option_map (λ directory. found job (directory job.file)) held
+asked (Some job) held = option_map (λ directory. OfFile job directory (file_text (directory job.file))) held
 
--- what is asked of a file of these bytes, where they are known
-abbrev pub file_asked : Command → Option (List ℕ) → Option Question
-file_asked command bytes = option_map (λ known. Bytes command known) bytes
+-- ---- answers
 
 -- where the question is known, every answer to it is such
 abbrev pub EachAnswer : Option Question → (Answer → Type 0) → Type 0

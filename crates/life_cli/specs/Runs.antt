@@ -1,18 +1,19 @@
 -- What a run comes to, as an answer.
-use Rattle.std.specs.Prelude.{◌≡◌, ℕ, ℤ, List, [], ◌∷◌, ◌++◌, Option, Some, None, codes, decimal}
+use Rattle.std.specs.Prelude.{◌≡◌, ℕ, ℤ, Bool, true, false, nat_lt, List, ◌++◌, length, Option, Some, None, Ok, Err, codes, decimal}
 use Rattle.std.specs.Fmt.{signed_decimal}
 use Rattle.life_types.specs.Places.{position_text}
 use Rattle.life_types.specs.declared.place.Place.{Place}
 use Rattle.life_core.specs.Function.{Function, Program}
-use Rattle.life_store.specs.Doing.{Setting}
+use Rattle.life_store.specs.Doing.{Given}
 use Rattle.life_store.specs.Meaning as meaning
 use Rattle.life_store.specs.Meaning.{Outcome, run_of}
 use Rattle.life_store.specs.declared.run.FaultKind.{FaultKind}
 use Rattle.life_store.specs.declared.run.FaultKind.TheVariants.{Null, Dangling, Moved}
-use Rattle.life_store.specs.declared.run.Growth.TheVariants.{Always}
 use Rattle.life_store.specs.declared.run.TrapKind.{TrapKind}
 use Rattle.life_store.specs.declared.run.TrapKind.TheVariants.{Bounds, Overflow, ZeroDivisor, Assert, InputEnd, Cells, Depth, ForeignIterator}
-use Rattle.life_cli.specs.Answer.{Answer, line}
+use Rattle.life_cli.specs.Answer.{Answer, line, refusal}
+use Rattle.life_cli.specs.Entry.{Entry, Absent, Begins, NotValue, entry_of}
+use Rattle.life_cli.specs.InputFile.{Numbers}
 use Rattle.life_cli.specs.declared.job.RunOptions.{RunOptions}
 use Rattle.life_cli.specs.declared.status.Status.{Status}
 use Rattle.life_cli.specs.declared.status.Status.TheVariants as status
@@ -56,13 +57,12 @@ ended_as steps meaning.Lost = None
 abbrev pub with_output : List ℕ → Status × List ℕ → Answer
 with_output output ended = record { status = ended.0; out = output; err = line ended.1 }
 
--- growth and depth have their defaults
-abbrev pub setting_of : RunOptions → Setting
-setting_of options = record { growth = Always; cells = options.cells; depth = 1000 }
+abbrev pub setting_of : RunOptions → Given
+setting_of options = record { growth = options.growth; cells = options.cells; depth = options.depth }
 
--- a run of the program from its first function, without input
-abbrev pub run_with : RunOptions → Program → Function → meaning.Run
-run_with options p main = run_of (setting_of options) p 0 main [] options.steps
+-- a run of the program from the function with this number, with this input
+abbrev pub run_with : RunOptions → Program → ℕ → Function → List ℤ → meaning.Run
+run_with options p n f input = run_of (setting_of options) p n f input options.steps
 
 -- .. written whole on out, with the line on err
 abbrev pub IsEnd : List ℕ → Option (Status × List ℕ) → Answer → Type 0
@@ -70,9 +70,24 @@ IsEnd output None answer = ⊥
 IsEnd output (Some ended) answer = answer ≡ with_output output ended
 
 -- the answer is the run's: all that it writes, and how it ended
-abbrev pub Ran : RunOptions → Program → Function → Answer → Type 0
-Ran options p main answer = IsEnd (run_with options p main).output (ended_as options.steps (run_with options p main).outcome) answer
+abbrev pub Ran : RunOptions → Program → ℕ → Function → List ℤ → Answer → Type 0
+Ran options p n f input answer = IsEnd (run_with options p n f input).output (ended_as options.steps (run_with options p n f input).outcome) answer
 
--- .. of the program's one function
-abbrev pub RanMain : RunOptions → Program → Answer → Type 0
-RanMain options p answer = (main : Function) × ((p.functions ≡ main ∷ []) × Ran options p main answer)
+-- .. which takes place where the input has a number for each parameter
+abbrev pub RanUnless : Bool → RunOptions → Program → ℕ → Function → List ℤ → Answer → Type 0
+RanUnless true options p n f input answer = answer ≡ refusal status.Input (codes "input: too few numbers")
+RanUnless false options p n f input answer = Ran options p n f input answer
+
+abbrev pub entry_text : List ℕ → List ℕ → List ℕ
+entry_text name why = codes "entry " ++ name ++ codes ": " ++ why
+
+-- .. from the entry of a name
+abbrev pub RanFrom : RunOptions → List ℕ → Program → List ℤ → Entry → Answer → Type 0
+RanFrom options name p input Absent answer = answer ≡ refusal status.Ill (entry_text name (codes "absent"))
+RanFrom options name p input NotValue answer = answer ≡ refusal status.Ill (entry_text name (codes "not a value"))
+RanFrom options name p input (Begins n f) answer = RanUnless (nat_lt (length input) f.parameters) options p n f input answer
+
+-- .. where its input has numbers
+abbrev pub RanWith : RunOptions → List ℕ → Program → Numbers → Answer → Type 0
+RanWith options name p (Err refused) answer = answer ≡ refused
+RanWith options name p (Ok input) answer = RanFrom options name p input (entry_of p name) answer

@@ -1,7 +1,7 @@
 -- The statuses, their numbers, and which of them come where.
 use Rattle.std.specs.Prelude.{ℕ}
 use Rattle.life_cli.specs.declared.status.Status.{Status}
-use Rattle.life_cli.specs.declared.status.Status.TheVariants.{Done, Diagnosed, Syntax, Ill, Limit, Trap, Fault, Steps, Usage, NoFile, NoMemory, ReadFault, WriteFault}
+use Rattle.life_cli.specs.declared.status.Status.TheVariants.{Done, Diagnosed, Syntax, Ill, Limit, Trap, Fault, Steps, Usage, Input, NoFile, NoMemory, ReadFault, WriteFault}
 
 -- the exit status of the program
 abbrev pub code_of : Status → ℕ
@@ -14,6 +14,7 @@ code_of Trap = 5
 code_of Fault = 6
 code_of Steps = 7
 code_of Usage = 64
+code_of Input = 65
 code_of NoFile = 66
 code_of NoMemory = 71
 code_of ReadFault = 74
@@ -26,14 +27,19 @@ IsSettled ReadFault = ⊥
 IsSettled WriteFault = ⊥
 IsSettled _ = Unit {0}
 
--- the status says what the bytes of a file come to
-abbrev pub IsOfBytes : Status → Type 0
-IsOfBytes Done = Unit {0}
-IsOfBytes Diagnosed = Unit {0}
-IsOfBytes Syntax = Unit {0}
-IsOfBytes Ill = Unit {0}
-IsOfBytes Limit = Unit {0}
-IsOfBytes Trap = Unit {0}
-IsOfBytes Fault = Unit {0}
-IsOfBytes Steps = Unit {0}
-IsOfBytes _ = ⊥
+-- .. and not that the words are no job
+abbrev pub IsOfJob : Status → Type 0
+IsOfJob Usage = ⊥
+IsOfJob NoMemory = ⊥
+IsOfJob ReadFault = ⊥
+IsOfJob WriteFault = ⊥
+IsOfJob _ = Unit {0}
+
+-- .. and not that a run used what it may not use
+abbrev pub IsFaultless : Status → Type 0
+IsFaultless Fault = ⊥
+IsFaultless Usage = ⊥
+IsFaultless NoMemory = ⊥
+IsFaultless ReadFault = ⊥
+IsFaultless WriteFault = ⊥
+IsFaultless _ = Unit {0}

@@ -1,47 +1,80 @@
 // The run of a program.
-ghost use Rattle.std.specs.Prelude.{◌≡◌, ◌≤◌, ◌++◌, codes};
+ghost use Rattle.std.specs.Prelude.{◌≡◌, ◌≤◌, ◌<◌, ◌++◌, IfSome, codes, length, slice_get};
 ghost use Rattle.life_types.specs.Places.{position_text};
 ghost use Rattle.life_core.specs.Function.{program_of};
-ghost use Rattle.life_cli.specs.CheckedFile.{IsWholeProgram};
+ghost use Rattle.life_store.specs.Meaning.{IsAdmitted};
+ghost use Rattle.life_cli.specs.WholeProgram.{IsWholeProgram};
 ghost use Rattle.life_cli.specs.Ends.{Serves, Tells};
-ghost use Rattle.life_cli.specs.Runs.{fault_name, trap_name, RanMain};
+ghost use Rattle.life_cli.specs.Entry.{entry_of};
+ghost use Rattle.life_cli.specs.Runs.{fault_name, trap_name, Ran, RanFrom};
 ghost use Rattle.life_cli.specs.Told.{TellsRun};
 ghost use Rattle.life_cli.specs.Words.{most_steps};
 
 use crate::Status;
+use crate::entry::{Entry, find_entry};
 use crate::job::RunOptions;
-use crate::refusal::tell;
+use crate::refusal::{refuse_entry, tell};
 use crate::stop::{Ending, Stop};
 use life_base::Sink;
 use life_core::{CoreProgram, FnId};
-use life_interp::{FaultKind, Growth, Limits, Machine, Outcome, TrapKind};
+use life_interp::{FaultKind, Limits, Machine, Outcome, TrapKind};
 use life_types::Place;
 use std::alloc::Global;
 
-/// The frames that may stand at once.
-const DEPTH: u32 = 1_000;
-
-/// Runs the program from its first function, without input: what it writes goes to out, and how it
-/// ended is told on err.
-#[tactic(auto, using(crate::proofs::Machines::machine_longs, crate::proofs::Machines::machine_points))]
+/// Runs the program from the function of this name, with this input: what it writes goes to out, and
+/// how it ended is told on err.
+#[tactic(auto, using(crate::proofs::Machines::few_serve, crate::proofs::Machines::enough_serve, crate::proofs::Machines::is_within, crate::proofs::Machines::begins_admitted))]
 pub fn execute<O: Sink>(
     alloc: Global,
-    program: &CoreProgram,
     options: RunOptions,
+    function: &str,
+    program: &CoreProgram,
+    input: &[i64],
     out: &mut O,
 ) -> Result<Ending, Stop>
     requires whole { IsWholeProgram (program_of program.now) }
     requires few { options.steps ≤ most_steps }
-    ensures { Serves (RanMain options (program_of program.now))
+    ensures { Serves (RanFrom options function.now (program_of program.now) input.now (entry_of (program_of program.now) function.now))
         (record { taken = O.taken out.old; faults = O.faults out.old })
         (record { taken = O.taken out.new; faults = O.faults out.new }) result }
 {
+    match find_entry(program, function) {
+        Entry::Absent => refuse_entry(alloc, function, "absent"),
+        Entry::NotValue => refuse_entry(alloc, function, "not a value"),
+        Entry::Begins { number, parameters } => {
+            if input.len() < parameters as usize {
+                return tell(alloc, Status::Input, "input: too few numbers");
+            }
+            run_from(alloc, options, program, number, input, out)
+        }
+    }
+}
+
+// Runs the program from the function with this number.
+#[tactic(auto, using(crate::proofs::Machines::machine_longs, crate::proofs::Machines::machine_points))]
+fn run_from<O: Sink>(
+    alloc: Global,
+    options: RunOptions,
+    program: &CoreProgram,
+    number: FnId,
+    input: &[i64],
+    out: &mut O,
+) -> Result<Ending, Stop>
+    requires whole { IsWholeProgram (program_of program.now) }
+    requires few { options.steps ≤ most_steps }
+    requires there { number.0 < length (program_of program.now).functions }
+    requires admitted { IfSome (slice_get (program_of program.now).functions number.0) (λ f. IsAdmitted (program_of program.now) f input.now) }
+    ensures { IfSome (slice_get (program_of program.now).functions number.0) (λ f.
+        Serves (Ran options (program_of program.now) number.0 f input.now)
+        (record { taken = O.taken out.old; faults = O.faults out.old })
+        (record { taken = O.taken out.new; faults = O.faults out.new }) result) }
+{
     let limits = Limits {
         cells: options.cells,
-        depth: DEPTH,
+        depth: options.depth,
     };
     let mut machine = Machine::prepare(alloc, program, limits)?;
-    let outcome = machine.run(FnId(0), &[], Growth::Always, options.steps, out);
+    let outcome = machine.run(number, input, options.growth, options.steps, out);
     tell_outcome(alloc, outcome, options.steps)
 }
 

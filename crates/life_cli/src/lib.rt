@@ -1,14 +1,21 @@
 //! The program's one call: words, files and two sinks in, a status out.
 #![tactic(auto)]
 
-mod checker;
 mod command;
+mod core_check;
+mod entry;
+mod examine;
+mod examined;
 mod execute;
+mod fetch;
+mod input;
 mod job;
 mod number;
+mod options;
 mod refusal;
 mod reply;
 mod serve;
+mod source_refusal;
 mod status;
 mod stop;
 mod words;
@@ -16,10 +23,3 @@ mod work;
 
 pub use command::run_command;
 pub use status::Status;
-
-#[cfg(test)]
-mod ill_tests;
-#[cfg(test)]
-mod refusal_tests;
-#[cfg(test)]
-mod tests;

@@ -4,6 +4,15 @@ ghost use Rattle.std.specs.Char.{is_ascii_digit};
 ghost use Rattle.std.specs.List.{list_all};
 ghost use Rattle.life_cli.specs.Words as spec;
 
+/// The number that 1 to 10 decimal digits write, if it is at least `least` and at most `most`.
+pub fn number_between(least: u64, most: u64, text: &str) -> Option<u64>
+    ensures number { result ≡ spec.number_between least most text.now }
+    ensures bound { IfSome result (λ n. n ≤ most) }
+{
+    let value = number_up_to(most, text)?;
+    if value < least { None } else { Some(value) }
+}
+
 /// The number that 1 to 10 decimal digits write, if it is at most `most`.
 pub fn number_up_to(most: u64, text: &str) -> Option<u64>
     ensures number { result ≡ spec.number_up_to most text.now }

@@ -1,19 +1,11 @@
 // Refusals: a line on err, and nothing on out.
-ghost use Rattle.std.specs.Prelude.{◌≡◌, ◌++◌, codes};
-ghost use Rattle.life_types.specs.Places.{position_text};
-ghost use Rattle.life_cli.specs.CheckedFile.{lex_fault_name, lex_fault_text, limit_name, limit_text};
+ghost use Rattle.std.specs.Prelude.{◌≡◌, ◌++◌, codes, decimal};
 ghost use Rattle.life_cli.specs.Ends.{Tells};
-ghost use Rattle.life_cli.specs.IllFormed.{ill_name, ill_text};
-ghost use Rattle.life_cli.specs.Refusals.{TellsFault, TellsIll};
-ghost use Rattle.life_cli.specs.declared.status.Status.TheVariants.{Ill, Limit, NoFile, Syntax};
+ghost use Rattle.life_cli.specs.Runs.{entry_text};
+ghost use Rattle.life_cli.specs.declared.status.Status.TheVariants.{Ill, Input, NoFile};
 
 use crate::Status;
 use crate::stop::{Ending, Stop};
-use life_lex::{LexFault, LexFaultKind};
-use life_parse::ParseFault;
-use life_tree::LimitName;
-use life_types::Place;
-use life_typing::{IllFault, IllKind};
 use std::alloc::Global;
 
 /// A line on err, and nothing on out.
@@ -35,121 +27,18 @@ pub fn refuse_name(alloc: Global, name: &str) -> Result<Ending, Stop>
     tell(alloc, Status::NoFile, text.as_str())
 }
 
-/// The line for a file that has no tree.
-pub fn refuse_tree(alloc: Global, fault: ParseFault) -> Result<Ending, Stop>
-    ensures { TellsFault fault result }
+/// The line for a word of the input that is no number, or one too many, at this offset.
+pub fn refuse_word(alloc: Global, offset: usize) -> Result<Ending, Stop>
+    ensures { Tells Input (codes "input offset " ++ decimal offset ++ codes ": refused") result }
 {
-    match fault {
-        ParseFault::Lex(fault) => refuse_lexical(alloc, fault),
-        ParseFault::Refused { place, .. } => refuse_syntax(alloc, place),
-        ParseFault::Limit(fault) => refuse_limit(alloc, fault.name, fault.place),
-        ParseFault::NoMemory => Err(Stop::NoMemory),
-    }
+    let text = format!(in alloc; "input offset {offset}: refused")?;
+    tell(alloc, Status::Input, text.as_str())
 }
 
-/// The line for a token at which no program goes on.
-fn refuse_syntax(alloc: Global, place: Place) -> Result<Ending, Stop>
-    ensures { Tells Syntax (position_text place ++ codes ": syntax") result }
+/// The line for a function with which no run begins.
+pub fn refuse_entry(alloc: Global, name: &str, why: &str) -> Result<Ending, Stop>
+    ensures { Tells Ill (entry_text name.now why.now) result }
 {
-    let line = place.line;
-    let column = place.column;
-    let text = format!(in alloc; "{line}:{column}: syntax")?;
-    tell(alloc, Status::Syntax, text.as_str())
-}
-
-/// The line for a limit that is passed.
-fn refuse_limit(alloc: Global, name: LimitName, place: Option<Place>) -> Result<Ending, Stop>
-    ensures { Tells Limit (limit_text name place) result }
-{
-    let name = limit_name(name);
-    match place {
-        Some(place) => {
-            let line = place.line;
-            let column = place.column;
-            let text = format!(in alloc; "{line}:{column}: limit: {name}")?;
-            tell(alloc, Status::Limit, text.as_str())
-        }
-        None => {
-            let text = format!(in alloc; "limit: {name}")?;
-            tell(alloc, Status::Limit, text.as_str())
-        }
-    }
-}
-
-/// The line for a tree that has no types.
-pub fn refuse_types(alloc: Global, fault: IllFault) -> Result<Ending, Stop>
-    ensures { TellsIll fault result }
-{
-    match fault {
-        IllFault::Ill { kind, place } => refuse_ill(alloc, kind, place),
-        IllFault::NoMemory => Err(Stop::NoMemory),
-    }
-}
-
-/// The line for a rule that is broken.
-fn refuse_ill(alloc: Global, kind: IllKind, place: Place) -> Result<Ending, Stop>
-    ensures { Tells Ill (ill_text kind place) result }
-{
-    let line = place.line;
-    let column = place.column;
-    let name = ill_name(kind);
-    let text = format!(in alloc; "{line}:{column}: ill-formed: {name}")?;
+    let text = format!(in alloc; "entry {name}: {why}")?;
     tell(alloc, Status::Ill, text.as_str())
-}
-
-fn ill_name(kind: IllKind) -> &'static str
-    ensures { result.now ≡ ill_name kind }
-{
-    match kind {
-        IllKind::UnknownName => "unknown-name",
-        IllKind::Redeclared => "redeclared",
-        IllKind::WrongType => "wrong-type",
-        IllKind::NotPlain => "not-plain",
-        IllKind::NotAssignable => "not-assignable",
-        IllKind::WrongArguments => "wrong-arguments",
-        IllKind::MissingReturn => "missing-return",
-        IllKind::ConstBroken => "const-broken",
-        IllKind::BadAttribute => "bad-attribute",
-        IllKind::NoBody => "no-body",
-        IllKind::Unsupported => "unsupported",
-    }
-}
-
-fn limit_name(name: LimitName) -> &'static str
-    ensures { result.now ≡ limit_name name }
-{
-    match name {
-        LimitName::File => "file",
-        LimitName::Input => "input",
-        LimitName::Size => "size",
-        LimitName::Nesting => "nesting",
-        LimitName::Functions => "functions",
-        LimitName::Fields => "fields",
-        LimitName::Path => "path",
-        LimitName::Locations => "locations",
-        LimitName::Points => "points",
-        LimitName::Elements => "elements",
-    }
-}
-
-/// The line for a file with a lexical fault.
-pub fn refuse_lexical(alloc: Global, fault: LexFault) -> Result<Ending, Stop>
-    ensures { Tells Syntax (lex_fault_text fault) result }
-{
-    let line = fault.place.line;
-    let column = fault.place.column;
-    let name = lex_fault_name(fault.kind);
-    let text = format!(in alloc; "{line}:{column}: {name}")?;
-    tell(alloc, Status::Syntax, text.as_str())
-}
-
-fn lex_fault_name(kind: LexFaultKind) -> &'static str
-    ensures { result.now ≡ lex_fault_name kind }
-{
-    match kind {
-        LexFaultKind::BadByte => "bad byte",
-        LexFaultKind::UnclosedText => "unclosed text",
-        LexFaultKind::UnclosedComment => "unclosed comment",
-        LexFaultKind::NumberTooLarge => "number too large",
-    }
 }

@@ -1,176 +1,104 @@
-// What a command makes of the bytes of its file.
-ghost use Rattle.std.specs.Prelude.{◌≡◌, ◌≢◌, ◌≤◌, [], length, IfOk};
+// What a command makes of a program and what is diagnosed in it.
+ghost use Rattle.std.specs.Prelude.{◌≡◌, ◌≢◌, [], IfOk};
 ghost use Rattle.life_core.specs.Function.{program_of};
 ghost use Rattle.life_report.specs.Reports.{report_text, HaveFunctions};
 ghost use Rattle.life_rules.specs.Listing.{AreProgramDiagnostics};
 ghost use Rattle.life_store.specs.NoFault.{NoFault};
-ghost use Rattle.life_typing.specs.Resolves.{resolved};
-ghost use Rattle.life_cli.specs.CheckedFile.{reported, verdict, AnswersFile, AnswersProgram, AnswersResolved, AnswersTyped, IsWholeProgram};
 ghost use Rattle.life_cli.specs.Answer.{answer_in};
-ghost use Rattle.life_cli.specs.Ends.{Reports, Serves};
-ghost use Rattle.life_cli.specs.IllFormed.{HasTypes};
-ghost use Rattle.life_cli.specs.Question.{most_bytes};
-ghost use Rattle.life_cli.specs.Words.{HasFewSteps};
+ghost use Rattle.life_cli.specs.WholeProgram.{IsWholeProgram};
+ghost use Rattle.life_cli.specs.Concluding.{reported, verdict};
+ghost use Rattle.life_cli.specs.Ends.{Reports, Serves, WorksOn};
+ghost use Rattle.life_cli.specs.Question.{program_asked};
+ghost use Rattle.life_cli.specs.Words.{command_seen, HasFewSteps, IsUnchecked};
 ghost use Rattle.life_cli.specs.declared.status.Status.TheVariants.{Diagnosed};
 
 use crate::Status;
-use crate::checker::program_diagnostics;
-use crate::execute::execute;
+use crate::input::run_job;
 use crate::job::Command;
-use crate::refusal::{refuse_lexical, refuse_tree, refuse_types, tell};
 use crate::reply::{Reply, hand_out};
 use crate::stop::{Ending, Stop};
-use life_base::Sink;
+use life_base::{Files, Sink};
 use life_core::CoreProgram;
-use life_front::{FrontFault, read_program};
-use life_parse::parse;
 use life_report::text_report;
 use life_rules::Diag;
 use life_sound::accept;
-use life_tree::Program;
 use life_types::NoMemory;
-use life_typing::{IllFault, resolve};
 use std::alloc::Global;
 
-/// Serves a file of these bytes: it has a tree, or why it has none decides.
-#[tactic(auto, using(crate::proofs::Served::unparsed_serves, crate::proofs::Served::tree_serves))]
-pub fn serve_bytes<O: Sink>(
-    alloc: Global,
-    command: Command,
-    bytes: &[u8],
-    out: &mut O,
-) -> Result<Ending, Stop>
-    requires short { length bytes.now ≤ most_bytes }
-    requires few { HasFewSteps command }
-    ensures { Serves (AnswersFile command bytes.now)
-        (record { taken = O.taken out.old; faults = O.faults out.old })
-        (record { taken = O.taken out.new; faults = O.faults out.new }) result }
-{
-    match parse(alloc, bytes) {
-        Ok(tree) => serve_tree(alloc, command, &tree, bytes, out),
-        Err(fault) => refuse_tree(alloc, fault),
-    }
-}
-
-// Serves a file that has a tree: the tree has types, or the first rule that it breaks decides.
-#[tactic(auto, using(crate::proofs::Served::untyped_serves, crate::proofs::Served::typed_serves))]
-fn serve_tree<O: Sink>(
-    alloc: Global,
-    command: Command,
-    tree: &Program,
-    bytes: &[u8],
-    out: &mut O,
-) -> Result<Ending, Stop>
-    requires short { length bytes.now ≤ most_bytes }
-    requires few { HasFewSteps command }
-    ensures { Serves (AnswersResolved command bytes.now (resolved tree.now))
-        (record { taken = O.taken out.old; faults = O.faults out.old })
-        (record { taken = O.taken out.new; faults = O.faults out.new }) result }
-{
-    match has_types(alloc, tree) {
-        Ok(()) => serve_typed(alloc, command, bytes, out),
-        Err(fault) => refuse_types(alloc, fault),
-    }
-}
-
-// Whether the tree has types, or which rule it breaks first.
-fn has_types(alloc: Global, tree: &Program) -> Result<(), IllFault>
-    ensures { HasTypes result (resolved tree.now) }
-{
-    match resolve(alloc, tree) {
-        Ok(_) => Ok(()),
-        Err(fault) => Err(fault),
-    }
-}
-
-// Serves a file whose tree has types: what it reads as decides.
-#[tactic(auto, using(crate::proofs::Served::lexical_serves, crate::proofs::Served::foreign_serves, crate::proofs::Served::whole_serves))]
-fn serve_typed<O: Sink>(
-    alloc: Global,
-    command: Command,
-    bytes: &[u8],
-    out: &mut O,
-) -> Result<Ending, Stop>
-    requires short { length bytes.now ≤ most_bytes }
-    requires few { HasFewSteps command }
-    ensures { Serves (AnswersTyped command bytes.now)
-        (record { taken = O.taken out.old; faults = O.faults out.old })
-        (record { taken = O.taken out.new; faults = O.faults out.new }) result }
-{
-    match read_program(alloc, bytes) {
-        Ok(program) => serve_program(alloc, command, program, out),
-        Err(FrontFault::Lex(fault)) => refuse_lexical(alloc, fault),
-        Err(FrontFault::Refused) => tell(alloc, Status::Ill, "1:1: ill-formed: unsupported"),
-        Err(FrontFault::NoMemory) => Err(Stop::NoMemory),
-    }
-}
-
-// Serves a program: it is accepted, or what is diagnosed decides.
-fn serve_program<O: Sink>(
+/// Serves a program: it is accepted, or what is diagnosed decides.
+pub fn serve_program<F: Files, O: Sink>(
     alloc: Global,
     command: Command,
     program: CoreProgram,
+    found: Vec<Diag>,
+    files: &mut F,
     out: &mut O,
 ) -> Result<Ending, Stop>
     requires whole { IsWholeProgram (program_of program) }
-    requires few { HasFewSteps command }
-    ensures { Serves (AnswersProgram command (program_of program))
+    requires listed { AreProgramDiagnostics (program_of program) found.items }
+    requires few { HasFewSteps (command_seen command) }
+    ensures { WorksOn (program_asked (command_seen command.entry) (program_of program) found.items (F.held files.old))
+        (IsUnchecked (command_seen command.entry)) (F.faults files.old) (F.faults files.new)
         (record { taken = O.taken out.old; faults = O.faults out.old })
         (record { taken = O.taken out.new; faults = O.faults out.new }) result }
 {
-    let found = program_diagnostics(alloc, &program)?;
     match accept(program, found) {
-        Ok(accepted) => serve_accepted(alloc, command, accepted.program(), out),
+        Ok(accepted) => serve_accepted(alloc, command, accepted.program(), files, out),
         Err(rejected) => serve_rejected(
             alloc,
             command,
             &rejected.program,
             &rejected.diagnostics,
+            files,
             out,
         ),
     }
 }
 
 // Serves a program of which nothing is diagnosed.
-fn serve_accepted<O: Sink>(
+fn serve_accepted<F: Files, O: Sink>(
     alloc: Global,
     command: Command,
     program: &CoreProgram,
+    files: &mut F,
     out: &mut O,
 ) -> Result<Ending, Stop>
     requires whole { IsWholeProgram (program_of program.now) }
     requires listed { AreProgramDiagnostics (program_of program.now) [] }
     requires safe { NoFault (program_of program.now) }
-    requires few { HasFewSteps command }
-    ensures { Serves (AnswersProgram command (program_of program.now))
+    requires few { HasFewSteps (command_seen command) }
+    ensures { WorksOn (program_asked (command_seen command.entry) (program_of program.now) [] (F.held files.old))
+        (IsUnchecked (command_seen command.entry)) (F.faults files.old) (F.faults files.new)
         (record { taken = O.taken out.old; faults = O.faults out.old })
         (record { taken = O.taken out.new; faults = O.faults out.new }) result }
 {
     match command {
         Command::Check => report(alloc, program, &[], out),
-        Command::Run(options) => execute(alloc, program, options, out),
+        Command::Run(run) => run_job(alloc, run, program, files, out),
     }
 }
 
 // Serves a program with diagnostics.
-fn serve_rejected<O: Sink>(
+fn serve_rejected<F: Files, O: Sink>(
     alloc: Global,
     command: Command,
     program: &CoreProgram,
     found: &[Diag],
+    files: &mut F,
     out: &mut O,
 ) -> Result<Ending, Stop>
     requires whole { IsWholeProgram (program_of program.now) }
     requires listed { AreProgramDiagnostics (program_of program.now) found.now }
     requires some { found.now ≢ [] }
-    requires few { HasFewSteps command }
-    ensures { Serves (AnswersProgram command (program_of program.now))
+    requires few { HasFewSteps (command_seen command) }
+    ensures { WorksOn (program_asked (command_seen command.entry) (program_of program.now) found.now (F.held files.old))
+        (IsUnchecked (command_seen command.entry)) (F.faults files.old) (F.faults files.new)
         (record { taken = O.taken out.old; faults = O.faults out.old })
         (record { taken = O.taken out.new; faults = O.faults out.new }) result }
 {
     match command {
         Command::Check => report(alloc, program, found, out),
-        Command::Run(options) if options.unchecked => execute(alloc, program, options, out),
+        Command::Run(run) if run.options.unchecked => run_job(alloc, run, program, files, out),
         Command::Run(_) => report_instead(alloc, program, found),
     }
 }

@@ -11,7 +11,8 @@ pub enum Status {
     Diagnosed,
     /// The file is no text of the subset.
     Syntax,
-    /// The file breaks a rule of the language, or has a form that is not built.
+    /// The file breaks a rule of the language, or has a form that is not built, or no run of it may begin
+    /// with the function that was named.
     Ill,
     /// A count passed its limit.
     Limit,
@@ -23,6 +24,8 @@ pub enum Status {
     Steps,
     /// The words are no job.
     Usage,
+    /// The input of the run is refused, or has too few numbers for the function with which it begins.
+    Input,
     /// There is no file of the name.
     NoFile,
     /// Memory was wanted and not had.
@@ -48,6 +51,7 @@ impl Status {
             Status::Fault => 6,
             Status::Steps => 7,
             Status::Usage => 64,
+            Status::Input => 65,
             Status::NoFile => 66,
             Status::NoMemory => 71,
             Status::ReadFault | Status::WriteFault => 74,

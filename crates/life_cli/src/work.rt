@@ -1,18 +1,21 @@
 // The work of a command: it reads the file and serves its bytes.
-ghost use Rattle.std.specs.Prelude.{◌≡◌, ◌≢◌, ◌≤◌, ◌<◌, ◌↔◌, None, Some, IfOk, IsTrue, length, map, option_map, string_bytes};
-ghost use Rattle.life_cli.specs.Ends.{Works};
-ghost use Rattle.life_cli.specs.Question.{Bytes, asked, file_asked, most_bytes};
-ghost use Rattle.life_cli.specs.Status.{IsOfBytes};
-ghost use Rattle.life_cli.specs.Words.{job_of, job_seen, AsksUnchecked, HasFewSteps, IsUnchecked};
+ghost use Rattle.std.specs.Prelude.{◌≡◌, ◌≤◌, None, Some, IfOk, length, map, string_bytes};
+ghost use Rattle.life_cli.specs.Ends.{Works, WorksOn};
+ghost use Rattle.life_cli.specs.FileText.{Holds, most_bytes};
+ghost use Rattle.life_cli.specs.Question.{asked, text_asked};
+ghost use Rattle.life_cli.specs.Words.{command_seen, job_of, job_seen, AsksUnchecked, HasFewSteps, IsUnchecked};
 ghost use Rattle.life_cli.specs.declared.status.Status.TheVariants.{Fault, Usage};
 
 use crate::Status;
-use crate::job::{Command, Job};
+use crate::examine::examine;
+use crate::examined::Examined;
+use crate::fetch::{Fetched, fetch};
+use crate::job::Job;
 use crate::refusal::{refuse_name, tell};
-use crate::serve::serve_bytes;
+use crate::serve::serve_program;
 use crate::stop::{Ending, Stop};
 use crate::words::read_words;
-use life_base::{Files, MOST_BYTES, Sink, read_rest};
+use life_base::{Files, Sink};
 use std::alloc::Global;
 
 /// Does what the words ask for. Nothing is written to err yet.
@@ -40,55 +43,52 @@ pub fn work<F: Files, O: Sink>(
     }
 }
 
-// Starts the job's file and serves it.
-#[tactic(auto, using(crate::proofs::Leaves::absent_works, crate::proofs::Leaves::started_works))]
+// Reads the job's file and serves it.
 fn serve_job<F: Files, O: Sink>(
     alloc: Global,
     job: Job,
     files: &mut F,
     out: &mut O,
 ) -> Result<Ending, Stop>
-    requires { HasFewSteps job.command }
-    ensures works { Works (asked (Some (job_seen job.entry)) (F.held files.old))
+    requires { HasFewSteps (command_seen job.command) }
+    ensures { WorksOn (asked (Some (job_seen job.entry)) (F.held files.old)) (IsUnchecked (command_seen job.entry.command))
         (F.faults files.old) (F.faults files.new)
         (record { taken = O.taken out.old; faults = O.faults out.old })
         (record { taken = O.taken out.new; faults = O.faults out.new }) result }
-    ensures has_job { IfOk result (λ ending. ending.status ≢ Usage) }
-    ensures faults_unchecked { IfOk result (λ ending. ending.status ≡ Fault → IsUnchecked job.entry.command) }
 {
-    match files.start(job.file) {
-        Ok(true) => serve(alloc, job.command, files, out),
-        Ok(false) => refuse_name(alloc, job.file),
-        Err(_) => Err(Stop::ReadFault),
+    match fetch(alloc, job.file, files) {
+        Ok(Fetched::Absent) => refuse_name(alloc, job.file),
+        Ok(Fetched::TooLong) => tell(alloc, Status::Limit, "limit: file"),
+        Ok(Fetched::Bytes(bytes)) => serve_bytes(alloc, job, &bytes, files, out),
+        Err(stop) => Err(stop),
     }
 }
 
-// Reads the file that was started, and serves its bytes.
-fn serve<F: Files, O: Sink>(
+// Serves a file of these bytes.
+fn serve_bytes<F: Files, O: Sink>(
     alloc: Global,
-    command: Command,
+    job: Job,
+    bytes: &[u8],
     files: &mut F,
     out: &mut O,
 ) -> Result<Ending, Stop>
-    requires { HasFewSteps command }
-    ensures works { Works (file_asked command (F.rest files.old))
-        (F.faults files.old) (F.faults files.new)
+    requires short { length bytes.now ≤ most_bytes }
+    requires few { HasFewSteps (command_seen job.command) }
+    ensures { WorksOn (text_asked (job_seen job.entry) (Holds bytes.now) (F.held files.old))
+        (IsUnchecked (command_seen job.entry.command)) (F.faults files.old) (F.faults files.new)
         (record { taken = O.taken out.old; faults = O.faults out.old })
         (record { taken = O.taken out.new; faults = O.faults out.new }) result }
-    ensures status { IfOk result (λ ending. IsOfBytes ending.status) }
-    ensures faults_unchecked { IfOk result (λ ending. ending.status ≡ Fault → IsUnchecked command) }
 {
-    let bytes = read_rest(alloc, files)?;
-    if has_too_many(&bytes) {
-        return tell(alloc, Status::Limit, "limit: file");
+    match examine(alloc, bytes) {
+        Ok(Examined::Refused(ending)) => Ok(ending),
+        Ok(Examined::Checked(program, found)) => serve_program(
+            alloc,
+            job.command,
+            program,
+            found,
+            files,
+            out,
+        ),
+        Err(stop) => Err(stop),
     }
-    serve_bytes(alloc, command, &bytes, out)
-}
-
-// Whether more bytes were read than a file may have.
-fn has_too_many(bytes: &[u8]) -> bool
-    requires { length bytes.now ≤ MOST_BYTES }
-    ensures { IsTrue result ↔ (most_bytes < length bytes.now) }
-{
-    bytes.len() == MOST_BYTES
 }

@@ -14,8 +14,6 @@ mod point_lookup;
 mod program;
 mod spot_list;
 mod stmt;
-#[cfg(test)]
-mod tests;
 
 pub use edge_list::edges;
 pub use exits::{Entry, Exits};

@@ -1,5 +1,5 @@
 -- Candidates and what is seen of them: their order, and which print one line.
-use Rattle.std.proofs.Common.{◌≡◌, ℕ, ◌+◌, ◌<◌, ◌≤◌, refl, ap, sym, ◌∙◌, Bool, true, false, arith, subst, List, [], ◌∷◌, length, get_or, map, cond}
+use Rattle.std.proofs.Common.{◌≡◌, ℕ, ◌+◌, ◌<◌, refl, ap, sym, ◌∙◌, Bool, true, false, arith, subst, List, [], ◌∷◌, length, get_or, map, cond}
 use Rattle.std.specs.List.{dedup, dedup_from}
 use Rattle.std.specs.List.Sorted.{IsSorted}
 use Rattle.std.specs.Cmp.Lexicographic.{slice_cmp}
@@ -17,7 +17,7 @@ use Rattle.life_fix.specs.contracts.listing.PrintedLineOrd.TheImpl.Laws.{lawful}
 use Rattle.life_fix.specs.contracts.listing.PrintedLinePartialEq.TheImpl.{ghosts as printed_eq}
 use Rattle.life_fix.specs.declared.listing.Candidate.{Candidate}
 use Rattle.life_fix.specs.declared.listing.PrintedLine.{PrintedLine}
-use Rattle.life_fix.specs.Candidates.{Lined, candidate_seen, is_same_line, line_seen, lined_cmp}
+use Rattle.life_fix.specs.Candidates.{candidate_seen, is_same_line, line_seen, lined_cmp}
 
 kind_cmp : (x y : DiagKind) → kind.cmp x y ≡ nat_cmp (kind_number x) (kind_number y)
 kind_cmp NullUse NullUse = refl

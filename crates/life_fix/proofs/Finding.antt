@@ -1,5 +1,5 @@
 -- What is wrong at the points of a function, collected from the rows of a solution.
-use Rattle.std.proofs.Common.{◌≡◌, ◌⊎◌, ◌↔◌, ℕ, zero, suc, ◌+◌, ◌<◌, ◌≤◌, refl, ap, sym, ◌∙◌, inl, inr, Bool, arith, subst, List, [], ◌∷◌, ◌++◌, length, get_or, map, option_map, Option, Some, None, Contains, IsTrue, slice_get, add-one}
+use Rattle.std.proofs.Common.{◌≡◌, ◌⊎◌, ◌↔◌, ℕ, zero, suc, ◌+◌, ◌<◌, ◌≤◌, refl, ap, sym, ◌∙◌, inl, inr, Bool, arith, subst, List, [], ◌∷◌, ◌++◌, length, map, option_map, Option, Some, None, Contains, slice_get, add-one}
 use Rattle.std.specs.List.{flat_map}
 use Rattle.std.proofs.lemmas.Bool.{cases_eq, cases_lt}
 use Rattle.std.proofs.lemmas.List.{length-map}

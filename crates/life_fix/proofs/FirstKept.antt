@@ -1,5 +1,5 @@
 -- Of a sorted list `dedup` keeps the first of each run: for each element one that counts as the same and doesn't stand after it.
-use Rattle.std.proofs.Common.{◌≡◌, ℕ, ◌+◌, ◌<◌, ◌⊎◌, suc, refl, ap, sym, ◌∙◌, inl, inr, Bool, true, false, arith, subst, List, [], ◌∷◌, length, get_or, map, Contains, cond, IsTrue}
+use Rattle.std.proofs.Common.{◌≡◌, ◌⊎◌, suc, refl, ap, ◌∙◌, inl, inr, Bool, true, false, arith, subst, List, [], ◌∷◌, Contains}
 use Rattle.std.specs.Cmp.{IsTotalOrder, IsEquivalence}
 use Rattle.std.specs.List.{AllPairs, dedup, dedup_from}
 use Rattle.std.specs.List.Sorted.{IsSorted}

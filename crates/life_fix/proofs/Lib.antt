@@ -4,6 +4,7 @@ pub mod FirstKept
 pub mod Listed
 pub mod Marks
 pub mod PointRows
+pub mod ProgramFound
 pub mod Sizes
 pub mod Solved
 pub mod Starting

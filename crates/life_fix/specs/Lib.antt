@@ -1,4 +1,5 @@
 pub mod Candidates
 pub mod Finding
+pub mod Programs
 pub mod Solution
 pub mod Solving

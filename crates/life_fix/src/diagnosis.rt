@@ -11,7 +11,7 @@ ghost use Rattle.life_rules.specs.declared.diag.Diag.{Diag};
 ghost use Rattle.life_fix.specs.Finding.{IsWrongBy, IsWrongIn};
 ghost use Rattle.life_fix.specs.Solution.{IsSolution};
 
-use crate::listing::listing;
+use crate::listing::{listed, push_candidates};
 use crate::solution::Solution;
 use life_core::{CoreFn, FnId, Names, Point, SpotRef, spots};
 use life_pset::{ElementTable, Fact, Rows};
@@ -37,11 +37,13 @@ pub fn diagnostics<R: Rows>(
         (λ all. AreDiagnostics (map name_bytes names.now.texts.items) types.now id.0 (function_of f.now) all.items) }
 {
     let found = found(alloc, f, id, types, sol)?;
-    listing(alloc, names, f, types, &found)
+    let mut candidates = Vec::new(alloc);
+    push_candidates(alloc, names, f, types, &found, &mut candidates)?;
+    listed(alloc, candidates)
 }
 
-// All that is wrong, in the order of the points, and maybe more than once.
-fn found<R: Rows>(
+/// All that is wrong, in the order of the points, and maybe more than once.
+pub(crate) fn found<R: Rows>(
     alloc: Global,
     f: &CoreFn,
     id: FnId,

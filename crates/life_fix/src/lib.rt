@@ -2,14 +2,14 @@
 #![tactic(auto)]
 
 mod diagnosis;
-#[cfg(test)]
-mod diagnosis_tests;
 mod flow;
 mod listing;
+mod program;
 mod solution;
 mod solver;
 mod worklist;
 
 pub use diagnosis::diagnostics;
+pub use program::program_diagnostics;
 pub use solution::Solution;
 pub use solver::solve;

@@ -1,9 +1,10 @@
 // A list of diagnostics in the order of their lines.
-ghost use Rattle.std.specs.Prelude.{◌≡◌, length, map, take, Contains, IfOk};
+ghost use Rattle.std.specs.Prelude.{◌≡◌, ◌++◌, List, length, map, take, Contains, IfOk, OnOk};
 ghost use Rattle.std.specs.List.{dedup};
 ghost use Rattle.life_core.specs.Function.{function_of, name_bytes};
-ghost use Rattle.life_rules.specs.Lines.{line_of};
+ghost use Rattle.life_rules.specs.Lines.{Line, line_of};
 ghost use Rattle.life_rules.specs.Listing.{IsListing};
+ghost use Rattle.life_rules.specs.declared.diag.Diag.{Diag};
 ghost use Rattle.life_fix.specs.Candidates.{candidate_seen, diag_part, is_same_line, line_seen, lined, KeepsLines, Sorts};
 
 use life_core::{CoreFn, Names};
@@ -13,7 +14,7 @@ use std::alloc::Global;
 
 /// The line that a diagnostic prints. The order of the fields is the order of lines.
 #[derive(Debug, PartialEq, Eq, PartialOrd, Ord, Drop)]
-struct PrintedLine {
+pub(crate) struct PrintedLine {
     line: u32,
     column: u32,
     kind: DiagKind,
@@ -23,48 +24,39 @@ struct PrintedLine {
 
 /// A diagnostic that may stand for its line. Those of one line are ordered by their diagnostics.
 #[derive(Debug, PartialEq, Eq, PartialOrd, Ord, Drop)]
-struct Candidate {
+pub(crate) struct Candidate {
     line: PrintedLine,
     diag: Diag,
 }
 
-/// The diagnostics of a function in the order of their lines, each line once, and by the least of
-/// those that print it.
-pub(crate) fn listing(
+/// Adds each of these diagnostics of a function, with its line.
+pub(crate) fn push_candidates(
     alloc: Global,
     names: &Names,
     f: &CoreFn,
     types: &TypeTable,
     found: &[Diag],
-) -> Result<Vec<Diag>, NoMemory>
-    ensures { IfOk result (λ all. IsListing
-        (Contains found.now)
-        (line_of (map name_bytes names.now.texts.items) types.now (function_of f.now))
-        all.items) }
+    out: &mut Vec<Candidate>,
+) -> Result<(), NoMemory>
+    ensures { OnOk result (map candidate_seen out.new.items ≡ map candidate_seen out.old.items
+        ++ map (lined (line_of (map name_bytes names.now.texts.items) types.now (function_of f.now))) found.now) }
 {
-    let mut candidates = candidates(alloc, names, f, types, found)?;
-    keep_lines(&mut candidates);
-    diags(alloc, &candidates)
-}
-
-// Each diagnostic with its line.
-fn candidates(
-    alloc: Global,
-    names: &Names,
-    f: &CoreFn,
-    types: &TypeTable,
-    found: &[Diag],
-) -> Result<Vec<Candidate>, NoMemory>
-    ensures { IfOk result (λ all.
-        map candidate_seen all.items
-        ≡ map (lined (line_of (map name_bytes names.now.texts.items) types.now (function_of f.now))) found.now) }
-{
-    let mut all = Vec::new(alloc);
     for diag in found {
         let line = line_of(alloc, names, f, types, diag)?;
-        all.push(Candidate { line, diag: *diag })?;
+        out.push(Candidate { line, diag: *diag })?;
     }
-    Ok(all)
+    Ok(())
+}
+
+/// The diagnostics in the order of their lines, each line once, and by the least of those that print
+/// it.
+pub(crate) fn listed(alloc: Global, candidates: Vec<Candidate>) -> Result<Vec<Diag>, NoMemory>
+    ensures { IfOk result (λ all. (line : Diag → Line) (found : List Diag) →
+        map candidate_seen candidates.items ≡ map (lined line) found → IsListing (Contains found) line all.items) }
+{
+    let mut candidates = candidates;
+    keep_lines(&mut candidates);
+    diags(alloc, &candidates)
 }
 
 fn line_of(

@@ -1,5 +1,5 @@
 -- References stay fit while the store changes.
-use Rattle.std.proofs.Common.{◌≡◌, ◌≢◌, ℕ, zero, suc, ◌+◌, ◌<◌, ◌≤◌, List, [], ◌∷◌, Option, Some, None, cond, refl, sym, ap, subst, ◌∙◌, arith, ⊎_elim}
+use Rattle.std.proofs.Common.{◌≡◌, ◌≢◌, ℕ, zero, suc, ◌+◌, List, [], ◌∷◌, ◌++◌, replicate, Option, Some, None, cond, refl, sym, ap, subst, ◌∙◌, arith, ⊎_elim}
 use Rattle.std.proofs.lemmas.Bool.Decides.{eqb_tells}
 use Rattle.std.proofs.lemmas.Option.{none-some, same_Some}
 use Rattle.std.specs.Prelude.{slice_get, slice_set, nat_eq, option_and_then}
@@ -7,7 +7,7 @@ use Rattle.life_store.specs.Cells.{Cells, at, set, unset, at-set_same, at-set_ot
 use Rattle.life_store.specs.Content.{Content, Object}
 use Rattle.life_store.specs.References.{Rows, object_of}
 use Rattle.life_store.specs.declared.object.ObjRef.{ObjRef}
-use Rattle.life_interp.specs.Fits.{IsHoused, IsRef, PointerFits, CellFits, CellsFit, IsFit}
+use Rattle.life_interp.specs.Fits.{IsHoused, IsRef, PointerFits, CellFits, CellsFit, IsFit, Later}
 use Rattle.life_interp.specs.declared.value.Cell.{Cell}
 use Rattle.life_interp.specs.declared.value.Cell.TheVariants as held
 use Rattle.life_interp.specs.declared.value.Pointer.{Pointer}
@@ -33,11 +33,6 @@ set_fits c rows [] x v h fit = h
 set_fits c rows (w ∷ ws) zero v h fit = (fit, h.1)
 set_fits c rows (w ∷ ws) (suc x) v h fit = (h.0, set_fits c rows ws x v h.1 fit)
 
--- a store that changed its rows for new objects alone, or took some away
-pub record Later (c d : Content) (rows new : Rows) : Type 0 where
-  pub births : c.births ≤ d.births
-  pub row : (n k : ℕ) → n < c.births → at new n ≡ Some k → at rows n ≡ Some k
-
 module _ (c d : Content) (rows new : Rows) (later : Later c d rows new) where
   pub ref_later : (r : ObjRef) → IsRef c rows r → IsRef d new r
   ref_later r h = record { born = omega (arith, h.born, later.births); row = λ k e. h.row k (later.row r.birth k h.born e) }
@@ -45,6 +40,7 @@ module _ (c d : Content) (rows new : Rows) (later : Later c d rows new) where
   pointer_later : (p : Pointer) → PointerFits c rows p → PointerFits d new p
   pointer_later leads.Null h = tt
   pointer_later leads.Wild h = tt
+  pointer_later (leads.Static characters) h = tt
   pointer_later (leads.To object index moment) h = ref_later object h
 
   cell_later : (v : Cell) → CellFits c rows v → CellFits d new v
@@ -53,9 +49,51 @@ module _ (c d : Content) (rows new : Rows) (later : Later c d rows new) where
   cell_later (held.Number z) h = tt
   cell_later (held.Points p) h = pointer_later p h
 
+  pub one_later : (v : Cell) → CellFits c rows v → CellFits d new v
+  one_later v h = cell_later v h
+
   pub cells_later : (cells : List Cell) → CellsFit c rows cells → CellsFit d new cells
   cells_later [] h = tt
   cells_later (v ∷ vs) h = (cell_later v h.0, cells_later vs h.1)
+
+-- ---- one list of cells and then another
+
+pub fit_front : (c : Content) (rows : Rows) (xs ys : List Cell) → CellsFit c rows (xs ++ ys) → CellsFit c rows xs
+fit_front c rows [] ys h = tt
+fit_front c rows (x ∷ xs) ys h = (h.0, fit_front c rows xs ys h.1)
+
+pub fit_behind : (c : Content) (rows : Rows) (xs ys : List Cell) → CellsFit c rows (xs ++ ys) → CellsFit c rows ys
+fit_behind c rows [] ys h = h
+fit_behind c rows (x ∷ xs) ys h = fit_behind c rows xs ys h.1
+
+pub fit_both : (c : Content) (rows : Rows) (xs ys : List Cell) → CellsFit c rows xs → CellsFit c rows ys → CellsFit c rows (xs ++ ys)
+fit_both c rows [] ys h k = k
+fit_both c rows (x ∷ xs) ys h k = (h.0, fit_both c rows xs ys h.1 k)
+
+pub blank_fits : (c : Content) (rows : Rows) (n : ℕ) → CellsFit c rows (replicate n held.Empty)
+blank_fits c rows zero = tt
+blank_fits c rows (suc n) = (tt, blank_fits c rows n)
+
+-- ---- from one store to the next
+
+pub later_same : (c : Content) (rows : Rows) → Later c c rows rows
+later_same c rows = record { births = omega arith; row = λ n k lt e. e }
+
+pub later_on : (a b c : Content) (r s t : Rows) → Later a b r s → Later b c s t → Later a c r t
+later_on a b c r s t h k = record { births = omega (arith, h.births, k.births); row = λ n m lt e. h.row n m lt (k.row n m (omega (arith, lt, h.births)) e) }
+
+pub later_changed : (c : Content) (rows : Rows) (objects : Cells Object) (clock : ℕ) → Later c (record { objects = objects; births = c.births; clock = clock }) rows rows
+later_changed c rows objects clock = record { births = omega arith; row = λ n k lt e. e }
+
+pub later_born : (c : Content) (rows : Rows) (r : ObjRef) (objects : Cells Object) (clock : ℕ) → r.birth ≡ c.births → Later c (record { objects = objects; births = c.births + 1; clock = clock }) rows (set rows r.birth r.row)
+later_born c rows r objects clock number =
+    record { births = omega arith; row = λ n k lt e. sym (at-set_other rows r.birth n r.row (λ same. absurd (omega (arith, lt, same, number)))) ∙ e }
+
+pub later_ended : (c : Content) (rows : Rows) (n : ℕ) → Later c (record { objects = unset c.objects n; births = c.births; clock = c.clock }) rows (unset rows n)
+later_ended c rows n = record {
+  births = omega arith;
+  row = λ m k lt e. ⊎_elim (λ t. absurd (none-some k (sym (at-unset_same rows n m t.1) ∙ e))) (λ t. sym (at-unset_other rows n m t.1) ∙ e) (eqb_tells n m);
+}
 
 -- ---- the store's changes
 
@@ -71,7 +109,7 @@ fit_changed c rows r o cells h objects clock lives others = record {
     placed = λ n e. others n (λ same. has_row c rows r o lives (ap (at rows) same ∙ e)) ∙ h.housed.placed n e;
     unborn = h.housed.unborn;
   };
-  held = cells_later c (record { objects = objects; births = c.births; clock = clock }) rows rows (record { births = omega arith; row = λ n k lt e. e }) cells h.held;
+  held = cells_later c (record { objects = objects; births = c.births; clock = clock }) rows rows (later_changed c rows objects clock) cells h.held;
 }
 
 -- an object is born
@@ -86,7 +124,7 @@ fit_born c rows r cells h number objects clock others =
         unborn = λ n le. at-set_other rows r.birth n r.row (λ same. absurd (omega (arith, le, same, number))) ∙ h.housed.unborn n (omega (arith, le));
       };
       held = cells_later c (record { objects = objects; births = c.births + 1; clock = clock }) rows (set rows r.birth r.row)
-          (record { births = omega arith; row = λ n k lt e. sym (at-set_other rows r.birth n r.row (λ same. absurd (omega (arith, lt, same, number)))) ∙ e }) cells h.held;
+          (later_born c rows r objects clock number) cells h.held;
     }
 
 -- .. and its reference fits
@@ -101,8 +139,5 @@ fit_ended c rows n cells h = record {
     unborn = λ m le. ⊎_elim (λ t. at-unset_same rows n m t.1) (λ t. at-unset_other rows n m t.1 ∙ h.housed.unborn m le) (eqb_tells n m);
   };
   held = cells_later c (record { objects = unset c.objects n; births = c.births; clock = c.clock }) rows (unset rows n)
-      (record {
-        births = omega arith;
-        row = λ m k lt e. ⊎_elim (λ t. absurd (none-some k (sym (at-unset_same rows n m t.1) ∙ e))) (λ t. sym (at-unset_other rows n m t.1) ∙ e) (eqb_tells n m);
-      }) cells h.held;
+      (later_ended c rows n) cells h.held;
 }

@@ -1,4 +1,9 @@
+pub mod BackLemmas
+pub mod CallLemmas
+pub mod CodeLists
 pub mod FitLemmas
+pub mod FrameLemmas
+pub mod GiveLemmas
 pub mod LocalLemmas
 pub mod PointLemmas
 pub mod RunLemmas

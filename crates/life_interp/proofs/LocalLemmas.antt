@@ -2,13 +2,12 @@
 use Rattle.std.proofs.Common.{◌≡◌, ℕ, suc, ◌+◌, ◌<◌, List, Option, Some, None, Result, Ok, Err, cond, refl, sym, ap, subst, ◌∙◌, ⊎_elim, IfSome, IsSome}
 use Rattle.std.proofs.lemmas.Bool.Decides.{eqb_tells, leb_tells}
 use Rattle.std.specs.Prelude.{ℤ, slice_get, nat_eq, option_and_then}
-use Rattle.life_types.specs.Types.{Types, class_at}
-use Rattle.life_types.specs.declared.ty.Class.{Class}
+use Rattle.life_types.specs.Types.{Types}
 use Rattle.life_types.specs.declared.ty.TyId.{TyId}
 use Rattle.life_core.specs.declared.instr.Form.{Form}
 use Rattle.life_core.specs.declared.program.Local.{Local}
 use Rattle.life_core.specs.Function.{Function}
-use Rattle.life_core.specs.Proper.{held_if, held_by, sort_of}
+use Rattle.life_core.specs.Proper.{Holding, held_by, sort_of}
 use Rattle.life_store.specs.Cells.{at, set, unset, at-set_same}
 use Rattle.life_store.specs.Content.{Content, Object, newborn, with_birth, with_resize, live_words_of}
 use Rattle.life_store.specs.Doing.{Setting, born_pointer, Effect, Next, Traps, Strays, put_cell, born_object, with_value_object, live_as, live_over, live_local, on_next, end_object, end_cell, cell}
@@ -50,22 +49,22 @@ born_content c d e r ty number born resized =
 pub resized_newborn : (o : Option Object) (x : Object) (P : Object → Type 0) → o ≡ Some x → IfSome o P → P x
 resized_newborn o x P e h = subst (λ (q : Option Object). IfSome q P) e h
 
-pub born_step : (s : Setting) (ty : TyId) (x : ℕ) (c e : Content) (cells new : List Cell) (r : ObjRef) (output : List ℕ) (input : List ℤ) → (s.cells < live_words_of c + 3 → ⊥) → r.birth ≡ c.births → e ≡ with_value_object ty c
+pub born_step : (s : Setting) (ty : TyId) (x : ℕ) (c e : Content) (cells new : List Cell) (r : ObjRef) (output : List ℕ) (input : List ℤ) → (s.given.cells < live_words_of c + 3 → ⊥) → r.birth ≡ c.births → e ≡ with_value_object ty c
     → put_cell x (state.Named c.births) (state_of (with_value_object ty c) cells output input) ≡ state_of e new output input → born_object s ty x (state_of c cells output input) ≡ Next (state_of e new output input)
 born_step s ty x c e cells new r output input within number is put =
     ⊎_elim (λ t. absurd (within t.1)) (λ t. ap (λ b. cond b (Traps trap.Cells) (Next (put_cell x (state.Named c.births) (state_of (with_value_object ty c) cells output input)))) t.0 ∙ ap Next put)
-    (leb_tells (suc s.cells) (live_words_of c + 3))
+    (leb_tells (suc s.given.cells) (live_words_of c + 3))
 
 -- ---- which local comes to life
 
 -- what comes to life where nothing is alive
-pub live_is : (s : Setting) (types : Types) (f : Function) (x : ℕ) (l : Local) (k : Class) (form : Form) (st : State) → slice_get f.locals x ≡ Some l → cell st x ≡ Some state.Empty → k ≡ class_at types l.ty
-    → live_local s types f (slice_get f.locals x) form x st ≡ live_as s (held_if k l.kind) l.ty form x st
-live_is s types f x l k form st there empty class =
+pub live_is : (s : Setting) (types : Types) (f : Function) (x : ℕ) (l : Local) (k : Holding) (form : Form) (st : State) → slice_get f.locals x ≡ Some l → cell st x ≡ Some state.Empty → k ≡ held_by types (Some l)
+    → live_local s types f (slice_get f.locals x) form x st ≡ live_as s k l.ty form x st
+live_is s types f x l k form st there empty sort =
     ap (λ o. live_local s types f o form x st) there
     ∙ ap (λ c. live_over s c (sort_of types f x) l.ty form x st) empty
     ∙ ap (λ o. live_as s (held_by types o) l.ty form x st) there
-    ∙ ap (λ c. live_as s (held_if c l.kind) l.ty form x st) (sym class)
+    ∙ ap (λ h. live_as s h l.ty form x st) (sym sort)
 
 -- what is alive doesn't come to life again
 pub live_strays : (s : Setting) (types : Types) (f : Function) (x : ℕ) (l : Local) (form : Form) (st : State) (o : Option state.Cell) → slice_get f.locals x ≡ Some l → cell st x ≡ o
@@ -115,8 +114,18 @@ on_next_ends e ending.WriteFault go h = h
 pub born_fits : (form : Form) (p : Pointer) (c : Content) (rows : Rows) → pointer_seen p ≡ born_pointer form → PointerFits c rows p
 born_fits form leads.Null c rows e = tt
 born_fits form leads.Wild c rows e = tt
+born_fits form (leads.Static characters) c rows e = tt
 born_fits form (leads.To object index moment) c rows e = absurd (clash form e)
   where
     clash : (given : Form) → pointer_seen (leads.To object index moment) ≡ born_pointer given → ⊥
     clash forms.Plain h = cc
     clash forms.Zero h = cc
+
+pub static_fits : (p : Pointer) (v : state.Characters) (c : Content) (rows : Rows) → pointer_seen p ≡ state.Static v → PointerFits c rows p
+static_fits leads.Null v c rows e = tt
+static_fits leads.Wild v c rows e = tt
+static_fits (leads.Static characters) v c rows e = tt
+static_fits (leads.To object index moment) v c rows e = absurd (clash v e)
+  where
+    clash : (given : state.Characters) → pointer_seen (leads.To object index moment) ≡ state.Static given → ⊥
+    clash given h = cc

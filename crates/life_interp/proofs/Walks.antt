@@ -1,23 +1,27 @@
--- The machine goes where a body goes, but where a step strays.
-use Rattle.std.proofs.Common.{◌≡◌, ℕ, zero, suc, ◌+◌, ◌<◌, ◌≤◌, List, [], ◌++◌, Option, Some, None, refl, ap, ◌∙◌, arith}
-use Rattle.std.proofs.lemmas.Bool.{and_parts, false≢true}
-use Rattle.std.specs.Prelude.{ℤ, pos, negsuc, IsTrue, ◌&&◌}
+-- The machine goes where the meaning goes, but where a step strays.
+use Rattle.std.proofs.Common.{◌≡◌, ℕ, zero, suc, ◌+◌, ◌<◌, ◌≤◌, List, [], ◌∷◌, ◌++◌, length, Option, Some, None, refl, sym, ap, subst, ◌∙◌, arith, cond}
+use Rattle.std.proofs.lemmas.Bool.{and_parts, false≢true, le-ltb, lt-ltb}
+use Rattle.std.proofs.lemmas.Option.{none-some, same_Some}
+use Rattle.std.specs.Prelude.{ℤ, pos, negsuc, IsTrue, ◌&&◌, slice_get}
 use Rattle.life_types.specs.Types.{Types}
 use Rattle.life_types.specs.declared.place.Place.{Place}
 use Rattle.life_core.specs.declared.exits.Exits.{Exits}
 use Rattle.life_core.specs.Step.{Test, NonZero, NotNull}
-use Rattle.life_core.specs.Function.{Function}
+use Rattle.life_core.specs.Function.{Function, Program}
 use Rattle.life_core.specs.Linked.{Linked, goes, parts, spot_at, enter, with_next, with_true, with_false, turned, body_exits, linked, code_of, no_exits, numbered}
 use Rattle.life_core.specs.Shape.{is_statement, is_condition}
-use Rattle.life_core.specs.Step.{Step}
-use Rattle.life_core.specs.Tree.{Tree, Skip, Then, Acts, Asks, Both, Either, Negated, Choice, Turns, Breaks, Continues, Returns, Stops, size, Action, Question, Return}
+use Rattle.life_core.specs.Operands.{Location}
+use Rattle.life_core.specs.Step.{Step, Live, End, Eval, Load, Save, Copy, Move, Aim, Repoint, Element, Cursor, Advance, Cut, Size, Same, Changes, Make, Call, Ports}
+use Rattle.life_core.specs.Tree.{Tree, Skip, Then, Acts, Asks, Both, Either, Negated, Choice, Turns, Breaks, Continues, Returns, Stops, size, Action, Question, Return, Stop as StopHere}
 use Rattle.life_core.proofs.EntryLemmas.{enter_then, enter_same}
 use Rattle.life_core.proofs.SpotLemmas.{linked_length}
+use Rattle.life_store.specs.Calls.{all_handed, parameters_given, results, target_given}
 use Rattle.life_store.specs.Doing.{Setting, Effect, Next, Traps, Faults, Strays, does, cell}
-use Rattle.life_store.specs.Meaning.{Stop, Trapped, Faulted, Stray, Exhausted, Answer, Normal, Broke, Continued, Returned, Stopped, Verdict, Holds, Fails, Cut, Called, Back, TooDeep, Quit, Callee, paid, perform, by_number, by_pointer, number_test, pointer_test, test_at, ask, leave, then_do, then_ask, choose, decide, after_body, turns, exec, test, results, finish}
-use Rattle.life_store.specs.State.{Pointer, Null, Wild, To, Cell, Empty, Named, Number, Points, World, State}
+use Rattle.life_store.specs.Meaning.{Stop, Trapped, Faulted, Stray, Exhausted, Answer, Normal, Broke, Continued, Returned, Stopped, Verdict, Holds, Fails, Cut, Called, Back, Barred, Quit, Callee, act, begun, call_with, calls, came_back, entered, frame, paid, perform, by_number, by_pointer, number_test, pointer_test, test_at, ask, leave, stop_at, then_do, then_ask, choose, decide, after_body, turns, exec, test, finish, with_world}
+use Rattle.life_store.specs.State.{Pointer, Null, Wild, To, Static, Cell, Empty, Named, Number, Points, World, State}
 use Rattle.life_store.proofs.CodeLemmas.{HasAt, has_front, has_back, has_all}
-use Rattle.life_interp.specs.Walk.{walk, at_node, at_point, moved, chosen}
+use Rattle.life_store.specs.declared.run.TrapKind.TheVariants as trap
+use Rattle.life_interp.specs.Walk.{Waiting, at_action, at_node, at_point, back, called_in, chosen, entered_in, let_in, moved, walk}
 
 -- what a stop says of how the machine ends: of a step that strays nothing
 abbrev EndsAt : Stop → World → Called → Type 0
@@ -32,16 +36,39 @@ ends_from (Faulted kind place) w c d e h = e ∙ h
 ends_from Stray w c d e h = tt
 ends_from Exhausted w c d e h = e ∙ h
 
-module _ (s : Setting) (types : Types) (f : Function) (call : Callee) (code : List Linked) where
+-- what a function for which no frame waits says of how the machine ends
+abbrev pub EndsAs : Called → Called → Type 0
+EndsAs (Back n w values) c = c ≡ Back n w values
+EndsAs (Barred kind) c = c ≡ Barred kind
+EndsAs (Quit stop w) c = EndsAt stop w c
+
+-- what a call says of how the machine goes on, that enters the function while a frame waits
+abbrev pub Comes : (s : Setting) (p : Program) → List Waiting → Waiting → World → ℕ → Called → Called → Type 0
+Comes s p ws v before n c (Back m w values) = (m ≤ n) × (c ≡ back s p (walk s p m) (v ∷ ws) m w values)
+Comes s p ws v before n c (Barred kind) = c ≡ Quit (Trapped kind v.place) before
+Comes s p ws v before n c (Quit stop w) = EndsAt stop w c
+
+-- each call does what the machine does with it
+abbrev pub CallsCome : (s : Setting) (p : Program) → List Waiting → Callee → Type 0
+CallsCome s p ws call = (v : Waiting) (g : ℕ) (xs : List Cell) (n : ℕ) (w : World)
+    → Comes s p ws v w n (called_in s p (walk s p n) ws v w (slice_get p.functions g) (Some xs)) (call g xs n w)
+
+module _ (s : Setting) (p : Program) (ws : List Waiting) (f : Function) (call : Callee) (come : CallsCome s p ws call) where
+  abbrev types : Types
+  types = p.types
+
+  abbrev code : List Linked
+  code = code_of f
+
   abbrev on : ℕ → Option ℕ → State → Called
-  on n to st = walk s types f code n to st
+  on n to st = walk s p n ws f to st
 
   -- the machine, of which this is the end, goes on as the statement answers
   abbrev Agree : Exits → ℕ → Called → Answer → Type 0
   Agree x n c (Normal m st) = (m ≤ n) × (c ≡ on m x.next st)
   Agree x n c (Broke m st) = (m ≤ n) × (c ≡ on m x.on_break st)
   Agree x n c (Continued m st) = (m ≤ n) × (c ≡ on m x.on_continue st)
-  Agree x n c (Returned m st) = c ≡ Back m st.world (results f st)
+  Agree x n c (Returned m st) = (m ≤ n) × (c ≡ back s p (walk s p m) ws m st.world (results types f st))
   Agree x n c (Stopped stop w) = EndsAt stop w c
 
   -- .. and as the condition does
@@ -54,7 +81,7 @@ module _ (s : Setting) (types : Types) (f : Function) (call : Callee) (code : Li
   agree_from x m n c d (Normal k st) le e h = (omega (arith, le, h.0), e ∙ h.1)
   agree_from x m n c d (Broke k st) le e h = (omega (arith, le, h.0), e ∙ h.1)
   agree_from x m n c d (Continued k st) le e h = (omega (arith, le, h.0), e ∙ h.1)
-  agree_from x m n c d (Returned k st) le e h = e ∙ h
+  agree_from x m n c d (Returned k st) le e h = (omega (arith, le, h.0), e ∙ h.1)
   agree_from x m n c d (Stopped stop w) le e h = ends_from stop w c d e h
 
   test_from : (held failed : Option ℕ) (m n : ℕ) (c d : Called) (v : Verdict) → m ≤ n → c ≡ d → AgreeTest held failed m d v → AgreeTest held failed n c v
@@ -64,8 +91,8 @@ module _ (s : Setting) (types : Types) (f : Function) (call : Callee) (code : Li
 
   -- ---- one point
 
-  step : (n p : ℕ) (st : State) (l : Linked) → numbered code p ≡ Some l → on (suc n) (Some p) st ≡ at_node s types f (walk s types f code n) l.spot.node l.spot.place l.leads n st
-  step n p st l h = ap (λ o. at_point s types f (walk s types f code n) o n st) h
+  step : (n q : ℕ) (st : State) (l : Linked) → numbered code q ≡ Some l → on (suc n) (Some q) st ≡ at_node s p (walk s p n) ws f l.spot.node l.spot.place l.leads n st
+  step n q st l h = ap (λ o. at_point s p (walk s p n) ws f o n st) h
 
   paid_agrees : (place : Place) (before : World) (x : Exits) (n : ℕ) (e : Effect) → Agree x (suc n) (moved (on n x.next) place before e) (paid place before e n)
   paid_agrees place before x n (Next st) = (omega arith, refl)
@@ -73,51 +100,92 @@ module _ (s : Setting) (types : Types) (f : Function) (call : Callee) (code : Li
   paid_agrees place before x n (Faults kind) = refl
   paid_agrees place before x n Strays = tt
 
-  acts_agree : (place : Place) (i : Step) (p : ℕ) (x : Exits) → numbered code p ≡ Some (record { spot = spot_at place (Action i); leads = goes x.next }) → (n : ℕ) (st : State)
-      → Agree x n (on n (Some p) st) (perform s types f call place i n st)
-  acts_agree place i p x h zero st = refl
-  acts_agree place i p x h (suc n) st =
-      agree_from x (suc n) (suc n) _ _ (paid place st.world (does s types f i st) n) (omega arith) (step n p st (record { spot = spot_at place (Action i); leads = goes x.next }) h)
-      (paid_agrees place st.world x n (does s types f i st))
+  -- behind a call
+  back_agrees : (place : Place) (target : Option Location) (x : Exits) (n : ℕ) (st : State) (c r : Called)
+      → Comes s p ws (record { function = f; cells = st.cells; place = place; to = x.next; target = target }) st.world n c r → Agree x (suc n) c (came_back s types f place target st r)
+  back_agrees place target x n st c (Back m w values) h =
+      agree_from x (suc m) (suc n) c _ (paid place w (target_given s types f target values (with_world w st)) m) (omega (arith, h.0)) h.1
+      (paid_agrees place w x m (target_given s types f target values (with_world w st)))
+  back_agrees place target x n st c (Barred kind) h = h
+  back_agrees place target x n st c (Quit stop w) h = h
 
-  by_number_agrees : (held failed : Option ℕ) (n : ℕ) (st : State) (z : ℤ) → AgreeTest held failed (suc n) (chosen (walk s types f code n) held failed (by_number z n st)) (by_number z n st)
+  call_agrees : (place : Place) (target : Option Location) (g : ℕ) (xs : Option (List Cell)) (x : Exits) (n : ℕ) (st : State)
+      → (let v : Waiting = record { function = f; cells = st.cells; place = place; to = x.next; target = target } in
+      Agree x (suc n) (called_in s p (walk s p n) ws v st.world (slice_get p.functions g) xs) (came_back s types f place target st (call_with call g xs n st.world)))
+  call_agrees place target g None x n st = tt
+  call_agrees place target g (Some vs) x n st = back_agrees place target x n st _ (call g vs n st.world) (come _ g vs n st.world)
+
+  act_agrees : (place : Place) (i : Step) (x : Exits) (n : ℕ) (st : State) → Agree x (suc n) (at_action s p (walk s p n) ws f i place x.next st) (act s types f call place i n st)
+  act_agrees place (Live y form) x n st = paid_agrees place st.world x n (does s types f (Live y form) st)
+  act_agrees place (End ys) x n st = paid_agrees place st.world x n (does s types f (End ys) st)
+  act_agrees place (Eval r op) x n st = paid_agrees place st.world x n (does s types f (Eval r op) st)
+  act_agrees place (Load r o) x n st = paid_agrees place st.world x n (does s types f (Load r o) st)
+  act_agrees place (Save o r) x n st = paid_agrees place st.world x n (does s types f (Save o r) st)
+  act_agrees place (Copy to from) x n st = paid_agrees place st.world x n (does s types f (Copy to from) st)
+  act_agrees place (Move to y) x n st = paid_agrees place st.world x n (does s types f (Move to y) st)
+  act_agrees place (Aim q source) x n st = paid_agrees place st.world x n (does s types f (Aim q source) st)
+  act_agrees place (Repoint q r) x n st = paid_agrees place st.world x n (does s types f (Repoint q r) st)
+  act_agrees place (Element q b which) x n st = paid_agrees place st.world x n (does s types f (Element q b which) st)
+  act_agrees place (Cursor q b end) x n st = paid_agrees place st.world x n (does s types f (Cursor q b end) st)
+  act_agrees place (Advance q r k direction) x n st = paid_agrees place st.world x n (does s types f (Advance q r k direction) st)
+  act_agrees place (Cut q r k count) x n st = paid_agrees place st.world x n (does s types f (Cut q r k count) st)
+  act_agrees place (Size r b) x n st = paid_agrees place st.world x n (does s types f (Size r b) st)
+  act_agrees place (Same r a b equal) x n st = paid_agrees place st.world x n (does s types f (Same r a b equal) st)
+  act_agrees place (Changes o change) x n st = paid_agrees place st.world x n (does s types f (Changes o change) st)
+  act_agrees place (Make u made) x n st = paid_agrees place st.world x n (does s types f (Make u made) st)
+  act_agrees place (Call target g ys) x n st = call_agrees place target g.0 (all_handed st ys) x n st
+  act_agrees place (Ports gate) x n st = paid_agrees place st.world x n (does s types f (Ports gate) st)
+
+  acts_agree : (place : Place) (i : Step) (q : ℕ) (x : Exits) → numbered code q ≡ Some (record { spot = spot_at place (Action i); leads = goes x.next }) → (n : ℕ) (st : State)
+      → Agree x n (on n (Some q) st) (perform s types f call place i n st)
+  acts_agree place i q x h zero st = refl
+  acts_agree place i q x h (suc n) st =
+      agree_from x (suc n) (suc n) _ _ (act s types f call place i n st) (omega arith) (step n q st (record { spot = spot_at place (Action i); leads = goes x.next }) h)
+      (act_agrees place i x n st)
+
+  by_number_agrees : (held failed : Option ℕ) (n : ℕ) (st : State) (z : ℤ) → AgreeTest held failed (suc n) (chosen (on n) held failed (by_number z n st)) (by_number z n st)
   by_number_agrees held failed n st (pos zero) = (omega arith, refl)
   by_number_agrees held failed n st (pos (suc z)) = (omega arith, refl)
   by_number_agrees held failed n st (negsuc z) = (omega arith, refl)
 
-  by_pointer_agrees : (held failed : Option ℕ) (n : ℕ) (st : State) (p : Pointer) → AgreeTest held failed (suc n) (chosen (walk s types f code n) held failed (by_pointer p n st)) (by_pointer p n st)
+  by_pointer_agrees : (held failed : Option ℕ) (n : ℕ) (st : State) (p : Pointer) → AgreeTest held failed (suc n) (chosen (on n) held failed (by_pointer p n st)) (by_pointer p n st)
   by_pointer_agrees held failed n st Null = (omega arith, refl)
   by_pointer_agrees held failed n st Wild = (omega arith, refl)
   by_pointer_agrees held failed n st (To t) = (omega arith, refl)
+  by_pointer_agrees held failed n st (Static c) = (omega arith, refl)
 
-  number_agrees : (held failed : Option ℕ) (n : ℕ) (st : State) (o : Option Cell) → AgreeTest held failed (suc n) (chosen (walk s types f code n) held failed (number_test o n st)) (number_test o n st)
+  number_agrees : (held failed : Option ℕ) (n : ℕ) (st : State) (o : Option Cell) → AgreeTest held failed (suc n) (chosen (on n) held failed (number_test o n st)) (number_test o n st)
   number_agrees held failed n st None = tt
   number_agrees held failed n st (Some Empty) = tt
   number_agrees held failed n st (Some (Named m)) = tt
   number_agrees held failed n st (Some (Number z)) = by_number_agrees held failed n st z
   number_agrees held failed n st (Some (Points p)) = tt
 
-  pointer_agrees : (held failed : Option ℕ) (n : ℕ) (st : State) (o : Option Cell) → AgreeTest held failed (suc n) (chosen (walk s types f code n) held failed (pointer_test o n st)) (pointer_test o n st)
+  pointer_agrees : (held failed : Option ℕ) (n : ℕ) (st : State) (o : Option Cell) → AgreeTest held failed (suc n) (chosen (on n) held failed (pointer_test o n st)) (pointer_test o n st)
   pointer_agrees held failed n st None = tt
   pointer_agrees held failed n st (Some Empty) = tt
   pointer_agrees held failed n st (Some (Named m)) = tt
   pointer_agrees held failed n st (Some (Number z)) = tt
   pointer_agrees held failed n st (Some (Points p)) = by_pointer_agrees held failed n st p
 
-  test_at_agrees : (held failed : Option ℕ) (n : ℕ) (st : State) (t : Test) → AgreeTest held failed (suc n) (chosen (walk s types f code n) held failed (test_at t n st)) (test_at t n st)
+  test_at_agrees : (held failed : Option ℕ) (n : ℕ) (st : State) (t : Test) → AgreeTest held failed (suc n) (chosen (on n) held failed (test_at t n st)) (test_at t n st)
   test_at_agrees held failed n st (NonZero r) = number_agrees held failed n st (cell st r)
   test_at_agrees held failed n st (NotNull p) = pointer_agrees held failed n st (cell st p.local)
 
-  asks_agree : (place : Place) (t : Test) (p : ℕ) (held failed : Option ℕ) → numbered code p ≡ Some (record { spot = spot_at place (Question t); leads = parts held failed }) → (n : ℕ) (st : State)
-      → AgreeTest held failed n (on n (Some p) st) (ask t n st)
-  asks_agree place t p held failed h zero st = refl
-  asks_agree place t p held failed h (suc n) st =
-      test_from held failed (suc n) (suc n) _ _ (test_at t n st) (omega arith) (step n p st (record { spot = spot_at place (Question t); leads = parts held failed }) h)
+  asks_agree : (place : Place) (t : Test) (q : ℕ) (held failed : Option ℕ) → numbered code q ≡ Some (record { spot = spot_at place (Question t); leads = parts held failed }) → (n : ℕ) (st : State)
+      → AgreeTest held failed n (on n (Some q) st) (ask t n st)
+  asks_agree place t q held failed h zero st = refl
+  asks_agree place t q held failed h (suc n) st =
+      test_from held failed (suc n) (suc n) _ _ (test_at t n st) (omega arith) (step n q st (record { spot = spot_at place (Question t); leads = parts held failed }) h)
       (test_at_agrees held failed n st t)
 
-  leave_agrees : (place : Place) (p : ℕ) (x : Exits) → numbered code p ≡ Some (record { spot = spot_at place Return; leads = [] }) → (n : ℕ) (st : State) → Agree x n (on n (Some p) st) (leave n st)
-  leave_agrees place p x h zero st = refl
-  leave_agrees place p x h (suc n) st = step n p st (record { spot = spot_at place Return; leads = [] }) h
+  leave_agrees : (place : Place) (q : ℕ) (x : Exits) → numbered code q ≡ Some (record { spot = spot_at place Return; leads = [] }) → (n : ℕ) (st : State) → Agree x n (on n (Some q) st) (leave n st)
+  leave_agrees place q x h zero st = refl
+  leave_agrees place q x h (suc n) st = (omega arith, step n q st (record { spot = spot_at place Return; leads = [] }) h)
+
+  stop_agrees : (place : Place) (q : ℕ) (x : Exits) → numbered code q ≡ Some (record { spot = spot_at place StopHere; leads = [] }) → (n : ℕ) (st : State) → Agree x n (on n (Some q) st) (stop_at place n st)
+  stop_agrees place q x h zero st = refl
+  stop_agrees place q x h (suc n) st = step n q st (record { spot = spot_at place StopHere; leads = [] }) h
 
   -- ---- ways of going on
 
@@ -203,7 +271,7 @@ module _ (s : Setting) (types : Types) (f : Function) (call : Callee) (code : Li
         let hs = and_parts (is_statement a) (is_statement c) h in
         let to = enter c (b + size a) x in
         let inner = with_next to x in
-        agree_from x n n _ _ (then_do (exec s types f call a n st) (exec s types f call c)) (omega arith) (ap (λ p. on n p st) (enter_then a c b x hs.0))
+        agree_from x n n _ _ (then_do (exec s types f call a n st) (exec s types f call c)) (omega arith) (ap (λ to'. on n to' st) (enter_then a c b x hs.0))
         (then_do_agrees to x n _ (exec s types f call a n st) (exec s types f call c)
         (statement_agrees a b inner hs.0 (has_front code b (linked a b inner) (linked c (b + size a) x) has) n st)
         (λ m s'. statement_agrees c (b + size a) x hs.1 (behind_first a b inner (linked c (b + size a) x) has) m s'))
@@ -222,7 +290,7 @@ module _ (s : Setting) (types : Types) (f : Function) (call : Callee) (code : Li
         let tests = with_true held (with_false failed x) in
         let rest = linked a first x ++ linked c second x in
         let more = behind_first t b tests rest has in
-        agree_from x n n _ _ (choose (test s types f call t n st) (exec s types f call a) (exec s types f call c)) (omega arith) (ap (λ p. on n p st) (enter_same t b x tests refl refl refl))
+        agree_from x n n _ _ (choose (test s types f call t n st) (exec s types f call a) (exec s types f call c)) (omega arith) (ap (λ to'. on n to' st) (enter_same t b x tests refl refl refl))
         (choose_agrees held failed x n _ (test s types f call t n st) (exec s types f call a) (exec s types f call c)
         (condition_agrees t b tests hs.0 (has_front code b (linked t b tests) rest has) n st)
         (λ m s' lt. statement_agrees a first x hs'.0 (has_front code first (linked a first x) (linked c second x) more) m s')
@@ -240,7 +308,7 @@ module _ (s : Setting) (types : Types) (f : Function) (call : Callee) (code : Li
         let rest = linked body first inner ++ linked next second turn in
         let more = behind_first t b tests rest has in
         turns_agree n (enter t b x) into onward x (test s types f call t) (exec s types f call body) (exec s types f call next)
-        (λ m s'. test_from into x.next m m _ _ (test s types f call t m s') (omega arith) (ap (λ p. on m p s') (enter_same t b x tests refl refl refl))
+        (λ m s'. test_from into x.next m m _ _ (test s types f call t m s') (omega arith) (ap (λ to'. on m to' s') (enter_same t b x tests refl refl refl))
         (condition_agrees t b tests hs.0 (has_front code b (linked t b tests) rest has) m s'))
         (λ m s'. statement_agrees body first inner hs'.0 (has_front code first (linked body first inner) (linked next second turn) more) m s')
         (λ m s'. statement_agrees next second turn hs'.1 (behind_first body first inner (linked next second turn) more) m s')
@@ -248,7 +316,7 @@ module _ (s : Setting) (types : Types) (f : Function) (call : Callee) (code : Li
     statement_agrees Breaks b x h has n st = (omega arith, refl)
     statement_agrees Continues b x h has n st = (omega arith, refl)
     statement_agrees (Returns place) b x h has n st = leave_agrees place b x has.0 n st
-    statement_agrees (Stops place) b x h has n st = tt
+    statement_agrees (Stops place) b x h has n st = stop_agrees place b x has.0 n st
 
     condition_agrees : (t : Tree) (b : ℕ) (x : Exits) → IsTrue (is_condition t) → HasAt code b (linked t b x) → (n : ℕ) (st : State)
         → AgreeTest x.on_true x.on_false n (on n (enter t b x) st) (test s types f call t n st)
@@ -257,7 +325,7 @@ module _ (s : Setting) (types : Types) (f : Function) (call : Callee) (code : Li
         let hs = and_parts (is_statement a) (is_condition c) h in
         let to = enter c (b + size a) x in
         let inner = with_next to x in
-        test_from x.on_true x.on_false n n _ _ (then_ask (exec s types f call a n st) (test s types f call c)) (omega arith) (ap (λ p. on n p st) (enter_then a c b x hs.0))
+        test_from x.on_true x.on_false n n _ _ (then_ask (exec s types f call a n st) (test s types f call c)) (omega arith) (ap (λ to'. on n to' st) (enter_then a c b x hs.0))
         (then_ask_agrees to x.on_true x.on_false x n _ (exec s types f call a n st) (test s types f call c)
         (statement_agrees a b inner hs.0 (has_front code b (linked a b inner) (linked c (b + size a) x) has) n st)
         (λ m s'. condition_agrees c (b + size a) x hs.1 (behind_first a b inner (linked c (b + size a) x) has) m s'))
@@ -268,7 +336,7 @@ module _ (s : Setting) (types : Types) (f : Function) (call : Callee) (code : Li
         let to = enter c (b + size a) x in
         let inner = with_true to x in
         both_agree to x.on_true x.on_false n _ (test s types f call a n st) (test s types f call c)
-        (test_from to x.on_false n n _ _ (test s types f call a n st) (omega arith) (ap (λ p. on n p st) (enter_same a b x inner refl refl refl))
+        (test_from to x.on_false n n _ _ (test s types f call a n st) (omega arith) (ap (λ to'. on n to' st) (enter_same a b x inner refl refl refl))
         (condition_agrees a b inner hs.0 (has_front code b (linked a b inner) (linked c (b + size a) x) has) n st))
         (λ m s'. condition_agrees c (b + size a) x hs.1 (behind_first a b inner (linked c (b + size a) x) has) m s')
     condition_agrees (Either a c) b x h has n st =
@@ -276,13 +344,13 @@ module _ (s : Setting) (types : Types) (f : Function) (call : Callee) (code : Li
         let to = enter c (b + size a) x in
         let inner = with_false to x in
         either_agrees to x.on_true x.on_false n _ (test s types f call a n st) (test s types f call c)
-        (test_from x.on_true to n n _ _ (test s types f call a n st) (omega arith) (ap (λ p. on n p st) (enter_same a b x inner refl refl refl))
+        (test_from x.on_true to n n _ _ (test s types f call a n st) (omega arith) (ap (λ to'. on n to' st) (enter_same a b x inner refl refl refl))
         (condition_agrees a b inner hs.0 (has_front code b (linked a b inner) (linked c (b + size a) x) has) n st))
         (λ m s'. condition_agrees c (b + size a) x hs.1 (behind_first a b inner (linked c (b + size a) x) has) m s')
     condition_agrees (Negated a) b x h has n st =
         let inner = turned x in
         negated_agrees x.on_true x.on_false n _ (test s types f call a n st)
-        (test_from x.on_false x.on_true n n _ _ (test s types f call a n st) (omega arith) (ap (λ p. on n p st) (enter_same a b x inner refl refl refl))
+        (test_from x.on_false x.on_true n n _ _ (test s types f call a n st) (omega arith) (ap (λ to'. on n to' st) (enter_same a b x inner refl refl refl))
         (condition_agrees a b inner h has n st))
     condition_agrees (Choice t a c) b x h has n st = absurd (false≢true h)
     condition_agrees (Turns t body next) b x h has n st = absurd (false≢true h)
@@ -291,22 +359,63 @@ module _ (s : Setting) (types : Types) (f : Function) (call : Callee) (code : Li
     condition_agrees (Returns place) b x h has n st = absurd (false≢true h)
     condition_agrees (Stops place) b x h has n st = absurd (false≢true h)
 
--- what a call's answer says of how the machine ends
-abbrev pub EndsAs : Called → Called → Type 0
-EndsAs (Back n w values) c = c ≡ Back n w values
-EndsAs TooDeep c = Unit {0}
-EndsAs (Quit stop w) c = EndsAt stop w c
+  finished : (v : Waiting) (vs : List Waiting) → ws ≡ v ∷ vs → (before : World) (n : ℕ) (c : Called) (a : Answer) → Agree no_exits n c a → Comes s p vs v before n c (finish types f a)
+  finished v vs e before n c (Normal m st) h = tt
+  finished v vs e before n c (Broke m st) h = tt
+  finished v vs e before n c (Continued m st) h = tt
+  finished v vs e before n c (Returned m st) h = (h.0, h.1 ∙ ap (λ us. back s p (walk s p m) us m st.world (results types f st)) e)
+  finished v vs e before n c (Stopped stop w) h = h
 
-finished : (s : Setting) (types : Types) (f : Function) (code : List Linked) (n : ℕ) (c : Called) (a : Answer) → Agree s types f (λ g args m w. TooDeep) code no_exits n c a → EndsAs (finish f a) c
-finished s types f code n c (Normal m st) h = tt
-finished s types f code n c (Broke m st) h = tt
-finished s types f code n c (Continued m st) h = tt
-finished s types f code n c (Returned m st) h = h
-finished s types f code n c (Stopped stop w) h = h
+  -- the machine, from where control enters the body on, goes on as the body does
+  pub body_agrees : IsTrue (is_statement f.body) → (n : ℕ) (st : State) → Agree no_exits n (on n (enter f.body 1 no_exits) st) (exec s types f call f.body n st)
+  body_agrees h n st = statement_agrees f.body 1 no_exits h (has_all code) n st
 
--- the machine, from where control enters the body on, ends as the body does
-pub walks : (s : Setting) (types : Types) (f : Function) (call : Callee) → IsTrue (is_statement f.body) → (n : ℕ) (st : State)
-    → EndsAs (finish f (exec s types f call f.body n st)) (walk s types f (code_of f) n (enter f.body 1 no_exits) st)
-walks s types f call h n st =
-    finished s types f (code_of f) n _ (exec s types f call f.body n st)
-    (statement_agrees s types f call (code_of f) f.body 1 no_exits h (has_all (code_of f)) n st)
+  pub comes_back : (v : Waiting) (vs : List Waiting) → ws ≡ v ∷ vs → IsTrue (is_statement f.body) → (before : World) (n : ℕ) (st : State)
+      → Comes s p vs v before n (on n (enter f.body 1 no_exits) st) (finish types f (exec s types f call f.body n st))
+  comes_back v vs e h before n st = finished v vs e before n _ (exec s types f call f.body n st) (body_agrees h n st)
+
+  alone : ws ≡ [] → (n : ℕ) (c : Called) (a : Answer) → Agree no_exits n c a → EndsAs (finish types f a) c
+  alone e n c (Normal m st) h = tt
+  alone e n c (Broke m st) h = tt
+  alone e n c (Continued m st) h = tt
+  alone e n c (Returned m st) h = h.1 ∙ ap (λ us. back s p (walk s p m) us m st.world (results types f st)) e
+  alone e n c (Stopped stop w) h = h
+
+  -- .. and ends as the body does where no frame waits
+  pub ends_alone : ws ≡ [] → IsTrue (is_statement f.body) → (n : ℕ) (st : State) → EndsAs (finish types f (exec s types f call f.body n st)) (on n (enter f.body 1 no_exits) st)
+  ends_alone e h n st = alone e n _ (exec s types f call f.body n st) (body_agrees h n st)
+
+-- ---- calls in calls
+
+-- the body of each function is a statement
+abbrev pub AreStatements : List Function → Type 0
+AreStatements [] = Unit {0}
+AreStatements (f ∷ fs) = IsTrue (is_statement f.body) × AreStatements fs
+
+statement_at : (fs : List Function) (n : ℕ) (f : Function) → AreStatements fs → slice_get fs n ≡ Some f → IsTrue (is_statement f.body)
+statement_at [] n f h e = absurd (none-some f e)
+statement_at (g ∷ gs) zero f h e = subst (λ (k : Function). IsTrue (is_statement k.body)) (same_Some g f e) h.0
+statement_at (g ∷ gs) (suc n) f h e = statement_at gs n f h.1 e
+
+module _ (s : Setting) (p : Program) (statements : AreStatements p.functions) (d : ℕ) (ws : List Waiting) (v : Waiting) (come : CallsCome s p (v ∷ ws) (calls s p d)) (n : ℕ) (w : World) where
+  begun_comes : (k : Function) → IsTrue (is_statement k.body) → (e : Effect)
+      → Comes s p ws v w n (let_in (walk s p n (v ∷ ws) k (enter k.body 1 no_exits)) v.place w e) (begun e w (λ st. finish p.types k (exec s p.types k (calls s p d) k.body n st)))
+  begun_comes k h (Next st) = comes_back s p (v ∷ ws) k (calls s p d) come v ws refl h w n st
+  begun_comes k h (Traps kind) = refl
+  begun_comes k h (Faults kind) = tt
+  begun_comes k h Strays = tt
+
+  callee_comes : (g : ℕ) (xs : List Cell) (o : Option Function) → slice_get p.functions g ≡ o
+      → Comes s p ws v w n (entered_in s p (walk s p n) (v ∷ ws) v.place w o xs) (entered s p.types o (calls s p d) xs n w)
+  callee_comes g xs None e = tt
+  callee_comes g xs (Some k) e = begun_comes k (statement_at p.functions g k statements e) (parameters_given s p.types k 0 xs (frame k w))
+
+module _ (s : Setting) (p : Program) (statements : AreStatements p.functions) where
+  -- as many calls may stand in calls as there is room for frames
+  pub calls_come : (d : ℕ) (ws : List Waiting) → length ws + 1 + d ≡ s.given.depth → CallsCome s p ws (calls s p d)
+  calls_come zero ws room v g xs n w =
+      ap (λ b. cond b (entered_in s p (walk s p n) (v ∷ ws) v.place w (slice_get p.functions g) xs) (Quit (Trapped trap.Depth v.place) w)) (le-ltb (length (v ∷ ws)) s.given.depth (omega (arith, room)))
+  calls_come (suc d) ws room v g xs n w =
+      subst (λ b. Comes s p ws v w n (cond b (entered_in s p (walk s p n) (v ∷ ws) v.place w (slice_get p.functions g) xs) (Quit (Trapped trap.Depth v.place) w)) (calls s p (suc d) g xs n w))
+      (sym (lt-ltb (length (v ∷ ws)) s.given.depth (omega (arith, room))))
+      (callee_comes s p statements d ws v (calls_come d (v ∷ ws) (omega (arith, room))) n w g xs (slice_get p.functions g) refl)

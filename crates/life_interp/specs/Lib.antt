@@ -2,5 +2,6 @@ pub mod Cells
 pub mod Fits
 pub mod Steps
 pub mod Walk
+pub mod Frames
 pub mod Walking
 pub mod Runs

@@ -10,6 +10,9 @@ use Rattle.life_store.specs.Content.{Content}
 use Rattle.life_store.specs.Meaning as meaning
 use Rattle.life_store.specs.Meaning.{Run}
 use Rattle.life_interp.specs.Walking.{Sunk, Takes, TakesPart}
+use Rattle.life_types.specs.declared.place.Place.{Place}
+use Rattle.life_interp.specs.declared.ending.Ending.{Ending}
+use Rattle.life_interp.specs.declared.ending.Ending.TheVariants as ending
 use Rattle.life_interp.specs.declared.outcome.Outcome.{Outcome}
 use Rattle.life_interp.specs.declared.outcome.Outcome.TheVariants as outcome
 
@@ -29,3 +32,15 @@ RunEnds run k outcome.NoMemory = TakesFront k run.output
 
 abbrev pub links_seen : Vec LinkRef Global → List Linked
 links_seen links = map link_seen links.items
+
+-- the entry isn't begun: it traps, or memory is wanted
+abbrev pub IsBarred : Ending → Type 0
+IsBarred (ending.Trap kind) = Unit {0}
+IsBarred (ending.Fault kind) = ⊥
+IsBarred ending.Stray = ⊥
+IsBarred ending.NoMemory = Unit {0}
+IsBarred ending.WriteFault = ⊥
+
+abbrev pub barred_as : Place → Ending → Outcome
+barred_as place (ending.Trap kind) = outcome.Trap kind place
+barred_as place _ = outcome.NoMemory

@@ -1,12 +1,19 @@
 -- What the machine's functions answer of the steps of the meaning.
-use Rattle.std.specs.Prelude.{◌≡◌, ℕ, ℤ, List, Some, Result, MatchResult, option_map, slice_get}
+use Rattle.std.specs.Prelude.{◌≡◌, ◌<◌, ◌+◌, ℕ, ℤ, List, Option, Some, None, Result, MatchResult, option_map, slice_get}
+use Rattle.std.specs.declared.alloc.Global.{Global}
+use Rattle.std.specs.declared.vec.Vec.{Vec}
+use Rattle.life_types.specs.Types.{Types}
+use Rattle.life_core.specs.Function.{Function}
 use Rattle.life_core.specs.Operands.{Operand, Name, Through}
-use Rattle.life_store.specs.Content.{Content, Object, word_at}
-use Rattle.life_store.specs.Doing.{Effect, Next, Traps, Faults, Strays, Found, Here, Wrong, Astray, named_by, behind_cell, on_found, on_number, on_pointer, saved, put_cell, number_in_word, resolve, cell, ported}
+use Rattle.life_store.specs.Calls.{parameters_given}
+use Rattle.life_store.specs.Content.{Content, Object, live_words_of, word_at}
+use Rattle.life_store.specs.Doing.{Setting, Effect, Next, Traps, Faults, Strays, Found, Here, Wrong, Astray, named_by, behind_cell, on_found, on_number, on_pointer, saved, put_cell, number_in_word, resolve, cell, characters_in, input_taken, on_view, with_output}
+use Rattle.life_store.specs.Meaning.{frame}
 use Rattle.life_store.specs.References.{Rows, HasWord, object_of}
 use Rattle.life_store.specs.State as state
 use Rattle.life_store.specs.State.{State}
-use Rattle.life_interp.specs.Cells.{cell_seen, state_of}
+use Rattle.life_store.specs.declared.run.TrapKind.TheVariants as trap
+use Rattle.life_interp.specs.Cells.{cell_seen, cells_seen, state_of, world_of}
 use Rattle.life_interp.specs.Fits.{IsRef}
 use Rattle.life_interp.specs.declared.ending.Ending.{Ending}
 use Rattle.life_interp.specs.declared.ending.Ending.TheVariants as ending
@@ -73,6 +80,45 @@ LeavesCells effect c cells new = Leaves (λ output input. effect (state_of c cel
 abbrev pub LeavesBoth : {A : Type 0} → (State → Effect) → Content → List Cell → Content → List Cell → Result A Ending → Type 0
 LeavesBoth effect c cells d new = Leaves (λ output input. effect (state_of c cells output input)) (state_of d new)
 
--- a register's value is written out
-abbrev pub ported_from : ℕ → State → Effect
-ported_from r st = on_number (cell st r) (λ z. Next (ported z st))
+-- a view's characters are written out
+abbrev pub viewed_from : Setting → ℕ → State → Effect
+viewed_from s v st = on_view (cell st v) (λ c. Next (with_output (characters_in s.texts c) st))
+
+-- a number of the input is taken into a register
+abbrev pub taken_into : ℕ → State → Effect
+taken_into r st = input_taken r st.world.input st
+
+-- ---- what a run is given
+
+-- the limit of live words and the texts are those at hand
+pub record IsSet (s : Setting) (limit : ℕ) (stand : List (List ℕ)) : Type 0 where
+  pub cells : s.given.cells ≡ limit
+  pub texts : s.texts ≡ stand
+
+-- why no object of a value is born
+abbrev pub BirthFails : ℕ → Content → Ending → Type 0
+BirthFails limit c (ending.Trap kind) = (kind ≡ trap.Cells) × (limit < live_words_of c + 3)
+BirthFails limit c (ending.Fault kind) = ⊥
+BirthFails limit c ending.Stray = ⊥
+BirthFails limit c ending.NoMemory = Unit {0}
+BirthFails limit c ending.WriteFault = ⊥
+
+-- ---- calls
+
+-- why nothing was handed over
+abbrev pub TellsNone : Option (List state.Cell) → Ending → Type 0
+TellsNone values (ending.Trap kind) = ⊥
+TellsNone values (ending.Fault kind) = ⊥
+TellsNone values ending.Stray = values ≡ None
+TellsNone values ending.NoMemory = Unit {0}
+TellsNone values ending.WriteFault = ⊥
+
+abbrev pub Hands : Option (List state.Cell) → Result (Vec Cell Global) Ending → Type 0
+Hands values result = MatchResult result (λ (handed : Vec Cell Global). values ≡ Some (cells_seen handed.items)) (TellsNone values)
+
+-- the cells of a new frame whose first locals are given the values
+abbrev pub Begins : Setting → Types → Function → List state.Cell → Content → Content → Result (Vec Cell Global) Ending → Type 0
+Begins s types f values c d result =
+    MatchResult result
+    (λ (cells : Vec Cell Global). (output : List ℕ) (input : List ℤ) → parameters_given s types f 0 values (frame f (world_of c output input)) ≡ Next (state_of d cells.items output input))
+    (λ e. (output : List ℕ) (input : List ℤ) → TellsEnd (parameters_given s types f 0 values (frame f (world_of c output input))) e)

@@ -1,13 +1,16 @@
--- A machine that goes from point to point of a function, each of which pays a step.
-use Rattle.std.specs.Prelude.{ℕ, zero, suc, List, [], ◌∷◌, Option, Some, None}
-use Rattle.life_types.specs.Types.{Types}
+-- A machine that goes from point to point, each of which pays a step, with a stack of frames that wait.
+use Rattle.std.specs.Prelude.{ℕ, zero, suc, cond, nat_lt, List, [], ◌∷◌, Option, Some, None, length, slice_get}
 use Rattle.life_types.specs.declared.place.Place.{Place}
-use Rattle.life_core.specs.Function.{Function}
-use Rattle.life_core.specs.Linked.{Lead, Linked, numbered}
+use Rattle.life_core.specs.Function.{Function, Program}
+use Rattle.life_core.specs.Linked.{Lead, Linked, code_of, enter, no_exits, numbered}
+use Rattle.life_core.specs.Operands.{Location}
+use Rattle.life_core.specs.Step.{Step, Call}
 use Rattle.life_core.specs.Tree.{Node, Action, Question, Return, Stop}
+use Rattle.life_store.specs.Calls.{all_handed, parameters_given, results, target_given}
 use Rattle.life_store.specs.Doing.{Setting, Effect, Next, Traps, Faults, Strays, does}
-use Rattle.life_store.specs.Meaning.{Trapped, Faulted, Stray, Exhausted, Verdict, Holds, Fails, Cut, test_at, Called, Back, Quit, results}
-use Rattle.life_store.specs.State.{World, State}
+use Rattle.life_store.specs.Meaning.{Trapped, Faulted, Stray, Exhausted, Verdict, Holds, Fails, Cut, test_at, Called, Back, Quit, frame}
+use Rattle.life_store.specs.State.{Cell, World, State}
+use Rattle.life_store.specs.declared.run.TrapKind.TheVariants as trap
 
 -- the way on where there is one alone, or where a test held
 abbrev pub first_way : List Lead → Option ℕ
@@ -19,9 +22,17 @@ abbrev pub second_way : List Lead → Option ℕ
 second_way [] = None
 second_way (l ∷ ls) = first_way ls
 
--- how it goes on from a point that control comes to, if to one
+-- a frame that waits for a call that stands at a place: where it goes on, and what is given the result
+pub record Waiting : Type 0 where
+  pub function : Function
+  pub cells : List Cell
+  pub place : Place
+  pub to : Option ℕ
+  pub target : Option Location
+
+-- how it goes on, with frames that wait, in a function, from a point that control comes to, if to one
 abbrev pub Go : Type 0
-Go = Option ℕ → State → Called
+Go = List Waiting → Function → Option ℕ → State → Called
 
 -- a stop keeps the world as it was before the point
 abbrev pub moved : (State → Called) → Place → World → Effect → Called
@@ -30,24 +41,52 @@ moved go place before (Traps kind) = Quit (Trapped kind place) before
 moved go place before (Faults kind) = Quit (Faulted kind place) before
 moved go place before Strays = Quit Stray before
 
-abbrev pub chosen : Go → Option ℕ → Option ℕ → Verdict → Called
+abbrev pub chosen : (Option ℕ → State → Called) → Option ℕ → Option ℕ → Verdict → Called
 chosen go held failed (Holds n st) = go held st
 chosen go held failed (Fails n st) = go failed st
 chosen go held failed (Cut s w) = Quit s w
 
-module _ (s : Setting) (types : Types) (f : Function) where
-  abbrev pub at_node : Go → Node → Place → List Lead → ℕ → State → Called
-  at_node go (Action i) place leads n st = moved (go (first_way leads)) place st.world (does s types f i st)
-  at_node go (Question t) place leads n st = chosen go (first_way leads) (second_way leads) (test_at t n st)
-  at_node go Return place leads n st = Back n st.world (results f st)
-  at_node go Stop place leads n st = Quit Stray st.world
+-- control enters a function whose parameters have their room
+abbrev pub let_in : (State → Called) → Place → World → Effect → Called
+let_in go place before (Next st) = go st
+let_in go place before (Traps kind) = Quit (Trapped kind place) before
+let_in go place before (Faults kind) = Quit Stray before
+let_in go place before Strays = Quit Stray before
 
-  abbrev pub at_point : Go → Option Linked → ℕ → State → Called
-  at_point go None n st = Quit Stray st.world
-  at_point go (Some l) n st = at_node go l.spot.node l.spot.place l.leads n st
+module _ (s : Setting) (p : Program) where
+  -- a function is called, and the frame at hand waits for it
+  abbrev pub entered_in : Go → List Waiting → Place → World → Option Function → List Cell → Called
+  entered_in go ws place w None xs = Quit Stray w
+  entered_in go ws place w (Some g) xs = let_in (go ws g (enter g.body 1 no_exits)) place w (parameters_given s p.types g 0 xs (frame g w))
 
-  -- so many steps from a point of the code on
-  abbrev pub walk : List Linked → ℕ → Go
-  walk code zero to st = Quit Exhausted st.world
-  walk code (suc n) None st = Quit Stray st.world
-  walk code (suc n) (Some p) st = at_point (walk code n) (numbered code p) n st
+  abbrev pub called_in : Go → List Waiting → Waiting → World → Option Function → Option (List Cell) → Called
+  called_in go ws v w callee None = Quit Stray w
+  called_in go ws v w callee (Some xs) =
+      cond (nat_lt (length (v ∷ ws)) s.given.depth) (entered_in go (v ∷ ws) v.place w callee xs) (Quit (Trapped trap.Depth v.place) w)
+
+  -- the frame that waits goes on, and its target is given the result
+  abbrev pub back : Go → List Waiting → ℕ → World → List Cell → Called
+  back go [] n w values = Back n w values
+  back go (v ∷ ws) n w values =
+      moved (go ws v.function v.to) v.place w (target_given s p.types v.function v.target values (record { world = w; cells = v.cells }))
+
+  abbrev pub at_action : Go → List Waiting → Function → Step → Place → Option ℕ → State → Called
+  at_action go ws f (Call target g xs) place to st =
+      called_in go ws (record { function = f; cells = st.cells; place = place; to = to; target = target }) st.world (slice_get p.functions g.0) (all_handed st xs)
+  at_action go ws f i place to st = moved (go ws f to) place st.world (does s p.types f i st)
+
+  abbrev pub at_node : Go → List Waiting → Function → Node → Place → List Lead → ℕ → State → Called
+  at_node go ws f (Action i) place leads n st = at_action go ws f i place (first_way leads) st
+  at_node go ws f (Question t) place leads n st = chosen (go ws f) (first_way leads) (second_way leads) (test_at t n st)
+  at_node go ws f Return place leads n st = back go ws n st.world (results p.types f st)
+  at_node go ws f Stop place leads n st = Quit (Trapped trap.Assert place) st.world
+
+  abbrev pub at_point : Go → List Waiting → Function → Option Linked → ℕ → State → Called
+  at_point go ws f None n st = Quit Stray st.world
+  at_point go ws f (Some l) n st = at_node go ws f l.spot.node l.spot.place l.leads n st
+
+  -- so many steps from a point on
+  abbrev pub walk : ℕ → Go
+  walk zero ws f to st = Quit Exhausted st.world
+  walk (suc n) ws f None st = Quit Stray st.world
+  walk (suc n) ws f (Some q) st = at_point (walk n) ws f (numbered (code_of f) q) n st

@@ -20,6 +20,7 @@ pub(crate) fn ask(cells: &[Cell], test: &Test) -> Option<bool>
             Some(Pointer::Null) => Some(false),
             Some(Pointer::Wild) => Some(true),
             Some(Pointer::To { .. }) => Some(true),
+            Some(Pointer::Static(_)) => Some(true),
         },
     }
 }

@@ -1,4 +1,7 @@
 // Why a step doesn't come to a next state.
+ghost use Rattle.std.specs.Prelude.{◌≡◌};
+ghost use Rattle.life_interp.specs.Walking.{halt_of};
+
 use life_store::{FaultKind, TrapKind};
 use life_types::Place;
 
@@ -18,8 +21,8 @@ pub(crate) enum Ending {
 /// Why the machine stops.
 #[derive(Clone, Copy, Debug)]
 pub(crate) enum Halt {
-    /// The function returned.
-    Returned,
+    /// The entry returned: the value that is told of its result.
+    Returned(i64),
     Trap(TrapKind, Place),
     Fault(FaultKind, Place),
     /// No step is left.
@@ -30,4 +33,17 @@ pub(crate) enum Halt {
     WriteFault,
     /// Memory was wanted and not had.
     NoMemory,
+}
+
+/// Why the machine stops at this place.
+pub(crate) fn halt_at(ending: Ending, place: Place) -> Halt
+    ensures { result ≡ halt_of place ending }
+{
+    match ending {
+        Ending::Trap(kind) => Halt::Trap(kind, place),
+        Ending::Fault(kind) => Halt::Fault(kind, place),
+        Ending::Stray => Halt::Stray,
+        Ending::NoMemory => Halt::NoMemory,
+        Ending::WriteFault => Halt::WriteFault,
+    }
 }

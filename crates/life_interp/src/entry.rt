@@ -1,11 +1,11 @@
 // The points of all functions, and the run of one of them.
-ghost use Rattle.std.specs.Prelude.{◌≡◌, ◌≤◌, ◌<◌, List, ℤ, IfOk, IfSome, length, map, slice_get};
+ghost use Rattle.std.specs.Prelude.{◌≡◌, ◌≤◌, ◌<◌, IfOk, IfSome, length, map, slice_get};
 ghost use Rattle.life_core.specs.Function.{program_of};
 ghost use Rattle.life_core.specs.Linked.{code_of};
 ghost use Rattle.life_core.specs.Proper.{IsProperProgram};
 ghost use Rattle.life_interp.specs.Runs.{links_seen, RunEnds};
 ghost use Rattle.life_core.specs.Limits.{HaveFewPoints, HaveLongNumbers};
-ghost use Rattle.life_store.specs.Meaning.{run_of};
+ghost use Rattle.life_store.specs.Meaning.{run_of, IsAdmitted};
 ghost use Rattle.life_store.specs.declared.run.Growth.{Growth as AnyGrowth};
 
 use crate::outcome::Outcome;
@@ -29,11 +29,12 @@ pub(crate) fn all_links(alloc: Global, p: &CoreProgram) -> Result<Vec<Vec<LinkRe
 }
 
 /// Runs a function of the program in a store of its own.
-pub(crate) fn run_entry<O: Sink>(
+pub(crate) fn run_entry<'p, O: Sink>(
     alloc: Global,
-    program: &CoreProgram,
-    code: &[Vec<LinkRef>],
+    program: &'p CoreProgram,
+    code: &[Vec<LinkRef<'p>>],
     entry: FnId,
+    input: &[i64],
     limits: Limits,
     steps: u64,
     out: &mut O,
@@ -43,25 +44,17 @@ pub(crate) fn run_entry<O: Sink>(
     requires long { HaveLongNumbers (program_of program.now).functions }
     requires entry { entry.0 < length (program_of program.now).functions }
     requires steps { steps ≤ MOST_STEPS }
-    ensures { (growth : AnyGrowth) (input : List ℤ) → IfSome (slice_get (program_of program.now).functions entry.0) (λ f.
-        RunEnds (run_of (record { growth = growth; cells = limits.cells; depth = limits.depth }) (program_of program.now) entry.0 f input steps)
+    requires admitted { IfSome (slice_get (program_of program.now).functions entry.0) (λ f. IsAdmitted (program_of program.now) f input.now) }
+    ensures { (growth : AnyGrowth) → IfSome (slice_get (program_of program.now).functions entry.0) (λ f.
+        RunEnds (run_of (record { growth = growth; cells = limits.cells; depth = limits.depth }) (program_of program.now) entry.0 f input.now steps)
         (record { old = O.taken out.old; new = O.taken out.new; faults = O.faults out.old; later = O.faults out.new }) result) }
 {
-    let number = entry.0 as usize;
-    let f = &program.functions[number];
+    let f = &program.functions[entry.0 as usize];
     if limits.depth == 0 {
         return Outcome::Trap(TrapKind::Depth, f.place);
     }
     let mut store = PlainStore::new(alloc, limits.cells);
     run_on(
-        alloc,
-        program,
-        f,
-        &code[number],
-        entry,
-        limits,
-        steps,
-        &mut store,
-        out,
+        alloc, program, code, entry, input, limits, steps, &mut store, out,
     )
 }

@@ -13,11 +13,17 @@ pub(crate) fn cell_at(cells: &[Cell], local: u32) -> Option<Cell>
 }
 
 /// Sets what the local holds, if the frame has it.
-#[tactic(auto, using(std::proofs::lemmas::List::set_past))]
 pub(crate) fn put_cell(cells: &mut Vec<Cell>, local: u32, cell: Cell)
     ensures { cells.new.items ≡ slice_set cells.old.items local cell }
 {
-    let local = local as usize;
+    put_at(cells, local as usize, cell);
+}
+
+/// .. by an index.
+#[tactic(auto, using(std::proofs::lemmas::List::set_past))]
+pub(crate) fn put_at(cells: &mut Vec<Cell>, local: usize, cell: Cell)
+    ensures { cells.new.items ≡ slice_set cells.old.items local cell }
+{
     if local < cells.len() {
         cells[local] = cell;
     }

@@ -3,16 +3,23 @@
 
 mod arithmetic;
 mod ask;
+mod calls;
 mod ending;
 mod entry;
 mod frame;
+mod frames;
+mod giving;
+mod handing;
+mod links;
 mod locals;
 mod machine;
 mod outcome;
 mod places;
 mod point;
 mod pointers;
+mod ports;
 mod run;
+mod sort;
 mod steps;
 mod value;
 mod values;

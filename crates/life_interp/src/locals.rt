@@ -1,17 +1,20 @@
 // Instructions that bring locals to life and end them.
-ghost use Rattle.std.specs.Prelude.{◌≡◌, ◌≤◌, OnOk, slice_get};
+ghost use Rattle.std.specs.Prelude.{◌≡◌, ◌≤◌, ◌+◌, IfErr, IfOk, OnOk, slice_get};
 ghost use Rattle.life_core.specs.Function.{function_of};
 ghost use Rattle.life_interp.specs.Cells.{pointer_seen};
-ghost use Rattle.life_interp.specs.Fits.{CanStep, CellsFit, Grows, IsFit};
-ghost use Rattle.life_interp.specs.Steps.{LeavesBoth, LeavesCells};
-ghost use Rattle.life_store.specs.Doing.{cell, born_object, born_pointer, end_cell, end_locals, live_local, Setting};
+ghost use Rattle.life_interp.specs.Fits.{CanBear, CanStep, Grows, IsFit, Later};
+ghost use Rattle.life_interp.specs.Steps.{BirthFails, LeavesBoth};
+ghost use Rattle.life_store.specs.Cells.{set};
+ghost use Rattle.life_store.specs.Content.{live_words_of};
+ghost use Rattle.life_store.specs.Doing.{with_value_object, cell, born_object, born_pointer, end_cell, end_locals, live_local, Setting};
 
 use crate::ending::Ending;
 use crate::frame::{cell_at, put_cell};
+use crate::sort::{Sort, sort_of};
 use crate::value::{Cell, Pointer};
-use life_core::{CoreFn, Form, LocalKind};
-use life_store::{BirthFault, Store, TrapKind};
-use life_types::{Class, TyId, TypeTable, class_of};
+use life_core::{CoreFn, Form};
+use life_store::{BirthFault, ObjRef, Store, TrapKind};
+use life_types::{TyId, TypeTable};
 
 /// Brings a local to life.
 pub(crate) fn live<S: Store>(
@@ -24,26 +27,25 @@ pub(crate) fn live<S: Store>(
 ) -> Result<(), Ending>
     requires fits { IsFit (S.content store.old) (S.rows store.old) cells.old.items }
     requires countable { CanStep (S.content store.old) }
-    ensures step { (s : Setting) → s.cells ≡ S.limit store.old → LeavesBoth (live_local s types.now (function_of f.now) (slice_get f.now.locals.items local) form local) (S.content store.old) cells.old.items (S.content store.new) cells.new.items result }
+    ensures step { (s : Setting) → s.given.cells ≡ S.limit store.old → LeavesBoth (live_local s types.now (function_of f.now) (slice_get f.now.locals.items local) form local) (S.content store.old) cells.old.items (S.content store.new) cells.new.items result }
     ensures fits { OnOk result (IsFit (S.content store.new) (S.rows store.new) cells.new.items) }
-    ensures grows { OnOk result (Grows (S.content store.old) (S.content store.new)) }
+    ensures later { OnOk result (Later (S.content store.old) (S.content store.new) (S.rows store.old) (S.rows store.new)) }
+    ensures grows { OnOk result (Grows 1 (S.content store.old) (S.content store.new)) }
     ensures limit { S.limit store.new ≡ S.limit store.old }
 {
     let index = local as usize;
     if index < f.locals.len() {
         let declared = f.locals[index];
         match cell_at(cells, local) {
-            Some(Cell::Empty) => match (class_of(types, declared.ty), declared.kind) {
-                (Class::Value, LocalKind::Object) => born(store, cells, declared.ty, local),
-                (Class::Value, LocalKind::Register) => Err(Ending::Stray),
-                (Class::Value, LocalKind::Range) => Err(Ending::Stray),
-                (Class::Pointer, _) => {
+            Some(Cell::Empty) => match sort_of(types, declared) {
+                Sort::Object => born(store, cells, declared.ty, local),
+                Sort::Pointer => {
                     put_cell(cells, local, Cell::Points(born_pointer(form)));
                     Ok(())
                 }
-                // No function that is built so far has an owner or a struct.
-                (Class::Owner, _) => Err(Ending::Stray),
-                (Class::Aggregate, _) => Err(Ending::Stray),
+                Sort::Blank => Err(Ending::Stray),
+                Sort::Number => Err(Ending::Stray),
+                Sort::View => Err(Ending::Stray),
             },
             Some(Cell::Object(_)) => Err(Ending::Stray),
             Some(Cell::Number(_)) => Err(Ending::Stray),
@@ -69,9 +71,29 @@ fn born_pointer(form: Form) -> Pointer
 fn born<S: Store>(store: &mut S, cells: &mut Vec<Cell>, ty: TyId, local: u32) -> Result<(), Ending>
     requires fits { IsFit (S.content store.old) (S.rows store.old) cells.old.items }
     requires countable { CanStep (S.content store.old) }
-    ensures step { (s : Setting) → s.cells ≡ S.limit store.old → LeavesBoth (born_object s ty local) (S.content store.old) cells.old.items (S.content store.new) cells.new.items result }
+    ensures step { (s : Setting) → s.given.cells ≡ S.limit store.old → LeavesBoth (born_object s ty local) (S.content store.old) cells.old.items (S.content store.new) cells.new.items result }
     ensures fits { OnOk result (IsFit (S.content store.new) (S.rows store.new) cells.new.items) }
-    ensures grows { OnOk result (Grows (S.content store.old) (S.content store.new)) }
+    ensures later { OnOk result (Later (S.content store.old) (S.content store.new) (S.rows store.old) (S.rows store.new)) }
+    ensures grows { OnOk result (Grows 1 (S.content store.old) (S.content store.new)) }
+    ensures limit { S.limit store.new ≡ S.limit store.old }
+{
+    match new_object(store, ty) {
+        Err(ending) => Err(ending),
+        Ok(object) => {
+            put_cell(cells, local, Cell::Object(object));
+            Ok(())
+        }
+    }
+}
+
+/// A new object of one slot.
+pub(crate) fn new_object<S: Store>(store: &mut S, ty: TyId) -> Result<ObjRef, Ending>
+    requires { CanBear (S.content store.old) }
+    ensures number { IfOk result (λ r. r.birth ≡ (S.content store.old).births) }
+    ensures born { OnOk result (S.content store.new ≡ with_value_object ty (S.content store.old)) }
+    ensures row { IfOk result (λ r. S.rows store.new ≡ set (S.rows store.old) r.birth r.row) }
+    ensures room { OnOk result (live_words_of (S.content store.old) + 3 ≤ S.limit store.old) }
+    ensures full { IfErr result (BirthFails (S.limit store.old) (S.content store.old)) }
     ensures limit { S.limit store.new ≡ S.limit store.old }
 {
     match store.birth(ty, 1, 1) {
@@ -79,10 +101,7 @@ fn born<S: Store>(store: &mut S, cells: &mut Vec<Cell>, ty: TyId, local: u32) ->
         Err(BirthFault::NoMemory) => Err(Ending::NoMemory),
         Ok(object) => match store.resize(object, 1, 0) {
             Err(_) => unreachable!(),
-            Ok(()) => {
-                put_cell(cells, local, Cell::Object(object));
-                Ok(())
-            }
+            Ok(()) => Ok(object),
         },
     }
 }
@@ -96,6 +115,7 @@ pub(crate) fn end<S: Store>(
     requires { IsFit (S.content store.old) (S.rows store.old) cells.old.items }
     ensures step { LeavesBoth (end_locals locals.now) (S.content store.old) cells.old.items (S.content store.new) cells.new.items result }
     ensures fits { OnOk result (IsFit (S.content store.new) (S.rows store.new) cells.new.items) }
+    ensures later { OnOk result (Later (S.content store.old) (S.content store.new) (S.rows store.old) (S.rows store.new)) }
     ensures births { OnOk result ((S.content store.new).births ≡ (S.content store.old).births) }
     ensures clock { OnOk result ((S.content store.new).clock ≡ (S.content store.old).clock) }
     ensures limit { S.limit store.new ≡ S.limit store.old }
@@ -113,6 +133,7 @@ fn end_one<S: Store>(store: &mut S, cells: &mut Vec<Cell>, local: u32) -> Result
     requires { IsFit (S.content store.old) (S.rows store.old) cells.old.items }
     ensures step { LeavesBoth (λ st. end_cell (cell st local) local st) (S.content store.old) cells.old.items (S.content store.new) cells.new.items result }
     ensures fits { OnOk result (IsFit (S.content store.new) (S.rows store.new) cells.new.items) }
+    ensures later { OnOk result (Later (S.content store.old) (S.content store.new) (S.rows store.old) (S.rows store.new)) }
     ensures births { OnOk result ((S.content store.new).births ≡ (S.content store.old).births) }
     ensures clock { OnOk result ((S.content store.new).clock ≡ (S.content store.old).clock) }
     ensures limit { S.limit store.new ≡ S.limit store.old }

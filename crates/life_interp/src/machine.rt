@@ -5,7 +5,7 @@ ghost use Rattle.life_core.specs.Linked.{code_of};
 ghost use Rattle.life_core.specs.Proper.{IsProperProgram};
 ghost use Rattle.life_interp.specs.Runs.{links_seen, RunEnds};
 ghost use Rattle.life_core.specs.Limits.{HaveFewPoints, HaveLongNumbers};
-ghost use Rattle.life_store.specs.Meaning.{run_of};
+ghost use Rattle.life_store.specs.Meaning.{run_of, IsAdmitted};
 
 use crate::entry::{all_links, run_entry};
 use crate::outcome::Outcome;
@@ -47,7 +47,7 @@ impl<'p> Machine<'p> {
     }
 
     /// Runs a function of the program from an empty store: at most so many steps, each point taking
-    /// one. The function has no parameters, since no call is built so far.
+    /// one. The first numbers of the input are the function's arguments.
     pub fn run<O: Sink>(
         &mut self,
         entry: FnId,
@@ -60,6 +60,7 @@ impl<'p> Machine<'p> {
         requires long { HaveLongNumbers (program_of self.old.program.now).functions }
         requires entry { entry.0 < length (program_of self.old.program.now).functions }
         requires steps { steps ≤ MOST_STEPS }
+        requires admitted { IfSome (slice_get (program_of self.old.program.now).functions entry.0) (λ f. IsAdmitted (program_of self.old.program.now) f input.now) }
         ensures run { IfSome (slice_get (program_of self.old.program.now).functions entry.0) (λ f.
             RunEnds (run_of (record { growth = policy; cells = self.old.limits.cells; depth = self.old.limits.depth }) (program_of self.old.program.now) entry.0 f input.now steps)
             (record { old = O.taken out.old; new = O.taken out.new; faults = O.faults out.old; later = O.faults out.new }) result) }
@@ -71,6 +72,7 @@ impl<'p> Machine<'p> {
             self.program,
             &self.code,
             entry,
+            input,
             self.limits,
             steps,
             out,

@@ -59,6 +59,7 @@ fn behind<S: Store>(store: &S, pointer: Pointer) -> Result<Position, Ending>
                 Err(Ending::Fault(FaultKind::Dangling))
             }
         }
+        Pointer::Static(_) => Err(Ending::Stray),
     }
 }
 

@@ -1,55 +1,159 @@
 // One point.
-ghost use Rattle.std.specs.Prelude.{◌≡◌, IfOk};
-ghost use Rattle.life_core.specs.Function.{function_of};
-ghost use Rattle.life_core.specs.Link.{leads_seen, link_seen};
-ghost use Rattle.life_interp.specs.Fits.{CanStep, Grows, IsFit};
+ghost use Rattle.std.specs.Prelude.{◌≡◌, ◌<◌, drop, map, List, OnOk, ℤ};
+ghost use Rattle.life_core.specs.Function.{program_of, Program};
+ghost use Rattle.life_core.specs.Limits.{HasLong, HaveLongNumbers};
+ghost use Rattle.life_core.specs.Link.{leads_seen};
+ghost use Rattle.life_core.specs.Linked.{code_of};
+ghost use Rattle.life_core.specs.Step.{asked_of, step_of};
+ghost use Rattle.life_interp.specs.Fits.{most_births, CanStep, Grows, IsFit};
+ghost use Rattle.life_interp.specs.Frames.{all_cells, AllBegin, AreFrames};
+ghost use Rattle.life_interp.specs.Runs.{links_seen};
+ghost use Rattle.life_interp.specs.Steps.{IsSet};
 ghost use Rattle.life_interp.specs.Walk.{first_way, second_way};
-ghost use Rattle.life_interp.specs.Walking.{halt_of, PointLeads};
-ghost use Rattle.life_core.specs.Limits.{NodeHasLong};
+ghost use Rattle.life_interp.specs.Walking.{acts, asks, passes, Moves, PointLeads};
+ghost use Rattle.life_store.specs.Content.{Content};
 ghost use Rattle.life_store.specs.Doing.{Setting};
 
 use crate::ask::ask;
-use crate::ending::{Ending, Halt};
+use crate::calls::{back, call};
+use crate::ending::{Halt, halt_at};
+use crate::frames::Frames;
+use crate::links::link_at;
 use crate::steps::perform;
-use crate::value::Cell;
 use life_base::Sink;
-use life_core::{CoreFn, Leads, LinkRef, NodeRef};
-use life_store::Store;
-use life_types::{Place, TypeTable};
+use life_core::{CoreProgram, Instr, Leads, LinkRef, NodeRef, Test};
+use life_store::{Store, TrapKind};
+use life_types::Place;
 use std::alloc::Global;
 
-/// Does what stands at the point, and says to which point control goes on, if to one.
-pub(crate) fn pass<S: Store, O: Sink>(
+/// Does what stands at the point of the frame at hand, and goes on to the next.
+pub(crate) fn pass<'p, S: Store, O: Sink>(
     alloc: Global,
-    types: &TypeTable,
-    f: &CoreFn,
-    link: LinkRef,
+    program: &'p CoreProgram,
+    code: &[Vec<LinkRef<'p>>],
+    depth: u32,
     store: &mut S,
-    cells: &mut Vec<Cell>,
+    frames: &mut Frames<'p>,
+    input: &[i64],
+    taken: &mut usize,
     out: &mut O,
-) -> Result<Option<u32>, Halt>
-    requires long { NodeHasLong (link_seen link).spot.node }
-    requires fits { IsFit (S.content store.old) (S.rows store.old) cells.old.items }
+) -> Result<(), Halt>
+    requires linked { map links_seen code.now ≡ map code_of (program_of program.now).functions }
+    requires long { HaveLongNumbers (program_of program.now).functions }
+    requires begin { AllBegin (program_of program.now).functions }
+    requires frames { AreFrames (program_of program.now).functions frames.old }
+    requires fits { IsFit (S.content store.old) (S.rows store.old) (all_cells frames.old) }
     requires countable { CanStep (S.content store.old) }
-    ensures step { (s : Setting) → s.cells ≡ S.limit store.old → PointLeads s types.now (function_of f.now) (link_seen link.entry)
-        (S.content store.old) cells.old.items (S.content store.new) cells.new.items
+    requires room { S.limit store.old < most_births }
+    ensures step { (s : Setting) → IsSet s (S.limit store.old) (program_of program.now).texts → s.given.depth ≡ depth
+        → PointLeads (passes s (program_of program.now) frames.old (S.content store.old) (drop taken.old input.now))
+        (program_of program.now).functions (S.content store.old) (drop taken.old input.now) frames.new (S.content store.new) (drop taken.new input.now)
         (record { old = O.taken out.old; new = O.taken out.new; faults = O.faults out.old; later = O.faults out.new }) result }
-    ensures fits { IfOk result (λ _. IsFit (S.content store.new) (S.rows store.new) cells.new.items) }
-    ensures grows { IfOk result (λ _. Grows (S.content store.old) (S.content store.new)) }
+    ensures frames { OnOk result (AreFrames (program_of program.now).functions frames.new) }
+    ensures fits { OnOk result (IsFit (S.content store.new) (S.rows store.new) (all_cells frames.new)) }
+    ensures grows { OnOk result (Grows most_births (S.content store.old) (S.content store.new)) }
     ensures limit { S.limit store.new ≡ S.limit store.old }
 {
-    match link.spot.node {
-        NodeRef::Action(instr) => match perform(alloc, types, f, instr, store, cells, out) {
-            Ok(()) => Ok(first_way(link.leads)),
-            Err(ending) => Err(halt_at(ending, link.spot.place)),
+    match link_at(&code[frames.function as usize], frames.point) {
+        None => Err(Halt::Stray),
+        Some(link) => match link.spot.node {
+            NodeRef::Action(instr) => act(
+                alloc,
+                program,
+                depth,
+                instr,
+                link.spot.place,
+                first_way(link.leads),
+                store,
+                frames,
+                input,
+                taken,
+                out,
+            ),
+            NodeRef::Question(test) => choose(test, link.leads, frames),
+            NodeRef::Return => back(program, store, frames),
+            NodeRef::Stop => Err(Halt::Trap(TrapKind::Assert, link.spot.place)),
         },
-        NodeRef::Question(test) => match ask(cells, test) {
-            None => Err(Halt::Stray),
-            Some(true) => Ok(first_way(link.leads)),
-            Some(false) => Ok(second_way(link.leads)),
-        },
-        NodeRef::Return => Err(Halt::Returned),
-        NodeRef::Stop => Err(Halt::Stray),
+    }
+}
+
+// Does an instruction from which control goes to this point, or comes back to it.
+fn act<'p, S: Store, O: Sink>(
+    alloc: Global,
+    program: &CoreProgram,
+    depth: u32,
+    instr: &'p Instr,
+    place: Place,
+    to: Option<u32>,
+    store: &mut S,
+    frames: &mut Frames<'p>,
+    input: &[i64],
+    taken: &mut usize,
+    out: &mut O,
+) -> Result<(), Halt>
+    requires long { HasLong (step_of instr.now) }
+    requires begin { AllBegin (program_of program.now).functions }
+    requires frames { AreFrames (program_of program.now).functions frames.old }
+    requires fits { IsFit (S.content store.old) (S.rows store.old) (all_cells frames.old) }
+    requires countable { CanStep (S.content store.old) }
+    requires room { S.limit store.old < most_births }
+    ensures step { (s : Setting) → IsSet s (S.limit store.old) (program_of program.now).texts → s.given.depth ≡ depth
+        → PointLeads (acts s (program_of program.now) frames.old (S.content store.old) (drop taken.old input.now) (step_of instr.now) place to)
+        (program_of program.now).functions (S.content store.old) (drop taken.old input.now) frames.new (S.content store.new) (drop taken.new input.now)
+        (record { old = O.taken out.old; new = O.taken out.new; faults = O.faults out.old; later = O.faults out.new }) result }
+    ensures frames { OnOk result (AreFrames (program_of program.now).functions frames.new) }
+    ensures fits { OnOk result (IsFit (S.content store.new) (S.rows store.new) (all_cells frames.new)) }
+    ensures grows { OnOk result (Grows most_births (S.content store.old) (S.content store.new)) }
+    ensures limit { S.limit store.new ≡ S.limit store.old }
+{
+    match instr {
+        Instr::Call {
+            target,
+            function,
+            arguments,
+        } => call(
+            alloc, program, depth, place, to, target, *function, arguments, store, frames,
+        ),
+        _ => {
+            let f = &program.functions[frames.function as usize];
+            match perform(
+                alloc,
+                program,
+                f,
+                instr,
+                store,
+                &mut frames.cells,
+                input,
+                taken,
+                out,
+            ) {
+                Err(ending) => Err(halt_at(ending, place)),
+                Ok(()) => {
+                    frames.point = to;
+                    Ok(())
+                }
+            }
+        }
+    }
+}
+
+// Goes on by whether a test holds.
+fn choose(test: &Test, leads: Leads, frames: &mut Frames) -> Result<(), Halt>
+    ensures step { (s : Setting) (p : Program) (c : Content) (ins : List ℤ) → Moves (asks s p frames.old c ins (asked_of test.now) (leads_seen leads)) p.functions c frames.new c ins result }
+    ensures function { frames.new.function ≡ frames.old.function }
+    ensures cells { frames.new.cells ≡ frames.old.cells }
+    ensures waiting { frames.new.waiting ≡ frames.old.waiting }
+{
+    match ask(&frames.cells, test) {
+        None => Err(Halt::Stray),
+        Some(true) => {
+            frames.point = first_way(leads);
+            Ok(())
+        }
+        Some(false) => {
+            frames.point = second_way(leads);
+            Ok(())
+        }
     }
 }
 
@@ -72,18 +176,5 @@ fn second_way(leads: Leads) -> Option<u32>
         Leads::Nowhere => None,
         Leads::On(_) => None,
         Leads::Parts { failed, .. } => failed,
-    }
-}
-
-// Why the machine stops at this place.
-fn halt_at(ending: Ending, place: Place) -> Halt
-    ensures { result ≡ halt_of place ending }
-{
-    match ending {
-        Ending::Trap(kind) => Halt::Trap(kind, place),
-        Ending::Fault(kind) => Halt::Fault(kind, place),
-        Ending::Stray => Halt::Stray,
-        Ending::NoMemory => Halt::NoMemory,
-        Ending::WriteFault => Halt::WriteFault,
     }
 }

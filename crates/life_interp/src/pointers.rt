@@ -1,33 +1,40 @@
 // Instructions that aim pointers.
-ghost use Rattle.std.specs.Prelude.{◌≡◌, OnOk};
+ghost use Rattle.std.specs.Prelude.{◌≡◌, map, slice_get, OnOk};
+ghost use Rattle.life_core.specs.Function.{name_bytes};
 ghost use Rattle.life_core.specs.Operands.{source_of};
+ghost use Rattle.life_interp.specs.Cells.{pointer_seen};
 ghost use Rattle.life_interp.specs.Fits.{CellsFit, IsFit};
 ghost use Rattle.life_interp.specs.Steps.{repointed, LeavesCells};
 ghost use Rattle.life_store.specs.Content.{Content};
-ghost use Rattle.life_store.specs.Doing.{aimed};
+ghost use Rattle.life_store.specs.Doing.{aimed, text_length, viewed, Setting};
 ghost use Rattle.life_store.specs.References.{Rows};
 
 use crate::ending::Ending;
 use crate::frame::{pointer_at, put_cell};
 use crate::places::resolve;
-use crate::value::{Cell, Pointer};
+use crate::value::{Cell, Characters, Pointer};
 use life_core::Source;
 use life_store::Store;
 
 /// Makes a pointer point to something.
 pub(crate) fn aim<S: Store>(
+    texts: &[Vec<u8>],
     store: &S,
     cells: &mut Vec<Cell>,
     pointer: u32,
     source: &Source,
 ) -> Result<(), Ending>
     requires { IsFit (S.content store.now) (S.rows store.now) cells.old.items }
-    ensures step { LeavesCells (aimed pointer (source_of source.now)) (S.content store.now) cells.old.items cells.new.items result }
+    ensures step { (s : Setting) → s.texts ≡ map name_bytes texts.now → LeavesCells (aimed s pointer (source_of source.now)) (S.content store.now) cells.old.items cells.new.items result }
     ensures fits { OnOk result (IsFit (S.content store.now) (S.rows store.now) cells.new.items) }
 {
     match source {
         Source::Null => {
             put_cell(cells, pointer, Cell::Points(Pointer::Null));
+            Ok(())
+        }
+        Source::Text(number) => {
+            put_cell(cells, pointer, Cell::Points(viewed(texts, *number)));
             Ok(())
         }
         Source::Place(operand) => match resolve(store, cells, operand) {
@@ -44,6 +51,27 @@ pub(crate) fn aim<S: Store>(
         },
         // No program that is built so far has another.
         _ => Err(Ending::Stray),
+    }
+}
+
+// The whole of a text of the program.
+fn viewed(texts: &[Vec<u8>], number: u32) -> Pointer
+    ensures { pointer_seen result ≡ viewed (map name_bytes texts.now) number }
+{
+    Pointer::Static(Characters {
+        text: Some(number),
+        index: 0,
+        count: text_length(texts, number),
+    })
+}
+
+// A text that isn't there has no characters.
+fn text_length(texts: &[Vec<u8>], number: u32) -> usize
+    ensures { result ≡ text_length (slice_get (map name_bytes texts.now) number) }
+{
+    match texts.get(number as usize) {
+        None => 0,
+        Some(text) => text.len(),
     }
 }
 

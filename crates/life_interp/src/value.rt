@@ -1,6 +1,14 @@
 // What a local holds while the machine runs.
 use life_store::ObjRef;
 
+/// Characters that never end: of a text of the program, or of none, from an index on.
+#[derive(Clone, Copy, Debug)]
+pub(crate) struct Characters {
+    pub(crate) text: Option<u32>,
+    pub(crate) index: usize,
+    pub(crate) count: usize,
+}
+
 /// Where a pointer leads.
 #[derive(Clone, Copy, Debug)]
 pub(crate) enum Pointer {
@@ -13,6 +21,8 @@ pub(crate) enum Pointer {
         index: u32,
         moment: u64,
     },
+    /// To characters that never end.
+    Static(Characters),
 }
 
 /// What a local holds.

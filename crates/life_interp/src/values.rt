@@ -2,7 +2,7 @@
 ghost use Rattle.std.specs.Prelude.{◌≡◌, ◌<◌, ◌^◌, pos, OnOk};
 ghost use Rattle.life_core.specs.Function.{function_of};
 ghost use Rattle.life_core.specs.Operands.{operand_of};
-ghost use Rattle.life_interp.specs.Fits.{CellsFit, IsFit};
+ghost use Rattle.life_interp.specs.Fits.{CellsFit, IsFit, Later};
 ghost use Rattle.life_interp.specs.Steps.{loaded, stored, LeavesBoth, LeavesCells};
 ghost use Rattle.life_core.specs.Limits.{FitsLong};
 ghost use Rattle.life_store.specs.Content.{Content};
@@ -86,8 +86,8 @@ fn put_computed(
     }
 }
 
-// The type of a local.
-fn type_at(types: &TypeTable, f: &CoreFn, local: u32) -> Option<Ty>
+/// The type of a local.
+pub(crate) fn type_at(types: &TypeTable, f: &CoreFn, local: u32) -> Option<Ty>
     ensures { result ≡ type_of types.now (function_of f.now) local }
 {
     match f.locals.get(local as usize) {
@@ -96,8 +96,8 @@ fn type_at(types: &TypeTable, f: &CoreFn, local: u32) -> Option<Ty>
     }
 }
 
-// The value as one of the type.
-fn converted(ty: Option<Ty>, value: i64) -> i64
+/// The value as one of the type.
+pub(crate) fn converted(ty: Option<Ty>, value: i64) -> i64
     ensures { result ≡ converted ty value }
 {
     match ty {
@@ -164,6 +164,7 @@ pub(crate) fn save<S: Store>(
     requires { IsFit (S.content store.old) (S.rows store.old) cells.now }
     ensures step { LeavesBoth (stored (operand_of to.now) from) (S.content store.old) cells.now (S.content store.new) cells.now result }
     ensures fits { OnOk result (IsFit (S.content store.new) (S.rows store.new) cells.now) }
+    ensures later { OnOk result (Later (S.content store.old) (S.content store.new) (S.rows store.old) (S.rows store.new)) }
     ensures births { OnOk result ((S.content store.new).births ≡ (S.content store.old).births) }
     ensures clock { OnOk result ((S.content store.new).clock ≡ (S.content store.old).clock) }
     ensures limit { S.limit store.new ≡ S.limit store.old }

@@ -1,8 +1,6 @@
 //! Reports: what is printed of a program and its diagnostics.
 #![tactic(auto)]
 
-#[cfg(test)]
-mod tests;
 mod text;
 
 pub use text::text_report;

@@ -52,7 +52,7 @@ own_function types n f d h = spot_in n (spot_of f h.0) h.1.0 d h.1.1.1
 
 -- ---- lists on which two functions agree
 
-map_same : {A B : Type 0} (g h : A → B) (xs : List A) → ((x : A) → Contains xs x → g x ≡ h x) → map g xs ≡ map h xs
+pub map_same : {A B : Type 0} (g h : A → B) (xs : List A) → ((x : A) → Contains xs x → g x ≡ h x) → map g xs ≡ map h xs
 map_same g h [] same = refl
 map_same g h (x ∷ xs) same = (λ i. same x (at_head x xs) i ∷ map_same g h xs (λ y k. same y (in_tail x xs y k)) i)
 

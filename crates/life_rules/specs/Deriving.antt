@@ -9,7 +9,7 @@ use Rattle.life_pset.specs.Table.{IsOf, table_of}
 use Rattle.life_pset.specs.declared.element.Fact.{Fact}
 use Rattle.life_rules.specs.Carrying.{Gives}
 
--- what holds at the entry: the functions that are built so far have no parameters, so nothing
+-- what holds at the entry: no raw pointer and no reference is handed over so far, so nothing
 abbrev pub entry_facts : Types → Function → List Fact
 entry_facts types f = []
 

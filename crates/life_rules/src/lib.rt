@@ -10,8 +10,6 @@ mod laws;
 mod matching;
 mod row_facts;
 mod spot;
-#[cfg(test)]
-mod text_tests;
 mod texts;
 mod wrong;
 

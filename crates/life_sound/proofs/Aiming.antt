@@ -1,10 +1,10 @@
 -- A pointer that is aimed or repointed gets the set of what it points to.
-use Rattle.std.proofs.Common.{ℕ, [], true, refl, sym, ap, subst}
-use Rattle.std.specs.Prelude.{Contains, ◌&&◌}
+use Rattle.std.proofs.Common.{ℕ, List, [], Some, true, refl, sym, ap, subst, inl, inr}
+use Rattle.std.specs.Prelude.{Contains, slice_get, ◌&&◌}
 use Rattle.life_types.specs.Types.{Types}
 use Rattle.life_types.specs.declared.place.Place.{Place}
 use Rattle.life_core.specs.Function.{Function}
-use Rattle.life_core.specs.Proper.{IsStepReady}
+use Rattle.life_core.specs.Proper.{APointer, IsStepReady}
 use Rattle.life_core.specs.Step.{Aim, Repoint}
 use Rattle.life_core.specs.Operands.{Location, Operand, Name, Through, Source}
 use Rattle.life_core.specs.Operands as source
@@ -14,34 +14,36 @@ use Rattle.life_pset.specs.declared.element.Element.TheVariants as element
 use Rattle.life_pset.specs.declared.element.Fact.{Fact}
 use Rattle.life_rules.specs.Carrying.{fact_at, named_target, aimed_facts}
 use Rattle.life_rules.proofs.Giving.{at_head}
-use Rattle.life_store.specs.Doing.{Setting, Next, put_cell, on_pointer, on_found, pointer_to, aimed, does}
+use Rattle.life_store.specs.Doing.{Setting, Next, put_cell, on_pointer, on_found, pointer_to, text_length, aimed, does}
 use Rattle.life_store.specs.State.{Null, Points, State, holdings_of}
-use Rattle.life_store.proofs.CellLemmas.{pointer_cell}
+use Rattle.life_store.proofs.CellLemmas.{held_is, pointer_cell, view_cell}
 use Rattle.life_store.proofs.Housing.{Housed}
 use Rattle.life_sound.proofs.Covering.{Known, valid_one}
 use Rattle.life_sound.proofs.Facts.{pointer_location, null_element, object_element, fact_of, element_in, Closed, made, if_given, Clean}
 use Rattle.life_sound.proofs.Places.{same_location, other_location}
 use Rattle.life_sound.proofs.Reaching.{Sees, reached}
 use Rattle.life_sound.proofs.Sorts.{IsSorted, named_sort}
-use Rattle.life_sound.proofs.Writing.{IsSafe, pointer_known}
+use Rattle.life_sound.proofs.Writing.{IsSafe, pointer_known, view_known}
 
-module _ (n : ℕ) (types : Types) (f : Function) (place : Place) (S S' : Fact → Type 0) (st : State) (h : Housed st.world.content st.cells) (sorted : IsSorted types f (holdings_of st)) (k : Known S st) where
-  pub aim_known : (p : Location) (source : Source) → IsStepReady types f (holdings_of st) (Aim p source) → Clean n place (Aim p source) S → Closed types f place (Aim p source) S S' → IsSafe S' (aimed p.local source st)
-  aim_known p source.Null ready clean cl = pointer_known types f place S S' st h sorted k (Aim p source.Null) cl p.local Null ready.0.1 (λ q e ne. other_location p.local q ne) record {
+module _ (n : ℕ) (types : Types) (fs : List Function) (f : Function) (place : Place) (S S' : Fact → Type 0) (st : State) (h : Housed st.world.content st.cells) (sorted : IsSorted types f (holdings_of st)) (k : Known S st) where
+  pub aim_known : (p : Location) (source : Source) → IsStepReady types fs f (holdings_of st) (Aim p source) → Clean n place (Aim p source) S → Closed types f place (Aim p source) S S'
+      → (s : Setting) → IsSafe S' (aimed s p.local source st)
+  aim_known p source.Null ready clean cl s = pointer_known types f place S S' st sorted k (Aim p source.Null) cl p.local Null ready.1 (λ q e ne. other_location p.local q ne) record {
     known = element.Null;
-    holds = cl.none _ (fact_of types f (local_place p.local) element.Null (pointer_location types f p.local ready.0.1) (null_element f)) (at_head _ []);
+    holds = cl.none _ (fact_of types f (local_place p.local) element.Null (pointer_location types f p.local ready.1) (null_element f)) (at_head _ []);
     covers = tt;
   }
-  aim_known p (source.Text n') ready clean cl = absurd ready.1
-  aim_known p source.Empty ready clean cl = absurd ready.1
-  aim_known p (source.Whole o) ready clean cl = absurd ready.1
-  aim_known p (source.Get l) ready clean cl = absurd ready.1
-  aim_known p (source.Place o) ready clean cl =
-      let at = reached n place (Aim p (source.Place o)) S clean st h k o (λ q used. used) ready.1 in
+  aim_known p (source.Text n') ready clean cl s =
+      view_known types f place S S' st sorted k (Aim p (source.Text n')) cl p.local (record { text = Some n'; index = 0; count = text_length (slice_get s.texts n') }) ready.1 (λ q e ne. other_location p.local q ne)
+  aim_known p source.Empty ready clean cl s = absurd ready.1
+  aim_known p (source.Whole o) ready clean cl s = absurd ready.1
+  aim_known p (source.Get l) ready clean cl s = absurd ready.1
+  aim_known p (source.Place o) ready clean cl s =
+      let at = reached n place (Aim p (source.Place o)) S clean st h k o (λ q used. used) ready.1.1 in
       subst (λ found. IsSafe S' (on_found found (λ m i object. Next (put_cell p.local (Points (pointer_to st.world.content m i)) st)))) (sym at.here)
-      (pointer_known types f place S S' st h sorted k (Aim p (source.Place o)) cl p.local (pointer_to st.world.content at.number at.index) ready.0.1 (λ q e ne. other_location p.local q ne) record {
+      (pointer_known types f place S S' st sorted k (Aim p (source.Place o)) cl p.local (pointer_to st.world.content at.number at.index) ready.1.0 (λ q e ne. other_location p.local q ne) record {
         known = element.At (local_place at.local);
-        holds = holds o at.local at.seen cl (fact_of types f (local_place p.local) _ (pointer_location types f p.local ready.0.1) (object_element types f at.local (named_sort types f st.cells at.local at.number sorted at.named)));
+        holds = holds o at.local at.seen cl (fact_of types f (local_place p.local) _ (pointer_location types f p.local ready.1.0) (object_element types f at.local (named_sort types f st.cells at.local at.number sorted at.named)));
         covers = record {
           local = at.local;
           place_is = refl;
@@ -57,14 +59,18 @@ module _ (n : ℕ) (types : Types) (f : Function) (place : Place) (S S' : Fact �
           made types f place (Aim p (source.Place (Through q members))) S S' cl (fact_at (local_place q.local) (element.At (local_place y))) (fact_at (local_place p.local) (element.At (local_place y))) seen of
           (if_given _ _ (ap (λ b. b && true) (same_location q.local)))
 
-  pub repoint_known : (p q : Location) → IsStepReady types f (holdings_of st) (Repoint p q) → Closed types f place (Repoint p q) S S' → (s : Setting) → IsSafe S' (does s types f (Repoint p q) st)
-  repoint_known p q ready cl s =
+  pub repoint_known : (p q : Location) → IsStepReady types fs f (holdings_of st) (Repoint p q) → Closed types f place (Repoint p q) S S' → (s : Setting) → IsSafe S' (does s types f (Repoint p q) st)
+  repoint_known p q (inl ready) cl s =
       let cell = pointer_cell st.cells q.local ready.1.1 in
-      let c = k.covered q.local cell.0 cell.1 in
+      let c = k.covered q.local cell.0 cell.1 (held_is st.cells q.local APointer (Points cell.0) ready.1.1 cell.1) in
       subst (λ o. IsSafe S' (on_pointer o (λ v. Next (put_cell p.local (Points v) st)))) (sym cell.1)
-      (pointer_known types f place S S' st h sorted k (Repoint p q) cl p.local cell.0 ready.0.1 (λ y e ne. other_location p.local y ne) record {
+      (pointer_known types f place S S' st sorted k (Repoint p q) cl p.local cell.0 ready.0.1 (λ y e ne. other_location p.local y ne) record {
         known = c.known;
         holds = made types f place (Repoint p q) S S' cl (fact_at (local_place q.local) c.known) (fact_at (local_place p.local) c.known) c.holds
             (fact_of types f (local_place p.local) c.known (pointer_location types f p.local ready.0.1) (element_in types f _ (cl.of _ c.holds))) (if_given _ _ (same_location q.local));
         covers = c.covers;
       })
+  repoint_known p q (inr ready) cl s =
+      let cell = view_cell st.cells q.local ready.1.1 in
+      subst (λ o. IsSafe S' (on_pointer o (λ v. Next (put_cell p.local (Points v) st)))) (sym cell.1)
+      (view_known types f place S S' st sorted k (Repoint p q) cl p.local cell.0 ready.0.1 (λ y e ne. other_location p.local y ne))

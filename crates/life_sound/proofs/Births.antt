@@ -1,5 +1,5 @@
 -- A birth makes what is known of a pointer that is born, and keeps the rest.
-use Rattle.std.proofs.Common.{◌≡◌, ◌≢◌, ℕ, ◌+◌, ◌*◌, [], Option, Some, None, true, refl, sym, ap, subst, ◌∙◌, arith, ⊎_elim, inl, inr, ◌⊎◌}
+use Rattle.std.proofs.Common.{◌≡◌, ◌≢◌, ℕ, ◌+◌, ◌*◌, List, [], Option, Some, None, true, false, refl, sym, ap, subst, ◌∙◌, arith, ⊎_elim, ◌⊎◌}
 use Rattle.std.specs.Prelude.{Contains, slice_get, slice_set, nat_lt}
 use Rattle.std.proofs.lemmas.Bool.{cond_both, ne_eqb}
 use Rattle.life_types.specs.Types.{Types}
@@ -7,7 +7,7 @@ use Rattle.life_types.specs.declared.place.Place.{Place}
 use Rattle.life_types.specs.declared.ty.Class.{Class}
 use Rattle.life_types.specs.declared.ty.TyId.{TyId}
 use Rattle.life_core.specs.Function.{Function}
-use Rattle.life_core.specs.Proper.{Holding, Blank, AnObject, ANumber, APointer, sort_of, IsStepReady}
+use Rattle.life_core.specs.Proper.{Holding, Blank, AnObject, ANumber, APointer, AView, sort_of, IsStepReady}
 use Rattle.life_core.specs.Step.{Live}
 use Rattle.life_core.specs.declared.instr.Form.{Form}
 use Rattle.life_core.specs.declared.instr.Form.TheVariants as way
@@ -16,7 +16,7 @@ use Rattle.life_pset.specs.Elements.{local_place, location_if, uninitialised, el
 use Rattle.life_pset.specs.declared.element.Element.{Element}
 use Rattle.life_pset.specs.declared.element.Element.TheVariants as element
 use Rattle.life_pset.specs.declared.element.Fact.{Fact}
-use Rattle.life_rules.specs.Carrying.{fact_at, locations_at, born, born_facts}
+use Rattle.life_rules.specs.Carrying.{fact_at, locations_at, born, born_facts, drops}
 use Rattle.life_rules.proofs.Giving.{at_head}
 use Rattle.life_store.specs.Content.{live_words_of, is_valid_in}
 use Rattle.life_store.specs.Doing.{Setting, Next, Traps, put_cell, put_content, is_valid, with_value_object, born_pointer, live_as, live_over, live_local}
@@ -24,53 +24,66 @@ use Rattle.life_store.specs.State.{Target, Pointer, Empty, Named, Points, State,
 use Rattle.life_store.specs.declared.run.TrapKind.TheVariants as trap
 use Rattle.life_store.proofs.CellLemmas.{some_same, empty_cell_is, cell_cases, cell_other}
 use Rattle.life_store.proofs.Housing.{Housed, born_cases}
-use Rattle.life_sound.proofs.Covering.{covers_on, Cover, Known, birth_timely}
-use Rattle.life_sound.proofs.Facts.{pointer_local, pointer_location, null_element, cause_element, fact_of, Closed, kept}
+use Rattle.life_sound.proofs.Covering.{IsRaw, covers_on, Cover, Known, birth_timely}
+use Rattle.life_sound.proofs.Facts.{pointer_local, pointer_location, null_element, cause_element, fact_of, Closed}
 use Rattle.life_sound.proofs.Sorts.{IsSorted}
-use Rattle.life_sound.proofs.Writing.{IsSafe, put_known}
+use Rattle.life_sound.proofs.Writing.{IsSafe, known_kept, put_known}
 
-module _ (types : Types) (f : Function) (place : Place) (S S' : Fact → Type 0) (st : State) (h : Housed st.world.content st.cells) (sorted : IsSorted types f (holdings_of st)) (k : Known S st) where
-  pub live_known : (s : Setting) (x : ℕ) (form : Form) → IsStepReady types f (holdings_of st) (Live x form) → Closed types f place (Live x form) S S' → IsSafe S' (live_local s types f (slice_get f.locals x) form x st)
+-- ---- an object is born where nothing is: what is there stays
+
+module _ (S : Fact → Type 0) (st : State) (h : Housed st.world.content st.cells) (k : Known S st) (ty : TyId) (x : ℕ) (empty : slice_get st.cells x ≡ Some Empty) where
+  pub empty_unnamed : (m : ℕ) → slice_get st.cells x ≡ Some (Named m) → ⊥
+  empty_unnamed m e = clash (some_same (sym empty ∙ e))
+    where
+      clash : Empty ≡ Named m → ⊥
+      clash e = cc
+
+  named_clash : (w : Pointer) → Named st.world.content.births ≡ Points w → ⊥
+  named_clash w e = cc
+
+  -- the pointers are others than the cell that was written
+  pub born_other : (q : ℕ) (w : Pointer) → slice_get (slice_set st.cells x (Named st.world.content.births)) q ≡ Some (Points w) → (x ≢ q) × (slice_get st.cells q ≡ Some (Points w))
+  born_other q w e = ⊎_elim (λ s. absurd (named_clash w s.1)) (λ o. o) (cell_cases st.cells x q (Named st.world.content.births) (Points w) e)
+
+  on : (y : ℕ) (t : Target) → slice_get st.cells y ≡ Some (Named t.object) → is_valid st.world.content t ≡ true
+      → (slice_get (slice_set st.cells x (Named st.world.content.births)) y ≡ Some (Named t.object)) × (is_valid (with_value_object ty st.world.content) t ≡ true)
+  on y t e valid = (
+    cell_other st.cells x y (Named st.world.content.births) (λ same. empty_unnamed t.object (ap (slice_get st.cells) same ∙ e)) ∙ e,
+    ⊎_elim (λ s. absurd (new s.0)) (λ d. ap (is_valid_in t.index 1 t.moment) d.1 ∙ valid) (born_cases ty st.world.content t.object),
+  )
+    where
+      new : st.world.content.births ≡ t.object → ⊥
+      new is = let l = h.lives y t.object e in let lt = h.fresh t.object l.object l.there in omega (arith, lt, is)
+
+  pub object_known : Known S (put_cell x (Named st.world.content.births) (put_content (with_value_object ty st.world.content) st))
+  object_known = record {
+    covered = λ q w e raw. covered q w raw (born_other q w e);
+    timely = birth_timely ty st.world.content k.timely;
+  }
+    where
+      covered : (q : ℕ) (w : Pointer) → IsRaw w → (x ≢ q) × (slice_get st.cells q ≡ Some (Points w)) → Cover S (with_value_object ty st.world.content) (slice_set st.cells x (Named st.world.content.births)) q w
+      covered q w raw o =
+          let c = k.covered q w o.1 raw in record {
+            known = c.known;
+            holds = c.holds;
+            covers = covers_on st.world.content (with_value_object ty st.world.content) st.cells (slice_set st.cells x (Named st.world.content.births)) on c.known w c.covers;
+          }
+
+-- ---- a local comes to life
+
+module _ (types : Types) (fs : List Function) (f : Function) (place : Place) (S S' : Fact → Type 0) (st : State) (h : Housed st.world.content st.cells) (sorted : IsSorted types f (holdings_of st)) (k : Known S st) where
+  pub live_known : (s : Setting) (x : ℕ) (form : Form) → IsStepReady types fs f (holdings_of st) (Live x form) → Closed types f place (Live x form) S S' → IsSafe S' (live_local s types f (slice_get f.locals x) form x st)
   live_known s x form ready cl = go (slice_get f.locals x) refl
     where
       empty : slice_get st.cells x ≡ Some Empty
       empty = empty_cell_is st.cells x ready.0
 
-      unnamed : (m : ℕ) → slice_get st.cells x ≡ Some (Named m) → ⊥
-      unnamed m e = clash (some_same (sym empty ∙ e))
+      born_known : (ty : TyId) → Known S' (put_cell x (Named st.world.content.births) (put_content (with_value_object ty st.world.content) st))
+      born_known ty =
+          known_kept types f place S S' (put_cell x (Named st.world.content.births) (put_content (with_value_object ty st.world.content) st)) (Live x form) cl stays (object_known S st h k ty x empty)
         where
-          clash : Empty ≡ Named m → ⊥
-          clash e = cc
-
-      -- an object is born: what is there stays
-      on : (ty : TyId) (y : ℕ) (t : Target) → slice_get st.cells y ≡ Some (Named t.object) → is_valid st.world.content t ≡ true
-          → (slice_get (slice_set st.cells x (Named st.world.content.births)) y ≡ Some (Named t.object)) × (is_valid (with_value_object ty st.world.content) t ≡ true)
-      on ty y t e valid = (
-        cell_other st.cells x y (Named st.world.content.births) (λ same. unnamed t.object (ap (slice_get st.cells) same ∙ e)) ∙ e,
-        ⊎_elim (λ s. absurd (new s.0)) (λ d. ap (is_valid_in t.index 1 t.moment) d.1 ∙ valid) (born_cases ty st.world.content t.object),
-      )
-        where
-          new : st.world.content.births ≡ t.object → ⊥
-          new is = let l = h.lives y t.object e in let lt = h.fresh t.object l.object l.there in omega (arith, lt, is)
-
-      object_known : (ty : TyId) → Known S' (put_cell x (Named st.world.content.births) (put_content (with_value_object ty st.world.content) st))
-      object_known ty = record {
-        covered = λ q w e. covered q w (cell_cases st.cells x q (Named st.world.content.births) (Points w) e);
-        timely = birth_timely ty st.world.content k.timely;
-      }
-        where
-          clash : (w : Pointer) → Named st.world.content.births ≡ Points w → ⊥
-          clash w e = cc
-
-          covered : (q : ℕ) (w : Pointer) → ((x ≡ q) × (Named st.world.content.births ≡ Points w)) ⊎ ((x ≢ q) × (slice_get st.cells q ≡ Some (Points w)))
-              → Cover S' (with_value_object ty st.world.content) (slice_set st.cells x (Named st.world.content.births)) q w
-          covered q w (inl s) = absurd (clash w s.1)
-          covered q w (inr o) =
-              let c = k.covered q w o.1 in record {
-                known = c.known;
-                holds = kept types f place (Live x form) S S' cl (fact_at (local_place q) c.known) c.holds (ne_eqb x q o.0);
-                covers = covers_on st.world.content (with_value_object ty st.world.content) st.cells (slice_set st.cells x (Named st.world.content.births)) (on ty) c.known w c.covers;
-              }
+          stays : (q : ℕ) (w : Pointer) (e : Element) → slice_get (slice_set st.cells x (Named st.world.content.births)) q ≡ Some (Points w) → drops (Live x form) (fact_at (local_place q) e) ≡ false
+          stays q w e at = ne_eqb x q (born_other S st h k ty x empty q w at).0
 
       -- a pointer is born: it is null, or invalid from the start
       born_holds : (e : Element) → e ≡ born place x form → sort_of types f x ≡ APointer → Contains (elements_of f) e → S' (fact_at (local_place x) e)
@@ -92,13 +105,16 @@ module _ (types : Types) (f : Function) (place : Place) (S S' : Fact → Type 0)
       as_safe : (sort : Holding) (ty : TyId) → sort_of types f x ≡ sort → IsSafe S' (live_as s sort ty form x st)
       as_safe Blank ty e = tt
       as_safe AnObject ty e =
-          cond_both (nat_lt s.cells (live_words_of st.world.content + (2 + 1 * 1))) (Traps trap.Cells)
-          (Next (put_cell x (Named st.world.content.births) (put_content (with_value_object ty st.world.content) st))) (IsSafe S') (λ _. tt) (λ _. object_known ty)
+          cond_both (nat_lt s.given.cells (live_words_of st.world.content + (2 + 1 * 1))) (Traps trap.Cells)
+          (Next (put_cell x (Named st.world.content.births) (put_content (with_value_object ty st.world.content) st))) (IsSafe S') (λ _. tt) (λ _. born_known ty)
       as_safe ANumber ty e = tt
-      as_safe APointer ty e = put_known types f place S S' st h sorted k (Live x form) cl x (Points (born_pointer form)) unnamed (λ q known ne. ne_eqb x q ne) (λ w is. subst (Cover S' st.world.content st.cells x) (same w is) (born_cover form refl e))
+      as_safe APointer ty e =
+          put_known types f place S S' st sorted k (Live x form) cl x (Points (born_pointer form)) (empty_unnamed S st h k ty x empty) (λ q known ne. ne_eqb x q ne)
+          (λ w is raw. subst (Cover S' st.world.content st.cells x) (same w is) (born_cover form refl e))
         where
           same : (w : Pointer) → Points (born_pointer form) ≡ Points w → born_pointer form ≡ w
           same w e = cc
+      as_safe AView ty e = tt
 
       go : (l : Option Local) → slice_get f.locals x ≡ l → IsSafe S' (live_local s types f l form x st)
       go None e = tt

@@ -12,7 +12,7 @@ use Rattle.life_pset.specs.declared.element.Fact.{Fact}
 use Rattle.life_rules.specs.Carrying.{fact_at, is_location, is_null, is_held, stops_at}
 use Rattle.life_store.specs.Content.{Content}
 use Rattle.life_store.specs.Meaning.{Verdict, Holds, Fails, Cut, by_number, by_pointer, number_test, pointer_test, test_at}
-use Rattle.life_store.specs.State.{Target, Pointer, Null, Wild, To, Points, State, holdings_of}
+use Rattle.life_store.specs.State.{Characters, Target, Pointer, Null, Wild, To, Static, Points, State, holdings_of}
 use Rattle.life_store.proofs.CellLemmas.{some_same, number_cell, pointer_cell}
 use Rattle.life_sound.proofs.Covering.{Covers, Known}
 use Rattle.life_sound.proofs.Places.{other_location}
@@ -29,7 +29,7 @@ Passes t branch S S' = (a : Fact) → S a → stops_at t (Some branch) a ≡ fal
 
 known_on : (S S' : Fact → Type 0) (st : State) → ((p : ℕ) (v : Pointer) (e : Element) → slice_get st.cells p ≡ Some (Points v) → Covers st.world.content st.cells e v → S (fact_at (local_place p) e) → S' (fact_at (local_place p) e)) → Known S st → Known S' st
 known_on S S' st on k = record {
-  covered = λ p v e. let c = k.covered p v e in record { known = c.known; holds = on p v c.known e c.covers c.holds; covers = c.covers };
+  covered = λ p v e raw. let c = k.covered p v e raw in record { known = c.known; holds = on p v c.known e c.covers c.holds; covers = c.covers };
   timely = k.timely;
 }
 
@@ -46,6 +46,7 @@ null_left : (c : Content) (cells : _) (v : Pointer) (e : Element) → v ≢ Null
 null_left c cells Null element.Null ne h = absurd (ne refl)
 null_left c cells Wild element.Null ne h = absurd h
 null_left c cells (To t) element.Null ne h = absurd h
+null_left c cells (Static s) element.Null ne h = absurd h
 null_left c cells v (element.Invalid k) ne h = refl
 null_left c cells v (element.Moved k) ne h = absurd h
 null_left c cells v element.Own ne h = absurd h
@@ -101,7 +102,14 @@ test_known (NotNull p) S H F n st ready held failed k =
         clash : To t ≡ Null → ⊥
         clash e = cc
 
+    viewed : (c : Characters) → Static c ≢ Null
+    viewed c e = clash e
+      where
+        clash : Static c ≡ Null → ⊥
+        clash e = cc
+
     go : (v : Pointer) → slice_get st.cells p.local ≡ Some (Points v) → IsKnownBy H F (by_pointer v n st)
     go Null e = null_on p false Null S F st e (held_left st.world.content st.cells) failed k
     go Wild e = null_on p true Wild S H st e (λ x cov. null_left st.world.content st.cells Wild x wild cov) held k
     go (To t) e = null_on p true (To t) S H st e (λ x cov. null_left st.world.content st.cells (To t) x (aimed t) cov) held k
+    go (Static c) e = null_on p true (Static c) S H st e (λ x cov. null_left st.world.content st.cells (Static c) x (viewed c) cov) held k

@@ -3,12 +3,12 @@ use Rattle.std.proofs.Common.{◌≡◌, ◌≢◌, ℕ, List, [], ◌∷◌, ma
 use Rattle.std.specs.Prelude.{slice_get, slice_set, nat_eq, ◌||◌}
 use Rattle.std.specs.List.{list_any}
 use Rattle.std.proofs.lemmas.Bool.{ne_eqb, eq-eqb, false≢true}
-use Rattle.life_core.specs.Proper.{AnObject, APointer, Holds, CanEnd}
+use Rattle.life_core.specs.Proper.{AnObject, APointer, AView, Holds, CanEnd}
 use Rattle.life_store.specs.Cells.{at, at-unset_other}
 use Rattle.life_store.specs.Content.{Object, without}
 use Rattle.life_store.specs.Doing.{Next, put_cell, put_content, on_next, end_object, end_cell, end_locals}
-use Rattle.life_store.specs.State.{Target, To, Cell, Empty, Named, Points, State, holding_of, holdings_of}
-use Rattle.life_store.proofs.CellLemmas.{none_some, named_cell, pointer_cell, holdings_set, cell_cases, cell_other, unset_cases}
+use Rattle.life_store.specs.State.{Target, Pointer, To, Static, Cell, Empty, Named, Points, State, holding_of, holdings_of}
+use Rattle.life_store.proofs.CellLemmas.{none_some, named_cell, pointer_cell, view_cell, holdings_set, cell_cases, cell_other, unset_cases}
 use Rattle.life_store.proofs.Housing.{Aims, Housed, put_housed, end_housed}
 
 -- ---- one local
@@ -21,7 +21,32 @@ record AfterEnd (x : ℕ) (st st' : State) : Type 0 where
   clock : st'.world.content.clock ≡ st.world.content.clock
   housed : Housed st'.world.content st'.cells
 
-ends_one : (x : ℕ) (st : State) → Housed st.world.content st.cells → Holds (holdings_of st) x AnObject ⊎ Holds (holdings_of st) x APointer
+-- a pointer or a view ends without a trace
+gone : (x : ℕ) (st : State) (v : Pointer) → Housed st.world.content st.cells → slice_get st.cells x ≡ Some (Points v) → (st' : State) × ((end_cell (slice_get st.cells x) x st ≡ Next st') × AfterEnd x st st')
+gone x st v h is = (
+  put_cell x Empty st,
+  (
+    ap (λ o. end_cell o x st) is,
+    record {
+      cells = refl;
+      named = λ y n ne e. refl;
+      older = λ n o e. e;
+      clock = refl;
+      housed = put_housed st.world.content st.cells x Empty unnamed unaimed h;
+    },
+  ),
+)
+  where
+    unnamed : (n : ℕ) → Empty ≡ Named n → ⊥
+    unnamed n e = cc
+
+    unaimed : (t : Target) → Empty ≡ Points (To t) → Aims st.world.content t
+    unaimed t e = absurd (clash e)
+      where
+        clash : Empty ≡ Points (To t) → ⊥
+        clash e = cc
+
+ends_one : (x : ℕ) (st : State) → Housed st.world.content st.cells → Holds (holdings_of st) x AnObject ⊎ (Holds (holdings_of st) x APointer ⊎ Holds (holdings_of st) x AView)
     → (st' : State) × ((end_cell (slice_get st.cells x) x st ≡ Next st') × AfterEnd x st st')
 ends_one x st h (inl ready) =
     let cell = named_cell st.cells x ready in
@@ -39,29 +64,8 @@ ends_one x st h (inl ready) =
         },
       ),
     )
-ends_one x st h (inr ready) =
-    let cell = pointer_cell st.cells x ready in (
-      put_cell x Empty st,
-      (
-        ap (λ o. end_cell o x st) cell.1,
-        record {
-          cells = refl;
-          named = λ y n ne e. refl;
-          older = λ n o e. e;
-          clock = refl;
-          housed = put_housed st.world.content st.cells x Empty unnamed unaimed h;
-        },
-      ),
-    )
-  where
-    unnamed : (n : ℕ) → Empty ≡ Named n → ⊥
-    unnamed n e = cc
-
-    unaimed : (t : Target) → Empty ≡ Points (To t) → Aims st.world.content t
-    unaimed t e = absurd (clash e)
-      where
-        clash : Empty ≡ Points (To t) → ⊥
-        clash e = cc
+ends_one x st h (inr (inl ready)) = let cell = pointer_cell st.cells x ready in gone x st cell.0 h cell.1
+ends_one x st h (inr (inr ready)) = let cell = view_cell st.cells x ready in gone x st (Static cell.0) h cell.1
 
 -- ---- all of them
 
@@ -72,7 +76,7 @@ pub record AfterEnds (xs : List ℕ) (st st' : State) : Type 0 where
   pub older : (n : ℕ) (o : Object) → at st'.world.content.objects n ≡ Some o → at st.world.content.objects n ≡ Some o
   pub clock : st'.world.content.clock ≡ st.world.content.clock
 
-or_false : (a b : Bool) → (a || b) ≡ false → (a ≡ false) × (b ≡ false)
+pub or_false : (a b : Bool) → (a || b) ≡ false → (a ≡ false) × (b ≡ false)
 or_false true b e = absurd (false≢true (sym e))
 or_false false b e = (refl, e)
 

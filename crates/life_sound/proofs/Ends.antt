@@ -18,9 +18,9 @@ use Rattle.life_rules.specs.Carrying.{fact_at, points_among, drops, invalid_fact
 use Rattle.life_rules.proofs.Giving.{at_head, flat_map_into}
 use Rattle.life_store.specs.Content.{is_settled, is_valid_in}
 use Rattle.life_store.specs.Doing.{is_valid, end_locals}
-use Rattle.life_store.specs.State.{Target, Pointer, Null, Wild, To, Empty, Named, Points, State, holdings_of}
+use Rattle.life_store.specs.State.{Target, Pointer, Null, Wild, To, Static, Empty, Named, Points, State, holdings_of}
 use Rattle.life_store.proofs.Housing.{Housed}
-use Rattle.life_sound.proofs.Covering.{Covers, Cover, Known}
+use Rattle.life_sound.proofs.Covering.{IsRaw, Covers, Cover, Known}
 use Rattle.life_sound.proofs.Ending.{AfterEnds, ends_are}
 use Rattle.life_sound.proofs.Facts.{object_local, cause_element, fact_of, Closed, kept, made, among, map_into}
 use Rattle.life_sound.proofs.Sorts.{IsSorted, named_sort}
@@ -61,30 +61,32 @@ module _ (types : Types) (f : Function) (place : Place) (xs : List ℕ) (S S' : 
   cover q Null element.Null out s cov = record { known = element.Null; holds = kept types f place (End xs) S S' cl _ s (stays q element.Null out refl); covers = tt }
   cover q Wild element.Null out s cov = absurd cov
   cover q (To t) element.Null out s cov = absurd cov
+  cover q (Static c) element.Null out s cov = absurd cov
   cover q v (element.Invalid c) out s cov = record { known = element.Invalid c; holds = kept types f place (End xs) S S' cl _ s (stays q (element.Invalid c) out refl); covers = tt }
   cover q v (element.Moved c) out s cov = absurd cov
   cover q v element.Own out s cov = absurd cov
   cover q v element.Static out s cov = absurd cov
   cover q Null (element.At b) out s cov = absurd cov
   cover q Wild (element.At b) out s cov = absurd cov
+  cover q (Static c) (element.At b) out s cov = absurd cov
   cover q (To t) (element.At b) out s cov =
       pointed q t out cov.local cov.named cov.valid (subst (λ l. S (fact_at (local_place q) (element.At l))) cov.place_is s) (list_any (λ z. nat_eq z cov.local) xs) refl
 
-  covered : (q : ℕ) (v : Pointer) → (Empty ≡ Points v) ⊎ ((list_any (λ z. nat_eq z q) xs ≡ false) × (slice_get st.cells q ≡ Some (Points v))) → Cover S' st'.world.content st'.cells q v
-  covered q v (inl e) = absurd (clash e)
+  covered : (q : ℕ) (v : Pointer) → IsRaw v → (Empty ≡ Points v) ⊎ ((list_any (λ z. nat_eq z q) xs ≡ false) × (slice_get st.cells q ≡ Some (Points v))) → Cover S' st'.world.content st'.cells q v
+  covered q v raw (inl e) = absurd (clash e)
     where
       clash : Empty ≡ Points v → ⊥
       clash e = cc
-  covered q v (inr o) = let c = k.covered q v o.1 in cover q v c.known o.0 c.holds c.covers
+  covered q v raw (inr o) = let c = k.covered q v o.1 raw in cover q v c.known o.0 c.holds c.covers
 
   known : Known S' st'
   known = record {
-    covered = λ q v e. covered q v (after.cells q (Points v) e);
+    covered = λ q v e raw. covered q v raw (after.cells q (Points v) e);
     timely = λ m o e i within. subst (λ moment. is_settled o i moment ≡ true) (sym after.clock) (k.timely m o (after.older m o e) i within);
   }
 
-pub end_known : (types : Types) (f : Function) (place : Place) (xs : List ℕ) (S S' : Fact → Type 0) (st : State) → Housed st.world.content st.cells → IsSorted types f (holdings_of st) → Known S st
-    → IsStepReady types f (holdings_of st) (End xs) → Closed types f place (End xs) S S' → IsSafe S' (end_locals xs st)
-end_known types f place xs S S' st h sorted k ready cl =
+pub end_known : (types : Types) (fs : List Function) (f : Function) (place : Place) (xs : List ℕ) (S S' : Fact → Type 0) (st : State) → Housed st.world.content st.cells → IsSorted types f (holdings_of st) → Known S st
+    → IsStepReady types fs f (holdings_of st) (End xs) → Closed types f place (End xs) S S' → IsSafe S' (end_locals xs st)
+end_known types fs f place xs S S' st h sorted k ready cl =
     let after = ends_are xs st h ready in
     subst (IsSafe S') (sym after.1.0) (known types f place xs S S' st after.0 sorted k cl after.1.1)

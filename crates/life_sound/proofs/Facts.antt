@@ -9,9 +9,11 @@ use Rattle.life_types.specs.Types.{Types, class_at}
 use Rattle.life_types.specs.declared.place.Place.{Place}
 use Rattle.life_types.specs.declared.ty.Class.{Class}
 use Rattle.life_types.specs.declared.ty.Class.TheVariants.{Value, Pointer, Owner, Aggregate}
+use Rattle.life_types.specs.declared.ty.Ty.{Ty}
+use Rattle.life_types.specs.declared.ty.Ty.TheVariants as variant
 use Rattle.life_core.specs.Function.{Function}
 use Rattle.life_core.specs.Linked.{Linked, code_of, numbered}
-use Rattle.life_core.specs.Proper.{Blank, AnObject, ANumber, APointer, held_if, held_by, sort_of}
+use Rattle.life_core.specs.Proper.{Blank, AnObject, ANumber, APointer, AView, pointer_held, held_if, held_by, sort_of}
 use Rattle.life_core.specs.Step.{Step}
 use Rattle.life_core.specs.declared.program.Local.{Local}
 use Rattle.life_core.specs.declared.program.LocalKind.{LocalKind}
@@ -34,6 +36,25 @@ use Rattle.life_sound.proofs.Places.{same_location}
 
 -- ---- locals by their sort
 
+-- what a local of such a class holds is no object
+held_pointer : (ty : Option Ty) → pointer_held ty ≡ AnObject → ⊥
+held_pointer (Some (variant.Raw target constant)) e = clash e
+  where
+    clash : APointer ≡ AnObject → ⊥
+    clash e = cc
+held_pointer (Some (variant.Reference target constant)) e = clash e
+  where
+    clash : APointer ≡ AnObject → ⊥
+    clash e = cc
+held_pointer (Some variant.View) e = clash e
+  where
+    clash : AView ≡ AnObject → ⊥
+    clash e = cc
+held_pointer _ e = clash e
+  where
+    clash : Blank ≡ AnObject → ⊥
+    clash e = cc
+
 module _ (types : Types) (f : Function) (x : ℕ) where
   pub object_local : sort_of types f x ≡ AnObject → (l : Local) × ((slice_get f.locals x ≡ Some l) × (l.kind ≡ Object))
   object_local sort = go (slice_get f.locals x) refl
@@ -44,20 +65,17 @@ module _ (types : Types) (f : Function) (x : ℕ) where
       number : ANumber ≡ AnObject → ⊥
       number e = cc
 
-      pointer : APointer ≡ AnObject → ⊥
-      pointer e = cc
-
-      kind : (c : Class) (k : LocalKind) → held_if c k ≡ AnObject → k ≡ Object
-      kind Value Object e = refl
-      kind Value Register e = absurd (number e)
-      kind Value Range e = absurd (blank e)
-      kind Pointer k e = absurd (pointer e)
-      kind Owner k e = absurd (blank e)
-      kind Aggregate k e = absurd (blank e)
+      kind : (c : Class) (k : LocalKind) (ty : Option Ty) → held_if c k ty ≡ AnObject → k ≡ Object
+      kind Value Object ty e = refl
+      kind Value Register ty e = absurd (number e)
+      kind Value Range ty e = absurd (blank e)
+      kind Pointer k ty e = absurd (held_pointer ty e)
+      kind Owner k ty e = absurd (blank e)
+      kind Aggregate k ty e = absurd (blank e)
 
       go : (o : Option Local) → slice_get f.locals x ≡ o → (l : Local) × ((slice_get f.locals x ≡ Some l) × (l.kind ≡ Object))
       go None e = absurd (blank (ap (held_by types) (sym e) ∙ sort))
-      go (Some l) e = (l, (e, kind (class_at types l.ty) l.kind (ap (held_by types) (sym e) ∙ sort)))
+      go (Some l) e = (l, (e, kind (class_at types l.ty) l.kind (slice_get types.types l.ty.0) (ap (held_by types) (sym e) ∙ sort)))
 
   pub pointer_local : sort_of types f x ≡ APointer → (l : Local) × ((slice_get f.locals x ≡ Some l) × (class_at types l.ty ≡ Pointer))
   pointer_local sort = go (slice_get f.locals x) refl
@@ -71,17 +89,17 @@ module _ (types : Types) (f : Function) (x : ℕ) where
       object : AnObject ≡ APointer → ⊥
       object e = cc
 
-      class : (c : Class) (k : LocalKind) → held_if c k ≡ APointer → c ≡ Pointer
-      class Value Object e = absurd (object e)
-      class Value Register e = absurd (number e)
-      class Value Range e = absurd (blank e)
-      class Pointer k e = refl
-      class Owner k e = absurd (blank e)
-      class Aggregate k e = absurd (blank e)
+      class : (c : Class) (k : LocalKind) (ty : Option Ty) → held_if c k ty ≡ APointer → c ≡ Pointer
+      class Value Object ty e = absurd (object e)
+      class Value Register ty e = absurd (number e)
+      class Value Range ty e = absurd (blank e)
+      class Pointer k ty e = refl
+      class Owner k ty e = absurd (blank e)
+      class Aggregate k ty e = absurd (blank e)
 
       go : (o : Option Local) → slice_get f.locals x ≡ o → (l : Local) × ((slice_get f.locals x ≡ Some l) × (class_at types l.ty ≡ Pointer))
       go None e = absurd (blank (ap (held_by types) (sym e) ∙ sort))
-      go (Some l) e = (l, (e, class (class_at types l.ty) l.kind (ap (held_by types) (sym e) ∙ sort)))
+      go (Some l) e = (l, (e, class (class_at types l.ty) l.kind (slice_get types.types l.ty.0) (ap (held_by types) (sym e) ∙ sort)))
 
 -- ---- their locations and elements are the function's
 

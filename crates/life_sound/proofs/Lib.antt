@@ -1,16 +1,20 @@
 mod Aiming
 mod Births
 mod Branches
+mod ByValue
+mod Calling
 mod Covering
 mod Edges
 mod Ending
 mod Ends
-mod Facts
+mod Entering
+pub mod Facts
 mod Places
 mod Reaching
 mod Sorts
 mod Soundness
+mod Sparing
 mod Steps
+mod Targets
 mod Values
-mod WorkedPrograms
 mod Writing

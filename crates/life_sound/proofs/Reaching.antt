@@ -2,7 +2,7 @@
 use Rattle.std.proofs.Common.{◌≡◌, ℕ, ◌<◌, length, List, [], Some, refl, ap, subst, ◌∙◌}
 use Rattle.std.specs.Prelude.{Contains, slice_get}
 use Rattle.life_types.specs.declared.place.Place.{Place}
-use Rattle.life_core.specs.Proper.{IsOperandReady}
+use Rattle.life_core.specs.Proper.{APointer, IsOperandReady}
 use Rattle.life_core.specs.Step.{Step}
 use Rattle.life_core.specs.Operands.{Location, Operand, Name, Through}
 use Rattle.life_pset.specs.Elements.{local_place}
@@ -16,8 +16,8 @@ use Rattle.life_rules.proofs.Giving.{at_head}
 use Rattle.life_store.specs.Cells.{at}
 use Rattle.life_store.specs.Content.{Object, Content}
 use Rattle.life_store.specs.Doing.{Here, found_if, behind_cell, named_by, resolve}
-use Rattle.life_store.specs.State.{Target, Pointer, Null, Wild, To, Named, Points, State, holdings_of}
-use Rattle.life_store.proofs.CellLemmas.{named_cell, pointer_cell}
+use Rattle.life_store.specs.State.{Target, Pointer, Null, Wild, To, Static, Named, Points, State, holdings_of}
+use Rattle.life_store.proofs.CellLemmas.{held_is, named_cell, pointer_cell}
 use Rattle.life_store.proofs.Found.{found_here}
 use Rattle.life_store.proofs.Housing.{Housed}
 use Rattle.life_sound.proofs.Covering.{PointsTo, Covers, Cover, Known}
@@ -70,6 +70,7 @@ module _ (n : ℕ) (place : Place) (i : Step) (S : Fact → Type 0) (clean : Cle
       go Null e element.Null s cov = absurd (unused n place i S clean p element.Null _ used (at_head _ []) s)
       go Wild e element.Null s cov = absurd cov
       go (To t) e element.Null s cov = absurd cov
+      go (Static c) e element.Null s cov = absurd cov
       go v e (element.Invalid cause) s cov = absurd (unused n place i S clean p (element.Invalid cause) _ used (at_head _ []) s)
       go v e (element.Moved cause) s cov = absurd cov
       go v e element.Own s cov = absurd cov
@@ -77,6 +78,7 @@ module _ (n : ℕ) (place : Place) (i : Step) (S : Fact → Type 0) (clean : Cle
       go Null e (element.At place') s cov = absurd cov
       go Wild e (element.At place') s cov = absurd cov
       go (To t) e (element.At place') s cov = pointed t e place' s cov
+      go (Static c) e (element.At place') s cov = absurd cov
 
   pub reached : (o : Operand) → ((p : ℕ) → Contains (used_in o) p → Contains (uses i) p) → IsOperandReady (holdings_of st) o → Reached S st o
   reached (Name at) used ready =
@@ -94,4 +96,5 @@ module _ (n : ℕ) (place : Place) (i : Step) (S : Fact → Type 0) (clean : Cle
       }
   reached (Through p members) used ready =
       let cell = pointer_cell st.cells p.local ready.1.1 in
-      through p members (used p.local (at_head p.local [])) cell.0 cell.1 (k.covered p.local cell.0 cell.1)
+      let raw = held_is st.cells p.local APointer (Points cell.0) ready.1.1 cell.1 in
+      through p members (used p.local (at_head p.local [])) cell.0 cell.1 (k.covered p.local cell.0 cell.1 raw)

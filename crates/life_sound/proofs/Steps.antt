@@ -1,5 +1,5 @@
--- Each instruction at which nothing is wrong does no fault, and keeps what is known of a state.
-use Rattle.std.proofs.Common.{ℕ}
+-- Each instruction but a call, at which nothing is wrong, does no fault, and keeps what is known of a state.
+use Rattle.std.proofs.Common.{ℕ, List}
 use Rattle.life_types.specs.Types.{Types}
 use Rattle.life_types.specs.declared.place.Place.{Place}
 use Rattle.life_core.specs.Function.{Function}
@@ -9,6 +9,7 @@ use Rattle.life_pset.specs.declared.element.Fact.{Fact}
 use Rattle.life_store.specs.Doing.{Setting, does}
 use Rattle.life_store.specs.State.{State, holdings_of}
 use Rattle.life_store.proofs.Housing.{Housed}
+use Rattle.life_store.proofs.Settling.{IsPlain}
 use Rattle.life_sound.proofs.Covering.{Known}
 use Rattle.life_sound.proofs.Facts.{Closed, Clean}
 use Rattle.life_sound.proofs.Sorts.{IsSorted}
@@ -18,24 +19,24 @@ use Rattle.life_sound.proofs.Ends.{end_known}
 use Rattle.life_sound.proofs.Values.{eval_known, load_known, save_known, port_known}
 use Rattle.life_sound.proofs.Aiming.{aim_known, repoint_known}
 
-module _ (n : ℕ) (types : Types) (f : Function) (place : Place) (S S' : Fact → Type 0) (st : State) (h : Housed st.world.content st.cells) (sorted : IsSorted types f (holdings_of st)) (k : Known S st) where
-  pub step_safe : (s : Setting) (i : Step) → IsStepReady types f (holdings_of st) i → Clean n place i S → Closed types f place i S S' → IsSafe S' (does s types f i st)
-  step_safe s (Live x form) ready clean cl = live_known types f place S S' st h sorted k s x form ready cl
-  step_safe s (End xs) ready clean cl = end_known types f place xs S S' st h sorted k ready cl
-  step_safe s (Eval r op) ready clean cl = eval_known n types f place S S' st h sorted k r op ready cl
-  step_safe s (Load r o) ready clean cl = load_known n types f place S S' st h sorted k r o ready clean cl s
-  step_safe s (Save o r) ready clean cl = save_known n types f place S S' st h sorted k o r ready clean cl s
-  step_safe s (Copy to from) ready clean cl = absurd ready
-  step_safe s (Move to y) ready clean cl = absurd ready
-  step_safe s (Aim p source) ready clean cl = aim_known n types f place S S' st h sorted k p source ready clean cl
-  step_safe s (Repoint p q) ready clean cl = repoint_known n types f place S S' st h sorted k p q ready cl s
-  step_safe s (Element p b which) ready clean cl = absurd ready
-  step_safe s (Cursor p b end) ready clean cl = absurd ready
-  step_safe s (Advance p q r direction) ready clean cl = absurd ready
-  step_safe s (Cut p q r count) ready clean cl = absurd ready
-  step_safe s (Size r b) ready clean cl = absurd ready
-  step_safe s (Same r a b equal) ready clean cl = absurd ready
-  step_safe s (Changes o c) ready clean cl = absurd ready
-  step_safe s (Make u made) ready clean cl = absurd ready
-  step_safe s (Call target g xs) ready clean cl = absurd ready
-  step_safe s (Ports p) ready clean cl = port_known n types f place S S' st h sorted k p ready cl s
+module _ (n : ℕ) (types : Types) (fs : List Function) (f : Function) (place : Place) (S S' : Fact → Type 0) (st : State) (h : Housed st.world.content st.cells) (sorted : IsSorted types f (holdings_of st)) (k : Known S st) where
+  pub step_safe : (s : Setting) (i : Step) → IsPlain i → IsStepReady types fs f (holdings_of st) i → Clean n place i S → Closed types f place i S S' → IsSafe S' (does s types f i st)
+  step_safe s (Live x form) plain ready clean cl = live_known types fs f place S S' st h sorted k s x form ready cl
+  step_safe s (End xs) plain ready clean cl = end_known types fs f place xs S S' st h sorted k ready cl
+  step_safe s (Eval r op) plain ready clean cl = eval_known n types fs f place S S' st h sorted k r op ready cl
+  step_safe s (Load r o) plain ready clean cl = load_known n types fs f place S S' st h sorted k r o ready clean cl s
+  step_safe s (Save o r) plain ready clean cl = save_known n types fs f place S S' st h sorted k o r ready clean cl s
+  step_safe s (Copy to from) plain ready clean cl = absurd ready
+  step_safe s (Move to y) plain ready clean cl = absurd ready
+  step_safe s (Aim p source) plain ready clean cl = aim_known n types fs f place S S' st h sorted k p source ready clean cl s
+  step_safe s (Repoint p q) plain ready clean cl = repoint_known n types fs f place S S' st h sorted k p q ready cl s
+  step_safe s (Element p b which) plain ready clean cl = absurd ready
+  step_safe s (Cursor p b end) plain ready clean cl = absurd ready
+  step_safe s (Advance p q r direction) plain ready clean cl = absurd ready
+  step_safe s (Cut p q r count) plain ready clean cl = absurd ready
+  step_safe s (Size r b) plain ready clean cl = absurd ready
+  step_safe s (Same r a b equal) plain ready clean cl = absurd ready
+  step_safe s (Changes o c) plain ready clean cl = absurd ready
+  step_safe s (Make u made) plain ready clean cl = absurd ready
+  step_safe s (Call target g xs) plain ready clean cl = absurd plain
+  step_safe s (Ports p) plain ready clean cl = port_known n types fs f place S S' st h sorted k p ready cl s

@@ -3,8 +3,6 @@
 
 mod acceptance;
 mod laws;
-#[cfg(test)]
-mod tests;
 
 pub use acceptance::{Accepted, Rejected, accept};
 pub use laws::undiagnosed_programs_are_free_of_faults;

@@ -3,81 +3,76 @@ use Rattle.std.proofs.Common.{◌≡◌, ◌≢◌, ℕ, zero, suc, List, [], �
 use Rattle.std.specs.Prelude.{ℤ, slice_get, slice_set, option_map}
 use Rattle.std.proofs.lemmas.List.{map-set}
 use Rattle.std.proofs.lemmas.Option.{slice_get-map}
-use Rattle.life_core.specs.Proper.{Holding, Blank, AnObject, ANumber, APointer, Holds}
+use Rattle.life_core.specs.Proper.{Holding, Blank, AnObject, ANumber, APointer, AView, Holds}
 use Rattle.life_store.specs.Cells.{Cells, at, set, unset, at-set_same, at-set_other, at-unset_same, at-unset_other}
-use Rattle.life_store.specs.State.{Pointer, Cell, Empty, Named, Number, Points, holding_of}
+use Rattle.life_store.specs.State.{Characters, Pointer, To, Static, Cell, Empty, Named, Number, Points, holding_of}
 use Rattle.std.proofs.lemmas.Bool.Decides.{eqb_tells}
 
 -- ---- by what it holds
 
 abbrev IsHolding : Holding → Option Holding → Type 0
-IsHolding h None = ⊥
 IsHolding Blank (Some Blank) = Unit {0}
-IsHolding Blank (Some AnObject) = ⊥
-IsHolding Blank (Some ANumber) = ⊥
-IsHolding Blank (Some APointer) = ⊥
-IsHolding AnObject (Some Blank) = ⊥
 IsHolding AnObject (Some AnObject) = Unit {0}
-IsHolding AnObject (Some ANumber) = ⊥
-IsHolding AnObject (Some APointer) = ⊥
-IsHolding ANumber (Some Blank) = ⊥
-IsHolding ANumber (Some AnObject) = ⊥
 IsHolding ANumber (Some ANumber) = Unit {0}
-IsHolding ANumber (Some APointer) = ⊥
-IsHolding APointer (Some Blank) = ⊥
-IsHolding APointer (Some AnObject) = ⊥
-IsHolding APointer (Some ANumber) = ⊥
 IsHolding APointer (Some APointer) = Unit {0}
+IsHolding AView (Some AView) = Unit {0}
+IsHolding _ _ = ⊥
 
 is_itself : (h : Holding) → IsHolding h (Some h)
 is_itself Blank = tt
 is_itself AnObject = tt
 is_itself ANumber = tt
 is_itself APointer = tt
+is_itself AView = tt
 
 module _ (cells : List Cell) (x : ℕ) where
   holding : (h : Holding) → Holds (map holding_of cells) x h → IsHolding h (option_map holding_of (slice_get cells x))
   holding h is = subst (IsHolding h) (sym is ∙ slice_get-map holding_of cells x) (is_itself h)
 
+  -- what stands in it holds that
+  pub held_is : (h : Holding) (v : Cell) → Holds (map holding_of cells) x h → slice_get cells x ≡ Some v → holding_of v ≡ h
+  held_is h v is e = sym (same (sym is ∙ slice_get-map holding_of cells x ∙ ap (option_map holding_of) e))
+    where
+      same : {a b : Holding} → Some a ≡ Some b → a ≡ b
+      same k = cc
+
   pub empty_cell_is : Holds (map holding_of cells) x Blank → slice_get cells x ≡ Some Empty
   empty_cell_is h = go (slice_get cells x) refl (holding Blank h)
     where
       go : (o : Option Cell) → slice_get cells x ≡ o → IsHolding Blank (option_map holding_of o) → slice_get cells x ≡ Some Empty
-      go None e i = absurd i
       go (Some Empty) e i = e
-      go (Some (Named n)) e i = absurd i
-      go (Some (Number z)) e i = absurd i
-      go (Some (Points p)) e i = absurd i
+      go (Some (Points (To t))) e i = absurd i
+      go _ e i = absurd i
 
   pub named_cell : Holds (map holding_of cells) x AnObject → (n : ℕ) × (slice_get cells x ≡ Some (Named n))
   named_cell h = go (slice_get cells x) refl (holding AnObject h)
     where
       go : (o : Option Cell) → slice_get cells x ≡ o → IsHolding AnObject (option_map holding_of o) → (n : ℕ) × (slice_get cells x ≡ Some (Named n))
-      go None e i = absurd i
-      go (Some Empty) e i = absurd i
       go (Some (Named n)) e i = (n, e)
-      go (Some (Number z)) e i = absurd i
-      go (Some (Points p)) e i = absurd i
+      go (Some (Points (To t))) e i = absurd i
+      go _ e i = absurd i
 
   pub number_cell : Holds (map holding_of cells) x ANumber → (z : ℤ) × (slice_get cells x ≡ Some (Number z))
   number_cell h = go (slice_get cells x) refl (holding ANumber h)
     where
       go : (o : Option Cell) → slice_get cells x ≡ o → IsHolding ANumber (option_map holding_of o) → (z : ℤ) × (slice_get cells x ≡ Some (Number z))
-      go None e i = absurd i
-      go (Some Empty) e i = absurd i
-      go (Some (Named n)) e i = absurd i
       go (Some (Number z)) e i = (z, e)
-      go (Some (Points p)) e i = absurd i
+      go (Some (Points (To t))) e i = absurd i
+      go _ e i = absurd i
 
   pub pointer_cell : Holds (map holding_of cells) x APointer → (v : Pointer) × (slice_get cells x ≡ Some (Points v))
   pointer_cell h = go (slice_get cells x) refl (holding APointer h)
     where
       go : (o : Option Cell) → slice_get cells x ≡ o → IsHolding APointer (option_map holding_of o) → (v : Pointer) × (slice_get cells x ≡ Some (Points v))
-      go None e i = absurd i
-      go (Some Empty) e i = absurd i
-      go (Some (Named n)) e i = absurd i
-      go (Some (Number z)) e i = absurd i
       go (Some (Points p)) e i = (p, e)
+      go _ e i = absurd i
+
+  pub view_cell : Holds (map holding_of cells) x AView → (c : Characters) × (slice_get cells x ≡ Some (Points (Static c)))
+  view_cell h = go (slice_get cells x) refl (holding AView h)
+    where
+      go : (o : Option Cell) → slice_get cells x ≡ o → IsHolding AView (option_map holding_of o) → (c : Characters) × (slice_get cells x ≡ Some (Points (Static c)))
+      go (Some (Points (Static c))) e i = (c, e)
+      go _ e i = absurd i
 
 -- what the cells hold where one was written
 pub holdings_set : (cells : List Cell) (x : ℕ) (v : Cell) → map holding_of (slice_set cells x v) ≡ slice_set (map holding_of cells) x (holding_of v)

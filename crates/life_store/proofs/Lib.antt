@@ -1,8 +1,12 @@
 pub mod Bodies
+pub mod CallsReturn
 pub mod CellLemmas
 pub mod CodeLemmas
+pub mod Entering
 pub mod Found
+pub mod Giving
 pub mod Going
+pub mod Handing
 pub mod Housing
 pub mod LaidOut
 pub mod MapLemmas
@@ -11,4 +15,6 @@ pub mod Onward
 pub mod RowLemmas
 pub mod Settling
 pub mod SlotLemmas
+pub mod Standing
 pub mod StoreLemmas
+pub mod Waiting

@@ -1,7 +1,7 @@
 -- What a store holds: objects by their numbers, of which none returns, and a clock.
-use Rattle.std.specs.Prelude.{ℕ, zero, suc, ◌+◌, ◌-◌, ◌*◌, ◌^◌, ◌<◌, Bool, true, false, cond, ◌&&◌, nat_eq, nat_lt, nat_le, List, [], ◌∷◌, ◌++◌, Option, Some, None, length, map, replicate, slice_get, slice_set, slice_index, take, drop, option_map}
+use Rattle.std.specs.Prelude.{ℕ, zero, suc, ◌+◌, ◌-◌, ◌*◌, ◌^◌, ◌<◌, Bool, true, false, cond, ◌&&◌, nat_eq, nat_le, List, [], ◌++◌, Option, Some, None, length, map, replicate, slice_get, slice_set, slice_index, take, drop, option_map}
 use Rattle.life_types.specs.declared.ty.TyId.{TyId}
-use Rattle.life_store.specs.Cells.{Cells, none, at, set, unset, sum_over}
+use Rattle.life_store.specs.Cells.{Cells, none, set, unset, sum_over}
 
 -- the words of one value, and the moment from which they stand there
 pub record Slot : Type 0 where

@@ -1,5 +1,5 @@
 -- What one instruction does.
-use Rattle.std.specs.Prelude.{ℕ, zero, ℤ, pos, ◌+◌, ◌*◌, ◌%◌, ◌^◌, Bool, true, false, cond, nat_lt, nat_le, List, [], ◌∷◌, ◌++◌, Option, Some, None, Result, Ok, Err, length, slice_get, slice_set}
+use Rattle.std.specs.Prelude.{ℕ, zero, ℤ, pos, ◌+◌, ◌*◌, ◌%◌, ◌^◌, Bool, true, false, cond, nat_lt, List, [], ◌∷◌, ◌++◌, Option, Some, None, Ok, Err, decimal, drop, length, option_and_then, slice_get, slice_set, take}
 use Rattle.std.specs.Int.{cast_signed, cast_unsigned, w8, w32, w64}
 use Rattle.std.specs.Fmt.{signed_decimal}
 use Rattle.life_types.specs.Types.{Types}
@@ -14,12 +14,12 @@ use Rattle.life_core.specs.declared.program.Local.{Local}
 use Rattle.life_core.specs.Function.{Function}
 use Rattle.life_core.specs.Operands.{Operand, Name, Through, Source}
 use Rattle.life_core.specs.Operands as source
-use Rattle.life_core.specs.Proper.{Holding, Blank, AnObject, ANumber, APointer, sort_of}
-use Rattle.life_core.specs.Step.{Step, Live, End, Eval, Load, Save, Aim, Repoint, Port, Ports, Writes}
+use Rattle.life_core.specs.Proper.{Holding, Blank, AnObject, ANumber, APointer, AView, sort_of}
+use Rattle.life_core.specs.Step.{Step, Live, End, Eval, Load, Save, Aim, Repoint, Port, Ports, Writes, WritesView, Takes}
 use Rattle.life_store.specs.Cells.{at}
 use Rattle.life_store.specs.Content.{Object, Content, newborn, with_birth, with_object, with_resize, without, with_word, word_at, live_words_of, is_valid_in}
 use Rattle.life_store.specs.Numbers.{Computed, negated, truth, is_zero, combined}
-use Rattle.life_store.specs.State.{Target, Pointer, Null, Wild, To, Cell, Empty, Named, Number, Points, World, State}
+use Rattle.life_store.specs.State.{Characters, Target, Pointer, Null, Wild, To, Static, Cell, Empty, Named, Number, Points, State}
 use Rattle.life_store.specs.declared.run.FaultKind.{FaultKind}
 use Rattle.life_store.specs.declared.run.FaultKind.TheVariants as fault
 use Rattle.life_store.specs.declared.run.Growth.{Growth}
@@ -27,10 +27,15 @@ use Rattle.life_store.specs.declared.run.TrapKind.{TrapKind}
 use Rattle.life_store.specs.declared.run.TrapKind.TheVariants as trap
 
 -- what a run is given: the growth policy, and the limits of live words and of frames
-pub record Setting : Type 0 where
+pub record Given : Type 0 where
   pub growth : Growth
   pub cells : ℕ
   pub depth : ℕ
+
+-- .. with the program's texts
+pub record Setting : Type 0 where
+  pub given : Given
+  pub texts : List (List ℕ)
 
 -- the next state, a trap, a fault, or a step that no proper program takes
 pub data Effect : Type 0 where
@@ -132,6 +137,7 @@ abbrev pub behind : Content → Pointer → Found
 behind c Null = Wrong fault.Null
 behind c Wild = Wrong fault.Dangling
 behind c (To t) = found_if (is_valid c t) c t
+behind c (Static s) = Astray
 
 abbrev pub behind_cell : Content → Option Cell → Found
 behind_cell c None = Astray
@@ -165,7 +171,7 @@ with_value_object ty c = with_resize c.births 1 0 (newborn ty 1 1 c.clock) (with
 
 abbrev pub born_object : Setting → TyId → ℕ → State → Effect
 born_object s ty x st =
-    cond (nat_lt s.cells (live_words_of st.world.content + (2 + 1 * 1)))
+    cond (nat_lt s.given.cells (live_words_of st.world.content + (2 + 1 * 1)))
     (Traps trap.Cells)
     (Next (put_cell x (Named st.world.content.births) (put_content (with_value_object ty st.world.content) st)))
 
@@ -178,6 +184,7 @@ live_as s Blank ty form x st = Strays
 live_as s AnObject ty form x st = born_object s ty x st
 live_as s ANumber ty form x st = Strays
 live_as s APointer ty form x st = Next (put_cell x (Points (born_pointer form)) st)
+live_as s AView ty form x st = Strays
 
 -- what is alive isn't born again
 abbrev pub live_over : Setting → Option Cell → Holding → TyId → Form → ℕ → State → Effect
@@ -233,17 +240,54 @@ saved z n i o st = put_content (with_object n (with_word i 0 (word_of_number z) 
 abbrev pub pointer_to : Content → ℕ → ℕ → Pointer
 pointer_to c n i = To (record { object = n; index = i; moment = c.clock })
 
-abbrev pub aimed : ℕ → Source → State → Effect
-aimed p source.Null st = Next (put_cell p (Points Null) st)
-aimed p (source.Place o) st = on_found (resolve o st) (λ n i object. Next (put_cell p (Points (pointer_to st.world.content n i)) st))
-aimed p _ st = Strays
+-- a text that isn't there has no characters
+abbrev pub text_length : Option (List ℕ) → ℕ
+text_length None = 0
+text_length (Some text) = length text
 
-abbrev pub ported : ℤ → State → State
-ported z st = record st { world = record (st.world) { output = st.world.output ++ signed_decimal z } }
+-- the whole of a text of the program
+abbrev pub viewed : List (List ℕ) → ℕ → Pointer
+viewed texts n = Static (record { text = Some n; index = 0; count = text_length (slice_get texts n) })
 
-abbrev pub port : Port → State → Effect
-port (Writes r) st = on_number (cell st r) (λ z. Next (ported z st))
-port _ st = Strays
+abbrev pub aimed : Setting → ℕ → Source → State → Effect
+aimed s p source.Null st = Next (put_cell p (Points Null) st)
+aimed s p (source.Text n) st = Next (put_cell p (Points (viewed s.texts n)) st)
+aimed s p (source.Place o) st = on_found (resolve o st) (λ n i object. Next (put_cell p (Points (pointer_to st.world.content n i)) st))
+aimed s p _ st = Strays
+
+abbrev pub with_output : List ℕ → State → State
+with_output text st = record st { world = record (st.world) { output = st.world.output ++ text } }
+
+-- a bool is written as 0 or 1, a char as its byte, a size_t without a sign, and any other number in decimal
+abbrev pub number_text : Option Ty → ℤ → List ℕ
+number_text (Some variant.Char) z = cast_unsigned w64 z % 2 ^ 8 ∷ []
+number_text (Some variant.Size) z = decimal (cast_unsigned w64 z)
+number_text _ z = signed_decimal z
+
+-- characters of a text
+abbrev pub characters_in : List (List ℕ) → Characters → List ℕ
+characters_in texts c = characters_from (option_and_then (λ n. slice_get texts n) c.text)
+  where
+    characters_from : Option (List ℕ) → List ℕ
+    characters_from None = []
+    characters_from (Some text) = take c.count (drop c.index text)
+
+abbrev pub on_view : Option Cell → (Characters → Effect) → Effect
+on_view (Some (Points (Static c))) go = go c
+on_view _ go = Strays
+
+-- the next number of the input, as a long modulo 2^64
+abbrev pub as_long : ℤ → ℤ
+as_long z = cast_signed w64 (cast_unsigned w64 z)
+
+abbrev pub input_taken : ℕ → List ℤ → State → Effect
+input_taken r [] st = Traps trap.InputEnd
+input_taken r (z ∷ zs) st = Next (put_cell r (Number (as_long z)) (record st { world = record (st.world) { input = zs } }))
+
+abbrev pub port : Setting → Types → Function → Port → State → Effect
+port s types f (Writes r) st = on_number (cell st r) (λ z. Next (with_output (number_text (type_of types f r) z) st))
+port s types f (WritesView l) st = on_view (cell st l.local) (λ c. Next (with_output (characters_in s.texts c) st))
+port s types f (Takes r) st = input_taken r st.world.input st
 
 -- what isn't built so far is in no proper program
 abbrev pub does : Setting → Types → Function → Step → State → Effect
@@ -252,7 +296,7 @@ does s types f (End xs) st = end_locals xs st
 does s types f (Eval r operation) st = evaluated types f r operation st
 does s types f (Load r o) st = on_found (resolve o st) (λ n i object. Next (put_cell r (Number (number_in_word (word_at object i 0))) st))
 does s types f (Save o r) st = on_number (cell st r) (λ z. on_found (resolve o st) (λ n i object. Next (saved z n i object st)))
-does s types f (Aim p s') st = aimed p.local s' st
+does s types f (Aim p s') st = aimed s p.local s' st
 does s types f (Repoint p q) st = on_pointer (cell st q.local) (λ v. Next (put_cell p.local (Points v) st))
-does s types f (Ports p) st = port p st
+does s types f (Ports p) st = port s types f p st
 does s types f _ st = Strays

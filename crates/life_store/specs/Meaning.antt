@@ -1,14 +1,19 @@
 -- What a function and a program do with so many steps.
-use Rattle.std.specs.Prelude.{ℕ, ℤ, pos, zero, suc, List, [], ◌∷◌, Option, Some, None, map, slice_get}
+use Rattle.std.specs.Prelude.{◌≡◌, ◌≤◌, ℕ, ℤ, pos, zero, suc, Bool, true, false, IsTrue, List, [], ◌∷◌, Option, Some, None, drop, length, map, slice_get}
 use Rattle.life_types.specs.Types.{Types}
 use Rattle.life_types.specs.declared.place.Place.{Place}
+use Rattle.life_types.specs.declared.ty.Ty.{Ty}
+use Rattle.life_types.specs.declared.ty.Ty.TheVariants as ty
 use Rattle.life_core.specs.declared.program.Local.{Local}
 use Rattle.life_core.specs.Function.{Function, Program}
-use Rattle.life_core.specs.Step.{Step, Test, NonZero, NotNull}
+use Rattle.life_core.specs.Operands.{Location}
+use Rattle.life_core.specs.Proper.{Holding, AnObject, parameter_sorts}
+use Rattle.life_core.specs.Step.{Step, Call, Test, NonZero, NotNull}
 use Rattle.life_core.specs.Tree.{Tree, Skip, Then, Acts, Asks, Both, Either, Negated, Choice, Turns, Breaks, Continues, Returns, Stops}
 use Rattle.life_store.specs.Content.{Content, empty_content}
-use Rattle.life_store.specs.Doing.{Setting, Effect, Next, Traps, Faults, Strays, does, cell}
-use Rattle.life_store.specs.State.{Pointer, Null, Wild, To, Cell, Empty, Named, Number, Points, World, State}
+use Rattle.life_store.specs.Calls.{all_handed, entry_arguments, parameters_given, results, target_given}
+use Rattle.life_store.specs.Doing.{Given, Setting, Effect, Next, Traps, Faults, Strays, does, cell}
+use Rattle.life_store.specs.State.{Pointer, Null, Wild, To, Static, Cell, Empty, Named, Number, Points, World, State}
 use Rattle.life_store.specs.declared.run.FaultKind.{FaultKind}
 use Rattle.life_store.specs.declared.run.TrapKind.{TrapKind}
 use Rattle.life_store.specs.declared.run.TrapKind.TheVariants as trap
@@ -36,10 +41,10 @@ pub data Verdict : Type 0 where
   Fails : ℕ → State → Verdict
   Cut : Stop → World → Verdict
 
--- what a call answers: the world, and the values that it gives back
+-- what a call answers: the world, and the values that it gives back; or it is trapped before its first step, where it is called
 pub data Called : Type 0 where
   Back : ℕ → World → List Cell → Called
-  TooDeep : Called
+  Barred : TrapKind → Called
   Quit : Stop → World → Called
 
 -- a call by the function's number, its arguments, and the steps that are left
@@ -54,10 +59,27 @@ paid place before (Traps kind) n = Stopped (Trapped kind place) before
 paid place before (Faults kind) n = Stopped (Faulted kind place) before
 paid place before Strays n = Stopped Stray before
 
--- none of the instructions that are built so far calls
+-- after a call: the world is as it left it, and its result goes to the target
+abbrev pub with_world : World → State → State
+with_world w st = record st { world = w }
+
+abbrev pub came_back : Setting → Types → Function → Place → Option Location → State → Called → Answer
+came_back s types f place target st (Back n w values) = paid place w (target_given s types f target values (with_world w st)) n
+came_back s types f place target st (Barred kind) = Stopped (Trapped kind place) st.world
+came_back s types f place target st (Quit stop w) = Stopped stop w
+
+abbrev pub call_with : Callee → ℕ → Option (List Cell) → ℕ → World → Called
+call_with call g None n w = Quit Stray w
+call_with call g (Some xs) n w = call g xs n w
+
+-- an instruction that has been paid for
+abbrev pub act : Setting → Types → Function → Callee → Place → Step → ℕ → State → Answer
+act s types f call place (Call target g xs) n st = came_back s types f place target st (call_with call g.0 (all_handed st xs) n st.world)
+act s types f call place i n st = paid place st.world (does s types f i st) n
+
 abbrev pub perform : Setting → Types → Function → Callee → Place → Step → ℕ → State → Answer
 perform s types f call place i zero st = Stopped Exhausted st.world
-perform s types f call place i (suc n) st = paid place st.world (does s types f i st) n
+perform s types f call place i (suc n) st = act s types f call place i n st
 
 abbrev pub by_number : ℤ → ℕ → State → Verdict
 by_number (pos zero) n st = Fails n st
@@ -67,6 +89,7 @@ abbrev pub by_pointer : Pointer → ℕ → State → Verdict
 by_pointer Null n st = Fails n st
 by_pointer Wild n st = Holds n st
 by_pointer (To t) n st = Holds n st
+by_pointer (Static c) n st = Holds n st
 
 abbrev pub number_test : Option Cell → ℕ → State → Verdict
 number_test None n st = Cut Stray st.world
@@ -93,6 +116,11 @@ ask t (suc n) st = test_at t n st
 abbrev pub leave : ℕ → State → Answer
 leave zero st = Stopped Exhausted st.world
 leave (suc n) st = Returned n st
+
+-- an assertion that doesn't hold
+abbrev pub stop_at : Place → ℕ → State → Answer
+stop_at place zero st = Stopped Exhausted st.world
+stop_at place (suc n) st = Stopped (Trapped trap.Assert place) st.world
 
 -- ---- ways of going on
 
@@ -156,7 +184,7 @@ module _ (s : Setting) (types : Types) (f : Function) (call : Callee) where
     exec Breaks n st = Broke n st
     exec Continues n st = Continued n st
     exec (Returns place) n st = leave n st
-    exec (Stops place) n st = Stopped Stray st.world
+    exec (Stops place) n st = stop_at place n st
 
     -- .. and one that is no condition
     pub test : Tree → ℕ → State → Verdict
@@ -179,34 +207,33 @@ module _ (s : Setting) (types : Types) (f : Function) (call : Callee) where
 abbrev pub empty_cell : Local → Cell
 empty_cell l = Empty
 
--- the functions that are built so far have no parameters
 abbrev pub frame : Function → World → State
 frame f w = record { world = w; cells = map empty_cell f.locals }
 
--- the result's cell, behind the parameters
-abbrev pub results : Function → State → List Cell
-results f st = cell_if (slice_get st.cells f.parameters)
-  where
-    cell_if : Option Cell → List Cell
-    cell_if None = []
-    cell_if (Some v) = v ∷ []
-
 -- no way runs past the end of a proper body, or out of a loop that isn't there
-abbrev pub finish : Function → Answer → Called
-finish f (Normal n st) = Quit Stray st.world
-finish f (Broke n st) = Quit Stray st.world
-finish f (Continued n st) = Quit Stray st.world
-finish f (Returned n st) = Back n st.world (results f st)
-finish f (Stopped s w) = Quit s w
+abbrev pub finish : Types → Function → Answer → Called
+finish types f (Normal n st) = Quit Stray st.world
+finish types f (Broke n st) = Quit Stray st.world
+finish types f (Continued n st) = Quit Stray st.world
+finish types f (Returned n st) = Back n st.world (results types f st)
+finish types f (Stopped s w) = Quit s w
+
+-- the body is run where the parameters have their room
+abbrev pub begun : Effect → World → (State → Called) → Called
+begun (Next st) w run = run st
+begun (Traps kind) w run = Barred kind
+begun (Faults kind) w run = Quit Stray w
+begun Strays w run = Quit Stray w
 
 abbrev pub entered : Setting → Types → Option Function → Callee → List Cell → ℕ → World → Called
-entered s types None call args n w = Quit Stray w
-entered s types (Some f) call args n w = finish f (exec s types f call f.body n (frame f w))
+entered s types None call xs n w = Quit Stray w
+entered s types (Some f) call xs n w =
+    begun (parameters_given s types f 0 xs (frame f w)) w (λ st. finish types f (exec s types f call f.body n st))
 
 -- calls that may stand so many deep
 abbrev pub calls : Setting → Program → ℕ → Callee
-calls s p zero f args n w = TooDeep
-calls s p (suc depth) f args n w = entered s p.types (slice_get p.functions f) (calls s p depth) args n w
+calls s p zero f xs n w = Barred trap.Depth
+calls s p (suc depth) f xs n w = entered s p.types (slice_get p.functions f) (calls s p depth) xs n w
 
 -- ---- runs
 
@@ -230,7 +257,7 @@ pub record Run : Type 0 where
   pub outcome : Outcome
   pub output : List ℕ
 
--- main's result is 0 where it gives none
+-- the value that is told; where there is none it is 0
 abbrev pub value_in : List Cell → ℤ
 value_in [] = pos 0
 value_in (Empty ∷ more) = pos 0
@@ -246,12 +273,43 @@ outcome_of_stop Exhausted w = OutOfSteps w.content
 
 abbrev pub run_from : Place → World → Called → Run
 run_from entry before (Back n w values) = record { outcome = Ended (value_in values) w.content; output = w.output }
-run_from entry before TooDeep = record { outcome = Trap trap.Depth entry; output = before.output }
+run_from entry before (Barred kind) = record { outcome = Trap kind entry; output = before.output }
 run_from entry before (Quit s w) = record { outcome = outcome_of_stop s w; output = w.output }
 
-abbrev pub first_world : List ℤ → World
-first_world input = record { content = empty_content; output = []; input = input }
+-- the input numbers that are left for the program
+abbrev pub first_world : Function → List ℤ → World
+first_world f input = record { content = empty_content; output = []; input = drop f.parameters input }
+
+abbrev pub setting_of : Given → Program → Setting
+setting_of given p = record { given = given; texts = p.texts }
+
+abbrev pub first_called : Given → Program → ℕ → Function → List ℤ → ℕ → Called
+first_called given p entry f input n =
+    calls (setting_of given p) p given.depth entry (entry_arguments p.types f 0 f.parameters input) n (first_world f input)
 
 -- the run of a function of the program from an empty store, in so many steps; the entry is the first frame
-abbrev pub run_of : Setting → Program → ℕ → Function → List ℤ → ℕ → Run
-run_of s p entry f input n = run_from f.place (first_world input) (calls s p s.depth entry [] n (first_world input))
+abbrev pub run_of : Given → Program → ℕ → Function → List ℤ → ℕ → Run
+run_of given p entry f input n = run_from f.place (first_world f input) (first_called given p entry f input n)
+
+-- ---- which functions may be the entry
+
+-- every parameter is a value
+abbrev pub AreObjects : List Holding → Type 0
+AreObjects [] = Unit {0}
+AreObjects (h ∷ hs) = (h ≡ AnObject) × AreObjects hs
+
+-- the result is one that is told: nothing, or a bool, char, int or long
+abbrev pub is_told : Option Ty → Bool
+is_told (Some ty.Void) = true
+is_told (Some ty.Bool) = true
+is_told (Some ty.Char) = true
+is_told (Some ty.Int) = true
+is_told (Some ty.Long) = true
+is_told _ = false
+
+-- .. the parameters are locals, and there are numbers for them
+pub record IsAdmitted (p : Program) (f : Function) (input : List ℤ) : Type 0 where
+  pub room : f.parameters ≤ length f.locals
+  pub values : AreObjects (parameter_sorts p.types f)
+  pub told : IsTrue (is_told (slice_get p.types.types f.result.0))
+  pub enough : f.parameters ≤ length input

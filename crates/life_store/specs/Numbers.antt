@@ -1,5 +1,5 @@
 -- What operators make of numbers. A register holds 64 bits, read with a sign; a size_t is read without one.
-use Rattle.std.specs.Prelude.{ℕ, ℤ, pos, neg_ℤ, ◌+ℤ◌, ◌-ℤ◌, ◌*ℤ◌, ◌+◌, ◌-◌, ◌*◌, ◌/◌, ◌%◌, ◌^◌, Bool, true, false, cond, not, ◌&&◌, nat_eq, nat_lt, nat_le, int_lt, int_le, int_div, int_rem, Option, Some, None, Result, Ok, Err}
+use Rattle.std.specs.Prelude.{ℕ, ℤ, pos, neg_ℤ, ◌+ℤ◌, ◌-ℤ◌, ◌*ℤ◌, ◌+◌, ◌-◌, ◌*◌, ◌/◌, ◌%◌, ◌^◌, Bool, cond, not, ◌&&◌, nat_eq, nat_lt, nat_le, int_lt, int_le, int_div, int_rem, Option, Some, Result, Ok, Err}
 use Rattle.std.specs.Int.{cast_signed, cast_unsigned, w64}
 use Rattle.life_types.specs.declared.ty.Ty.{Ty}
 use Rattle.life_types.specs.declared.ty.Ty.TheVariants as ty

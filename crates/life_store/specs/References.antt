@@ -1,5 +1,5 @@
 -- References to objects: the row that an object has while it lives, and its number.
-use Rattle.std.specs.Prelude.{◌≡◌, ◌≢◌, ℕ, ◌≤◌, ◌<◌, cond, nat_eq, Option, Some, None, Result, Ok, Err, option_and_then, length}
+use Rattle.std.specs.Prelude.{◌≢◌, ℕ, ◌≤◌, ◌<◌, cond, nat_eq, Option, Some, None, Result, Ok, Err, option_and_then, length}
 use Rattle.life_store.specs.Cells.{Cells, at}
 use Rattle.life_store.specs.Content.{Content, Object}
 use Rattle.life_store.specs.declared.object.Dead.{Dead}

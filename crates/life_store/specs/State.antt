@@ -1,6 +1,6 @@
 -- The state of a run: the world that all frames share, and the cells of one frame.
-use Rattle.std.specs.Prelude.{ℕ, ℤ, List, map}
-use Rattle.life_core.specs.Proper.{Holding, Blank, AnObject, ANumber, APointer}
+use Rattle.std.specs.Prelude.{ℕ, ℤ, List, Option, map}
+use Rattle.life_core.specs.Proper.{Holding, Blank, AnObject, ANumber, APointer, AView}
 use Rattle.life_store.specs.Content.{Content}
 
 -- a position in an object, and the moment at which the pointer was made
@@ -9,11 +9,18 @@ pub record Target : Type 0 where
   pub index : ℕ
   pub moment : ℕ
 
+-- characters that never end: of a text of the program, or of none, from an index on
+pub record Characters : Type 0 where
+  pub text : Option ℕ
+  pub index : ℕ
+  pub count : ℕ
+
 -- a wild pointer never pointed to anything
 pub data Pointer : Type 0 where
   Null : Pointer
   Wild : Pointer
   To : Target → Pointer
+  Static : Characters → Pointer
 
 -- what a local holds: nothing, the number of its object, a value, or a pointer
 pub data Cell : Type 0 where
@@ -32,11 +39,18 @@ pub record State : Type 0 where
   pub world : World
   pub cells : List Cell
 
+-- a view's characters never end so far, and no raw pointer or reference points to such
+abbrev pub holding_of_pointer : Pointer → Holding
+holding_of_pointer Null = APointer
+holding_of_pointer Wild = APointer
+holding_of_pointer (To t) = APointer
+holding_of_pointer (Static c) = AView
+
 abbrev pub holding_of : Cell → Holding
 holding_of Empty = Blank
 holding_of (Named n) = AnObject
 holding_of (Number z) = ANumber
-holding_of (Points p) = APointer
+holding_of (Points p) = holding_of_pointer p
 
 -- what each local holds
 abbrev pub holdings_of : State → List Holding

@@ -8,8 +8,6 @@ mod plain_object;
 mod plain_rows;
 mod run;
 mod store;
-#[cfg(test)]
-mod tests;
 
 pub use laws::proper_runs_are_never_lost;
 pub use object::{BirthFault, Dead, ObjRef, Shape};

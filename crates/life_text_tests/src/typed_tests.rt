@@ -1,11 +1,11 @@
 // A few rows of each table.
+use life_tree::CompoundOperator;
 use life_typed::{
     BOOL, BinaryOperator, CHAR, Category, ExprType, INT, LONG, Method, MethodParameters, Misfit,
     SIZE, TEXT, VIEW, VOID, base_types, can_step, combined, compounded, dereferenced, fits,
     has_method, indexed, is_condition, is_printed, is_value, method_answer, method_named,
     method_parameters, mutates, negated, promoted, range_element, takes_literals,
 };
-use life_tree::CompoundOperator;
 use life_types::{Ty, TyId};
 use std::test::Fail;
 

@@ -1,11 +1,11 @@
 // A few files as trees, and the rules that they break with the places. Of every rule the contract of
 // `resolve` says it.
-use life_typing::{IllFault, IllKind, resolve};
 use life_tree::{
     Base, Block, Definition, Function, FunctionBody, Identifier, Member, Parameter, Program,
     ResultType, StructDefinition, TypeName,
 };
 use life_types::{NameId, Place};
+use life_typing::{IllFault, IllKind, resolve};
 use std::alloc::{AllocError, Global};
 use std::test::Fail;
 

@@ -3,7 +3,7 @@ use Rattle.std.proofs.lemmas.Option.{slice_get-map, slice_get_read}
 use Rattle.std.specs.Prelude.{slice_get, option_map}
 use Rattle.life_core.specs.declared.program.CoreFn.{CoreFn}
 use Rattle.life_core.specs.Function.{function_of}
-use Rattle.life_interp.proofs.RunLemmas.{few_at}
+use Rattle.life_interp.proofs.CodeLists.{few_at}
 use Rattle.life_interp.proofs.entry.all_links.Goals as goal
 
 pub links-requires : goal.links-requires

@@ -7,7 +7,7 @@ use Rattle.life_store.specs.State as state
 use Rattle.life_interp.specs.Cells.{state_of}
 use Rattle.life_interp.specs.declared.value.Cell.{Cell}
 use Rattle.life_interp.specs.declared.value.Cell.TheVariants as held
-use Rattle.life_interp.proofs.FitLemmas.{cell_fits, fit_ended, set_fits}
+use Rattle.life_interp.proofs.FitLemmas.{cell_fits, fit_ended, later_ended, set_fits}
 use Rattle.life_interp.proofs.LocalLemmas.{ended_step, ended_strays}
 use Rattle.life_interp.proofs.StepLemmas.{seen, put_now}
 use Rattle.life_interp.proofs.locals.end_one.Goals as goal
@@ -72,3 +72,7 @@ pub returns-in-None-clause-step : goal.returns-in-None-clause-step
 returns-in-None-clause-step g c = λ output input.
     let there = seen c.args.cells.now.items c.args.local None (sym (ap (λ (cells : List Cell). slice_get cells c.args.local) (sym c.deref.ensures.value) ∙ sym c.cell_at.ensures ∙ c.in-None.is)) in
     ap (λ o. end_cell o c.args.local (state_of (g.S.Store.content c.args.store.now) c.args.cells.now.items output input)) there
+
+pub returns-in-Ok-clause-later : goal.returns-in-Ok-clause-later
+returns-in-Ok-clause-later g c =
+    rw (c.in-Ok.ensures.ended, c.in-Ok.ensures.row) (later_ended (g.S.Store.content c.args.store.now) (g.S.Store.rows c.args.store.now) c.in-Some-Object.object.birth)

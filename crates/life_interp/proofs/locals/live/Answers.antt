@@ -2,11 +2,10 @@ use Rattle.std.proofs.Common.{List, Some, None, ap, refl, sym, ◌∙◌, arith}
 use Rattle.std.specs.Prelude.{slice_get}
 use Rattle.life_core.specs.Function.{function_of}
 use Rattle.std.proofs.lemmas.Option.{slice_get_read, slice_get_past}
-use Rattle.life_types.specs.declared.ty.Class.TheVariants.{Value as value_class, Pointer as pointer_class}
-use Rattle.life_core.specs.Proper.{held_if}
-use Rattle.life_store.specs.Doing.{Next, live_as, put_cell}
+use Rattle.life_core.specs.Proper.{Blank, AnObject, ANumber, APointer, AView}
+use Rattle.life_store.specs.Doing.{Next, put_cell}
 use Rattle.life_store.specs.State as state
-use Rattle.life_interp.specs.Cells.{pointer_seen, state_of}
+use Rattle.life_interp.specs.Cells.{pointer_seen, sort_seen, state_of}
 use Rattle.life_interp.specs.declared.value.Cell.{Cell}
 use Rattle.life_interp.specs.declared.value.Cell.TheVariants as held
 use Rattle.life_interp.proofs.FitLemmas.{set_fits}
@@ -14,17 +13,67 @@ use Rattle.life_interp.proofs.LocalLemmas.{born_fits, leaves_as, live_is, live_s
 use Rattle.life_interp.proofs.StepLemmas.{seen, put_now}
 use Rattle.life_interp.proofs.locals.live.Goals as goal
 
-pub returns-in-Value-Object-clause-step : goal.returns-in-Value-Object-clause-step
-returns-in-Value-Object-clause-step g c = λ s e.
+pub returns-in-Object-clause-step : goal.returns-in-Object-clause-step
+returns-in-Object-clause-step g c = λ s e.
     let locals = c.args.f.now.locals in
     let local = c.index-declared.result.now in
     let there = slice_get_read locals.items locals.len c.args.local local locals.ok.0 (omega (arith, c.if-index-len.true, c.len.ensures)) c.index-declared.ensures in
     let at_cell = ap (λ (cells : List Cell). slice_get cells c.args.local) (sym c.deref.ensures.value) ∙ sym c.cell_at.ensures ∙ c.in-Some-Empty.is ∙ ap (λ (v : Cell). Some v) c.in-Some-Empty.field-0-is in
     let cell_is = seen c.args.cells.now.items c.args.local (Some held.Empty) (sym at_cell) in
-    leaves_as _ _ _ c.born.result (λ output input.
-    live_is s c.args.types.now (function_of c.args.f.now) c.args.local local value_class c.args.form (state_of (g.S.Store.content c.args.store.now) c.args.cells.now.items output input) there cell_is (sym c.in-Value-Object.is-0 ∙ c.class_of.ensures)
-    ∙ ap (λ k. live_as s (held_if value_class k) local.ty c.args.form c.args.local (state_of (g.S.Store.content c.args.store.now) c.args.cells.now.items output input)) c.in-Value-Object.is-1)
+    let content = g.S.Store.content c.args.store.now in
+    leaves_as _ _ _ c.born.result
+    (λ output input. live_is s c.args.types.now (function_of c.args.f.now) c.args.local local AnObject c.args.form (state_of content c.args.cells.now.items output input) there cell_is (sym (ap sort_seen c.in-Object.is) ∙ c.sort_of.ensures))
     (c.born.ensures.step s e)
+
+pub returns-in-Blank-clause-step : goal.returns-in-Blank-clause-step
+returns-in-Blank-clause-step g c = λ s e output input.
+    let locals = c.args.f.now.locals in
+    let local = c.index-declared.result.now in
+    let there = slice_get_read locals.items locals.len c.args.local local locals.ok.0 (omega (arith, c.if-index-len.true, c.len.ensures)) c.index-declared.ensures in
+    let at_cell = ap (λ (cells : List Cell). slice_get cells c.args.local) (sym c.deref.ensures.value) ∙ sym c.cell_at.ensures ∙ c.in-Some-Empty.is ∙ ap (λ (v : Cell). Some v) c.in-Some-Empty.field-0-is in
+    let cell_is = seen c.args.cells.now.items c.args.local (Some held.Empty) (sym at_cell) in
+    let content = g.S.Store.content c.args.store.now in
+    live_is s c.args.types.now (function_of c.args.f.now) c.args.local local Blank c.args.form (state_of content c.args.cells.now.items output input) there cell_is (sym (ap sort_seen c.in-Blank.is) ∙ c.sort_of.ensures)
+
+pub returns-in-Number-clause-step : goal.returns-in-Number-clause-step
+returns-in-Number-clause-step g c = λ s e output input.
+    let locals = c.args.f.now.locals in
+    let local = c.index-declared.result.now in
+    let there = slice_get_read locals.items locals.len c.args.local local locals.ok.0 (omega (arith, c.if-index-len.true, c.len.ensures)) c.index-declared.ensures in
+    let at_cell = ap (λ (cells : List Cell). slice_get cells c.args.local) (sym c.deref.ensures.value) ∙ sym c.cell_at.ensures ∙ c.in-Some-Empty.is ∙ ap (λ (v : Cell). Some v) c.in-Some-Empty.field-0-is in
+    let cell_is = seen c.args.cells.now.items c.args.local (Some held.Empty) (sym at_cell) in
+    let content = g.S.Store.content c.args.store.now in
+    live_is s c.args.types.now (function_of c.args.f.now) c.args.local local ANumber c.args.form (state_of content c.args.cells.now.items output input) there cell_is (sym (ap sort_seen c.in-Number.is) ∙ c.sort_of.ensures)
+
+pub returns-in-View-clause-step : goal.returns-in-View-clause-step
+returns-in-View-clause-step g c = λ s e output input.
+    let locals = c.args.f.now.locals in
+    let local = c.index-declared.result.now in
+    let there = slice_get_read locals.items locals.len c.args.local local locals.ok.0 (omega (arith, c.if-index-len.true, c.len.ensures)) c.index-declared.ensures in
+    let at_cell = ap (λ (cells : List Cell). slice_get cells c.args.local) (sym c.deref.ensures.value) ∙ sym c.cell_at.ensures ∙ c.in-Some-Empty.is ∙ ap (λ (v : Cell). Some v) c.in-Some-Empty.field-0-is in
+    let cell_is = seen c.args.cells.now.items c.args.local (Some held.Empty) (sym at_cell) in
+    let content = g.S.Store.content c.args.store.now in
+    live_is s c.args.types.now (function_of c.args.f.now) c.args.local local AView c.args.form (state_of content c.args.cells.now.items output input) there cell_is (sym (ap sort_seen c.in-View.is) ∙ c.sort_of.ensures)
+
+pub returns-in-Pointer-clause-step : goal.returns-in-Pointer-clause-step
+returns-in-Pointer-clause-step g c = λ s e output input.
+    let locals = c.args.f.now.locals in
+    let local = c.index-declared.result.now in
+    let there = slice_get_read locals.items locals.len c.args.local local locals.ok.0 (omega (arith, c.if-index-len.true, c.len.ensures)) c.index-declared.ensures in
+    let at_cell = ap (λ (cells : List Cell). slice_get cells c.args.local) (sym c.deref.ensures.value) ∙ sym c.cell_at.ensures ∙ c.in-Some-Empty.is ∙ ap (λ (v : Cell). Some v) c.in-Some-Empty.field-0-is in
+    let cell_is = seen c.args.cells.now.items c.args.local (Some held.Empty) (sym at_cell) in
+    let content = g.S.Store.content c.args.store.now in
+    let st = state_of content c.args.cells.now.items output input in
+    live_is s c.args.types.now (function_of c.args.f.now) c.args.local local APointer c.args.form st there cell_is (sym (ap sort_seen c.in-Pointer.is) ∙ c.sort_of.ensures)
+    ∙ ap (λ p. Next (put_cell c.args.local (state.Points p) st)) (sym c.born_pointer.ensures)
+    ∙ ap Next (put_now content c.args.cells.now.items c.put_cell.new.cells.items c.args.local (held.Points c.born_pointer.result) output input c.put_cell.ensures)
+
+pub returns-in-Pointer-clause-fits : goal.returns-in-Pointer-clause-fits
+returns-in-Pointer-clause-fits g c =
+    let content = g.S.Store.content c.args.store.now in
+    let rows = g.S.Store.rows c.args.store.now in
+    rw c.put_cell.ensures
+    (record { housed = c.requires.fits.housed; held = set_fits content rows c.args.cells.now.items c.args.local (held.Points c.born_pointer.result) c.requires.fits.held (born_fits c.args.form c.born_pointer.result content rows c.born_pointer.ensures) })
 
 pub returns-in-Some-Object-clause-step : goal.returns-in-Some-Object-clause-step
 returns-in-Some-Object-clause-step g c = λ s e output input.
@@ -60,26 +109,6 @@ returns-in-None-clause-step g c = λ s e output input.
     let there = slice_get_read locals.items locals.len c.args.local local locals.ok.0 (omega (arith, c.if-index-len.true, c.len.ensures)) c.index-declared.ensures in
     let cell_is = seen c.args.cells.now.items c.args.local None (sym (ap (λ (cells : List Cell). slice_get cells c.args.local) (sym c.deref.ensures.value) ∙ sym c.cell_at.ensures ∙ c.in-None.is)) in
     live_strays s c.args.types.now (function_of c.args.f.now) c.args.local local c.args.form (state_of (g.S.Store.content c.args.store.now) c.args.cells.now.items output input) None there cell_is refl
-
-pub returns-in-Pointer-default-clause-step : goal.returns-in-Pointer-default-clause-step
-returns-in-Pointer-default-clause-step g c = λ s e output input.
-    let locals = c.args.f.now.locals in
-    let local = c.index-declared.result.now in
-    let there = slice_get_read locals.items locals.len c.args.local local locals.ok.0 (omega (arith, c.if-index-len.true, c.len.ensures)) c.index-declared.ensures in
-    let at_cell = ap (λ (cells : List Cell). slice_get cells c.args.local) (sym c.deref.ensures.value) ∙ sym c.cell_at.ensures ∙ c.in-Some-Empty.is ∙ ap (λ (v : Cell). Some v) c.in-Some-Empty.field-0-is in
-    let cell_is = seen c.args.cells.now.items c.args.local (Some held.Empty) (sym at_cell) in
-    let content = g.S.Store.content c.args.store.now in
-    let st = state_of content c.args.cells.now.items output input in
-    live_is s c.args.types.now (function_of c.args.f.now) c.args.local local pointer_class c.args.form st there cell_is (sym c.in-Pointer-default.is-0 ∙ c.class_of.ensures)
-    ∙ ap (λ p. Next (put_cell c.args.local (state.Points p) st)) (sym c.born_pointer.ensures)
-    ∙ ap Next (put_now content c.args.cells.now.items c.put_cell.new.cells.items c.args.local (held.Points c.born_pointer.result) output input c.put_cell.ensures)
-
-pub returns-in-Pointer-default-clause-fits : goal.returns-in-Pointer-default-clause-fits
-returns-in-Pointer-default-clause-fits g c =
-    let content = g.S.Store.content c.args.store.now in
-    let rows = g.S.Store.rows c.args.store.now in
-    rw c.put_cell.ensures
-    (record { housed = c.requires.fits.housed; held = set_fits content rows c.args.cells.now.items c.args.local (held.Points c.born_pointer.result) c.requires.fits.held (born_fits c.args.form c.born_pointer.result content rows c.born_pointer.ensures) })
 
 pub returns-else-index-len-clause-step : goal.returns-else-index-len-clause-step
 returns-else-index-len-clause-step g c = λ s e output input.

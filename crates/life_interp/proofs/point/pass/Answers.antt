@@ -1,42 +1,127 @@
-use Rattle.std.proofs.Common.{List, [], Bool, Option, Some, ap, subst, sym, ◌∙◌}
-use Rattle.life_core.specs.Function.{function_of}
-use Rattle.life_core.specs.Link.{link_seen}
+use Rattle.std.proofs.Common.{drop, ap, refl, subst, sym, ◌∙◌, arith}
+use Rattle.std.proofs.lemmas.List.{length-map}
+use Rattle.std.proofs.lemmas.Option.{slice_get_read}
+use Rattle.std.specs.Prelude.{option_map}
+use Rattle.life_core.specs.Function.{function_of, program_of}
+use Rattle.life_core.specs.Limits.{NodeHasLong}
+use Rattle.life_core.specs.Link.{leads_seen, link_seen}
+use Rattle.life_core.specs.Linked.{code_of}
 use Rattle.life_core.specs.Node.{node_seen}
 use Rattle.life_core.specs.Step.{asked_of, step_of}
-use Rattle.life_interp.specs.Walking.{Asks, Sunk, PointEnds}
-use Rattle.life_interp.specs.declared.ending.Halt.{Halt}
-use Rattle.life_interp.specs.declared.value.Cell.{Cell}
-use Rattle.life_interp.proofs.PointLemmas.{acted, act_ends, strayed, held, failed}
+use Rattle.life_core.specs.Tree.{Action, Question, Return, Stop}
+use Rattle.life_interp.specs.Frames.{function_at}
+use Rattle.life_interp.specs.Walking.{acts, asks, returns, Sunk}
+use Rattle.life_interp.proofs.CodeLists.{codes_length, longs_at, there_at}
+use Rattle.life_interp.proofs.PointLemmas.{leads_as, leads_quiet, long_to, passes_at, passes_node, point_seen}
 use Rattle.life_interp.proofs.WalkLemmas.{untouched}
 use Rattle.life_interp.proofs.point.pass.Goals as goal
 
-pub returns-in-Ok-clause-step : goal.returns-in-Ok-clause-step
-returns-in-Ok-clause-step g c = λ s e.
-    let did = c.in-Ok.ensures.step s e in
-    (did.0, did.1, acted s c.args.types.now (function_of c.args.f.now) (link_seen c.args.link) (g.S.Store.content c.args.store.now) c.args.cells.now.items (step_of c.in-Action.instr.now) (ap node_seen c.in-Action.is) (g.S.Store.content c.perform.new.store) c.perform.new.cells.items did.0 c.first_way.result c.first_way.ensures did.2)
-
-pub returns-in-Err-clause-step : goal.returns-in-Err-clause-step
-returns-in-Err-clause-step g c = λ s e.
-    let k : Sunk = record { old = g.O.Sink.taken c.args.out.now; new = g.O.Sink.taken c.perform.new.out; faults = g.O.Sink.faults c.args.out.now; later = g.O.Sink.faults c.perform.new.out } in
-    let content = g.S.Store.content c.args.store.now in
-    let d = g.S.Store.content c.perform.new.store in
-    subst (λ (h : Halt). PointEnds s c.args.types.now (function_of c.args.f.now) (link_seen c.args.link) content c.args.cells.now.items d c.perform.new.cells.items k h) (sym c.halt_at.ensures)
-    (act_ends s c.args.types.now (function_of c.args.f.now) (link_seen c.args.link) content c.args.cells.now.items (step_of c.in-Action.instr.now) (ap node_seen c.in-Action.is) d c.perform.new.cells.items k c.in-Err.ending (c.in-Err.ensures.step s e))
+pub act-requires-clause-long : goal.act-requires-clause-long
+act-requires-clause-long g c =
+    let p = program_of c.args.program.now in
+    let functions = c.args.program.now.functions.items in
+    let frames = c.args.frames.now in
+    let codes = c.args.code.now in
+    let lt = c.requires.frames.here in
+    let v = c.index-code-frames.result in
+    let there = slice_get_read codes _ frames.function v refl (omega (arith, lt, codes_length codes functions c.requires.linked, length-map functions function_of)) c.index-code-frames.is in
+    let point = point_seen p frames codes functions c.requires.linked refl lt v there c.deref.result.now c.deref.ensures.value c.link_at.result c.link_at.ensures in
+    let l = link_seen c.in-Some.link in
+    let at = point ∙ ap (option_map link_seen) c.in-Some.is in
+    subst NodeHasLong (ap node_seen c.in-Action.is)
+    (long_to (code_of (function_at p.functions frames.function)) frames.point l (longs_at p.functions frames.function (function_at p.functions frames.function) c.requires.long (there_at p.functions frames.function lt)) at)
 
 pub returns-in-None-clause-step : goal.returns-in-None-clause-step
-returns-in-None-clause-step g c = λ s e.
-    let seen = subst (λ (cells : List Cell). Asks (asked_of c.in-Question.test.now) cells c.ask.result) c.deref.ensures.value c.ask.ensures in
-    let told = subst (λ (o : Option Bool). Asks (asked_of c.in-Question.test.now) c.args.cells.now.items o) (c.in-None.is) seen in
-    (untouched (g.O.Sink.taken c.args.out.now) (g.O.Sink.faults c.args.out.now), strayed s c.args.types.now (function_of c.args.f.now) (link_seen c.args.link) (g.S.Store.content c.args.store.now) c.args.cells.now.items (asked_of c.in-Question.test.now) (ap node_seen c.in-Question.is) told)
+returns-in-None-clause-step g c = λ s set depth.
+    let p = program_of c.args.program.now in
+    let functions = c.args.program.now.functions.items in
+    let frames = c.args.frames.now in
+    let codes = c.args.code.now in
+    let lt = c.requires.frames.here in
+    let v = c.index-code-frames.result in
+    let there = slice_get_read codes _ frames.function v refl (omega (arith, lt, codes_length codes functions c.requires.linked, length-map functions function_of)) c.index-code-frames.is in
+    let point = point_seen p frames codes functions c.requires.linked refl lt v there c.deref.result.now c.deref.ensures.value c.link_at.result c.link_at.ensures in
+    let k : Sunk = record { old = g.O.Sink.taken c.args.out.now; new = g.O.Sink.taken c.args.out.now; faults = g.O.Sink.faults c.args.out.now; later = g.O.Sink.faults c.args.out.now } in
+    let alone = untouched (g.O.Sink.taken c.args.out.now) (g.O.Sink.faults c.args.out.now) in
+    let content = g.S.Store.content c.args.store.now in
+    let ins = drop c.args.taken.now c.args.input.now in
+    (alone, λ go n output. passes_at s p frames content ins _ (point ∙ ap (option_map link_seen) c.in-None.is) go n output)
 
-pub returns-in-Some-true-clause-step : goal.returns-in-Some-true-clause-step
-returns-in-Some-true-clause-step g c = λ s e.
-    let seen = subst (λ (cells : List Cell). Asks (asked_of c.in-Question.test.now) cells c.ask.result) c.deref.ensures.value c.ask.ensures in
-    let told = subst (λ (o : Option Bool). Asks (asked_of c.in-Question.test.now) c.args.cells.now.items o) (c.in-Some-true.is ∙ ap (λ (b : Bool). Some b) c.in-Some-true.field-0-test) seen in
-    ([], untouched (g.O.Sink.taken c.args.out.now) (g.O.Sink.faults c.args.out.now), held s c.args.types.now (function_of c.args.f.now) (link_seen c.args.link) (g.S.Store.content c.args.store.now) c.args.cells.now.items (asked_of c.in-Question.test.now) (ap node_seen c.in-Question.is) c.first_way-in-Some-true.result c.first_way-in-Some-true.ensures told)
+pub returns-in-Action-clause-step : goal.returns-in-Action-clause-step
+returns-in-Action-clause-step g c = λ s set depth.
+    let p = program_of c.args.program.now in
+    let functions = c.args.program.now.functions.items in
+    let frames = c.args.frames.now in
+    let codes = c.args.code.now in
+    let lt = c.requires.frames.here in
+    let v = c.index-code-frames.result in
+    let there = slice_get_read codes _ frames.function v refl (omega (arith, lt, codes_length codes functions c.requires.linked, length-map functions function_of)) c.index-code-frames.is in
+    let point = point_seen p frames codes functions c.requires.linked refl lt v there c.deref.result.now c.deref.ensures.value c.link_at.result c.link_at.ensures in
+    let content = g.S.Store.content c.args.store.now in
+    let ins = drop c.args.taken.now c.args.input.now in
+    let l = link_seen c.in-Some.link in
+    let at = point ∙ ap (option_map link_seen) c.in-Some.is in
+    let k : Sunk = record { old = g.O.Sink.taken c.args.out.now; new = g.O.Sink.taken c.act.new.out; faults = g.O.Sink.faults c.args.out.now; later = g.O.Sink.faults c.act.new.out } in
+    leads_as _ (acts s p frames content ins (step_of c.in-Action.instr.now) c.in-Some.link.spot.place c.first_way.result) p.functions content ins c.act.new.frames (g.S.Store.content c.act.new.store) (drop c.act.new.taken c.args.input.now) k c.act.result
+    (λ go n output.
+    passes_node s p frames content ins l (Action (step_of c.in-Action.instr.now)) at (ap node_seen c.in-Action.is) go n output
+    ∙ ap (λ to. acts s p frames content ins (step_of c.in-Action.instr.now) c.in-Some.link.spot.place to go n output) (sym c.first_way.ensures))
+    (c.act.ensures.step s set depth)
 
-pub returns-in-Some-false-clause-step : goal.returns-in-Some-false-clause-step
-returns-in-Some-false-clause-step g c = λ s e.
-    let seen = subst (λ (cells : List Cell). Asks (asked_of c.in-Question.test.now) cells c.ask.result) c.deref.ensures.value c.ask.ensures in
-    let told = subst (λ (o : Option Bool). Asks (asked_of c.in-Question.test.now) c.args.cells.now.items o) (c.in-Some-false.is ∙ ap (λ (b : Bool). Some b) c.in-Some-false.field-0-test) seen in
-    ([], untouched (g.O.Sink.taken c.args.out.now) (g.O.Sink.faults c.args.out.now), failed s c.args.types.now (function_of c.args.f.now) (link_seen c.args.link) (g.S.Store.content c.args.store.now) c.args.cells.now.items (asked_of c.in-Question.test.now) (ap node_seen c.in-Question.is) c.second_way.result c.second_way.ensures told)
+pub returns-in-Question-clause-step : goal.returns-in-Question-clause-step
+returns-in-Question-clause-step g c = λ s set depth.
+    let p = program_of c.args.program.now in
+    let functions = c.args.program.now.functions.items in
+    let frames = c.args.frames.now in
+    let codes = c.args.code.now in
+    let lt = c.requires.frames.here in
+    let v = c.index-code-frames.result in
+    let there = slice_get_read codes _ frames.function v refl (omega (arith, lt, codes_length codes functions c.requires.linked, length-map functions function_of)) c.index-code-frames.is in
+    let point = point_seen p frames codes functions c.requires.linked refl lt v there c.deref.result.now c.deref.ensures.value c.link_at.result c.link_at.ensures in
+    let content = g.S.Store.content c.args.store.now in
+    let ins = drop c.args.taken.now c.args.input.now in
+    let l = link_seen c.in-Some.link in
+    let at = point ∙ ap (option_map link_seen) c.in-Some.is in
+    let k : Sunk = record { old = g.O.Sink.taken c.args.out.now; new = g.O.Sink.taken c.args.out.now; faults = g.O.Sink.faults c.args.out.now; later = g.O.Sink.faults c.args.out.now } in
+    let alone = untouched (g.O.Sink.taken c.args.out.now) (g.O.Sink.faults c.args.out.now) in
+    leads_as _ (asks s p frames content ins (asked_of c.in-Question.test.now) (leads_seen c.in-Some.link.leads)) p.functions content ins c.choose.new.frames content ins k c.choose.result
+    (λ go n output. passes_node s p frames content ins l (Question (asked_of c.in-Question.test.now)) at (ap node_seen c.in-Question.is) go n output)
+    (leads_quiet _ p.functions content ins c.choose.new.frames content k c.choose.result alone (c.choose.ensures.step s p content ins))
+
+pub returns-in-Return-clause-step : goal.returns-in-Return-clause-step
+returns-in-Return-clause-step g c = λ s set depth.
+    let p = program_of c.args.program.now in
+    let functions = c.args.program.now.functions.items in
+    let frames = c.args.frames.now in
+    let codes = c.args.code.now in
+    let lt = c.requires.frames.here in
+    let v = c.index-code-frames.result in
+    let there = slice_get_read codes _ frames.function v refl (omega (arith, lt, codes_length codes functions c.requires.linked, length-map functions function_of)) c.index-code-frames.is in
+    let point = point_seen p frames codes functions c.requires.linked refl lt v there c.deref.result.now c.deref.ensures.value c.link_at.result c.link_at.ensures in
+    let content = g.S.Store.content c.args.store.now in
+    let ins = drop c.args.taken.now c.args.input.now in
+    let l = link_seen c.in-Some.link in
+    let at = point ∙ ap (option_map link_seen) c.in-Some.is in
+    let k : Sunk = record { old = g.O.Sink.taken c.args.out.now; new = g.O.Sink.taken c.args.out.now; faults = g.O.Sink.faults c.args.out.now; later = g.O.Sink.faults c.args.out.now } in
+    let alone = untouched (g.O.Sink.taken c.args.out.now) (g.O.Sink.faults c.args.out.now) in
+    leads_as _ (returns s p frames content ins) p.functions content ins c.back.new.frames (g.S.Store.content c.back.new.store) ins k c.back.result
+    (λ go n output. passes_node s p frames content ins l Return at (ap node_seen c.in-Return.is) go n output)
+    (leads_quiet _ p.functions content ins c.back.new.frames (g.S.Store.content c.back.new.store) k c.back.result alone (c.back.ensures.step s ins set))
+
+pub returns-in-Stop-clause-step : goal.returns-in-Stop-clause-step
+returns-in-Stop-clause-step g c = λ s set depth.
+    let p = program_of c.args.program.now in
+    let functions = c.args.program.now.functions.items in
+    let frames = c.args.frames.now in
+    let codes = c.args.code.now in
+    let lt = c.requires.frames.here in
+    let v = c.index-code-frames.result in
+    let there = slice_get_read codes _ frames.function v refl (omega (arith, lt, codes_length codes functions c.requires.linked, length-map functions function_of)) c.index-code-frames.is in
+    let point = point_seen p frames codes functions c.requires.linked refl lt v there c.deref.result.now c.deref.ensures.value c.link_at.result c.link_at.ensures in
+    let content = g.S.Store.content c.args.store.now in
+    let ins = drop c.args.taken.now c.args.input.now in
+    let l = link_seen c.in-Some.link in
+    let at = point ∙ ap (option_map link_seen) c.in-Some.is in
+    let k : Sunk = record { old = g.O.Sink.taken c.args.out.now; new = g.O.Sink.taken c.args.out.now; faults = g.O.Sink.faults c.args.out.now; later = g.O.Sink.faults c.args.out.now } in
+    let alone = untouched (g.O.Sink.taken c.args.out.now) (g.O.Sink.faults c.args.out.now) in
+    (alone, λ go n output. passes_node s p frames content ins l Stop at (ap node_seen c.in-Stop.is) go n output)

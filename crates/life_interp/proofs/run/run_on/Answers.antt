@@ -1,119 +1,247 @@
-use Rattle.std.proofs.Common.{List, [], Some, map, replicate, ap, rules, sym, ◌∙◌}
+use Rattle.std.proofs.Common.{◌≡◌, List, [], ◌++◌, Some, drop, ap, refl, rules, subst, sym, ◌∙◌, arith}
 use Rattle.std.proofs.lemmas.Int.{to_z-of_z}
+use Rattle.std.proofs.lemmas.List.{length-map}
+use Rattle.std.proofs.lemmas.Option.{slice_get-map, slice_get_read}
+use mir.Val.{SFits, of_z, to_z}
 use Rattle.std.specs.Int.{w64}
-use Rattle.std.specs.Prelude.{ℤ}
-use mir.Val.{SFits}
+use Rattle.std.specs.Prelude.{option_map}
 use Rattle.life_core.specs.Function.{function_of, program_of}
-use Rattle.life_core.specs.Link.{link_seen}
-use Rattle.life_store.specs.Doing.{Setting}
-use Rattle.life_store.specs.Meaning.{results, run_of, value_in}
+use Rattle.life_store.specs.Content.{Content}
+use Rattle.life_store.specs.Doing.{Given}
+use Rattle.life_store.specs.Meaning.{first_world, run_of, setting_of, IsAdmitted}
 use Rattle.life_store.specs.declared.run.Growth.TheVariants.{Always}
 use Rattle.life_store.proofs.NeverLost.{never_lost}
-use Rattle.life_interp.specs.Cells.{state_of, world_of}
+use Rattle.life_interp.specs.Fits.{CanStep, IsFit, IsHoused}
+use Rattle.life_interp.specs.Frames.{waiting_cells, AreThere}
+use Rattle.life_interp.specs.Runs.{RunEnds}
+use Rattle.life_interp.specs.Steps.{IsSet}
 use Rattle.life_interp.specs.Walk.{walk}
-use Rattle.life_interp.specs.Walking.{Sunk}
-use Rattle.life_interp.specs.declared.value.Cell.TheVariants as held
-use Rattle.life_interp.proofs.RunLemmas.{first_fits, run_walk, value_ends, trap_ends, fault_ends, steps_end, part_ends, front_ends, not_lost}
+use Rattle.life_interp.specs.Walking.{from, Sunk}
+use Rattle.life_interp.specs.declared.frames.Frames.{Frames}
+use Rattle.life_interp.specs.declared.frames.Waiting.{Waiting}
+use Rattle.life_interp.specs.declared.outcome.Outcome.TheVariants as outcome
+use Rattle.life_interp.proofs.RunLemmas.{all_begin, barred_ends, can_be_barred, fault_ends, front_ends, if_there, not_lost, nothing_housed, of_there, part_ends, run_from_frames, steps_end, trap_ends, value_ends}
+use Rattle.life_interp.proofs.WalkLemmas.{untouched}
 use Rattle.life_interp.proofs.run.run_on.Goals as goal
 
-pub walk-requires-clause-fits : goal.walk-requires-clause-fits
-walk-requires-clause-fits g c = rw (c.requires.empty, c.requires.rows, c.in-Ok.ensures) (first_fits c.len.result)
+pub first_cells-requires : goal.first_cells-requires
+first_cells-requires g c =
+    let p = program_of c.args.program.now in
+    let all = c.args.program.now.functions in
+    let entry = c.args.entry.0 in
+    let at = slice_get_read all.items all.len entry c.index-f.result.now all.ok.0 (omega (arith, c.requires.entry, length-map all.items function_of, all.ok.0)) c.index-f.ensures in
+    let f = function_of c.index-f.result.now in
+    let there = slice_get-map function_of all.items entry ∙ ap (option_map function_of) at in
+    let input = c.args.input.now in
+    let admitted = of_there p.functions entry f (λ k. IsAdmitted p k input) there c.requires.admitted in
+    record {
+      housed = subst (λ (x : Content). IsHoused x (g.S.Store.rows c.args.store.now)) (sym c.requires.empty) (subst (IsHoused _) (sym c.requires.rows) nothing_housed);
+      countable = subst CanStep (sym c.requires.empty) (record { births = omega arith; clock = omega arith });
+      room = omega (arith, c.requires.limit);
+      enough = admitted.enough;
+    }
+
+pub barred-requires : goal.barred-requires
+barred-requires g c =
+    let p = program_of c.args.program.now in
+    let all = c.args.program.now.functions in
+    let entry = c.args.entry.0 in
+    let at = slice_get_read all.items all.len entry c.index-f.result.now all.ok.0 (omega (arith, c.requires.entry, length-map all.items function_of, all.ok.0)) c.index-f.ensures in
+    let f = function_of c.index-f.result.now in
+    let there = slice_get-map function_of all.items entry ∙ ap (option_map function_of) at in
+    let input = c.args.input.now in
+    let admitted = of_there p.functions entry f (λ k. IsAdmitted p k input) there c.requires.admitted in
+    let given : Given = record { growth = Always; cells = c.args.limits.cells; depth = c.args.limits.depth } in
+    let ends = c.in-Err.ensures.step (setting_of given p) (sym c.requires.limit) in
+    can_be_barred given p entry f input c.args.steps c.requires.proper there admitted c.requires.depth (g.S.Store.content c.args.store.now) c.requires.empty c.in-Err.ending ends
+
+pub returns-in-Err : goal.returns-in-Err
+returns-in-Err g c = λ growth.
+    let p = program_of c.args.program.now in
+    let all = c.args.program.now.functions in
+    let entry = c.args.entry.0 in
+    let at = slice_get_read all.items all.len entry c.index-f.result.now all.ok.0 (omega (arith, c.requires.entry, length-map all.items function_of, all.ok.0)) c.index-f.ensures in
+    let f = function_of c.index-f.result.now in
+    let there = slice_get-map function_of all.items entry ∙ ap (option_map function_of) at in
+    let input = c.args.input.now in
+    let admitted = of_there p.functions entry f (λ k. IsAdmitted p k input) there c.requires.admitted in
+    let given : Given = record { growth = growth; cells = c.args.limits.cells; depth = c.args.limits.depth } in
+    let ends = c.in-Err.ensures.step (setting_of given p) (sym c.requires.limit) in
+    let n = c.args.steps in
+    let k : Sunk = record { old = g.O.Sink.taken c.args.out.now; new = g.O.Sink.taken c.args.out.now; faults = g.O.Sink.faults c.args.out.now; later = g.O.Sink.faults c.args.out.now } in
+    if_there p.functions entry f (λ h. RunEnds (run_of given p entry h input n) k c.barred.result) there
+    (subst (RunEnds (run_of given p entry f input n) k) (sym c.barred.ensures)
+    (barred_ends given p entry f input n c.requires.proper there admitted c.requires.depth (g.S.Store.content c.args.store.now) c.requires.empty c.in-Err.ending ends k
+    (untouched (g.O.Sink.taken c.args.out.now) (g.O.Sink.faults c.args.out.now))))
+
+pub walk-requires : goal.walk-requires
+walk-requires g c =
+    let p = program_of c.args.program.now in
+    let grows = c.in-Ok.ensures.grows in
+    let births : (g.S.Store.content c.args.store.now).births ≡ 0 = ap (λ (x : Content). x.births) c.requires.empty in
+    let clock : (g.S.Store.content c.args.store.now).clock ≡ 0 = ap (λ (x : Content). x.clock) c.requires.empty in
+    record {
+      linked = c.requires.linked;
+      long = c.requires.long;
+      begin = all_begin p c.requires.proper;
+      frames = record { here = c.requires.entry; there = subst (AreThere p.functions) (sym c.new.ensures.items) tt };
+      fits = subst (λ (ws : List Waiting). IsFit (g.S.Store.content c.first_cells.new.store) (g.S.Store.rows c.first_cells.new.store) (waiting_cells ws ++ c.in-Ok.cells.items)) (sym c.new.ensures.items) c.in-Ok.ensures.fits;
+      countable = record { births = omega (arith, grows.births, births, c.requires.steps); clock = omega (arith, grows.clock, clock, c.requires.steps) };
+      room = omega (arith, c.first_cells.ensures.limit, c.requires.limit);
+    }
 
 pub returns-in-Returned : goal.returns-in-Returned
-returns-in-Returned g c = λ growth input.
+returns-in-Returned g c = λ growth.
     let p = program_of c.args.program.now in
-    let f = function_of c.args.f.now in
-    let s : Setting = record { growth = growth; cells = c.args.limits.cells; depth = c.args.limits.depth } in
-    let cells = c.in-Ok.ensures ∙ ap (λ n. replicate n held.Empty) (c.len.ensures ∙ c.args.f.now.locals.ok.0) in
-    let r = run_walk s p c.args.entry.0 f input c.args.steps (map link_seen c.args.code.now) (g.S.Store.content c.args.store.now) c.in-Ok.cells.items c.requires.proper c.requires.entry c.requires.depth c.requires.code c.requires.empty cells in
-    let walked = walk s p.types f (map link_seen c.args.code.now) c.args.steps (Some 1) (state_of (g.S.Store.content c.args.store.now) c.in-Ok.cells.items [] input) in
-    let run = run_of s p c.args.entry.0 f input c.args.steps in
+    let all = c.args.program.now.functions in
+    let entry = c.args.entry.0 in
+    let at = slice_get_read all.items all.len entry c.index-f.result.now all.ok.0 (omega (arith, c.requires.entry, length-map all.items function_of, all.ok.0)) c.index-f.ensures in
+    let f = function_of c.index-f.result.now in
+    let there = slice_get-map function_of all.items entry ∙ ap (option_map function_of) at in
+    let input = c.args.input.now in
+    let admitted = of_there p.functions entry f (λ k. IsAdmitted p k input) there c.requires.admitted in
+    let given : Given = record { growth = growth; cells = c.args.limits.cells; depth = c.args.limits.depth } in
+    let n = c.args.steps in
+    let frames : Frames = record { function = entry; point = Some 1; cells = c.in-Ok.cells; waiting = c.new.result } in
+    let d = g.S.Store.content c.first_cells.new.store in
+    let walked = from p.functions frames d (drop f.parameters input) (walk (setting_of given p) p n) n [] in
+    let r = run_from_frames given p entry f input n c.requires.proper there admitted frames (g.S.Store.content c.args.store.now) d f.parameters c.requires.depth refl refl c.new.ensures.items refl c.requires.empty (c.in-Ok.ensures.step (setting_of given p) (sym c.requires.limit)) in
     let k : Sunk = record { old = g.O.Sink.taken c.args.out.now; new = g.O.Sink.taken c.walk.new.out; faults = g.O.Sink.faults c.args.out.now; later = g.O.Sink.faults c.walk.new.out } in
-    let ends = c.in-Returned.ensures s (sym c.requires.limit) in
-    let there = ends.2 input in
-    let fits : SFits w64 c.value_at.result = search rules in
-    let values = results f (state_of (g.S.Store.content c.walk.new.store) c.walk.new.cells.items ends.0 input) in
-    let value = to_z-of_z w64 c.value_at.result fits ∙ c.value_at.ensures (g.S.Store.content c.walk.new.store) ends.0 input ∙ ap (λ xs. value_in (results f (state_of (g.S.Store.content c.walk.new.store) xs ends.0 input))) c.deref.ensures.value in
-    value_ends run f.place input walked r k there.0 (world_of (g.S.Store.content c.walk.new.store) ends.0 input) values _ there.1 value ends.1
+    let set : IsSet (setting_of given p) (g.S.Store.limit c.first_cells.new.store) p.texts = record { cells = sym (c.first_cells.ensures.limit ∙ c.requires.limit); texts = refl } in
+    let run = run_of given p entry f input n in
+    let fits : SFits w64 c.in-Returned.value = search rules in
+    if_there p.functions entry f (λ h. RunEnds (run_of given p entry h input n) k (outcome.Value (to_z w64 (of_z w64 c.in-Returned.value)))) there
+    (subst (λ z. RunEnds run k (outcome.Value z)) (sym (to_z-of_z w64 c.in-Returned.value fits))
+    (value_ends run f.place (first_world f input) walked r k c.in-Returned.value (c.in-Returned.ensures (setting_of given p) set refl)))
 
 pub returns-in-Trap : goal.returns-in-Trap
-returns-in-Trap g c = λ growth input.
+returns-in-Trap g c = λ growth.
     let p = program_of c.args.program.now in
-    let f = function_of c.args.f.now in
-    let s : Setting = record { growth = growth; cells = c.args.limits.cells; depth = c.args.limits.depth } in
-    let cells = c.in-Ok.ensures ∙ ap (λ n. replicate n held.Empty) (c.len.ensures ∙ c.args.f.now.locals.ok.0) in
-    let r = run_walk s p c.args.entry.0 f input c.args.steps (map link_seen c.args.code.now) (g.S.Store.content c.args.store.now) c.in-Ok.cells.items c.requires.proper c.requires.entry c.requires.depth c.requires.code c.requires.empty cells in
-    let walked = walk s p.types f (map link_seen c.args.code.now) c.args.steps (Some 1) (state_of (g.S.Store.content c.args.store.now) c.in-Ok.cells.items [] input) in
-    let run = run_of s p c.args.entry.0 f input c.args.steps in
+    let all = c.args.program.now.functions in
+    let entry = c.args.entry.0 in
+    let at = slice_get_read all.items all.len entry c.index-f.result.now all.ok.0 (omega (arith, c.requires.entry, length-map all.items function_of, all.ok.0)) c.index-f.ensures in
+    let f = function_of c.index-f.result.now in
+    let there = slice_get-map function_of all.items entry ∙ ap (option_map function_of) at in
+    let input = c.args.input.now in
+    let admitted = of_there p.functions entry f (λ k. IsAdmitted p k input) there c.requires.admitted in
+    let given : Given = record { growth = growth; cells = c.args.limits.cells; depth = c.args.limits.depth } in
+    let n = c.args.steps in
+    let frames : Frames = record { function = entry; point = Some 1; cells = c.in-Ok.cells; waiting = c.new.result } in
+    let d = g.S.Store.content c.first_cells.new.store in
+    let walked = from p.functions frames d (drop f.parameters input) (walk (setting_of given p) p n) n [] in
+    let r = run_from_frames given p entry f input n c.requires.proper there admitted frames (g.S.Store.content c.args.store.now) d f.parameters c.requires.depth refl refl c.new.ensures.items refl c.requires.empty (c.in-Ok.ensures.step (setting_of given p) (sym c.requires.limit)) in
     let k : Sunk = record { old = g.O.Sink.taken c.args.out.now; new = g.O.Sink.taken c.walk.new.out; faults = g.O.Sink.faults c.args.out.now; later = g.O.Sink.faults c.walk.new.out } in
-    let ends = c.in-Trap.ensures s (sym c.requires.limit) in
-    let there = ends.2 input in
-    trap_ends run f.place input walked r k c.in-Trap.kind c.in-Trap.place (world_of there.0 ends.0 input) there.1 ends.1
+    let set : IsSet (setting_of given p) (g.S.Store.limit c.first_cells.new.store) p.texts = record { cells = sym (c.first_cells.ensures.limit ∙ c.requires.limit); texts = refl } in
+    let run = run_of given p entry f input n in
+    if_there p.functions entry f (λ h. RunEnds (run_of given p entry h input n) k (outcome.Trap c.in-Trap.kind c.in-Trap.place)) there
+    (trap_ends run f.place (first_world f input) walked r k c.in-Trap.kind c.in-Trap.place (c.in-Trap.ensures (setting_of given p) set refl))
 
 pub returns-in-Fault : goal.returns-in-Fault
-returns-in-Fault g c = λ growth input.
+returns-in-Fault g c = λ growth.
     let p = program_of c.args.program.now in
-    let f = function_of c.args.f.now in
-    let s : Setting = record { growth = growth; cells = c.args.limits.cells; depth = c.args.limits.depth } in
-    let cells = c.in-Ok.ensures ∙ ap (λ n. replicate n held.Empty) (c.len.ensures ∙ c.args.f.now.locals.ok.0) in
-    let r = run_walk s p c.args.entry.0 f input c.args.steps (map link_seen c.args.code.now) (g.S.Store.content c.args.store.now) c.in-Ok.cells.items c.requires.proper c.requires.entry c.requires.depth c.requires.code c.requires.empty cells in
-    let walked = walk s p.types f (map link_seen c.args.code.now) c.args.steps (Some 1) (state_of (g.S.Store.content c.args.store.now) c.in-Ok.cells.items [] input) in
-    let run = run_of s p c.args.entry.0 f input c.args.steps in
+    let all = c.args.program.now.functions in
+    let entry = c.args.entry.0 in
+    let at = slice_get_read all.items all.len entry c.index-f.result.now all.ok.0 (omega (arith, c.requires.entry, length-map all.items function_of, all.ok.0)) c.index-f.ensures in
+    let f = function_of c.index-f.result.now in
+    let there = slice_get-map function_of all.items entry ∙ ap (option_map function_of) at in
+    let input = c.args.input.now in
+    let admitted = of_there p.functions entry f (λ k. IsAdmitted p k input) there c.requires.admitted in
+    let given : Given = record { growth = growth; cells = c.args.limits.cells; depth = c.args.limits.depth } in
+    let n = c.args.steps in
+    let frames : Frames = record { function = entry; point = Some 1; cells = c.in-Ok.cells; waiting = c.new.result } in
+    let d = g.S.Store.content c.first_cells.new.store in
+    let walked = from p.functions frames d (drop f.parameters input) (walk (setting_of given p) p n) n [] in
+    let r = run_from_frames given p entry f input n c.requires.proper there admitted frames (g.S.Store.content c.args.store.now) d f.parameters c.requires.depth refl refl c.new.ensures.items refl c.requires.empty (c.in-Ok.ensures.step (setting_of given p) (sym c.requires.limit)) in
     let k : Sunk = record { old = g.O.Sink.taken c.args.out.now; new = g.O.Sink.taken c.walk.new.out; faults = g.O.Sink.faults c.args.out.now; later = g.O.Sink.faults c.walk.new.out } in
-    let ends = c.in-Fault.ensures s (sym c.requires.limit) in
-    let there = ends.2 input in
-    fault_ends run f.place input walked r k c.in-Fault.kind c.in-Fault.place (world_of there.0 ends.0 input) there.1 ends.1
+    let set : IsSet (setting_of given p) (g.S.Store.limit c.first_cells.new.store) p.texts = record { cells = sym (c.first_cells.ensures.limit ∙ c.requires.limit); texts = refl } in
+    let run = run_of given p entry f input n in
+    if_there p.functions entry f (λ h. RunEnds (run_of given p entry h input n) k (outcome.Fault c.in-Fault.kind c.in-Fault.place)) there
+    (fault_ends run f.place (first_world f input) walked r k c.in-Fault.kind c.in-Fault.place (c.in-Fault.ensures (setting_of given p) set refl))
 
 pub returns-in-OutOfSteps : goal.returns-in-OutOfSteps
-returns-in-OutOfSteps g c = λ growth input.
+returns-in-OutOfSteps g c = λ growth.
     let p = program_of c.args.program.now in
-    let f = function_of c.args.f.now in
-    let s : Setting = record { growth = growth; cells = c.args.limits.cells; depth = c.args.limits.depth } in
-    let cells = c.in-Ok.ensures ∙ ap (λ n. replicate n held.Empty) (c.len.ensures ∙ c.args.f.now.locals.ok.0) in
-    let r = run_walk s p c.args.entry.0 f input c.args.steps (map link_seen c.args.code.now) (g.S.Store.content c.args.store.now) c.in-Ok.cells.items c.requires.proper c.requires.entry c.requires.depth c.requires.code c.requires.empty cells in
-    let walked = walk s p.types f (map link_seen c.args.code.now) c.args.steps (Some 1) (state_of (g.S.Store.content c.args.store.now) c.in-Ok.cells.items [] input) in
-    let run = run_of s p c.args.entry.0 f input c.args.steps in
+    let all = c.args.program.now.functions in
+    let entry = c.args.entry.0 in
+    let at = slice_get_read all.items all.len entry c.index-f.result.now all.ok.0 (omega (arith, c.requires.entry, length-map all.items function_of, all.ok.0)) c.index-f.ensures in
+    let f = function_of c.index-f.result.now in
+    let there = slice_get-map function_of all.items entry ∙ ap (option_map function_of) at in
+    let input = c.args.input.now in
+    let admitted = of_there p.functions entry f (λ k. IsAdmitted p k input) there c.requires.admitted in
+    let given : Given = record { growth = growth; cells = c.args.limits.cells; depth = c.args.limits.depth } in
+    let n = c.args.steps in
+    let frames : Frames = record { function = entry; point = Some 1; cells = c.in-Ok.cells; waiting = c.new.result } in
+    let d = g.S.Store.content c.first_cells.new.store in
+    let walked = from p.functions frames d (drop f.parameters input) (walk (setting_of given p) p n) n [] in
+    let r = run_from_frames given p entry f input n c.requires.proper there admitted frames (g.S.Store.content c.args.store.now) d f.parameters c.requires.depth refl refl c.new.ensures.items refl c.requires.empty (c.in-Ok.ensures.step (setting_of given p) (sym c.requires.limit)) in
     let k : Sunk = record { old = g.O.Sink.taken c.args.out.now; new = g.O.Sink.taken c.walk.new.out; faults = g.O.Sink.faults c.args.out.now; later = g.O.Sink.faults c.walk.new.out } in
-    let ends = c.in-OutOfSteps.ensures s (sym c.requires.limit) in
-    steps_end run f.place input walked r k (world_of (g.S.Store.content c.walk.new.store) ends.0 input) (ends.2 input) ends.1
+    let set : IsSet (setting_of given p) (g.S.Store.limit c.first_cells.new.store) p.texts = record { cells = sym (c.first_cells.ensures.limit ∙ c.requires.limit); texts = refl } in
+    let run = run_of given p entry f input n in
+    if_there p.functions entry f (λ h. RunEnds (run_of given p entry h input n) k (outcome.OutOfSteps)) there
+    (steps_end run f.place (first_world f input) walked r k (c.in-OutOfSteps.ensures (setting_of given p) set refl))
 
 pub returns-in-WriteFault : goal.returns-in-WriteFault
-returns-in-WriteFault g c = λ growth input.
+returns-in-WriteFault g c = λ growth.
     let p = program_of c.args.program.now in
-    let f = function_of c.args.f.now in
-    let s : Setting = record { growth = growth; cells = c.args.limits.cells; depth = c.args.limits.depth } in
-    let cells = c.in-Ok.ensures ∙ ap (λ n. replicate n held.Empty) (c.len.ensures ∙ c.args.f.now.locals.ok.0) in
-    let r = run_walk s p c.args.entry.0 f input c.args.steps (map link_seen c.args.code.now) (g.S.Store.content c.args.store.now) c.in-Ok.cells.items c.requires.proper c.requires.entry c.requires.depth c.requires.code c.requires.empty cells in
-    let walked = walk s p.types f (map link_seen c.args.code.now) c.args.steps (Some 1) (state_of (g.S.Store.content c.args.store.now) c.in-Ok.cells.items [] input) in
-    let run = run_of s p c.args.entry.0 f input c.args.steps in
+    let all = c.args.program.now.functions in
+    let entry = c.args.entry.0 in
+    let at = slice_get_read all.items all.len entry c.index-f.result.now all.ok.0 (omega (arith, c.requires.entry, length-map all.items function_of, all.ok.0)) c.index-f.ensures in
+    let f = function_of c.index-f.result.now in
+    let there = slice_get-map function_of all.items entry ∙ ap (option_map function_of) at in
+    let input = c.args.input.now in
+    let admitted = of_there p.functions entry f (λ k. IsAdmitted p k input) there c.requires.admitted in
+    let given : Given = record { growth = growth; cells = c.args.limits.cells; depth = c.args.limits.depth } in
+    let n = c.args.steps in
+    let frames : Frames = record { function = entry; point = Some 1; cells = c.in-Ok.cells; waiting = c.new.result } in
+    let d = g.S.Store.content c.first_cells.new.store in
+    let walked = from p.functions frames d (drop f.parameters input) (walk (setting_of given p) p n) n [] in
+    let r = run_from_frames given p entry f input n c.requires.proper there admitted frames (g.S.Store.content c.args.store.now) d f.parameters c.requires.depth refl refl c.new.ensures.items refl c.requires.empty (c.in-Ok.ensures.step (setting_of given p) (sym c.requires.limit)) in
     let k : Sunk = record { old = g.O.Sink.taken c.args.out.now; new = g.O.Sink.taken c.walk.new.out; faults = g.O.Sink.faults c.args.out.now; later = g.O.Sink.faults c.walk.new.out } in
-    let ends = c.in-WriteFault.ensures s (sym c.requires.limit) in
-    part_ends run f.place input walked r k (ends input)
+    let set : IsSet (setting_of given p) (g.S.Store.limit c.first_cells.new.store) p.texts = record { cells = sym (c.first_cells.ensures.limit ∙ c.requires.limit); texts = refl } in
+    let run = run_of given p entry f input n in
+    if_there p.functions entry f (λ h. RunEnds (run_of given p entry h input n) k (outcome.WriteFault)) there
+    (part_ends run f.place (first_world f input) walked r k refl (c.in-WriteFault.ensures (setting_of given p) set refl))
 
 pub returns : goal.returns
-returns g c = λ growth input.
+returns g c = λ growth.
     let p = program_of c.args.program.now in
-    let f = function_of c.args.f.now in
-    let s : Setting = record { growth = growth; cells = c.args.limits.cells; depth = c.args.limits.depth } in
-    let cells = c.in-Ok.ensures ∙ ap (λ n. replicate n held.Empty) (c.len.ensures ∙ c.args.f.now.locals.ok.0) in
-    let r = run_walk s p c.args.entry.0 f input c.args.steps (map link_seen c.args.code.now) (g.S.Store.content c.args.store.now) c.in-Ok.cells.items c.requires.proper c.requires.entry c.requires.depth c.requires.code c.requires.empty cells in
-    let walked = walk s p.types f (map link_seen c.args.code.now) c.args.steps (Some 1) (state_of (g.S.Store.content c.args.store.now) c.in-Ok.cells.items [] input) in
-    let run = run_of s p c.args.entry.0 f input c.args.steps in
+    let all = c.args.program.now.functions in
+    let entry = c.args.entry.0 in
+    let at = slice_get_read all.items all.len entry c.index-f.result.now all.ok.0 (omega (arith, c.requires.entry, length-map all.items function_of, all.ok.0)) c.index-f.ensures in
+    let f = function_of c.index-f.result.now in
+    let there = slice_get-map function_of all.items entry ∙ ap (option_map function_of) at in
+    let input = c.args.input.now in
+    let admitted = of_there p.functions entry f (λ k. IsAdmitted p k input) there c.requires.admitted in
+    let given : Given = record { growth = growth; cells = c.args.limits.cells; depth = c.args.limits.depth } in
+    let n = c.args.steps in
+    let frames : Frames = record { function = entry; point = Some 1; cells = c.in-Ok.cells; waiting = c.new.result } in
+    let d = g.S.Store.content c.first_cells.new.store in
+    let walked = from p.functions frames d (drop f.parameters input) (walk (setting_of given p) p n) n [] in
+    let r = run_from_frames given p entry f input n c.requires.proper there admitted frames (g.S.Store.content c.args.store.now) d f.parameters c.requires.depth refl refl c.new.ensures.items refl c.requires.empty (c.in-Ok.ensures.step (setting_of given p) (sym c.requires.limit)) in
     let k : Sunk = record { old = g.O.Sink.taken c.args.out.now; new = g.O.Sink.taken c.walk.new.out; faults = g.O.Sink.faults c.args.out.now; later = g.O.Sink.faults c.walk.new.out } in
-    let ends = c.in-NoMemory.ensures s (sym c.requires.limit) in
-    front_ends run f.place input walked r k (ends.0 input) ends.1
+    let set : IsSet (setting_of given p) (g.S.Store.limit c.first_cells.new.store) p.texts = record { cells = sym (c.first_cells.ensures.limit ∙ c.requires.limit); texts = refl } in
+    let run = run_of given p entry f input n in
+    if_there p.functions entry f (λ h. RunEnds (run_of given p entry h input n) k (outcome.NoMemory)) there
+    (front_ends run f.place (first_world f input) walked r k refl (c.in-NoMemory.ensures (setting_of given p) set refl))
 
 pub unreachable-requires : goal.unreachable-requires
 unreachable-requires g c =
     let growth = Always in
-    let input : List ℤ = [] in
     let p = program_of c.args.program.now in
-    let f = function_of c.args.f.now in
-    let s : Setting = record { growth = growth; cells = c.args.limits.cells; depth = c.args.limits.depth } in
-    let cells = c.in-Ok.ensures ∙ ap (λ n. replicate n held.Empty) (c.len.ensures ∙ c.args.f.now.locals.ok.0) in
-    let r = run_walk s p c.args.entry.0 f input c.args.steps (map link_seen c.args.code.now) (g.S.Store.content c.args.store.now) c.in-Ok.cells.items c.requires.proper c.requires.entry c.requires.depth c.requires.code c.requires.empty cells in
-    let walked = walk s p.types f (map link_seen c.args.code.now) c.args.steps (Some 1) (state_of (g.S.Store.content c.args.store.now) c.in-Ok.cells.items [] input) in
-    let run = run_of s p c.args.entry.0 f input c.args.steps in
+    let all = c.args.program.now.functions in
+    let entry = c.args.entry.0 in
+    let at = slice_get_read all.items all.len entry c.index-f.result.now all.ok.0 (omega (arith, c.requires.entry, length-map all.items function_of, all.ok.0)) c.index-f.ensures in
+    let f = function_of c.index-f.result.now in
+    let there = slice_get-map function_of all.items entry ∙ ap (option_map function_of) at in
+    let input = c.args.input.now in
+    let admitted = of_there p.functions entry f (λ k. IsAdmitted p k input) there c.requires.admitted in
+    let given : Given = record { growth = growth; cells = c.args.limits.cells; depth = c.args.limits.depth } in
+    let n = c.args.steps in
+    let frames : Frames = record { function = entry; point = Some 1; cells = c.in-Ok.cells; waiting = c.new.result } in
+    let d = g.S.Store.content c.first_cells.new.store in
+    let walked = from p.functions frames d (drop f.parameters input) (walk (setting_of given p) p n) n [] in
+    let r = run_from_frames given p entry f input n c.requires.proper there admitted frames (g.S.Store.content c.args.store.now) d f.parameters c.requires.depth refl refl c.new.ensures.items refl c.requires.empty (c.in-Ok.ensures.step (setting_of given p) (sym c.requires.limit)) in
     let k : Sunk = record { old = g.O.Sink.taken c.args.out.now; new = g.O.Sink.taken c.walk.new.out; faults = g.O.Sink.faults c.args.out.now; later = g.O.Sink.faults c.walk.new.out } in
-    let there = c.in-Stray.ensures s (sym c.requires.limit) input in
-    not_lost run f.place input walked r k there.0 there.1 (never_lost p s c.args.entry.0 f input c.args.steps c.requires.proper c.requires.entry)
+    let set : IsSet (setting_of given p) (g.S.Store.limit c.first_cells.new.store) p.texts = record { cells = sym (c.first_cells.ensures.limit ∙ c.requires.limit); texts = refl } in
+    let run = run_of given p entry f input n in
+    not_lost run f.place (first_world f input) walked r k (c.in-Stray.ensures (setting_of given p) set refl) (never_lost p given entry f input n c.requires.proper there admitted)

@@ -1,6 +1,9 @@
-use Rattle.std.proofs.Common.{ℕ, List, subst, sym}
+use Rattle.std.proofs.Common.{ℕ, List, ap, map, subst, sym, ◌∙◌}
+use Rattle.std.specs.declared.alloc.Global.{Global}
+use Rattle.std.specs.declared.vec.Vec.{Vec}
+use Rattle.life_core.specs.Function.{name_bytes}
 use Rattle.life_core.specs.declared.instr.Instr.{Instr}
-use Rattle.life_core.specs.Function.{function_of}
+use Rattle.life_core.specs.Function.{function_of, program_of}
 use Rattle.life_core.specs.Operands.{operand_of}
 use Rattle.life_core.specs.Step.{step_of}
 use Rattle.life_store.specs.Doing.{does, end_locals}
@@ -11,17 +14,17 @@ use Rattle.life_interp.proofs.steps.act.Goals as goal
 
 pub returns-in-Live-clause-step : goal.returns-in-Live-clause-step
 returns-in-Live-clause-step g c = λ s e.
-    subst (λ (i : Instr). LeavesBoth (does s c.args.types.now (function_of c.args.f.now) (step_of i)) (g.S.Store.content c.args.store.now) c.args.cells.now.items (g.S.Store.content c.live.new.store) c.live.new.cells.items c.live.result) (sym c.in-Live.is)
-    (c.live.ensures.step s e)
+    subst (λ (i : Instr). LeavesBoth (does s (program_of c.args.program.now).types (function_of c.args.f.now) (step_of i)) (g.S.Store.content c.args.store.now) c.args.cells.now.items (g.S.Store.content c.live.new.store) c.live.new.cells.items c.live.result) (sym c.in-Live.is)
+    (c.live.ensures.step s e.cells)
 
 pub returns-in-End-clause-step : goal.returns-in-End-clause-step
 returns-in-End-clause-step g c = λ s e.
-    subst (λ (i : Instr). LeavesBoth (does s c.args.types.now (function_of c.args.f.now) (step_of i)) (g.S.Store.content c.args.store.now) c.args.cells.now.items (g.S.Store.content c.end.new.store) c.end.new.cells.items c.end.result) (sym c.in-End.is)
+    subst (λ (i : Instr). LeavesBoth (does s (program_of c.args.program.now).types (function_of c.args.f.now) (step_of i)) (g.S.Store.content c.args.store.now) c.args.cells.now.items (g.S.Store.content c.end.new.store) c.end.new.cells.items c.end.result) (sym c.in-End.is)
     (subst (λ (xs : List ℕ). LeavesBoth (end_locals xs) (g.S.Store.content c.args.store.now) c.args.cells.now.items (g.S.Store.content c.end.new.store) c.end.new.cells.items c.end.result) c.deref.ensures.value c.end.ensures.step)
 
 pub returns-in-Eval-clause-step : goal.returns-in-Eval-clause-step
 returns-in-Eval-clause-step g c = λ s e.
-    subst (λ (i : Instr). LeavesBoth (does s c.args.types.now (function_of c.args.f.now) (step_of i)) (g.S.Store.content c.args.store.now) c.args.cells.now.items (g.S.Store.content c.args.store.now) c.evaluate.new.cells.items c.evaluate.result) (sym c.in-Eval.is)
+    subst (λ (i : Instr). LeavesBoth (does s (program_of c.args.program.now).types (function_of c.args.f.now) (step_of i)) (g.S.Store.content c.args.store.now) c.args.cells.now.items (g.S.Store.content c.args.store.now) c.evaluate.new.cells.items c.evaluate.result) (sym c.in-Eval.is)
     (c.evaluate.ensures.step (g.S.Store.content c.args.store.now))
 
 pub returns-in-Eval-clause-fits : goal.returns-in-Eval-clause-fits
@@ -32,22 +35,22 @@ returns-in-Eval-clause-fits g c =
 
 pub returns-in-Load-clause-step : goal.returns-in-Load-clause-step
 returns-in-Load-clause-step g c = λ s e.
-    subst (λ (i : Instr). LeavesBoth (does s c.args.types.now (function_of c.args.f.now) (step_of i)) (g.S.Store.content c.args.store.now) c.args.cells.now.items (g.S.Store.content c.args.store.now) c.load.new.cells.items c.load.result) (sym c.in-Load.is)
+    subst (λ (i : Instr). LeavesBoth (does s (program_of c.args.program.now).types (function_of c.args.f.now) (step_of i)) (g.S.Store.content c.args.store.now) c.args.cells.now.items (g.S.Store.content c.args.store.now) c.load.new.cells.items c.load.result) (sym c.in-Load.is)
     c.load.ensures.step
 
 pub returns-in-Save-clause-step : goal.returns-in-Save-clause-step
 returns-in-Save-clause-step g c = λ s e.
-    subst (λ (i : Instr). LeavesBoth (does s c.args.types.now (function_of c.args.f.now) (step_of i)) (g.S.Store.content c.args.store.now) c.args.cells.now.items (g.S.Store.content c.save.new.store) c.args.cells.now.items c.save.result) (sym c.in-Save.is)
+    subst (λ (i : Instr). LeavesBoth (does s (program_of c.args.program.now).types (function_of c.args.f.now) (step_of i)) (g.S.Store.content c.args.store.now) c.args.cells.now.items (g.S.Store.content c.save.new.store) c.args.cells.now.items c.save.result) (sym c.in-Save.is)
     (subst (λ (cells : List Cell). LeavesBoth (stored (operand_of c.in-Save.to) c.in-Save.from) (g.S.Store.content c.args.store.now) cells (g.S.Store.content c.save.new.store) cells c.save.result) c.deref-in-Save.ensures.value c.save.ensures.step)
 
 pub returns-in-Aim-clause-step : goal.returns-in-Aim-clause-step
 returns-in-Aim-clause-step g c = λ s e.
-    subst (λ (i : Instr). LeavesBoth (does s c.args.types.now (function_of c.args.f.now) (step_of i)) (g.S.Store.content c.args.store.now) c.args.cells.now.items (g.S.Store.content c.args.store.now) c.aim.new.cells.items c.aim.result) (sym c.in-Aim.is)
-    c.aim.ensures.step
+    subst (λ (i : Instr). LeavesBoth (does s (program_of c.args.program.now).types (function_of c.args.f.now) (step_of i)) (g.S.Store.content c.args.store.now) c.args.cells.now.items (g.S.Store.content c.args.store.now) c.aim.new.cells.items c.aim.result) (sym c.in-Aim.is)
+    (c.aim.ensures.step s (e.texts ∙ ap (λ (ts : List (Vec ℕ Global)). map name_bytes ts) (sym c.deref-in-Aim.ensures.value)))
 
 pub returns-in-Repoint-clause-step : goal.returns-in-Repoint-clause-step
 returns-in-Repoint-clause-step g c = λ s e.
-    subst (λ (i : Instr). LeavesBoth (does s c.args.types.now (function_of c.args.f.now) (step_of i)) (g.S.Store.content c.args.store.now) c.args.cells.now.items (g.S.Store.content c.args.store.now) c.repoint.new.cells.items c.repoint.result) (sym c.in-Repoint.is)
+    subst (λ (i : Instr). LeavesBoth (does s (program_of c.args.program.now).types (function_of c.args.f.now) (step_of i)) (g.S.Store.content c.args.store.now) c.args.cells.now.items (g.S.Store.content c.args.store.now) c.repoint.new.cells.items c.repoint.result) (sym c.in-Repoint.is)
     (c.repoint.ensures.step (g.S.Store.content c.args.store.now))
 
 pub returns-in-Repoint-clause-fits : goal.returns-in-Repoint-clause-fits

@@ -5,7 +5,7 @@ use Rattle.std.specs.Int.{cast_signed, w64}
 use mir.Val.{to_z, of_z}
 use Rattle.std.specs.Prelude.{slice_get}
 use Rattle.life_core.specs.Function.{function_of}
-use Rattle.life_store.specs.Doing.{Next, computed_into, evaluated, put_cell, converted, type_of}
+use Rattle.life_store.specs.Doing.{Next, computed_into, evaluated, put_cell, converted}
 use Rattle.life_store.specs.Numbers.{combined, is_zero, negated, truth}
 use Rattle.life_store.specs.State as state
 use Rattle.life_interp.specs.Cells.{cells_seen, number_in, state_of}

@@ -1,12 +1,11 @@
-use Rattle.std.proofs.Common.{◌≡◌, ℕ, List, [], map}
-use Rattle.std.specs.Prelude.{ℤ}
-use Rattle.life_core.specs.Function.{function_of}
-use Rattle.life_core.specs.Link.{link_seen}
+use Rattle.std.proofs.Common.{◌≡◌, ℕ, List, [], drop}
+use Rattle.life_core.specs.Function.{program_of}
 use Rattle.life_store.specs.Doing.{Setting}
-use Rattle.life_interp.specs.Cells.{state_of}
 use Rattle.life_interp.specs.Fits.{CanWalk, IsFit}
+use Rattle.life_interp.specs.Frames.{all_cells, AreFrames}
+use Rattle.life_interp.specs.Steps.{IsSet}
 use Rattle.life_interp.specs.Walk.{walk}
-use Rattle.life_interp.specs.Walking.{Takes}
+use Rattle.life_interp.specs.Walking.{from, Takes}
 use Rattle.life_interp.proofs.walk.walk.Given as goal
 
 abbrev pub decreases-loop-left : goal.decreases-loop-left
@@ -16,16 +15,17 @@ decreases-loop-left g l = l.left
 abbrev pub invariant-loop-left : goal.invariant-loop-left
 invariant-loop-left g l =
     let content = g.S.Store.content in
+    let most = g.S.Store.limit in
     let taken = g.O.Sink.taken in
     let faults = g.O.Sink.faults in
-    let f = function_of l.f in
-    let code = map link_seen l.code in
+    let p = program_of l.program in
     record {
-      fits : IsFit (content l.store) (g.S.Store.rows l.store) l.cells.items;
+      there : AreFrames p.functions l.frames;
+      fits : IsFit (content l.store) (g.S.Store.rows l.store) (all_cells l.frames);
       countable : CanWalk l.left (content l.store);
-      limit : g.S.Store.limit l.store ≡ g.S.Store.limit l.initial.store;
-      walked : (s : Setting) → s.cells ≡ g.S.Store.limit l.initial.store → (text : List ℕ)
+      limit : most l.store ≡ most l.initial.store;
+      walked : (s : Setting) → IsSet s (most l.initial.store) p.texts → s.given.depth ≡ l.depth → (text : List ℕ)
           × Takes (record { old = taken l.initial.out; new = taken l.out; faults = faults l.initial.out; later = faults l.out }) text
-          × ((input : List ℤ) → walk s l.types f code l.fn.steps l.fn.start (state_of (content l.initial.store) l.initial.cells.items [] input)
-          ≡ walk s l.types f code l.left l.point (state_of (content l.store) l.cells.items text input));
+          × (from p.functions l.initial.frames (content l.initial.store) (drop l.initial.taken l.input) (walk s p l.fn.steps) l.fn.steps []
+          ≡ from p.functions l.frames (content l.store) (drop l.taken l.input) (walk s p l.left) l.left text);
     }

@@ -1,0 +1,58 @@
+-- The answer of a command to a program and what is diagnosed in it.
+use Rattle.std.specs.Prelude.{◌≡◌, ℕ, Bool, true, false, List, [], ◌∷◌}
+use Rattle.life_base.specs.Edges.{Directory}
+use Rattle.life_core.specs.Function.{Program}
+use Rattle.life_report.specs.Reports.{report_text}
+use Rattle.life_rules.specs.declared.diag.Diag.{Diag}
+use Rattle.life_store.specs.NoFault.{NoFault}
+use Rattle.life_cli.specs.Answer.{Answer}
+use Rattle.life_cli.specs.CheckedFile.{ExaminesFile}
+use Rattle.life_cli.specs.Findings.{Checked, Examined, Refused}
+use Rattle.life_cli.specs.InputFile.{input_of}
+use Rattle.life_cli.specs.Runs.{RanWith}
+use Rattle.life_cli.specs.Words.{Check, Command, Run, RunJob}
+use Rattle.life_cli.specs.declared.status.Status.{Status}
+use Rattle.life_cli.specs.declared.status.Status.TheVariants.{Done, Diagnosed}
+
+-- a program is accepted where there is nothing to list
+abbrev pub verdict : List Diag → Status
+verdict [] = Done
+verdict (d ∷ ds) = Diagnosed
+
+-- the report on out
+abbrev pub reported : Program → List Diag → Answer
+reported p ds = record { status = verdict ds; out = report_text p ds; err = [] }
+
+-- .. or on err, where the program isn't run for its diagnostics
+abbrev pub not_run : Program → List Diag → Answer
+not_run p ds = record { status = Diagnosed; out = []; err = report_text p ds }
+
+-- the answer is the run's, with the input that the files hold
+abbrev pub RanJob : RunJob → Directory → Program → Answer → Type 0
+RanJob run directory p answer = RanWith run.options run.function p (input_of run.input directory) answer
+
+-- a program with diagnostics is run where it is to be run unchecked
+abbrev pub RanDiagnosed : Bool → RunJob → Directory → Program → List Diag → Answer → Type 0
+RanDiagnosed true run directory p ds answer = RanJob run directory p answer
+RanDiagnosed false run directory p ds answer = answer ≡ not_run p ds
+
+abbrev pub Concludes : Command → Directory → Program → List Diag → Answer → Type 0
+Concludes Check directory p ds answer = answer ≡ reported p ds
+Concludes (Run run) directory p [] answer = RanJob run directory p answer
+Concludes (Run run) directory p (d ∷ ds) answer = RanDiagnosed run.options.unchecked run directory p (d ∷ ds) answer
+
+-- the answer is the command's to the program and its list of diagnostics; where that is empty, no run of the program, on whatever
+-- input, with whatever limits, growth and number of steps, uses a null, dangling or moved-from place
+pub record AnswersProgram (command : Command) (directory : Directory) (p : Program) (ds : List Diag) (answer : Answer) : Type 0 where
+  pub safe : ds ≡ [] → NoFault p
+  pub concluded : Concludes command directory p ds answer
+
+abbrev pub AnswersExamined : Command → Directory → Examined → Answer → Type 0
+AnswersExamined command directory (Refused refused) answer = answer ≡ refused
+AnswersExamined command directory (Checked p ds) answer = AnswersProgram command directory p ds answer
+
+-- the answer is the command's to a file of these bytes
+pub record AnswersFile (command : Command) (directory : Directory) (bytes : List ℕ) (answer : Answer) : Type 0 where
+  pub examined : Examined
+  pub file : ExaminesFile bytes examined
+  pub answered : AnswersExamined command directory examined answer

@@ -1,0 +1,2 @@
+mod WorkedPrograms
+mod WorkedRuns

@@ -1,0 +1,7 @@
+pub mod LimitCounts
+pub mod LoopWriting
+pub mod OpenBranches
+pub mod Parameters
+pub mod SeenStatements
+pub mod SimpleSteps
+pub mod WorkedRows

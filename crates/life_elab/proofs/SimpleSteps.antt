@@ -1,0 +1,45 @@
+-- Assignments and steps, part by part.
+use Rattle.std.proofs.Common.{◌≡◌, ℕ, Option, None, Some, sym, ap, ◌∙◌}
+use Rattle.life_types.specs.declared.place.Place.{Place}
+use Rattle.life_types.specs.declared.ty.Ty.{Ty}
+use Rattle.life_tree.specs.declared.operator.StepOperator.{StepOperator}
+use Rattle.life_typed.specs.Operators.{promoted}
+use Rattle.life_typed.specs.TypedForm.{Typed, typed_view, whole}
+use Rattle.life_typed.specs.declared.typed_expr.TypedExpr.{TypedExpr, out-TypedExpr}
+use Rattle.life_core.specs.Operands.{Operand}
+use Rattle.life_core.specs.declared.operation.Operation.TheVariants as operation
+use Rattle.life_core.specs.declared.operation.Operator.{Operator}
+use Rattle.life_writer.proofs.Seen.{type_seen}
+use Rattle.life_writer.specs.Around.{Around, own_type, result_local, type_of}
+use Rattle.life_writer.specs.Expressions.{operand, value}
+use Rattle.life_writer.specs.Registers.{computed, constant}
+use Rattle.life_writer.specs.Writing.{State, Gives, gives, ◌>>◌}
+use Rattle.life_elab.specs.Simples.{held, put_back, step_operator, stepped, type_in}
+use Rattle.life_elab.specs.Statements.{result_given}
+
+pub followed : {y z : State} (x : State) → y ≡ z → x ≡ y → x ≡ z
+followed x e is = is ∙ e
+
+pub stepped_gives : (a : Around) (target : Typed) (operator : StepOperator) (place : Place) (t common : Ty) (s reached took made after : State) (at from : Operand) (l r : ℕ) (by : Operator)
+    → common ≡ t → operand a (whole target) s ≡ gives at reached → from ≡ at → held a target from common reached ≡ gives l took → computed a None common place (constant 1) took ≡ gives r made
+    → by ≡ step_operator operator → after ≡ put_back a target at common place (operation.Binary by l r) made → after ≡ stepped a target operator place t s
+stepped_gives a target operator place t common s reached took made after at from l r by types first copy second third operates last =
+    let same : held a target at common reached ≡ gives l took = ap (λ (o : Operand). held a target o common reached) (sym copy) ∙ second in
+    last
+    ∙ ap (λ (o : Operator). put_back a target at common place (operation.Binary o l r) made) operates
+    ∙ sym (ap (λ (w : Gives ℕ). put_back a target at common place (operation.Binary (step_operator operator) l w.given) w.state) third)
+    ∙ sym (ap (λ (w : Gives ℕ). computed a None common place (constant 1) w.state >> λ r s. put_back a target at common place (operation.Binary (step_operator operator) w.given r) s) same)
+    ∙ sym (ap (λ (w : Gives Operand). held a target w.given common w.state >> λ l s. computed a None common place (constant 1) s >> λ r s. put_back a target w.given common place (operation.Binary (step_operator operator) l r) s) first)
+    ∙ ap (λ (u : Ty). stepped a target operator place u s) types
+
+pub same_common : (x : TypedExpr) (own common : Ty) → own ≡ own_type (out-TypedExpr x).ty → common ≡ promoted own own → common ≡ promoted (type_in (typed_view x)) (type_in (typed_view x))
+same_common x own common is promotes =
+    promotes ∙ ap (λ (t : Ty). promoted t t) (is ∙ ap own_type (sym (type_seen x)))
+
+pub given_result : (a : Around) (v : Option Typed) (e : Typed) (t : Ty) (into r : ℕ) (s after : State) → v ≡ Some e → t ≡ type_of a a.function.result → into ≡ result_local a
+    → value a (whole e) t (Some into) s ≡ gives r after → after ≡ result_given a v s
+given_result a v e t into r s after is as_type goes given =
+    sym (ap (λ (w : Option Typed). result_given a w s) is
+    ∙ ap (λ (u : Ty). (value a (whole e) u (Some (result_local a)) s).state) (sym as_type)
+    ∙ ap (λ (n : ℕ). (value a (whole e) t (Some n) s).state) (sym goes)
+    ∙ ap (λ (w : Gives ℕ). w.state) given)

@@ -1,0 +1,7 @@
+use Rattle.std.proofs.Common.{◌≡◌, drop, map}
+use Rattle.life_core.specs.Function.{function_of}
+use Rattle.life_elab.specs.Over.{over_functions}
+use Rattle.life_elab.proofs.limits.over_functions.Given as goal
+
+abbrev pub invariant-functions : goal.invariant-functions
+invariant-functions l = over_functions l.types (map function_of (drop l.function-index l.functions)) ≡ over_functions l.types (map function_of l.functions)

@@ -1,0 +1,76 @@
+use Rattle.std.proofs.Common.{◌∷◌, ◌+◌, [], List, drop, map, ap, sym, subst, ◌∙◌}
+use Rattle.std.proofs.lemmas.List.{map-append}
+use Rattle.std.proofs.lemmas.Result.{on_ok_weaker}
+use Rattle.life_typed.specs.TypedForm.{typed_view}
+use Rattle.life_typed.specs.TypedStatement.{branch_view, branching, for_start_view, optional_view, simple_view, stmt_forms, stmt_view}
+use Rattle.life_typed.specs.declared.typed_stmt.TypedBranch.{TypedBranch}
+use Rattle.life_typed.specs.declared.typed_stmt.TypedStmt.{TypedStmt}
+use Rattle.life_core.specs.Tree.{condition_tree, tree_of}
+use Rattle.life_built.specs.Last.{last_view}
+use Rattle.life_writer.specs.Views.{around_of, state_of}
+use Rattle.life_elab.specs.OpenedViews.{opened_of}
+use Rattle.life_elab.specs.Statements.{Opened, opened_all, statement}
+use Rattle.life_elab.specs.Ends.{last_token}
+use Rattle.life_elab.proofs.LoopWriting.{for_gives, while_gives}
+use Rattle.life_elab.proofs.SeenStatements.{assert_seen, for_seen, if_seen, while_seen}
+use Rattle.life_elab.proofs.SimpleSteps.{followed}
+use Rattle.life_elab.proofs.OpenBranches.{Opening, if_gives, opening_turn}
+use Rattle.life_elab.proofs.statements.+statements.Goals as goal
+
+pub open_branches-branches-preserved : goal.open_branches-branches-preserved
+open_branches-branches-preserved t c =
+    let a = around_of c.args.a.now in
+    let given = c.branches.opened.items in
+    let total = opened_all a (stmt_forms (map branch_view c.args.branches.now)) (state_of c.args.writer.now) in
+    let more = opening_turn a (map opened_of given) c.args.branches.now c.branches.branch-index c.branch-item.result c.deref.result.now
+    (state_of c.branches.writer) (opened_of c.in_ok-one.one) (state_of c.open_branch.new.writer) total
+    c.branches-test.true c.branch-item.is (sym c.deref.ensures) c.in_ok-one.ensures c.branches.invariant in
+    subst (λ (xs : List Opened). Opening a xs (drop (c.branches.branch-index + 1) c.args.branches.now) (state_of c.open_branch.new.writer) total)
+    (sym (ap (map opened_of) c.in_ok-push.ensures.items ∙ map-append opened_of given (c.in_ok-one.one ∷ [])))
+    more
+
+pub write_statement-returns-in_ok-write_last-in-If : goal.write_statement-returns-in_ok-write_last-in-If
+write_statement-returns-in_ok-write_last-in-If t c =
+    let st = c.args.statement.now in
+    on_ok_weaker c.close_branches.result
+    (if_gives (around_of c.args.a.now) (stmt_view st) (stmt_forms (map branch_view c.deref.result.now)) (last_view c.in-If.last) (state_of c.args.writer.now)
+    (map opened_of c.in_ok-opened-in-If.opened.items) (state_of c.open_branches.new.writer) (state_of c.write_last.new.writer) (state_of c.close_branches.new.writer)
+    (if_seen st c.in-If.branches c.in-If.last c.in-If.is ∙ ap (λ (bs : List TypedBranch). branching (stmt_forms (map branch_view bs)) (last_view c.in-If.last)) (sym c.deref.ensures.value))
+    c.in_ok-opened-in-If.ensures c.in_ok-write_last-in-If.ensures)
+    c.close_branches.ensures
+
+pub write_statement-returns-in_ok-body-in-While : goal.write_statement-returns-in_ok-body-in-While
+write_statement-returns-in_ok-body-in-While t c =
+    let st = c.args.statement.now in
+    let x = c.deref-in-While.result.now in
+    on_ok_weaker c.write_loop.result
+    (while_gives (around_of c.args.a.now) (stmt_view st) c.in-While.keyword (typed_view c.in-While.condition) c.in-While.closing (stmt_view x) (state_of c.args.writer.now)
+    (condition_tree c.in_ok-condition-in-While.condition) (state_of c.condition.new.self) (tree_of c.in_ok-body-in-While.body) (state_of c.write_body_of_loop.new.writer)
+    (tree_of c.nothing-step.result) (state_of c.write_loop.new.writer)
+    (while_seen st c.in-While.keyword c.in-While.condition c.in-While.closing c.in-While.body x c.in-While.is (sym c.deref-in-While.ensures))
+    c.in_ok-condition-in-While.ensures c.in_ok-body-in-While.ensures c.nothing-step.ensures)
+    c.write_loop.ensures
+
+pub write_statement-returns-in_ok-write_loop-in-For : goal.write_statement-returns-in_ok-write_loop-in-For
+write_statement-returns-in_ok-write_loop-in-For t c =
+    let st = c.args.statement.now in
+    let x = c.deref-in-For.result.now in
+    let same = c.deref-in-For-2.ensures ∙ sym c.deref-in-For.ensures in
+    on_ok_weaker c.end_since.result
+    (for_gives (around_of c.args.a.now) (stmt_view st) c.in-For.keyword (optional_view for_start_view c.in-For.start) c.in-For.first_semicolon (optional_view typed_view c.in-For.condition)
+    c.in-For.second_semicolon (optional_view simple_view c.in-For.step) c.in-For.closing (stmt_view x)
+    (state_of c.args.writer.now) (state_of c.started.new.writer) (condition_tree c.in_ok-condition-in-For.condition) (state_of c.condition_or_true.new.writer)
+    (tree_of c.in_ok-repeated-in-For.repeated) (state_of c.write_body_of_loop-in-For.new.writer) (tree_of c.in_ok-step-in-For.step) (state_of c.step_of_loop.new.writer)
+    (state_of c.write_loop-in-For.new.writer) (state_of c.end_since.new.self) c.living_count-outside.result c.last_token.result
+    (for_seen st c.in-For.keyword c.in-For.start c.in-For.first_semicolon c.in-For.condition c.in-For.second_semicolon c.in-For.step c.in-For.closing c.in-For.body x c.in-For.is (sym c.deref-in-For.ensures))
+    c.living_count-outside.ensures c.in_ok-started-in-For.ensures c.in_ok-condition-in-For.ensures c.in_ok-repeated-in-For.ensures c.in_ok-step-in-For.ensures c.in_ok-write_loop-in-For.ensures
+    (c.last_token.ensures ∙ ap (λ (y : TypedStmt). last_token (stmt_view y) c.in-For.closing) same))
+    c.end_since.ensures
+
+pub write_statement-returns-in-Assert : goal.write_statement-returns-in-Assert
+write_statement-returns-in-Assert t c =
+    let st = c.args.statement.now in
+    on_ok_weaker c.asserted.result
+    (followed (state_of c.asserted.new.writer) (ap (λ f. statement (around_of c.args.a.now) f (state_of c.args.writer.now))
+    (sym (assert_seen st c.in-Assert.keyword c.in-Assert.condition c.in-Assert.closing c.in-Assert.semicolon c.in-Assert.is))))
+    c.asserted.ensures

@@ -1,0 +1,41 @@
+-- Where statements end in the text, and which of them control can't run past by what their text says.
+use Rattle.std.specs.Prelude.{Bool, true, false, ◌&&◌}
+use Rattle.life_types.specs.declared.place.Place.{Place}
+use Rattle.life_typed.specs.TypedStatement.{StmtForm, block, empty, sentence, branching, while_loop, for_loop, range_loop, loop_break, loop_continue, returned, print, assertion, branch, declaration, no_more, chain}
+
+-- a return ends, a block ends if its last statement does, and an `if` with `else` if all branches do
+abbrev mutual
+  pub ends : StmtForm → Bool
+  ends (block items closing) = last_ends items false
+  ends (returned keyword value semicolon) = true
+  ends (branching branches last) = all_end branches && ends last
+  ends (branch keyword condition closing body) = ends body
+  ends _ = false
+
+  -- the last of these, or what stands before them
+  pub last_ends : StmtForm → Bool → Bool
+  last_ends (chain first others) before = last_ends others (ends first)
+  last_ends _ before = before
+
+  pub all_end : StmtForm → Bool
+  all_end (chain first others) = ends first && all_end others
+  all_end _ = true
+
+-- the last token of a statement, or the one before where there is none
+abbrev pub last_token : StmtForm → Place → Place
+last_token (block items closing) before = closing
+last_token (empty place) before = place
+last_token (sentence simple semicolon) before = semicolon
+last_token (branching branches last) before = last_token last (last_token branches before)
+last_token (while_loop keyword condition closing body) before = last_token body closing
+last_token (for_loop keyword start first condition second step closing body) before = last_token body closing
+last_token (range_loop keyword local name colon range closing body) before = last_token body closing
+last_token (loop_break keyword semicolon) before = semicolon
+last_token (loop_continue keyword semicolon) before = semicolon
+last_token (returned keyword value semicolon) before = semicolon
+last_token (print items semicolon) before = semicolon
+last_token (assertion keyword condition closing semicolon) before = semicolon
+last_token (branch keyword condition closing body) before = last_token body closing
+last_token (declaration d semicolon) before = semicolon
+last_token no_more before = before
+last_token (chain first others) before = last_token others (last_token first before)

@@ -1,0 +1,9 @@
+pub mod Declarations
+pub mod Elaborated
+pub mod Ends
+pub mod Functions
+pub mod OpenedViews
+pub mod Over
+pub mod Programs
+pub mod Simples
+pub mod Statements

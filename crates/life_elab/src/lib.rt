@@ -1,0 +1,16 @@
+//! Translation: the core program of a typed one, or the first limit that it passes.
+#![tactic(auto)]
+
+mod branches;
+mod declarations;
+mod ends;
+mod fault;
+mod functions;
+mod limits;
+mod programs;
+mod simples;
+mod statements;
+
+pub use fault::ElabFault;
+pub use life_built::is_built;
+pub use programs::elaborate;

@@ -1,0 +1,343 @@
+// Statements (ISO/IEC 14882:2017 [stmt.stmt]).
+ghost use Rattle.std.specs.Prelude.{◌≡◌, OnOk, map};
+ghost use Rattle.life_core.specs.Tree.{Turns, condition_tree, tree_of};
+ghost use Rattle.life_typed.specs.TypedForm.{typed_view, whole};
+ghost use Rattle.life_typed.specs.TypedStatement.{block_item_view, block_view, branch_view, for_start_view, item_view, line_end, optional_view, simple_view, stmt_forms, stmt_view};
+ghost use Rattle.life_writer.specs.Answers.{Answers};
+ghost use Rattle.life_writer.specs.Expressions as expressions;
+ghost use Rattle.life_elab.specs.OpenedViews.{opened_of};
+ghost use Rattle.life_elab.specs.Simples.{simple_if};
+ghost use Rattle.life_elab.specs.Statements as spec;
+ghost use Rattle.life_writer.specs.Views.{around_of, state_of};
+ghost use Rattle.life_built.specs.Last.{last_view};
+ghost use Rattle.life_writer.specs.Writing.{apart, write};
+
+use crate::branches::{Opened, close_branches, nothing, write_branch};
+use crate::declarations::declared;
+use crate::ends::last_token;
+use crate::simples::{write_simple, write_simple_if};
+use life_core::{Condition, Instr, Location, Operation, Port, Source, Stmt, Test};
+use life_typed::{
+    TypedBlock, TypedBlockItem, TypedBranch, TypedExpr, TypedForStart, TypedItem, TypedSimple,
+    TypedStmt,
+};
+use life_types::{NoMemory, Place, Ty};
+use life_writer::{Around, Writer, number, own_type};
+
+// A loop: while the condition holds, the body and then the step.
+fn write_loop(
+    writer: &mut Writer,
+    condition: Condition,
+    body: Stmt,
+    step: Stmt,
+) -> Result<(), NoMemory>
+    ensures { OnOk result (state_of writer.new ≡ write (Turns (condition_tree condition) (tree_of body) (tree_of step)) (state_of writer.old)) }
+{
+    let body = Box::new(writer.alloc, body)?;
+    let step = Box::new(writer.alloc, step)?;
+    writer.write(Stmt::Loop {
+        condition,
+        body,
+        step,
+    })
+}
+
+// A condition that is left out always holds ([stmt.for]/2).
+fn condition_or_true(
+    writer: &mut Writer,
+    a: &Around,
+    keyword: Place,
+    condition: &Option<TypedExpr>,
+) -> Result<Condition, NoMemory>
+    ensures { Answers condition_tree result (spec.condition_or_true (around_of a.now) keyword (optional_view typed_view condition.now) (state_of writer.old)) (state_of writer.new) }
+{
+    match condition {
+        Some(condition) => writer.condition(a, condition),
+        None => {
+            let before = writer.begin_list();
+            let register = writer.eval(a, None, Ty::Bool, keyword, Operation::Number(1))?;
+            writer.behind_code(before, keyword, Test::NonZero(register))
+        }
+    }
+}
+
+// What a loop by `for` begins with.
+fn started(writer: &mut Writer, a: &Around, start: &Option<TypedForStart>) -> Result<(), NoMemory>
+    ensures { OnOk result (state_of writer.new ≡ spec.started (around_of a.now) (optional_view for_start_view start.now) (state_of writer.old)) }
+{
+    match start {
+        Some(TypedForStart::Declaration(declaration)) => declared(writer, a, declaration),
+        Some(TypedForStart::Simple(simple)) => write_simple(writer, a, simple),
+        None => Ok(()),
+    }
+}
+
+// The step of a loop, in a list of its own.
+fn step_of_loop(
+    writer: &mut Writer,
+    a: &Around,
+    step: &Option<TypedSimple>,
+) -> Result<Stmt, NoMemory>
+    ensures { Answers tree_of result (apart (simple_if (around_of a.now) (optional_view simple_view step.now)) (state_of writer.old)) (state_of writer.new) }
+{
+    let before = writer.begin_list();
+    write_simple_if(writer, a, step)?;
+    Ok(writer.end_list(before))
+}
+
+/// What is left ends, and control goes elsewhere ([stmt.jump]).
+pub(crate) fn leave(
+    writer: &mut Writer,
+    outside: usize,
+    keyword: Place,
+    leaves: Stmt,
+) -> Result<(), NoMemory>
+    ensures { OnOk result (state_of writer.new ≡ spec.left outside keyword (tree_of leaves) (state_of writer.old)) }
+{
+    writer.end_past(outside, keyword)?;
+    writer.write(leaves)
+}
+
+// What is declared in the innermost loop ends, and control leaves the loop or goes on with it.
+fn leave_loop(writer: &mut Writer, keyword: Place, leaves: Stmt) -> Result<(), NoMemory>
+    ensures { OnOk result (state_of writer.new ≡ spec.left (state_of writer.old).outside keyword (tree_of leaves) (state_of writer.old)) }
+{
+    let outside = writer.stays();
+    leave(writer, outside, keyword, leaves)
+}
+
+// The value of a `return` goes to the local of the result.
+fn result_given(writer: &mut Writer, a: &Around, value: &Option<TypedExpr>) -> Result<(), NoMemory>
+    ensures { OnOk result (state_of writer.new ≡ spec.result_given (around_of a.now) (optional_view typed_view value.now) (state_of writer.old)) }
+{
+    match value {
+        Some(value) => {
+            let ty = a.type_of(a.function.result);
+            let into = a.result_local()?;
+            writer.value(a, value, ty, Some(into))?;
+            Ok(())
+        }
+        None => Ok(()),
+    }
+}
+
+// A printed item ([ostream.inserters.arithmetic]); `std::endl` writes the last text, which has
+// the one byte 10.
+fn write_item(writer: &mut Writer, a: &Around, item: &TypedItem) -> Result<(), NoMemory>
+    ensures { OnOk result (state_of writer.new ≡ spec.item (around_of a.now) (item_view item.now) (state_of writer.old)) }
+{
+    match item {
+        TypedItem::Value(value) => {
+            let register = writer.value(a, value, own_type(value.ty), None)?;
+            writer.emit(value.place, Instr::Port(Port::Value(register)))
+        }
+        TypedItem::EndLine(place) => end_line(writer, a, *place),
+    }
+}
+
+fn end_line(writer: &mut Writer, a: &Around, place: Place) -> Result<(), NoMemory>
+    ensures { OnOk result (state_of writer.new ≡ spec.item (around_of a.now) (line_end place) (state_of writer.old)) }
+{
+    let register = writer.new_register(a, Ty::View)?;
+    let pointer = Location::whole(writer.alloc, register);
+    let source = Source::Text(number(a.program.texts.len())?);
+    writer.emit(place, Instr::Aim { pointer, source })?;
+    let view = Location::whole(writer.alloc, register);
+    writer.emit(place, Instr::Port(Port::View(view)))
+}
+
+fn write_items(writer: &mut Writer, a: &Around, items: &[TypedItem]) -> Result<(), NoMemory>
+    ensures { OnOk result (state_of writer.new ≡ spec.items (around_of a.now) (map item_view items.now) (state_of writer.old)) }
+{
+    'items: for item in items {
+        write_item(writer, a, item)?;
+    }
+    Ok(())
+}
+
+// A run ends where an assertion doesn't hold.
+fn asserted(
+    writer: &mut Writer,
+    a: &Around,
+    keyword: Place,
+    condition: &TypedExpr,
+) -> Result<(), NoMemory>
+    ensures { OnOk result (state_of writer.new ≡ spec.asserted (expressions.condition (around_of a.now) (whole (typed_view condition.now))) keyword (state_of writer.old)) }
+{
+    let condition = writer.condition(a, condition)?;
+    write_branch(
+        writer,
+        condition,
+        Stmt::List(Vec::new(writer.alloc)),
+        Stmt::Stop(keyword),
+    )
+}
+
+/// A statement.
+#[cycle(statements)]
+pub(crate) fn write_statement(
+    writer: &mut Writer,
+    a: &Around,
+    statement: &TypedStmt,
+) -> Result<(), NoMemory>
+    ensures { OnOk result (state_of writer.new ≡ spec.statement (around_of a.now) (stmt_view statement.now) (state_of writer.old)) }
+{
+    match statement {
+        TypedStmt::Block(block) => write_block(writer, a, block),
+        TypedStmt::Empty(_) => Ok(()),
+        TypedStmt::Simple { simple, .. } => write_simple(writer, a, simple),
+        TypedStmt::If { branches, last } => {
+            let opened = open_branches(writer, a, branches)?;
+            write_last(writer, a, last)?;
+            close_branches(writer, opened)
+        }
+        TypedStmt::While {
+            condition,
+            body,
+            ..
+        } => {
+            let condition = writer.condition(a, condition)?;
+            let body = write_body_of_loop(writer, a, body)?;
+            let step = nothing(writer.alloc);
+            write_loop(writer, condition, body, step)
+        }
+        TypedStmt::For {
+            keyword,
+            start,
+            condition,
+            step,
+            closing,
+            body,
+            ..
+        } => {
+            let outside = writer.living_count();
+            started(writer, a, start)?;
+            let condition = condition_or_true(writer, a, *keyword, condition)?;
+            let repeated = write_body_of_loop(writer, a, body)?;
+            let step = step_of_loop(writer, a, step)?;
+            write_loop(writer, condition, repeated, step)?;
+            writer.end_since(outside, last_token(body, *closing))
+        }
+        TypedStmt::RangeFor { .. } => Ok(()),
+        TypedStmt::Break { keyword, .. } => leave_loop(writer, *keyword, Stmt::Break),
+        TypedStmt::Continue { keyword, .. } => leave_loop(writer, *keyword, Stmt::Continue),
+        TypedStmt::Return { keyword, value, .. } => {
+            result_given(writer, a, value)?;
+            leave(writer, 0, *keyword, Stmt::Return(*keyword))
+        }
+        TypedStmt::Print { items, .. } => write_items(writer, a, items),
+        TypedStmt::Assert {
+            keyword,
+            condition,
+            ..
+        } => asserted(writer, a, *keyword, condition),
+    }
+}
+
+// A block: what is declared in it ends with it ([stmt.block]).
+#[cycle(statements)]
+fn write_block(writer: &mut Writer, a: &Around, block: &TypedBlock) -> Result<(), NoMemory>
+    ensures { OnOk result (state_of writer.new ≡ spec.statement (around_of a.now) (block_view block.now) (state_of writer.old)) }
+{
+    let outside = writer.living_count();
+    write_block_items(writer, a, &block.items)?;
+    writer.end_since(outside, block.closing)
+}
+
+/// What stands in a block.
+#[cycle(statements)]
+pub(crate) fn write_block_items(
+    writer: &mut Writer,
+    a: &Around,
+    items: &[TypedBlockItem],
+) -> Result<(), NoMemory>
+    ensures { OnOk result (state_of writer.new ≡ spec.statement (around_of a.now) (stmt_forms (map block_item_view items.now)) (state_of writer.old)) }
+{
+    'items: for item in items {
+        write_block_item(writer, a, item)?;
+    }
+    Ok(())
+}
+
+#[cycle(statements)]
+fn write_block_item(writer: &mut Writer, a: &Around, item: &TypedBlockItem) -> Result<(), NoMemory>
+    ensures { OnOk result (state_of writer.new ≡ spec.statement (around_of a.now) (block_item_view item.now) (state_of writer.old)) }
+{
+    match item {
+        TypedBlockItem::Declare { declaration, .. } => declared(writer, a, declaration),
+        TypedBlockItem::Stmt(statement) => write_statement(writer, a, statement),
+    }
+}
+
+// A statement in a list of its own.
+#[cycle(statements)]
+fn write_apart(writer: &mut Writer, a: &Around, statement: &TypedStmt) -> Result<Stmt, NoMemory>
+    ensures { Answers tree_of result (apart (spec.statement (around_of a.now) (stmt_view statement.now)) (state_of writer.old)) (state_of writer.new) }
+{
+    let before = writer.begin_list();
+    write_statement(writer, a, statement)?;
+    Ok(writer.end_list(before))
+}
+
+// What a loop repeats, in a list of its own. What is declared in it is left with the loop.
+#[cycle(statements)]
+fn write_body_of_loop(writer: &mut Writer, a: &Around, body: &TypedStmt) -> Result<Stmt, NoMemory>
+    ensures { Answers tree_of result (apart (spec.body_of_loop (spec.statement (around_of a.now) (stmt_view body.now))) (state_of writer.old)) (state_of writer.new) }
+{
+    let outside = writer.begin_loop();
+    let body = write_apart(writer, a, body)?;
+    writer.end_loop(outside);
+    Ok(body)
+}
+
+// A branch up to the list of what is done where its condition doesn't hold.
+#[cycle(statements)]
+fn open_branch(
+    writer: &mut Writer,
+    a: &Around,
+    body: &TypedStmt,
+    condition: &TypedExpr,
+) -> Result<Opened, NoMemory>
+    ensures { Answers opened_of result (spec.opened (expressions.condition (around_of a.now) (whole (typed_view condition.now))) (spec.statement (around_of a.now) (stmt_view body.now)) (state_of writer.old)) (state_of writer.new) }
+{
+    let condition = writer.condition(a, condition)?;
+    let first = write_apart(writer, a, body)?;
+    let before = writer.begin_list();
+    Ok(Opened {
+        condition,
+        first,
+        before,
+    })
+}
+
+// The branches of an `if` one in the other ([stmt.if]).
+#[cycle(statements)]
+fn open_branches(
+    writer: &mut Writer,
+    a: &Around,
+    branches: &[TypedBranch],
+) -> Result<Vec<Opened>, NoMemory>
+    ensures { Answers (λ opened. map opened_of opened.items) result (spec.opened_all (around_of a.now) (stmt_forms (map branch_view branches.now)) (state_of writer.old)) (state_of writer.new) }
+{
+    let mut opened = Vec::new(writer.alloc);
+    'branches: for branch in branches {
+        let one = open_branch(writer, a, &branch.body, &branch.condition)?;
+        opened.push(one)?;
+    }
+    Ok(opened)
+}
+
+// What is done where no condition holds.
+#[cycle(statements)]
+fn write_last(
+    writer: &mut Writer,
+    a: &Around,
+    last: &Option<Box<TypedStmt>>,
+) -> Result<(), NoMemory>
+    ensures { OnOk result (state_of writer.new ≡ spec.statement (around_of a.now) (last_view last.now) (state_of writer.old)) }
+{
+    match last {
+        Some(last) => write_statement(writer, a, last),
+        None => Ok(()),
+    }
+}

@@ -1,0 +1,36 @@
+use Rattle.std.proofs.Common.{◌≡◌, ◌≤◌, ◌<◌, ℕ, Some, List, map, length, get_or, slice_get, ap, sym, ◌∙◌, arith}
+use Rattle.std.proofs.lemmas.List.{length-map}
+use Rattle.std.proofs.lemmas.Option.{slice_get-get_or, slice_get-map}
+use Rattle.std.proofs.lemmas.Result.{IfOk-weaker}
+use Rattle.std.specs.Prelude.{option_map}
+use Rattle.life_core.specs.Function.{function_of, program_of}
+use Rattle.life_core.specs.declared.program.CoreFn.{CoreFn}
+use Rattle.life_fix.specs.Candidates.{candidate_seen}
+use Rattle.life_fix.proofs.Finding.{same_wrongs}
+use Rattle.life_fix.proofs.ProgramFound.{found_in_all, found_in_next}
+use Rattle.life_fix.proofs.program.program_diagnostics.Goals as goal
+
+-- the function at hand is one of the program's
+at : (fs items : List CoreFn) (k : ℕ) (f : CoreFn) → items ≡ fs → k < length items → f ≡ get_or items k f → slice_get (map function_of fs) k ≡ Some (function_of f)
+at fs items k f same lt is =
+    slice_get-map function_of fs k ∙ ap (λ (gs : List CoreFn). option_map function_of (slice_get gs k)) (sym same)
+    ∙ ap (option_map function_of) (slice_get-get_or items k f lt ∙ ap Some (sym is))
+
+pub push_diagnosed-requires : goal.push_diagnosed-requires
+push_diagnosed-requires c =
+    c.requires.each c.loop-index.index (function_of c.f-item.result)
+    (at c.args.program.now.functions.items c.deref-f-items.result.now c.loop-index.index c.f-item.result c.deref-f-items.ensures.value c.loop-index-test.true c.f-item.is)
+
+pub loop-index-preserved : goal.loop-index-preserved
+loop-index-preserved c =
+    found_in_next (program_of c.args.program.now) c.loop-index.index (function_of c.f-item.result) (map candidate_seen c.loop-index.candidates.items) (map candidate_seen c.push_diagnosed.new.out.items)
+    (at c.args.program.now.functions.items c.deref-f-items.result.now c.loop-index.index c.f-item.result c.deref-f-items.ensures.value c.loop-index-test.true c.f-item.is)
+    c.in_ok-push_diagnosed.ensures c.loop-index.invariant
+
+pub returns : goal.returns
+returns c =
+    let p = program_of c.args.program.now in
+    let count : length p.functions ≤ c.loop-index.index =
+    omega (arith, length-map c.args.program.now.functions.items function_of, c.loop-index-test.false, ap (λ (fs : List CoreFn). length fs) c.deref-f-items.ensures.value) in
+    let found = found_in_all p c.loop-index.index (map candidate_seen c.loop-index.candidates.items) count c.loop-index.invariant in
+    IfOk-weaker _ _ _ (λ all listing. same_wrongs found.all (listing _ found.found found.are)) c.listed.ensures

@@ -1,0 +1,79 @@
+// The diagnostics of whole programs.
+ghost use Rattle.std.specs.Prelude.{◌≡◌, ◌<◌, ◌↔◌, Contains, IfOk, OnOk, map};
+ghost use Rattle.life_core.specs.Function.{function_of, name_bytes, program_of};
+ghost use Rattle.life_fix.specs.Candidates.{candidate_seen};
+ghost use Rattle.life_fix.specs.Programs.{AddsDiagnosed, IsProgramWithinLimits};
+ghost use Rattle.life_pset.specs.Elements.{IsWithinLimits};
+ghost use Rattle.life_rules.specs.Diagnosing.{IsDiagnosed};
+ghost use Rattle.life_rules.specs.Listing.{AreProgramDiagnostics};
+ghost use Rattle.life_rules.specs.declared.diag.Diag.{Diag};
+
+use crate::diagnosis::found;
+use crate::listing::{Candidate, listed, push_candidates};
+use crate::solver::solve;
+use life_base::Steps;
+use life_core::{CoreFn, CoreProgram, FnId, Names};
+use life_pset::SetRows;
+use life_rules::Diag;
+use life_types::{NoMemory, TypeTable};
+use std::alloc::Global;
+use std::marker::Brand;
+use std::sync::ledger::{Blank, Ledger};
+
+/// The diagnostics of a program: those of its functions, each by its own body, the types and the names
+/// alone. They stand in the order of the lines that they print, each line once, by the least diagnostic
+/// that prints it in the order of `Diag`. The only error is the want of memory.
+pub fn program_diagnostics(alloc: Global, program: &CoreProgram) -> Result<Vec<Diag>, NoMemory>
+    requires { IsProgramWithinLimits (program_of program.now) }
+    ensures { IfOk result (λ all. AreProgramDiagnostics (program_of program.now) all.items) }
+{
+    let mut candidates = Vec::new(alloc);
+    for (index, f) in program.functions.iter().enumerate() {
+        let id = FnId(index as u32);
+        push_diagnosed(
+            alloc,
+            id,
+            f,
+            &program.types,
+            &program.names,
+            &mut candidates,
+        )?;
+    }
+    listed(alloc, candidates)
+}
+
+// Adds the diagnostics of one function, with their lines.
+fn push_diagnosed(
+    alloc: Global,
+    id: FnId,
+    f: &CoreFn,
+    types: &TypeTable,
+    names: &Names,
+    out: &mut Vec<Candidate>,
+) -> Result<(), NoMemory>
+    requires { IsWithinLimits types.now (function_of f.now) }
+    ensures { OnOk result (AddsDiagnosed (map name_bytes names.now.texts.items) types.now id.0 (function_of f.now)
+        (map candidate_seen out.old.items) (map candidate_seen out.new.items)) }
+{
+    let found = function_found::<Brand>(alloc, id, f, types, Blank::new(1))?;
+    push_candidates(alloc, names, f, types, &found, out)
+}
+
+// All that is wrong in one function, with a counter of its own for the solver.
+fn function_found<L: Ledger>(
+    alloc: Global,
+    id: FnId,
+    f: &CoreFn,
+    types: &TypeTable,
+    blank: Blank,
+) -> Result<Vec<Diag>, NoMemory>
+    requires limits { IsWithinLimits types.now (function_of f.now) }
+    requires name { blank.name ≡ L.name }
+    requires parts { blank.parts ≡ L.parts }
+    requires some { 0 < blank.parts }
+    ensures { IfOk result (λ all. (d : Diag) → Contains all.items d ↔ IsDiagnosed types.now id.0 (function_of f.now) d) }
+{
+    let mut steps = Steps::<L>::new(blank);
+    let solution = solve::<SetRows, L>(alloc, f, types, &mut steps)?;
+    found(alloc, f, id, types, &solution)
+}

@@ -1,0 +1,18 @@
+use Rattle.std.proofs.Common.{List, ap, subst, sym, ◌∙◌}
+use Rattle.life_core.specs.Function.{function_of, program_of}
+use Rattle.life_store.specs.State as state
+use Rattle.life_interp.specs.Cells.{cells_seen}
+use Rattle.life_interp.specs.Fits.{CellsFit}
+use Rattle.life_interp.specs.Steps.{Begins}
+use Rattle.life_interp.proofs.run.first_cells.Goals as goal
+
+pub given_cells-requires-clause-values : goal.given_cells-requires-clause-values
+given_cells-requires-clause-values g c =
+    let content = g.S.Store.content c.args.store.now in
+    let rows = g.S.Store.rows c.args.store.now in
+    subst (CellsFit content rows) (sym c.deref.ensures.value) (c.in-Ok.ensures.fits content rows)
+
+pub returns-in-Ok-clause-step : goal.returns-in-Ok-clause-step
+returns-in-Ok-clause-step g c = λ s e.
+    subst (λ (vs : List state.Cell). Begins s (program_of c.args.program.now).types (function_of c.args.f.now) vs (g.S.Store.content c.args.store.now) (g.S.Store.content c.given_cells.new.store) c.given_cells.result)
+    (ap cells_seen c.deref.ensures.value ∙ c.in-Ok.ensures.values) (c.given_cells.ensures.step s e)

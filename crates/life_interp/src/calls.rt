@@ -1,0 +1,256 @@
+// Points at which control goes to another function, or comes back from one.
+ghost use Rattle.std.specs.Prelude.{◌≡◌, ◌<◌, ◌∷◌, ◌++◌, length, map, option_map, replicate, IfErr, IfOk, IfSome, Some, List, OnOk, ℤ};
+ghost use Rattle.life_core.specs.Function.{function_of, program_of, Function};
+ghost use Rattle.life_core.specs.Operands.{argument_of, location_of};
+ghost use Rattle.life_core.specs.Step.{Call};
+ghost use Rattle.life_interp.specs.Cells.{cells_seen, one_seen};
+ghost use Rattle.life_interp.specs.Fits.{most_births, CanStep, CellFits, CellsFit, Grows, IsFit, IsHoused, Later};
+ghost use Rattle.life_interp.specs.Frames.{all_cells, function_at, stack_seen, waiting_cells, AllBegin, AreFrames, AreThere};
+ghost use Rattle.life_interp.specs.Steps.{Begins, IsSet, LeavesBoth};
+ghost use Rattle.life_interp.specs.Walking.{acts, barred_of, returns, Enters, Moves};
+ghost use Rattle.life_interp.specs.declared.ending.Halt.TheVariants as halts;
+ghost use Rattle.life_interp.specs.declared.value.Cell.TheVariants as held;
+ghost use Rattle.life_store.specs.Calls.{target_given};
+ghost use Rattle.life_store.specs.Doing.{Setting};
+
+use crate::ending::{Ending, Halt, halt_at};
+use crate::frames::{Frames, Waiting};
+use crate::giving::{give, give_all};
+use crate::handing::{all_handed, result_of, told};
+use crate::value::Cell;
+use life_core::{Argument, CoreFn, CoreProgram, FnId, Location};
+use life_store::{Store, TrapKind};
+use life_types::{NoMemory, Place};
+use std::alloc::Global;
+use std::mem::replace;
+
+/// Calls a function, and the frame at hand waits for it.
+pub(crate) fn call<'p, S: Store>(
+    alloc: Global,
+    program: &CoreProgram,
+    depth: u32,
+    place: Place,
+    to: Option<u32>,
+    target: &'p Option<Location>,
+    function: FnId,
+    arguments: &[Argument],
+    store: &mut S,
+    frames: &mut Frames<'p>,
+) -> Result<(), Halt>
+    requires begin { AllBegin (program_of program.now).functions }
+    requires frames { AreFrames (program_of program.now).functions frames.old }
+    requires fits { IsFit (S.content store.old) (S.rows store.old) (all_cells frames.old) }
+    requires countable { CanStep (S.content store.old) }
+    requires room { S.limit store.old < most_births }
+    ensures step { (s : Setting) (ins : List ℤ) → IsSet s (S.limit store.old) (program_of program.now).texts → s.given.depth ≡ depth
+        → Moves (acts s (program_of program.now) frames.old (S.content store.old) ins (Call (option_map location_of target.now) function (map argument_of arguments.now)) place to)
+        (program_of program.now).functions (S.content store.old) frames.new (S.content store.new) ins result }
+    ensures frames { OnOk result (AreFrames (program_of program.now).functions frames.new) }
+    ensures fits { OnOk result (IsFit (S.content store.new) (S.rows store.new) (all_cells frames.new)) }
+    ensures grows { OnOk result (Grows most_births (S.content store.old) (S.content store.new)) }
+    ensures limit { S.limit store.new ≡ S.limit store.old }
+{
+    match all_handed(alloc, &frames.cells, arguments) {
+        Err(ending) => Err(halt_at(ending, place)),
+        Ok(values) => {
+            if frames.waiting.len() + 1 >= depth as usize {
+                return Err(Halt::Trap(TrapKind::Depth, place));
+            }
+            match entered(alloc, program, place, function, &values, store) {
+                Err(halt) => Err(halt),
+                Ok(cells) => wait(frames, place, to, target, function, cells),
+            }
+        }
+    }
+}
+
+// The cells of a new frame whose parameters are given the values.
+fn entered<S: Store>(
+    alloc: Global,
+    program: &CoreProgram,
+    place: Place,
+    function: FnId,
+    values: &[Cell],
+    store: &mut S,
+) -> Result<Vec<Cell>, Halt>
+    requires housed { IsHoused (S.content store.old) (S.rows store.old) }
+    requires values { CellsFit (S.content store.old) (S.rows store.old) values.now }
+    requires countable { CanStep (S.content store.old) }
+    requires room { S.limit store.old < most_births }
+    ensures step { (s : Setting) → s.given.cells ≡ S.limit store.old → Enters s (program_of program.now) function.0 (cells_seen values.now) place (S.content store.old) (S.content store.new) result }
+    ensures there { OnOk result (function.0 < length (program_of program.now).functions) }
+    ensures fits { IfOk result (λ cells. IsFit (S.content store.new) (S.rows store.new) cells.items) }
+    ensures later { OnOk result (Later (S.content store.old) (S.content store.new) (S.rows store.old) (S.rows store.new)) }
+    ensures grows { OnOk result (Grows most_births (S.content store.old) (S.content store.new)) }
+    ensures limit { S.limit store.new ≡ S.limit store.old }
+{
+    let number = function.0 as usize;
+    if number < program.functions.len() {
+        let g = &program.functions[number];
+        match given_cells(alloc, program, g, values, store) {
+            Err(ending) => Err(let_in(ending, place)),
+            Ok(cells) => Ok(cells),
+        }
+    } else {
+        Err(Halt::Stray)
+    }
+}
+
+/// The cells of a new frame, whose first locals are given the values.
+pub(crate) fn given_cells<S: Store>(
+    alloc: Global,
+    program: &CoreProgram,
+    f: &CoreFn,
+    values: &[Cell],
+    store: &mut S,
+) -> Result<Vec<Cell>, Ending>
+    requires housed { IsHoused (S.content store.old) (S.rows store.old) }
+    requires values { CellsFit (S.content store.old) (S.rows store.old) values.now }
+    requires countable { CanStep (S.content store.old) }
+    requires room { S.limit store.old < most_births }
+    ensures step { (s : Setting) → s.given.cells ≡ S.limit store.old → Begins s (program_of program.now).types (function_of f.now) (cells_seen values.now) (S.content store.old) (S.content store.new) result }
+    ensures fits { IfOk result (λ cells. IsFit (S.content store.new) (S.rows store.new) cells.items) }
+    ensures later { OnOk result (Later (S.content store.old) (S.content store.new) (S.rows store.old) (S.rows store.new)) }
+    ensures grows { OnOk result (Grows most_births (S.content store.old) (S.content store.new)) }
+    ensures limit { S.limit store.new ≡ S.limit store.old }
+{
+    match blank_cells(alloc, f.locals.len()) {
+        Err(_) => Err(Ending::NoMemory),
+        Ok(mut cells) => match give_all(&program.types, f, store, &mut cells, values) {
+            Err(ending) => Err(ending),
+            Ok(()) => Ok(cells),
+        },
+    }
+}
+
+// The cells of a new frame.
+fn blank_cells(alloc: Global, locals: usize) -> Result<Vec<Cell>, NoMemory>
+    ensures { IfOk result (λ cells. cells.items ≡ replicate locals held.Empty) }
+{
+    let mut cells = Vec::new(alloc);
+    cells.resize(locals, Cell::Empty)?;
+    Ok(cells)
+}
+
+// Why control doesn't enter a function.
+fn let_in(ending: Ending, place: Place) -> Halt
+    ensures { result ≡ barred_of place ending }
+{
+    match ending {
+        Ending::Trap(kind) => Halt::Trap(kind, place),
+        Ending::Fault(_) => Halt::Stray,
+        Ending::Stray => Halt::Stray,
+        Ending::NoMemory => Halt::NoMemory,
+        Ending::WriteFault => Halt::WriteFault,
+    }
+}
+
+// Control enters the function by its first point.
+#[tactic(auto, using(crate::proofs::FrameLemmas::waiting_push, crate::proofs::FrameLemmas::there_push))]
+fn wait<'p>(
+    frames: &mut Frames<'p>,
+    place: Place,
+    to: Option<u32>,
+    target: &'p Option<Location>,
+    function: FnId,
+    cells: Vec<Cell>,
+) -> Result<(), Halt>
+    ensures function { OnOk result (frames.new.function ≡ function.0) }
+    ensures point { OnOk result (frames.new.point ≡ Some 1) }
+    ensures cells { OnOk result (frames.new.cells.items ≡ cells.items) }
+    ensures stack { OnOk result ((fs : List Function) → stack_seen fs frames.new.waiting.items
+        ≡ record { function = function_at fs frames.old.function; cells = cells_seen frames.old.cells.items; place = place; to = to; target = option_map location_of target.now }
+        ∷ stack_seen fs frames.old.waiting.items) }
+    ensures held { OnOk result (waiting_cells frames.new.waiting.items ≡ waiting_cells frames.old.waiting.items ++ frames.old.cells.items) }
+    ensures there { OnOk result ((fs : List Function) → AreFrames fs frames.old → AreThere fs frames.new.waiting.items) }
+    ensures memory { IfErr result (λ halt. halt ≡ halts.NoMemory) }
+{
+    let waiting = Waiting {
+        function: frames.function,
+        cells: replace(&mut frames.cells, cells),
+        place,
+        to,
+        target,
+    };
+    frames.function = function.0;
+    frames.point = Some(1);
+    match frames.waiting.push(waiting) {
+        Err(_) => Err(Halt::NoMemory),
+        Ok(()) => Ok(()),
+    }
+}
+
+/// Leaves the function at hand, and the frame that waits for it goes on.
+pub(crate) fn back<S: Store>(
+    program: &CoreProgram,
+    store: &mut S,
+    frames: &mut Frames,
+) -> Result<(), Halt>
+    requires begin { AllBegin (program_of program.now).functions }
+    requires frames { AreFrames (program_of program.now).functions frames.old }
+    requires fits { IsFit (S.content store.old) (S.rows store.old) (all_cells frames.old) }
+    requires countable { CanStep (S.content store.old) }
+    requires room { S.limit store.old < most_births }
+    ensures step { (s : Setting) (ins : List ℤ) → IsSet s (S.limit store.old) (program_of program.now).texts
+        → Moves (returns s (program_of program.now) frames.old (S.content store.old) ins)
+        (program_of program.now).functions (S.content store.old) frames.new (S.content store.new) ins result }
+    ensures frames { OnOk result (AreFrames (program_of program.now).functions frames.new) }
+    ensures fits { OnOk result (IsFit (S.content store.new) (S.rows store.new) (all_cells frames.new)) }
+    ensures grows { OnOk result (Grows most_births (S.content store.old) (S.content store.new)) }
+    ensures limit { S.limit store.new ≡ S.limit store.old }
+{
+    let f = &program.functions[frames.function as usize];
+    let result = result_of(&program.types, f, &frames.cells);
+    match frames.waiting.pop() {
+        None => Err(Halt::Returned(told(result))),
+        Some(waiting) => {
+            let place = waiting.place;
+            let target = waiting.target;
+            frames.function = waiting.function;
+            frames.point = waiting.to;
+            frames.cells = waiting.cells;
+            let f = &program.functions[frames.function as usize];
+            match give_target(program, f, store, &mut frames.cells, target, result) {
+                Err(ending) => Err(halt_at(ending, place)),
+                Ok(()) => Ok(()),
+            }
+        }
+    }
+}
+
+// The target is given the result, if there is one.
+fn give_target<S: Store>(
+    program: &CoreProgram,
+    f: &CoreFn,
+    store: &mut S,
+    cells: &mut Vec<Cell>,
+    target: &Option<Location>,
+    given: Option<Cell>,
+) -> Result<(), Ending>
+    requires fits { IsFit (S.content store.old) (S.rows store.old) cells.old.items }
+    requires value { IfSome given (CellFits (S.content store.old) (S.rows store.old)) }
+    requires countable { CanStep (S.content store.old) }
+    requires room { S.limit store.old < most_births }
+    ensures step { (s : Setting) → s.given.cells ≡ S.limit store.old
+        → LeavesBoth (target_given s (program_of program.now).types (function_of f.now) (option_map location_of target.now) (one_seen given))
+        (S.content store.old) cells.old.items (S.content store.new) cells.new.items result }
+    ensures fits { OnOk result (IsFit (S.content store.new) (S.rows store.new) cells.new.items) }
+    ensures later { OnOk result (Later (S.content store.old) (S.content store.new) (S.rows store.old) (S.rows store.new)) }
+    ensures grows { OnOk result (Grows most_births (S.content store.old) (S.content store.new)) }
+    ensures limit { S.limit store.new ≡ S.limit store.old }
+{
+    match target {
+        None => Ok(()),
+        Some(location) => match given {
+            None => Err(Ending::Stray),
+            Some(value) => give(
+                &program.types,
+                f,
+                store,
+                cells,
+                value,
+                location.local as usize,
+            ),
+        },
+    }
+}

@@ -1,0 +1,118 @@
+// Locals that are given a value or a pointer.
+ghost use Rattle.std.specs.Prelude.{◌≡◌, ◌<◌, OnOk};
+ghost use Rattle.life_core.specs.Function.{function_of};
+ghost use Rattle.life_interp.specs.Cells.{cell_seen, cells_seen};
+ghost use Rattle.life_interp.specs.Fits.{most_births, CanBear, CanStep, CellFits, CellsFit, Gives, Grows, IsFit, Later};
+ghost use Rattle.life_interp.specs.Steps.{LeavesBoth};
+ghost use Rattle.life_store.specs.Calls.{born_with, given, parameters_given};
+ghost use Rattle.life_store.specs.Doing.{Setting};
+
+use crate::ending::Ending;
+use crate::frame::put_at;
+use crate::locals::new_object;
+use crate::sort::{Sort, sort_of};
+use crate::value::Cell;
+use life_core::CoreFn;
+use life_store::Store;
+use life_types::{TyId, TypeTable};
+
+/// Gives the first locals of a function these values, from left to right.
+pub(crate) fn give_all<S: Store>(
+    types: &TypeTable,
+    f: &CoreFn,
+    store: &mut S,
+    cells: &mut Vec<Cell>,
+    values: &[Cell],
+) -> Result<(), Ending>
+    requires fits { IsFit (S.content store.old) (S.rows store.old) cells.old.items }
+    requires values { CellsFit (S.content store.old) (S.rows store.old) values.now }
+    requires countable { CanStep (S.content store.old) }
+    requires room { S.limit store.old < most_births }
+    ensures step { (s : Setting) → s.given.cells ≡ S.limit store.old → LeavesBoth (parameters_given s types.now (function_of f.now) 0 (cells_seen values.now))
+        (S.content store.old) cells.old.items (S.content store.new) cells.new.items result }
+    ensures fits { OnOk result (IsFit (S.content store.new) (S.rows store.new) cells.new.items) }
+    ensures later { OnOk result (Later (S.content store.old) (S.content store.new) (S.rows store.old) (S.rows store.new)) }
+    ensures grows { OnOk result (Grows most_births (S.content store.old) (S.content store.new)) }
+    ensures limit { S.limit store.new ≡ S.limit store.old }
+{
+    for (local, value) in values.iter().enumerate() {
+        match give(types, f, store, cells, *value, local) {
+            Err(ending) => return Err(ending),
+            Ok(()) => {}
+        }
+    }
+    Ok(())
+}
+
+/// Gives a local a value or a pointer: an object comes to life with it.
+pub(crate) fn give<S: Store>(
+    types: &TypeTable,
+    f: &CoreFn,
+    store: &mut S,
+    cells: &mut Vec<Cell>,
+    value: Cell,
+    local: usize,
+) -> Result<(), Ending>
+    requires fits { IsFit (S.content store.old) (S.rows store.old) cells.old.items }
+    requires value { CellFits (S.content store.old) (S.rows store.old) value }
+    requires countable { CanBear (S.content store.old) }
+    ensures step { (s : Setting) → s.given.cells ≡ S.limit store.old → LeavesBoth (given s types.now (function_of f.now) (cell_seen value) local)
+        (S.content store.old) cells.old.items (S.content store.new) cells.new.items result }
+    ensures fits { OnOk result (IsFit (S.content store.new) (S.rows store.new) cells.new.items) }
+    ensures later { OnOk result (Later (S.content store.old) (S.content store.new) (S.rows store.old) (S.rows store.new)) }
+    ensures gives { OnOk result (Gives (S.limit store.old) (S.content store.old) (S.content store.new)) }
+    ensures limit { S.limit store.new ≡ S.limit store.old }
+{
+    if local < f.locals.len() {
+        let declared = f.locals[local];
+        match value {
+            Cell::Number(number) => match sort_of(types, declared) {
+                Sort::Object => born_with(store, cells, declared.ty, number, local),
+                Sort::Number => {
+                    put_at(cells, local, Cell::Number(number));
+                    Ok(())
+                }
+                Sort::Blank => Err(Ending::Stray),
+                Sort::Pointer => Err(Ending::Stray),
+                Sort::View => Err(Ending::Stray),
+            },
+            Cell::Points(pointer) => {
+                put_at(cells, local, Cell::Points(pointer));
+                Ok(())
+            }
+            Cell::Empty => Err(Ending::Stray),
+            Cell::Object(_) => Err(Ending::Stray),
+        }
+    } else {
+        Err(Ending::Stray)
+    }
+}
+
+// A new object with a value for the local.
+fn born_with<S: Store>(
+    store: &mut S,
+    cells: &mut Vec<Cell>,
+    ty: TyId,
+    number: i64,
+    local: usize,
+) -> Result<(), Ending>
+    requires fits { IsFit (S.content store.old) (S.rows store.old) cells.old.items }
+    requires countable { CanBear (S.content store.old) }
+    ensures step { (s : Setting) → s.given.cells ≡ S.limit store.old → LeavesBoth (born_with s ty number local)
+        (S.content store.old) cells.old.items (S.content store.new) cells.new.items result }
+    ensures fits { OnOk result (IsFit (S.content store.new) (S.rows store.new) cells.new.items) }
+    ensures later { OnOk result (Later (S.content store.old) (S.content store.new) (S.rows store.old) (S.rows store.new)) }
+    ensures gives { OnOk result (Gives (S.limit store.old) (S.content store.old) (S.content store.new)) }
+    ensures limit { S.limit store.new ≡ S.limit store.old }
+{
+    match new_object(store, ty) {
+        Err(ending) => Err(ending),
+        Ok(object) => match store.put(object, 0, 0, number.cast_unsigned()) {
+            Err(_) => unreachable!(),
+            Ok(()) => {
+                put_at(cells, local, Cell::Object(object));
+                Ok(())
+            }
+        },
+    }
+}

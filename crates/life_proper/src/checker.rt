@@ -1,0 +1,45 @@
+// The checker.
+ghost use Rattle.std.specs.Prelude.{◌≡◌, map, IfOk};
+ghost use Rattle.life_core.specs.Function.{function_of, program_of};
+ghost use Rattle.life_proper.specs.Checking.{checked, is_checked};
+
+use crate::scope::Scope;
+use crate::shape::tests_straight;
+use crate::sorts::entry_known;
+use crate::walk::stmt_flow;
+use life_core::CoreProgram;
+use life_types::NoMemory;
+use std::alloc::Global;
+
+/// Whether the program is proper: on every way through its functions what an instruction uses was
+/// written before and is alive, what comes to life isn't alive, each operand is of its sort, and no
+/// way runs past the end. It goes once over the text. A false answer is no proof that the program
+/// isn't proper: what is known of a local is what all ways agree on. `NoMemory` says that memory was
+/// wanted.
+pub fn is_proper(alloc: Global, p: &CoreProgram) -> Result<bool, NoMemory>
+    ensures { IfOk result (λ answer. answer ≡ checked (program_of p.now)) }
+{
+    for f in &p.functions {
+        let at = Scope {
+            types: &p.types,
+            functions: &p.functions,
+            function: f,
+        };
+        if !is_checked(alloc, &at)? {
+            return Ok(false);
+        }
+    }
+    Ok(true)
+}
+
+#[tactic(auto, using(crate::proofs::Joining::body_is))]
+fn is_checked(alloc: Global, at: &Scope) -> Result<bool, NoMemory>
+    ensures { IfOk result (λ answer. answer ≡ is_checked at.now.types.now (map function_of at.now.functions.now) (function_of at.now.function.now)) }
+{
+    if !tests_straight(&at.function.body) {
+        return Ok(false);
+    }
+    let known = entry_known(alloc, at.types, at.function)?;
+    let ways = stmt_flow(alloc, &at.function.body, Some(known), at)?;
+    Ok(ways.is_over())
+}

@@ -1,0 +1,57 @@
+// What is known of a local where a point is reached.
+ghost use Rattle.std.specs.Prelude.{◌≡◌};
+ghost use Rattle.life_proper.specs.Knowing.{agreed, is_implied, same};
+
+/// What a local is known to hold, on whichever way control came.
+#[derive(Clone, Copy, Debug)]
+pub(crate) enum Known {
+    /// Nothing is known.
+    Unknown,
+    /// It isn't alive, or was never written.
+    Blank,
+    /// An object of a value type.
+    Object,
+    /// A value.
+    Number,
+    /// A raw pointer or reference.
+    Pointer,
+    /// A view of characters.
+    View,
+}
+
+impl Known {
+    /// Whether both are known, and to hold the same.
+    pub(crate) fn same(self, other: Known) -> bool
+        ensures { result ≡ same self other }
+    {
+        match (self, other) {
+            (Known::Blank, Known::Blank) => true,
+            (Known::Object, Known::Object) => true,
+            (Known::Number, Known::Number) => true,
+            (Known::Pointer, Known::Pointer) => true,
+            (Known::View, Known::View) => true,
+            _ => false,
+        }
+    }
+
+    /// What is known where two ways meet.
+    pub(crate) fn agreed(self, other: Known) -> Known
+        ensures { result ≡ agreed self other }
+    {
+        if self.same(other) {
+            self
+        } else {
+            Known::Unknown
+        }
+    }
+
+    /// Whether what is known by this is known by the other one too.
+    pub(crate) fn is_implied(self, other: Known) -> bool
+        ensures { result ≡ is_implied self other }
+    {
+        match self {
+            Known::Unknown => true,
+            _ => self.same(other),
+        }
+    }
+}

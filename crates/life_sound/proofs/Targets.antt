@@ -1,0 +1,172 @@
+-- What is given to parameters, and to the target of a call: no fault comes of it, and what is known stays known.
+use Rattle.std.proofs.Common.{◌≡◌, ℕ, ◌+◌, ◌*◌, List, [], ◌∷◌, Option, Some, None, false, refl, sym, ap, subst, ◌∙◌, inl, inr, arith}
+use Rattle.std.specs.Prelude.{ℤ, nat_lt, slice_get}
+use Rattle.std.proofs.lemmas.Bool.{cond_both, false≢true}
+use Rattle.life_types.specs.Types.{Types}
+use Rattle.life_types.specs.declared.place.Place.{Place}
+use Rattle.life_types.specs.declared.ty.TyId.{TyId}
+use Rattle.life_core.specs.ByValue.{is_pointer, gives_pointer}
+use Rattle.life_core.specs.Function.{Function}
+use Rattle.life_core.specs.Operands.{Location}
+use Rattle.life_core.specs.Proper.{Holding, Blank, AnObject, ANumber, APointer, AView, held_by, sort_of, IsTargetReady}
+use Rattle.life_core.specs.Step.{Step}
+use Rattle.life_core.specs.declared.program.Local.{Local}
+use Rattle.life_pset.specs.Elements.{local_place}
+use Rattle.life_pset.specs.declared.element.Fact.{Fact}
+use Rattle.life_rules.specs.Carrying.{fact_at, drops}
+use Rattle.life_store.specs.Calls.{born_with, number_given, given_to, given_if, given, parameters_given, first_given, target_given}
+use Rattle.life_store.specs.Cells.{at, at-set_same}
+use Rattle.life_store.specs.Content.{Content, live_words_of, with_word}
+use Rattle.life_store.specs.Doing.{Setting, Effect, Next, Traps, Found, Here, put_cell, put_content, word_of_number, found_at, on_found, on_next, with_value_object, saved}
+use Rattle.life_store.specs.State.{Pointer, Null, Wild, To, Static, Cell, Empty, Named, Number, Points, State, holdings_of}
+use Rattle.life_store.specs.declared.run.TrapKind.TheVariants as trap
+use Rattle.life_store.proofs.CellLemmas.{empty_cell_is}
+use Rattle.life_store.proofs.Found.{found_here}
+use Rattle.life_store.proofs.Giving.{Suits, GivesBack}
+use Rattle.life_store.proofs.Housing.{Housed, value_object}
+use Rattle.life_sound.proofs.Births.{object_known}
+use Rattle.life_sound.proofs.Covering.{IsTimely, Known, birth_timely, write_timely, saved_known}
+use Rattle.life_sound.proofs.Facts.{Closed}
+use Rattle.life_sound.proofs.Sorts.{IsSorted}
+use Rattle.life_sound.proofs.Sparing.{Spared, Leads, on_next_leads, born_spared, written_spared, newest_other}
+use Rattle.life_sound.proofs.Writing.{IsSafe, known_kept, number_known, view_known}
+
+-- ---- an object that was born is there
+
+born_there : (ty : TyId) (c : Content) → at (with_value_object ty c).objects c.births ≡ Some (value_object ty c.clock)
+born_there ty c = at-set_same _ c.births c.births _ refl
+
+born_found : (ty : TyId) (c : Content) → found_at (with_value_object ty c) c.births 0 ≡ Here c.births 0 (value_object ty c.clock)
+born_found ty c = found_here (with_value_object ty c) c.births 0 (value_object ty c.clock) (born_there ty c) (omega arith)
+
+-- an object comes to life and is given its value: a trap, or the state behind both
+born_with_cases : (P : Effect → Type 0) (s : Setting) (ty : TyId) (z : ℤ) (x : ℕ) (st : State) → P (Traps trap.Cells)
+    → P (Next (saved z st.world.content.births 0 (value_object ty st.world.content.clock) (put_cell x (Named st.world.content.births) (put_content (with_value_object ty st.world.content) st)))) → P (born_with s ty z x st)
+born_with_cases P s ty z x st trapped next =
+    let c = st.world.content in
+    let born = put_cell x (Named c.births) (put_content (with_value_object ty c) st) in
+    cond_both (nat_lt s.given.cells (live_words_of c + (2 + 1 * 1))) (Traps trap.Cells) (Next born)
+    (λ (e : Effect). P (on_next e (λ st'. on_found (found_at st'.world.content c.births 0) (λ n i o. Next (saved z n i o st'))))) (λ _. trapped)
+    (λ _. subst (λ (r : Found). P (on_found r (λ n i o. Next (saved z n i o born)))) (sym (born_found ty c)) next)
+
+-- ---- the objects of waiting frames stay, and what is pointed to now is valid
+
+module _ (outer : List Cell) (before : Content) (s : Setting) (types : Types) (f : Function) where
+  abbrev pub IsFresh : State → Type 0
+  IsFresh st = Spared outer before st.world.content × IsTimely st.world.content
+
+  object_fresh : (ty : TyId) (z : ℤ) (x : ℕ) (st : State) → IsFresh st → Leads IsFresh (born_with s ty z x st)
+  object_fresh ty z x st fresh =
+      let c = st.world.content in
+      born_with_cases (Leads IsFresh) s ty z x st tt (
+        written_spared outer before c.births (with_word 0 0 (word_of_number z) (value_object ty c.clock)) (with_value_object ty c) (newest_other outer before c fresh.0) (born_spared outer before ty c fresh.0),
+        write_timely (with_value_object ty c) c.births 0 0 (word_of_number z) (value_object ty c.clock) (born_there ty c) (birth_timely ty c fresh.1),
+      )
+
+  number_fresh : (sort : Holding) (ty : TyId) (z : ℤ) (x : ℕ) (st : State) → IsFresh st → Leads IsFresh (number_given s sort ty z x st)
+  number_fresh AnObject ty z x st fresh = object_fresh ty z x st fresh
+  number_fresh ANumber ty z x st fresh = fresh
+  number_fresh _ ty z x st fresh = tt
+
+  to_fresh : (sort : Holding) (ty : TyId) (v : Cell) (x : ℕ) (st : State) → IsFresh st → Leads IsFresh (given_to s sort ty v x st)
+  to_fresh sort ty Empty x st fresh = tt
+  to_fresh sort ty (Named n) x st fresh = tt
+  to_fresh sort ty (Number z) x st fresh = number_fresh sort ty z x st fresh
+  to_fresh sort ty (Points p) x st fresh = fresh
+
+  given_fresh : (v : Cell) (x : ℕ) (st : State) → IsFresh st → Leads IsFresh (given s types f v x st)
+  given_fresh v x st fresh = go (slice_get f.locals x)
+    where
+      go : (l : Option Local) → Leads IsFresh (given_if s types f l v x st)
+      go None = tt
+      go (Some l) = to_fresh (sort_of types f x) l.ty v x st fresh
+
+  pub parameters_fresh : (vs : List Cell) (x : ℕ) (st : State) → IsFresh st → Leads IsFresh (parameters_given s types f x vs st)
+  parameters_fresh [] x st fresh = fresh
+  parameters_fresh (v ∷ vs) x st fresh =
+      on_next_leads IsFresh (given s types f v x st) (parameters_given s types f (x + 1) vs) (given_fresh v x st fresh) (λ st' still. parameters_fresh vs (x + 1) st' still)
+
+  first_fresh : (values : List Cell) (x : ℕ) (st : State) → IsFresh st → Leads IsFresh (first_given s types f values x st)
+  first_fresh [] x st fresh = tt
+  first_fresh (v ∷ vs) x st fresh = given_fresh v x st fresh
+
+  pub target_fresh : (target : Option Location) (values : List Cell) (st : State) → IsFresh st → Leads IsFresh (target_given s types f target values st)
+  target_fresh None values st fresh = fresh
+  target_fresh (Some l) values st fresh = first_fresh values l.local st fresh
+
+-- ---- what is known stays known, where no raw pointer and no reference is given
+
+suits_object : (v : Cell) → Suits ANumber v → Suits AnObject v
+suits_object (Number z) suits = tt
+suits_object Empty suits = absurd suits
+suits_object (Named n) suits = absurd suits
+suits_object (Points p) suits = absurd suits
+
+module _ (types : Types) (f : Function) (place : Place) (i : Step) (S S' : Fact → Type 0) (cl : Closed types f place i S S') (keeps : (fact : Fact) → drops i fact ≡ false) (s : Setting)
+    (st : State) (h : Housed st.world.content st.cells) (sorted : IsSorted types f (holdings_of st)) (k : Known S st) where
+  object_safe : (ty : TyId) (z : ℤ) (x : ℕ) → slice_get st.cells x ≡ Some Empty → IsSafe S' (born_with s ty z x st)
+  object_safe ty z x empty =
+      let c = st.world.content in
+      let born = put_cell x (Named c.births) (put_content (with_value_object ty c) st) in
+      born_with_cases (IsSafe S') s ty z x st tt
+      (known_kept types f place S S' (saved z c.births 0 (value_object ty c.clock) born) i cl (λ q w e is. keeps (fact_at (local_place q) e))
+      (saved_known S born z c.births 0 (value_object ty c.clock) (born_there ty c) (object_known S st h k ty x empty)))
+
+  view_safe : (p : Pointer) (x : ℕ) → sort_of types f x ≡ AView → Suits AView (Points p) → IsSafe S' (Next (put_cell x (Points p) st))
+  view_safe (Static c) x is suits = view_known types f place S S' st sorted k i cl x c is (λ q e ne. keeps (fact_at (local_place q) e))
+  view_safe Null x is suits = absurd (clash suits)
+    where
+      clash : APointer ≡ AView → ⊥
+      clash e = cc
+  view_safe Wild x is suits = absurd (clash suits)
+    where
+      clash : APointer ≡ AView → ⊥
+      clash e = cc
+  view_safe (To t) x is suits = absurd (clash suits)
+    where
+      clash : APointer ≡ AView → ⊥
+      clash e = cc
+
+  to_safe : (sort : Holding) (ty : TyId) (v : Cell) (x : ℕ) → sort_of types f x ≡ sort → is_pointer sort ≡ false → Suits sort v → (sort ≡ AnObject → slice_get st.cells x ≡ Some Empty)
+      → IsSafe S' (given_to s sort ty v x st)
+  to_safe AnObject ty (Number z) x is none suits empty = object_safe ty z x (empty refl)
+  to_safe ANumber ty (Number z) x is none suits empty = number_known types f place S S' st sorted k i cl x z is (λ q e. keeps (fact_at (local_place q) e))
+  to_safe AView ty (Points p) x is none suits empty = view_safe p x is suits
+  to_safe APointer ty (Points p) x is none suits empty = absurd (false≢true (sym none))
+  to_safe _ ty _ x is none suits empty = absurd suits
+
+  local_safe : (v : Cell) (x : ℕ) → is_pointer (sort_of types f x) ≡ false → Suits (sort_of types f x) v → (sort_of types f x ≡ AnObject → slice_get st.cells x ≡ Some Empty) → IsSafe S' (given s types f v x st)
+  local_safe v x none suits empty = go (slice_get f.locals x) refl
+    where
+      blank_suits : (u : Cell) → Suits Blank u → ⊥
+      blank_suits u suits = suits
+
+      go : (l : Option Local) → slice_get f.locals x ≡ l → IsSafe S' (given_if s types f l v x st)
+      go None e = absurd (blank_suits v (subst (λ sort. Suits sort v) (ap (held_by types) e) suits))
+      go (Some l) e = to_safe (sort_of types f x) l.ty v x refl none suits empty
+
+  -- a register, or a view
+  plain_safe : (sort : Holding) (l : Location) (v : Cell) → (sort ≡ AnObject → ⊥) → gives_pointer types f (Some l) ≡ false → sort_of types f l.local ≡ sort → Suits sort v → IsSafe S' (given s types f v l.local st)
+  plain_safe sort l v other none is suits = local_safe v l.local none (subst (λ k. Suits k v) (sym is) suits) (λ e. absurd (other (sym is ∙ e)))
+
+  -- a variable that comes to life
+  living_safe : (l : Location) (v : Cell) → gives_pointer types f (Some l) ≡ false → sort_of types f l.local ≡ AnObject → slice_get st.cells l.local ≡ Some Empty → Suits ANumber v → IsSafe S' (given s types f v l.local st)
+  living_safe l v none is empty suits = local_safe v l.local none (subst (λ k. Suits k v) (sym is) (suits_object v suits)) (λ e. empty)
+
+  number_object : ANumber ≡ AnObject → ⊥
+  number_object e = cc
+
+  view_object : AView ≡ AnObject → ⊥
+  view_object e = cc
+
+  pub target_safe : (sort : Holding) (target : Option Location) (values : List Cell) → gives_pointer types f target ≡ false → IsTargetReady types f (holdings_of st) sort target
+      → GivesBack st.world.content sort values → IsSafe S' (target_given s types f target values st)
+  target_safe sort None values none ready gives = known_kept types f place S S' st i cl (λ q w e is. keeps (fact_at (local_place q) e)) k
+  target_safe ANumber (Some l) (v ∷ vs) none (inl ready) gives = plain_safe ANumber l v number_object none ready.1 gives.0
+  target_safe ANumber (Some l) (v ∷ vs) none (inr ready) gives = living_safe l v none ready.0.1 (empty_cell_is st.cells l.local ready.1) gives.0
+  target_safe APointer (Some l) values none ready gives = absurd (false≢true (sym none ∙ ap is_pointer ready.1))
+  target_safe AView (Some l) (v ∷ vs) none ready gives = plain_safe AView l v view_object none ready.1 gives.0
+  target_safe ANumber (Some l) [] none ready gives = absurd gives
+  target_safe AView (Some l) [] none ready gives = absurd gives
+  target_safe Blank (Some l) values none ready gives = absurd ready
+  target_safe AnObject (Some l) values none ready gives = absurd ready

@@ -1,0 +1,89 @@
+-- Arguments that are ready hand over what suits the parameters.
+use Rattle.std.proofs.Common.{◌≡◌, ℕ, zero, suc, List, [], ◌∷◌, ◌++◌, length, Some, refl, ap, subst, ◌∙◌}
+use Rattle.std.specs.Prelude.{slice_get}
+use Rattle.life_core.specs.Operands.{Argument, Location, Value, PointerOf}
+use Rattle.life_core.specs.Proper.{Holding, AnObject, ANumber, APointer, AView, Holds, HoldsAt, IsArgumentReady, AreArgumentsReady}
+use Rattle.life_store.specs.Calls.{number_handed, pointer_handed, handed, with_handed, all_handed}
+use Rattle.life_store.specs.State.{Static, Cell, Number, Points, State, holdings_of}
+use Rattle.life_store.proofs.CellLemmas.{none_some, some_same, held_is, number_cell, pointer_cell, view_cell}
+use Rattle.life_store.proofs.Giving.{Suits}
+use Rattle.life_store.proofs.Housing.{Housed}
+use Rattle.life_store.proofs.Waiting.{IsLoose, number_loose, behind_loose}
+
+-- each suits its parameter, and there are as many
+abbrev pub AreSuited : List Holding → List Cell → Type 0
+AreSuited [] [] = Unit {0}
+AreSuited (sort ∷ sorts) (v ∷ vs) = Suits sort v × AreSuited sorts vs
+AreSuited _ _ = ⊥
+
+pub suited_length : (sorts : List Holding) (vs : List Cell) → AreSuited sorts vs → length vs ≡ length sorts
+suited_length [] [] a = refl
+suited_length (sort ∷ sorts) (v ∷ vs) a = ap suc (suited_length sorts vs a.1)
+suited_length [] (v ∷ vs) a = absurd a
+suited_length (sort ∷ sorts) [] a = absurd a
+
+pub suited_at : (sorts : List Holding) (vs : List Cell) (i : ℕ) (v : Cell) → AreSuited sorts vs → slice_get vs i ≡ Some v → (sort : Holding) × (slice_get sorts i ≡ Some sort) × Suits sort v
+suited_at [] [] i v a e = absurd (none_some e)
+suited_at (sort ∷ sorts) (u ∷ vs) zero v a e = (sort, refl, subst (Suits sort) (some_same e) a.0)
+suited_at (sort ∷ sorts) (u ∷ vs) (suc i) v a e = suited_at sorts vs i v a.1 e
+suited_at [] (u ∷ vs) i v a e = absurd a
+suited_at (sort ∷ sorts) [] i v a e = absurd a
+
+-- one argument
+pub record Hands (st : State) (sort : Holding) (x : Argument) : Type 0 where
+  pub value : Cell
+  pub is : handed st x ≡ Some value
+  pub suits : Suits sort value
+  pub loose : IsLoose st.world.content value
+
+-- .. and all of them
+pub record HandsAll (st : State) (sorts : List Holding) (xs : List Argument) : Type 0 where
+  pub values : List Cell
+  pub are : all_handed st xs ≡ Some values
+  pub suited : AreSuited sorts values
+  pub loose : (i : ℕ) (v : Cell) → slice_get values i ≡ Some v → IsLoose st.world.content v
+
+module _ (outer : List Cell) (st : State) (h : Housed st.world.content (outer ++ st.cells)) where
+  number_hands : (r : ℕ) → Holds (holdings_of st) r ANumber → Hands st AnObject (Value r)
+  number_hands r ready =
+      let cell = number_cell st.cells r ready in
+      record { value = Number cell.0; is = ap number_handed cell.1; suits = tt; loose = number_loose st.world.content cell.0 }
+
+  pointer_hands : (l : Location) → HoldsAt (holdings_of st) l APointer → Hands st APointer (PointerOf l)
+  pointer_hands l ready =
+      let cell = pointer_cell st.cells l.local ready.1 in
+      record {
+        value = Points cell.0;
+        is = ap pointer_handed cell.1;
+        suits = held_is st.cells l.local APointer (Points cell.0) ready.1 cell.1;
+        loose = behind_loose st.world.content outer st.cells h l.local cell.0 cell.1;
+      }
+
+  view_hands : (l : Location) → HoldsAt (holdings_of st) l AView → Hands st AView (PointerOf l)
+  view_hands l ready =
+      let cell = view_cell st.cells l.local ready.1 in
+      record { value = Points (Static cell.0); is = ap pointer_handed cell.1; suits = refl; loose = behind_loose st.world.content outer st.cells h l.local (Static cell.0) cell.1 }
+
+  hands : (sort : Holding) (x : Argument) → IsArgumentReady (holdings_of st) sort x → Hands st sort x
+  hands AnObject (Value r) ready = number_hands r ready
+  hands APointer (PointerOf l) ready = pointer_hands l ready
+  hands AView (PointerOf l) ready = view_hands l ready
+  hands _ _ ready = absurd ready
+
+  more_hands : (sort : Holding) (sorts : List Holding) (x : Argument) (xs : List Argument) → Hands st sort x → HandsAll st sorts xs → HandsAll st (sort ∷ sorts) (x ∷ xs)
+  more_hands sort sorts x xs one rest = record {
+    values = one.value ∷ rest.values;
+    are = ap (λ o. with_handed o (all_handed st xs)) one.is ∙ ap (with_handed (Some one.value)) rest.are;
+    suited = (one.suits, rest.suited);
+    loose = loose;
+  }
+    where
+      loose : (i : ℕ) (v : Cell) → slice_get (one.value ∷ rest.values) i ≡ Some v → IsLoose st.world.content v
+      loose zero v e = subst (IsLoose st.world.content) (some_same e) one.loose
+      loose (suc i) v e = rest.loose i v e
+
+  pub hands_all : (sorts : List Holding) (xs : List Argument) → AreArgumentsReady (holdings_of st) sorts xs → HandsAll st sorts xs
+  hands_all [] [] ready = record { values = []; are = refl; suited = tt; loose = λ i v e. absurd (none_some e) }
+  hands_all (sort ∷ sorts) (x ∷ xs) ready = more_hands sort sorts x xs (hands sort x ready.0) (hands_all sorts xs ready.1)
+  hands_all [] (x ∷ xs) ready = absurd ready
+  hands_all (sort ∷ sorts) [] ready = absurd ready

@@ -1,0 +1,10 @@
+pub mod Decided
+pub mod Following
+pub mod Giving
+pub mod Handing
+pub mod Made
+pub mod Opened
+pub mod Seen
+pub mod Turns
+pub mod TypeNumbers
+pub mod Weights

@@ -1,0 +1,72 @@
+-- The loops over a chain: one operator after the other, and the last one.
+use Rattle.std.proofs.Common.{◌≡◌, ◌+◌, ◌<◌, ◌≤◌, ℕ, suc, Bool, true, List, Option, None, Result, length, take, sym, ap, ◌∙◌, arith}
+use Rattle.std.proofs.lemmas.List.{take_all}
+use Rattle.life_types.specs.declared.memory.NoMemory.{NoMemory}
+use Rattle.life_typed.specs.TypedForm.{Form, Typed, whole}
+use Rattle.life_typed.specs.declared.typed_expr.TypedOperand.{TypedOperand}
+use Rattle.life_core.specs.Tree.{Tree}
+use Rattle.life_writer.specs.Answers.{Answers}
+use Rattle.life_writer.specs.Around.{Around}
+use Rattle.life_writer.specs.Chains.{Follows, Runs, is_link, joined_on, operated_on, own_of}
+use Rattle.life_writer.specs.Expressions.{condition}
+use Rattle.life_writer.specs.Parts.{HasLeft, inside, node_view, part_view}
+use Rattle.life_writer.specs.Writing.{State, gives}
+use Rattle.life_writer.specs.declared.chains.Chain.{Chain}
+use Rattle.life_writer.specs.declared.chains.Chain.TheVariants as chain
+use Rattle.life_writer.specs.declared.parts.Node.{Node}
+use Rattle.life_writer.specs.declared.parts.Part.{Part}
+use Rattle.life_writer.proofs.Following.{follows, next_condition, next_value}
+use Rattle.life_writer.proofs.Giving.{answers_as}
+use Rattle.life_writer.proofs.Weights.{left_lighter, runs_lighter, weight}
+
+-- a part that was opened
+module _ (n : Node) (part : Part) (node : node_view n ≡ part_view part) (left : HasLeft n.shape (inside part.within.now)) where
+  pub same_weight : weight (whole (node_view n)) ≡ weight (whole (part_view part))
+  same_weight = ap (λ (t : Typed). weight (whole t)) node
+
+  last_follows : (which : Chain) (b : Bool) → b ≡ is_link which n.category n.shape → b ≡ true → Follows which (inside part.within.now) (whole (node_view n))
+  last_follows which b found is = follows which n (inside part.within.now) (sym found ∙ is) left
+
+  -- what is within an operator weighs less
+  pub within_lighter : (which : Chain) (b : Bool) → b ≡ is_link which n.category n.shape → b ≡ true → (from k : ℕ) → Runs which part.within.now from → from ≤ k → k ≤ length part.within.now
+      → suc (weight (inside (take k part.within.now))) < weight (whole (part_view part))
+  within_lighter which b found is from k runs after within =
+      let above = left_lighter which (inside part.within.now) (whole (node_view n)) (last_follows which b found is) in
+      let below = runs_lighter which part.within.now from runs k after within in
+      let same = same_weight in omega arith
+
+  -- the last operator
+  pub last_value : (a : Around) (b : Bool) → b ≡ is_link chain.Computed n.category n.shape → b ≡ true → (i : ℕ) → length part.within.now ≤ i
+      → (into : Option ℕ) (s0 s : State) (r : ℕ) (x : Result ℕ NoMemory) (now : State) → own_of a (inside (take i part.within.now)) None s0 ≡ gives r s
+      → Answers (λ x. x) x (operated_on a (whole (node_view n)) r into s) now → Answers (λ x. x) x (own_of a (whole (part_view part)) into s0) now
+  last_value a b found is i past into s0 s r x now so_far given =
+      answers_as (λ x. x) x _ _ now
+      (ap (λ (t : Typed). own_of a (whole t) into s0) (sym node)
+      ∙ next_value a (inside part.within.now) (whole (node_view n)) into s0 s r (last_follows chain.Computed b found is)
+      (ap (λ (os : List TypedOperand). own_of a (inside os) None s0) (sym (take_all i part.within.now past)) ∙ so_far))
+      given
+
+  pub last_condition : (a : Around) (b : Bool) → b ≡ is_link chain.Joined n.category n.shape → b ≡ true → (i : ℕ) → length part.within.now ≤ i
+      → {X : Type 0} (view : X → Tree) (s0 s : State) (test : Tree) (x : Result X NoMemory) (now : State) → condition a (inside (take i part.within.now)) s0 ≡ gives test s
+      → Answers view x (joined_on a (whole (node_view n)) test s) now → Answers view x (condition a (whole (part_view part)) s0) now
+  last_condition a b found is i past view s0 s test x now so_far given =
+      answers_as view x _ _ now
+      (ap (λ (t : Typed). condition a (whole t) s0) (sym node)
+      ∙ next_condition a (inside part.within.now) (whole (node_view n)) s0 s test (last_follows chain.Joined b found is)
+      (ap (λ (os : List TypedOperand). condition a (inside os) s0) (sym (take_all i part.within.now past)) ∙ so_far))
+      given
+
+-- one operator more
+pub value_turn : (a : Around) (operands : List TypedOperand) (from i : ℕ) → Runs chain.Computed operands from → from ≤ i → i < length operands
+    → (s0 s now : State) (r r' : ℕ) (form : Form) → own_of a (inside (take i operands)) None s0 ≡ gives r s → form ≡ inside (take (i + 1) operands)
+    → operated_on a form r None s ≡ gives r' now → own_of a (inside (take (i + 1) operands)) None s0 ≡ gives r' now
+value_turn a operands from i runs after within s0 s now r r' form so_far is given =
+    next_value a (inside (take i operands)) (inside (take (i + 1) operands)) None s0 s r (runs i after within) so_far
+    ∙ ap (λ (f : Form). operated_on a f r None s) (sym is) ∙ given
+
+pub condition_turn : (a : Around) (operands : List TypedOperand) (from i : ℕ) → Runs chain.Joined operands from → from ≤ i → i < length operands
+    → (s0 s now : State) (test test' : Tree) (form : Form) → condition a (inside (take i operands)) s0 ≡ gives test s → form ≡ inside (take (i + 1) operands)
+    → joined_on a form test s ≡ gives test' now → condition a (inside (take (i + 1) operands)) s0 ≡ gives test' now
+condition_turn a operands from i runs after within s0 s now test test' form so_far is given =
+    next_condition a (inside (take i operands)) (inside (take (i + 1) operands)) s0 s test (runs i after within) so_far
+    ∙ ap (λ (f : Form). joined_on a f test s) (sym is) ∙ given

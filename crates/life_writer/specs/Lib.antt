@@ -1,0 +1,13 @@
+pub mod Answers
+pub mod Around
+pub mod Calls
+pub mod Chains
+pub mod Conditions
+pub mod Expressions
+pub mod Parts
+pub mod Pointers
+pub mod Registers
+pub mod Values
+pub mod Variables
+pub mod Views
+pub mod Writing

@@ -1,0 +1,79 @@
+-- Registers, and what is written to them.
+use Rattle.std.specs.Prelude.{ℕ, zero, suc, false, List, [], ◌∷◌, ◌++◌, Option, Some, None, length, if◌then◌else◌}
+use Rattle.life_types.specs.Types.{with_type}
+use Rattle.life_types.specs.contracts.ty.TyPartialEq.TheImpl.{ghosts as compared}
+use Rattle.life_types.specs.declared.place.Place.{Place}
+use Rattle.life_types.specs.declared.ty.Ty.{Ty}
+use Rattle.life_types.specs.declared.ty.TyId.{TyId}
+use Rattle.life_core.specs.Operands.{Operand}
+use Rattle.life_core.specs.Step.{Step, Eval, Load}
+use Rattle.life_core.specs.declared.operation.Operation.{Operation}
+use Rattle.life_core.specs.declared.operation.Operation.TheVariants as operation
+use Rattle.life_core.specs.declared.program.Local.{Local}
+use Rattle.life_core.specs.declared.program.LocalKind.TheVariants.{Register}
+use Rattle.life_writer.specs.Around.{Around}
+use Rattle.life_writer.specs.Writing.{State, Gives, gives, ◌>>◌, emit}
+
+-- ---- types
+
+-- the place of a type among others
+abbrev pub number_of : List Ty → Ty → ℕ
+number_of [] t = zero
+number_of (x ∷ xs) t = if compared.eq t x then zero else suc (number_of xs t)
+
+-- the table has the type from here on
+abbrev pub typed_with : Ty → State → State
+typed_with t s = record s { types = record s.types { types = with_type s.types.types t } }
+
+abbrev pub type_number : Ty → State → TyId
+type_number t s = record { 0 = number_of s.types.types t }
+
+-- ---- locals
+
+-- the next local is this one
+abbrev pub with_local : Local → State → Gives ℕ
+with_local l s = gives (length s.locals) (record s { locals = s.locals ++ l ∷ [] })
+
+-- a local without a name stands where the function's name does
+abbrev pub nameless : Around → TyId → Local
+nameless a ty = record { name = None; ty = ty; kind = Register; place = a.function.place; nonnull = false; keeps = false }
+
+abbrev pub with_nameless : Around → Ty → State → Gives ℕ
+with_nameless a t s = with_local (nameless a (type_number t s)) s
+
+abbrev pub new_register : Around → Ty → State → Gives ℕ
+new_register a t s = with_nameless a t (typed_with t s)
+
+-- ---- values in registers
+
+-- the register that a value goes to: the one that is wanted, or a new one
+abbrev pub target : Around → Option ℕ → Ty → State → Gives ℕ
+target a (Some r) t s = gives r s
+target a None t s = new_register a t s
+
+-- a register that an instruction writes
+abbrev pub computed : Around → Option ℕ → Ty → Place → (ℕ → Step) → State → Gives ℕ
+computed a into t place step s = target a into t s >> λ r s. gives r (emit place (step r) s)
+
+abbrev pub eval : Operation → ℕ → Step
+eval operation r = Eval r operation
+
+abbrev pub constant : ℕ → ℕ → Step
+constant n = eval (operation.Number n)
+
+abbrev pub conversion : ℕ → ℕ → Step
+conversion from = eval (operation.Convert from)
+
+abbrev pub load : Operand → ℕ → Step
+load from r = Load r from
+
+-- ---- conversions
+
+-- a register's value as one of another type
+abbrev pub converted : Around → (from to : Ty) → Place → ℕ → State → Gives ℕ
+converted a from to place r s = if compared.eq from to then gives r s else computed a None to place (conversion r) s
+
+-- .. where the value is yet to be written, to the register that is wanted
+abbrev pub as_type : Around → (from to : Ty) → Place → (Option ℕ → State → Gives ℕ) → Option ℕ → State → Gives ℕ
+as_type a from to place value into s =
+    if compared.eq from to then value into s else (value None s >> λ r s. computed a into to place (conversion r) s)

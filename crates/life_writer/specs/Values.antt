@@ -1,0 +1,68 @@
+-- Values: how what is computed and what is read comes into a register.
+use Rattle.std.specs.Prelude.{ℕ, Bool, true, false, Option, Some, None}
+use Rattle.life_types.specs.declared.place.Place.{Place}
+use Rattle.life_types.specs.declared.ty.Ty.{Ty}
+use Rattle.life_typed.specs.declared.typed_expr.BinaryOperator.{BinaryOperator}
+use Rattle.life_typed.specs.declared.typed_expr.BinaryOperator.TheVariants as typed
+use Rattle.life_typed.specs.declared.typed_expr.Category.{Category}
+use Rattle.life_typed.specs.declared.typed_expr.Category.TheVariants as category
+use Rattle.life_core.specs.Operands.{Operand}
+use Rattle.life_core.specs.Step.{Step, Ports, Takes}
+use Rattle.life_core.specs.Tree.{Tree}
+use Rattle.life_core.specs.declared.operation.Operation.TheVariants as operation
+use Rattle.life_core.specs.declared.operation.Operator.{Operator}
+use Rattle.life_core.specs.declared.operation.Operator.TheVariants as core
+use Rattle.life_writer.specs.Around.{Around}
+use Rattle.life_writer.specs.Conditions.{by_branch}
+use Rattle.life_writer.specs.Registers.{computed, eval, load}
+use Rattle.life_writer.specs.Writing.{State, Gives, ◌>>◌}
+
+abbrev pub truth : Bool → ℕ
+truth true = 1
+truth false = 0
+
+abbrev pub negated : ℕ → ℕ → Step
+negated operand = eval (operation.Negate operand)
+
+abbrev pub binary : Operator → ℕ → ℕ → ℕ → Step
+binary operator left right = eval (operation.Binary operator left right)
+
+abbrev pub input : ℕ → Step
+input r = Ports (Takes r)
+
+-- the operator between two values; `&&` and `||` are decided by tests
+abbrev pub operator_of : BinaryOperator → Operator
+operator_of typed.Or = core.Add
+operator_of typed.And = core.Add
+operator_of typed.Equal = core.Equal
+operator_of typed.NotEqual = core.NotEqual
+operator_of typed.Less = core.Less
+operator_of typed.LessEqual = core.LessEqual
+operator_of typed.Greater = core.Greater
+operator_of typed.GreaterEqual = core.GreaterEqual
+operator_of typed.Add = core.Add
+operator_of typed.Subtract = core.Subtract
+operator_of typed.Multiply = core.Multiply
+operator_of typed.Divide = core.Divide
+operator_of typed.Remainder = core.Remainder
+
+-- both operands, the left one first, and then the operator
+abbrev pub operated : Around → Option ℕ → Ty → Place → Operator → (left right : State → Gives ℕ) → State → Gives ℕ
+operated a into t place operator left right s =
+    left s >> λ x s. right s >> λ y s. computed a into t place (binary operator x y) s
+
+-- ---- a value of its own type
+
+-- a place is read where it stands
+abbrev pub read : Around → Ty → Place → (State → Gives Operand) → Option ℕ → State → Gives ℕ
+read a t place at into s = at s >> λ from s. computed a into t place (load from) s
+
+abbrev pub read_or_made : Around → Ty → Place → Category → (State → Gives Operand) → (Option ℕ → State → Gives ℕ) → Option ℕ → State → Gives ℕ
+read_or_made a t place category.Value at made into s = made into s
+read_or_made a t place (category.Place ty constant) at made into s = read a t place at into s
+
+-- what is decided by tests is a branch, with an answer on each side
+abbrev pub value_from :
+    Around → Ty → Place → Category → Option (State → Gives Tree) → (State → Gives Operand) → (Option ℕ → State → Gives ℕ) → Option ℕ → State → Gives ℕ
+value_from a t place category (Some decision) at made into s = by_branch a into t place decision s
+value_from a t place category None at made into s = read_or_made a t place category at made into s

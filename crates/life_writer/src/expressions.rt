@@ -1,0 +1,593 @@
+// Expressions: their values, places, pointers and conditions, part by part in the order of evaluation
+// (ISO/IEC 14882:2017 [intro.execution], [expr]; arguments from left to right).
+ghost use Rattle.std.specs.Prelude.{◌≡◌, None, OnOk, false, map, slice_get, true};
+ghost use Rattle.life_core.specs.Operands.{argument_of, location_of, operand_of};
+ghost use Rattle.life_core.specs.Tree.{condition_tree};
+ghost use Rattle.life_typed.specs.TypedForm.{forms, typed_view, typed_views, whole};
+ghost use Rattle.life_typed.specs.declared.typed_program.TypedLocal.{TypedLocal};
+ghost use Rattle.life_writer.specs.Answers.{Answers, AnswersIf};
+ghost use Rattle.life_typed.specs.BaseTypes.{is_raw};
+ghost use Rattle.life_writer.specs.Calls.{called};
+ghost use Rattle.life_writer.specs.Chains.{converted_in, joined_on, operated_on, own_of};
+ghost use Rattle.life_writer.specs.Conditions as conditions;
+ghost use Rattle.life_writer.specs.Expressions as spec;
+ghost use Rattle.life_writer.specs.Parts.{node_form, node_view, part_form, part_view};
+ghost use Rattle.life_writer.specs.Views.{around_of, pointing_of, state_of};
+ghost use Rattle.life_writer.specs.Writing.{emit};
+
+use crate::around::{Around, own_type};
+use crate::chains::{Chain, NOWHERE, chain_begins, is_link, type_in};
+use crate::conditions::{both, either, join, negation, stands_for_null};
+use crate::parts::{Node, Part, Shape, last_of, opened};
+use crate::pointers::Pointing;
+use crate::values::{operator_of, truth};
+use crate::writer::Writer;
+use life_core::{
+    Argument, Condition, FnId, Instr, Location, Operand, Operation, Port, Source, Test,
+};
+use life_typed::{BinaryOperator, Category, TypedExpr, TypedLocal, promoted};
+use life_types::{NoMemory, Place, Ty, TyId};
+use std::vec::Vec;
+
+impl Writer {
+    /// The value of an expression as one of a type, in the register that is wanted or one of its own.
+    pub fn value(
+        &mut self,
+        a: &Around,
+        expression: &TypedExpr,
+        to: Ty,
+        into: Option<u32>,
+    ) -> Result<u32, NoMemory>
+        ensures { Answers (λ x. x) result (spec.value (around_of a.now) (whole (typed_view expression.now)) to into (state_of self.old)) (state_of self.new) }
+    {
+        self.part_value(a, Some(Part::of(expression)), to, into)
+    }
+
+    // The value of a part as one of a type.
+    #[cycle(values)]
+    fn part_value(
+        &mut self,
+        a: &Around,
+        part: Option<Part<'_>>,
+        to: Ty,
+        into: Option<u32>,
+    ) -> Result<u32, NoMemory>
+        ensures { Answers (λ x. x) result (spec.value (around_of a.now) (part_form part.entry) to into (state_of self.old)) (state_of self.new) }
+    {
+        let Some(found) = part else {
+            return Ok(0);
+        };
+        if own_type(found.ty) == to {
+            return self.own_value(a, part, into);
+        }
+        let register = self.own_value(a, part, None)?;
+        self.eval(a, into, to, found.place, Operation::Convert(register))
+    }
+
+    // .. of its own type. A chain of operators is written from its innermost operand on.
+    #[cycle(values)]
+    fn own_value(
+        &mut self,
+        a: &Around,
+        part: Option<Part<'_>>,
+        into: Option<u32>,
+    ) -> Result<u32, NoMemory>
+        ensures { Answers (λ x. x) result (own_of (around_of a.now) (part_form part.entry) into (state_of self.old)) (state_of self.new) }
+    {
+        let Some(part) = part else {
+            return Ok(0);
+        };
+        let node = part.opened();
+        if !is_link(Chain::Computed, node) {
+            return self.lone_value(a, node, into);
+        }
+        let within = part.within;
+        let from = chain_begins(Chain::Computed, within);
+        let mut register = self.own_value(a, last_of(&within[..from]), None)?;
+        'operators: for number in from..within.len() {
+            let next = opened(last_of(&within[..number + 1]));
+            register = self.operated(a, next, register, None)?;
+        }
+        self.operated(a, Some(node), register, into)
+    }
+
+    // .. which no operator computes from two others.
+    #[cycle(values)]
+    fn lone_value(&mut self, a: &Around, node: Node<'_>, into: Option<u32>) -> Result<u32, NoMemory>
+        ensures { Answers (λ x. x) result (spec.own_value (around_of a.now) (node_view node.entry) into (state_of self.old)) (state_of self.new) }
+    {
+        if let Some(condition) = self.decision(a, node)? {
+            let ty = own_type(node.ty);
+            return self.by_branch(a, into, ty, node.place, condition);
+        }
+        self.read_or_made(a, node, into)
+    }
+
+    // An operator whose left operand's value is in a register.
+    #[cycle(values)]
+    fn operated(
+        &mut self,
+        a: &Around,
+        node: Option<Node<'_>>,
+        register: u32,
+        into: Option<u32>,
+    ) -> Result<u32, NoMemory>
+        ensures { Answers (λ x. x) result (operated_on (around_of a.now) (node_form node.entry) register into (state_of self.old)) (state_of self.new) }
+    {
+        let Some(node) = node else {
+            return Ok(0);
+        };
+        match node.shape {
+            Shape::Binary {
+                operator,
+                left,
+                right,
+            } => {
+                let common = promoted(type_in(left), own_type(right.ty));
+                let left = self.converted_in(a, left, common, register)?;
+                let right = self.part_value(a, Some(right), common, None)?;
+                let operation = Operation::Binary {
+                    operator: operator_of(operator),
+                    left,
+                    right,
+                };
+                self.eval(a, into, own_type(node.ty), node.place, operation)
+            }
+            _ => Ok(0),
+        }
+    }
+
+    // An operand's value in a register as one of a type.
+    fn converted_in(
+        &mut self,
+        a: &Around,
+        operand: Option<Part<'_>>,
+        to: Ty,
+        register: u32,
+    ) -> Result<u32, NoMemory>
+        ensures { Answers (λ x. x) result (converted_in (around_of a.now) (part_form operand.entry) to register (state_of self.old)) (state_of self.new) }
+    {
+        match operand {
+            Some(part) => self.converted(a, own_type(part.ty), to, part.place, register),
+            None => Ok(register),
+        }
+    }
+
+    // A place is read where it stands, and any other value is made.
+    #[cycle(values)]
+    fn read_or_made(
+        &mut self,
+        a: &Around,
+        node: Node<'_>,
+        into: Option<u32>,
+    ) -> Result<u32, NoMemory>
+        ensures { Answers (λ x. x) result (spec.read_or_made (around_of a.now) (node_view node.entry) into (state_of self.old)) (state_of self.new) }
+    {
+        let ty = own_type(node.ty);
+        match node.category {
+            Category::Value => self.made(a, node, ty, into),
+            Category::Place { .. } => {
+                let from = self.node_operand(a, node)?;
+                self.load(a, into, ty, node.place, from)
+            }
+        }
+    }
+
+    // A value that is neither read from a place nor decided by tests.
+    #[cycle(values)]
+    fn made(
+        &mut self,
+        a: &Around,
+        node: Node<'_>,
+        ty: Ty,
+        into: Option<u32>,
+    ) -> Result<u32, NoMemory>
+        ensures { Answers (λ x. x) result (spec.made (around_of a.now) (node_view node.entry).form node.entry.place ty into (state_of self.old)) (state_of self.new) }
+    {
+        let place = node.place;
+        match node.shape {
+            Shape::Number(number) => self.eval(a, into, ty, place, Operation::Number(number)),
+            Shape::Char(code) => {
+                self.eval(a, into, ty, place, Operation::Number(u64::from(code)))
+            }
+            Shape::Bool(value) => { self.eval(a, into, ty, place, Operation::Number(truth(value))) }
+            Shape::Call {
+                function,
+                arguments,
+                ..
+            } => {
+                let arguments = self.handed_over(a, arguments, a.parameters(function))?;
+                let into = self.target(a, into, ty)?;
+                self.call_into(place, into, function, arguments)?;
+                Ok(into)
+            }
+            Shape::Paren { inner, .. } => self.part_value(a, inner, ty, into),
+            Shape::Input => {
+                let into = self.target(a, into, ty)?;
+                self.emit(place, Instr::Port(Port::Take(into)))?;
+                Ok(into)
+            }
+            Shape::Negate(operand) => {
+                let register = self.part_value(a, operand, ty, None)?;
+                self.eval(a, into, ty, place, Operation::Negate(register))
+            }
+            Shape::Binary {
+                operator,
+                left,
+                right,
+            } => {
+                let common = promoted(type_in(left), own_type(right.ty));
+                let left = self.part_value(a, left, common, None)?;
+                let right = self.part_value(a, Some(right), common, None)?;
+                let operation = Operation::Binary {
+                    operator: operator_of(operator),
+                    left,
+                    right,
+                };
+                self.eval(a, into, ty, place, operation)
+            }
+            _ => Ok(0),
+        }
+    }
+
+    /// Calls a function, and gives its result to a register or a variable.
+    pub fn call_into(
+        &mut self,
+        place: Place,
+        target: u32,
+        function: u32,
+        arguments: Vec<Argument>,
+    ) -> Result<(), NoMemory>
+        ensures { OnOk result (state_of self.new ≡ emit place (called function (map argument_of arguments.items) target) (state_of self.old)) }
+    {
+        let target = Some(Location::whole(self.alloc, target));
+        self.emit(
+            place,
+            Instr::Call {
+                target,
+                function: FnId(function),
+                arguments,
+            },
+        )
+    }
+
+    /// The arguments of a call, from left to right, as the types of its parameters
+    /// ([expr.call]).
+    #[cycle(values)]
+    pub fn handed_over(
+        &mut self,
+        a: &Around,
+        arguments: &[TypedExpr],
+        parameters: &[TypedLocal],
+    ) -> Result<Vec<Argument>, NoMemory>
+        ensures { Answers (λ xs. map argument_of xs.items) result (spec.handed_over (around_of a.now) (forms (typed_views arguments.now)) (map (λ (l : TypedLocal). l.ty) parameters.now) (state_of self.old)) (state_of self.new) }
+    {
+        let mut given = Vec::new(self.alloc);
+        'arguments: for (number, argument) in arguments.iter().enumerate() {
+            match type_of_parameter(parameters, number) {
+                Some(ty) => {
+                    let part = Some(Part::of(argument));
+                    let register = self.part_value(a, part, a.type_of(ty), None)?;
+                    given.push(Argument::Value(register))?;
+                }
+                None => return Ok(given),
+            }
+        }
+        Ok(given)
+    }
+
+    /// The place that an expression is ([basic.lval]).
+    pub fn operand(&mut self, a: &Around, expression: &TypedExpr) -> Result<Operand, NoMemory>
+        ensures { Answers operand_of result (spec.operand (around_of a.now) (whole (typed_view expression.now)) (state_of self.old)) (state_of self.new) }
+    {
+        self.part_operand(a, Some(Part::of(expression)))
+    }
+
+    #[cycle(pointers)]
+    fn part_operand(&mut self, a: &Around, part: Option<Part<'_>>) -> Result<Operand, NoMemory>
+        ensures { Answers operand_of result (spec.operand (around_of a.now) (part_form part.entry) (state_of self.old)) (state_of self.new) }
+    {
+        match part {
+            Some(part) => self.node_operand(a, part.opened()),
+            None => Ok(Operand::name(self.alloc, 0)),
+        }
+    }
+
+    // The place that a part is.
+    #[cycle(pointers)]
+    fn node_operand(&mut self, a: &Around, node: Node<'_>) -> Result<Operand, NoMemory>
+        ensures { Answers operand_of result (spec.operand (around_of a.now) (node_view node.entry).form (state_of self.old)) (state_of self.new) }
+    {
+        match node.shape {
+            Shape::Local(number) => Ok(self.variable_place(number)),
+            Shape::Paren { inner, .. } => self.part_operand(a, inner),
+            Shape::Dereference(operand) => {
+                let pointer = self.part_pointer(a, operand)?;
+                Ok(Operand::Through {
+                    pointer,
+                    members: Vec::new(self.alloc),
+                })
+            }
+            _ => Ok(Operand::name(self.alloc, 0)),
+        }
+    }
+
+    /// What an expression gives a pointer.
+    pub fn pointing(&mut self, a: &Around, expression: &TypedExpr) -> Result<Pointing, NoMemory>
+        ensures { Answers pointing_of result (spec.pointing (around_of a.now) (whole (typed_view expression.now)) (state_of self.old)) (state_of self.new) }
+    {
+        self.part_pointing(a, Some(Part::of(expression)))
+    }
+
+    #[cycle(pointers)]
+    fn part_pointing(&mut self, a: &Around, part: Option<Part<'_>>) -> Result<Pointing, NoMemory>
+        ensures { Answers pointing_of result (spec.pointing (around_of a.now) (part_form part.entry) (state_of self.old)) (state_of self.new) }
+    {
+        match part {
+            Some(part) => self.node_pointing(a, part.opened()),
+            None => Ok(Pointing::At(Source::Null)),
+        }
+    }
+
+    #[cycle(pointers)]
+    fn node_pointing(&mut self, a: &Around, node: Node<'_>) -> Result<Pointing, NoMemory>
+        ensures { Answers pointing_of result (spec.pointing (around_of a.now) (node_view node.entry).form (state_of self.old)) (state_of self.new) }
+    {
+        match node.shape {
+            Shape::Null => Ok(Pointing::At(Source::Null)),
+            Shape::Local(number) => {
+                let local = self.variable(number);
+                Ok(Pointing::As(Location::whole(self.alloc, local)))
+            }
+            Shape::Paren { inner, .. } => self.part_pointing(a, inner),
+            Shape::AddressOf(operand) => {
+                let place = self.part_operand(a, operand)?;
+                Ok(Pointing::At(Source::Place(place)))
+            }
+            _ => Ok(Pointing::At(Source::Null)),
+        }
+    }
+
+    /// The location of the pointer that an expression is.
+    pub fn pointer(&mut self, a: &Around, expression: &TypedExpr) -> Result<Location, NoMemory>
+        ensures { Answers location_of result (spec.pointer (around_of a.now) (whole (typed_view expression.now)) (state_of self.old)) (state_of self.new) }
+    {
+        self.part_pointer(a, Some(Part::of(expression)))
+    }
+
+    #[cycle(pointers)]
+    fn part_pointer(&mut self, a: &Around, part: Option<Part<'_>>) -> Result<Location, NoMemory>
+        ensures { Answers location_of result (spec.pointer (around_of a.now) (part_form part.entry) (state_of self.old)) (state_of self.new) }
+    {
+        match part {
+            Some(part) => self.node_pointer(a, part.opened()),
+            None => Ok(Location::whole(self.alloc, 0)),
+        }
+    }
+
+    #[cycle(pointers)]
+    fn node_pointer(&mut self, a: &Around, node: Node<'_>) -> Result<Location, NoMemory>
+        ensures { Answers location_of result (spec.pointer (around_of a.now) (whole (node_view node.entry)) (state_of self.old)) (state_of self.new) }
+    {
+        let pointing = self.node_pointing(a, node)?;
+        self.located(a, node.place, own_type(node.ty), pointing)
+    }
+
+    /// An expression as a condition ([stmt.select], [conv.bool]).
+    pub fn condition(&mut self, a: &Around, expression: &TypedExpr) -> Result<Condition, NoMemory>
+        ensures { Answers condition_tree result (spec.condition (around_of a.now) (whole (typed_view expression.now)) (state_of self.old)) (state_of self.new) }
+    {
+        self.part_condition(a, Some(Part::of(expression)))
+    }
+
+    // A part as a condition. A chain of `&&` and `||` is written from its innermost operand on.
+    #[cycle(values)]
+    fn part_condition(&mut self, a: &Around, part: Option<Part<'_>>) -> Result<Condition, NoMemory>
+        ensures { Answers condition_tree result (spec.condition (around_of a.now) (part_form part.entry) (state_of self.old)) (state_of self.new) }
+    {
+        let Some(part) = part else {
+            return Ok(Condition::Single(NOWHERE, Test::NonZero(0)));
+        };
+        let node = part.opened();
+        if !is_link(Chain::Joined, node) {
+            return self.lone_condition(a, node);
+        }
+        let within = part.within;
+        let from = chain_begins(Chain::Joined, within);
+        let mut condition = self.part_condition(a, last_of(&within[..from]))?;
+        'operators: for number in from..within.len() {
+            let next = opened(last_of(&within[..number + 1]));
+            condition = self.joined(a, next, condition)?;
+        }
+        self.joined(a, Some(node), condition)
+    }
+
+    // A condition that `&&` and `||` don't join.
+    #[cycle(values)]
+    fn lone_condition(&mut self, a: &Around, node: Node<'_>) -> Result<Condition, NoMemory>
+        ensures { Answers condition_tree result (spec.condition (around_of a.now) (whole (node_view node.entry)) (state_of self.old)) (state_of self.new) }
+    {
+        match self.decision(a, node)? {
+            Some(decision) => Ok(decision),
+            None if is_raw(own_type(node.ty)) => self.points(a, node),
+            None => self.non_zero(a, node),
+        }
+    }
+
+    // A condition with the one to its right.
+    #[cycle(values)]
+    fn joined(
+        &mut self,
+        a: &Around,
+        node: Option<Node<'_>>,
+        condition: Condition,
+    ) -> Result<Condition, NoMemory>
+        ensures { Answers condition_tree result (joined_on (around_of a.now) (node_form node.entry) (condition_tree condition) (state_of self.old)) (state_of self.new) }
+    {
+        let Some(node) = node else {
+            return Ok(condition);
+        };
+        match node.shape {
+            Shape::Binary {
+                operator,
+                right,
+                ..
+            } => {
+                let right = self.part_condition(a, Some(right))?;
+                join(self.alloc, operator, condition, right)
+            }
+            _ => Ok(condition),
+        }
+    }
+
+    // Whether a part that is a pointer isn't null.
+    fn points(&mut self, a: &Around, node: Node<'_>) -> Result<Condition, NoMemory>
+        ensures { Answers condition_tree result (conditions.not_null node.entry.place (spec.pointer (around_of a.now) (whole (node_view node.entry))) (state_of self.old)) (state_of self.new) }
+    {
+        let before = self.begin_list();
+        let location = self.node_pointer(a, node)?;
+        self.behind_code(before, node.place, Test::NotNull(location))
+    }
+
+    // Whether a pointer that is compared with nullptr isn't null.
+    fn not_null(
+        &mut self,
+        a: &Around,
+        place: Place,
+        pointer: Option<Part<'_>>,
+    ) -> Result<Condition, NoMemory>
+        ensures { Answers condition_tree result (conditions.not_null place (spec.pointer (around_of a.now) (part_form pointer.entry)) (state_of self.old)) (state_of self.new) }
+    {
+        let before = self.begin_list();
+        let location = self.part_pointer(a, pointer)?;
+        self.behind_code(before, place, Test::NotNull(location))
+    }
+
+    // Whether a value that isn't decided by tests isn't 0.
+    #[cycle(values)]
+    fn non_zero(&mut self, a: &Around, node: Node<'_>) -> Result<Condition, NoMemory>
+        ensures { Answers condition_tree result (conditions.non_zero node.entry.place (spec.read_or_made (around_of a.now) (node_view node.entry) None) (state_of self.old)) (state_of self.new) }
+    {
+        let before = self.begin_list();
+        let register = self.read_or_made(a, node, None)?;
+        self.behind_code(before, node.place, Test::NonZero(register))
+    }
+
+    // What is decided by tests: `!`, `&&`, `||` and comparisons with nullptr.
+    #[cycle(values)]
+    fn decision(&mut self, a: &Around, node: Node<'_>) -> Result<Option<Condition>, NoMemory>
+        ensures { AnswersIf condition_tree result (spec.decision (around_of a.now) (node_view node.entry).form node.entry.place) (state_of self.old) (state_of self.new) }
+    {
+        match node.shape {
+            Shape::Paren { inner, .. } => self.part_decision(a, inner, node.place),
+            Shape::Not(operand) => {
+                let condition = self.part_condition(a, operand)?;
+                Ok(Some(negation(self.alloc, condition)?))
+            }
+            Shape::Binary {
+                operator,
+                left,
+                right,
+            } => self.decided(a, operator, node.place, left, right),
+            _ => Ok(None),
+        }
+    }
+
+    #[cycle(values)]
+    fn part_decision(
+        &mut self,
+        a: &Around,
+        part: Option<Part<'_>>,
+        place: Place,
+    ) -> Result<Option<Condition>, NoMemory>
+        ensures { AnswersIf condition_tree result (spec.decision (around_of a.now) (part_form part.entry) place) (state_of self.old) (state_of self.new) }
+    {
+        match part {
+            Some(part) => self.decision(a, part.opened()),
+            None => Ok(None),
+        }
+    }
+
+    // .. of two operands.
+    #[cycle(values)]
+    fn decided(
+        &mut self,
+        a: &Around,
+        operator: BinaryOperator,
+        place: Place,
+        left: Option<Part<'_>>,
+        right: Part<'_>,
+    ) -> Result<Option<Condition>, NoMemory>
+        ensures { AnswersIf condition_tree result (spec.decided_between (around_of a.now) operator place (part_form left.entry) (whole (part_view right.entry))) (state_of self.old) (state_of self.new) }
+    {
+        match operator {
+            BinaryOperator::And => {
+                let left = self.part_condition(a, left)?;
+                let right = self.part_condition(a, Some(right))?;
+                Ok(Some(both(self.alloc, left, right)?))
+            }
+            BinaryOperator::Or => {
+                let left = self.part_condition(a, left)?;
+                let right = self.part_condition(a, Some(right))?;
+                Ok(Some(either(self.alloc, left, right)?))
+            }
+            BinaryOperator::Equal => self.is_null(a, place, left, right),
+            BinaryOperator::NotEqual => self.beside_null(a, place, left, right),
+            _ => Ok(None),
+        }
+    }
+
+    // Whether the pointer that is compared with nullptr is null, if one operand is nullptr.
+    fn is_null(
+        &mut self,
+        a: &Around,
+        place: Place,
+        left: Option<Part<'_>>,
+        right: Part<'_>,
+    ) -> Result<Option<Condition>, NoMemory>
+        ensures { AnswersIf condition_tree result (conditions.null_compared true place (spec.pointer_beside_null (around_of a.now) (part_form left.entry) (whole (part_view right.entry)))) (state_of self.old) (state_of self.new) }
+    {
+        match self.beside_null(a, place, left, right)? {
+            Some(condition) => Ok(Some(negation(self.alloc, condition)?)),
+            None => Ok(None),
+        }
+    }
+
+    // Whether the pointer that is compared with nullptr isn't null, if one operand is nullptr.
+    fn beside_null(
+        &mut self,
+        a: &Around,
+        place: Place,
+        left: Option<Part<'_>>,
+        right: Part<'_>,
+    ) -> Result<Option<Condition>, NoMemory>
+        ensures { AnswersIf condition_tree result (conditions.null_compared false place (spec.pointer_beside_null (around_of a.now) (part_form left.entry) (whole (part_view right.entry)))) (state_of self.old) (state_of self.new) }
+    {
+        if stands_for_null(left) {
+            let condition = self.not_null(a, place, Some(right))?;
+            Ok(Some(condition))
+        } else if stands_for_null(Some(right)) {
+            let condition = self.not_null(a, place, left)?;
+            Ok(Some(condition))
+        } else {
+            Ok(None)
+        }
+    }
+}
+
+// The type of the parameter with this number, if there is one.
+fn type_of_parameter(parameters: &[TypedLocal], number: usize) -> Option<TyId>
+    ensures { result ≡ slice_get (map (λ (l : TypedLocal). l.ty) parameters.now) number }
+{
+    match parameters.get(number) {
+        Some(parameter) => Some(parameter.ty),
+        None => None,
+    }
+}
+
+/// A raw pointer.
+pub fn is_raw(ty: Ty) -> bool
+    ensures { result ≡ is_raw ty }
+{
+    matches!(ty, Ty::Raw { .. })
+}

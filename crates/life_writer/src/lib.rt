@@ -1,0 +1,29 @@
+//! What is written of a function: its locals and statements as they grow, and the values, places,
+//! pointers and conditions of expressions.
+#![tactic(auto)]
+
+mod around;
+mod calls;
+mod chains;
+mod conditions;
+mod expressions;
+mod numbers;
+mod operands;
+mod parts;
+mod pointers;
+mod registers;
+mod types;
+mod values;
+mod variables;
+mod writer;
+
+pub use around::{Around, own_type};
+pub use calls::{Called, call_of};
+pub use expressions::is_raw;
+pub use numbers::number;
+pub use operands::copied_operand;
+pub use pointers::Pointing;
+pub use registers::nameless;
+pub use types::add_type;
+pub use variables::variable_local;
+pub use writer::Writer;

@@ -1,0 +1,67 @@
+// Pointers: what they are given, and where they lie.
+ghost use Rattle.std.specs.Prelude.{◌≡◌, OnOk};
+ghost use Rattle.life_core.specs.Operands.{location_of};
+ghost use Rattle.life_core.specs.Step.{step_of};
+ghost use Rattle.life_writer.specs.Answers.{Answers};
+ghost use Rattle.life_writer.specs.Pointers as spec;
+ghost use Rattle.life_writer.specs.Views.{around_of, pointing_of, state_of};
+ghost use Rattle.life_writer.specs.Writing.{emit};
+
+use crate::around::Around;
+use crate::writer::Writer;
+use life_core::{Instr, Location, Source};
+use life_types::{NoMemory, Place, Ty};
+
+/// What an expression gives a pointer.
+#[derive(Drop)]
+pub enum Pointing {
+    /// It is aimed at this.
+    At(Source),
+    /// It points to what another pointer points to.
+    As(Location),
+}
+
+// The instruction that makes a pointer point there.
+fn pointed(pointer: Location, pointing: Pointing) -> Instr
+    ensures { step_of result ≡ spec.pointed (location_of pointer) (pointing_of pointing) }
+{
+    match pointing {
+        Pointing::At(source) => Instr::Aim { pointer, source },
+        Pointing::As(from) => Instr::Repoint { pointer, from },
+    }
+}
+
+impl Writer {
+    /// Makes a pointer point there.
+    pub fn point(
+        &mut self,
+        place: Place,
+        pointer: Location,
+        pointing: Pointing,
+    ) -> Result<(), NoMemory>
+        ensures { OnOk result (state_of self.new ≡ emit place (spec.pointed (location_of pointer) (pointing_of pointing)) (state_of self.old)) }
+    {
+        self.emit(place, pointed(pointer, pointing))
+    }
+
+    /// The location of a pointer: a variable is its own, and anything else goes to a register.
+    pub(crate) fn located(
+        &mut self,
+        a: &Around,
+        place: Place,
+        ty: Ty,
+        pointing: Pointing,
+    ) -> Result<Location, NoMemory>
+        ensures { Answers location_of result (spec.located (around_of a.now) place ty (pointing_of pointing) (state_of self.old)) (state_of self.new) }
+    {
+        match pointing {
+            Pointing::As(location) => Ok(location),
+            Pointing::At(source) => {
+                let register = self.new_register(a, ty)?;
+                let pointer = Location::whole(self.alloc, register);
+                self.emit(place, Instr::Aim { pointer, source })?;
+                Ok(Location::whole(self.alloc, register))
+            }
+        }
+    }
+}

@@ -1,0 +1,57 @@
+// The table of types, as it grows.
+ghost use Rattle.std.specs.Prelude.{◌≡◌, ◌<◌, ◌-◌, ◌^◌, length, IfOk, IsTrue, OnOk};
+ghost use Rattle.life_types.specs.Types.{HasParts, HasType, with_type};
+ghost use Rattle.life_writer.specs.Registers.{number_of};
+
+use life_types::{NoMemory, Ty, TyId, TypeTable};
+
+// A table that has this type is full.
+const LAST: TyId = TyId(u32::MAX - 1);
+
+#[tactic(auto, using(crate::proofs::TypeNumbers::room))]
+fn has_room(types: &TypeTable) -> bool
+    ensures { IsTrue result → length types.now.types < 2 ^ 32 - 1 }
+{
+    types.get(LAST).is_none()
+}
+
+#[tactic(auto, using(crate::proofs::TypeNumbers::there))]
+fn is_there(types: &TypeTable, id: TyId) -> bool
+    ensures { IsTrue result → HasType types.now id }
+{
+    types.get(id).is_some()
+}
+
+// Whether the table has what the type is made of.
+fn has_parts(types: &TypeTable, ty: Ty) -> bool
+    ensures { IsTrue result → HasParts types.now ty }
+{
+    match ty {
+        Ty::Void | Ty::Bool | Ty::Char | Ty::Int | Ty::Long | Ty::Size | Ty::Text | Ty::View => {
+            true
+        }
+        Ty::Vector(part) | Ty::Unique(part) => is_there(types, part),
+        Ty::Raw { target, .. }
+        | Ty::Reference { target, .. }
+        | Ty::Iterator { target, .. }
+        | Ty::Span { target, .. } => is_there(types, target),
+        Ty::Struct(number) => (number as usize) < types.struct_count(),
+    }
+}
+
+/// The number of a type, which is added if the table doesn't have it.
+///
+/// # Errors
+///
+/// For want of memory, which a table that is full counts as, and one that lacks a part of the type.
+#[tactic(auto, using(crate::proofs::TypeNumbers::number_given))]
+pub fn add_type(types: &mut TypeTable, ty: Ty) -> Result<TyId, NoMemory>
+    ensures number { IfOk result (λ id. id ≡ record { 0 = number_of types.new.types ty }) }
+    ensures grown { OnOk result (types.new ≡ record types.old { types = with_type types.old.types ty }) }
+{
+    if has_room(types) && has_parts(types, ty) {
+        types.add(ty)
+    } else {
+        Err(NoMemory)
+    }
+}
