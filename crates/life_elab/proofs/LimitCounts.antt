@@ -1,45 +1,41 @@
--- Counts that go no further than one past a limit.
-use Rattle.std.proofs.Common.{◌≡◌, ◌+◌, ◌≤◌, ℕ, List, Bool, true, false, Option, drop, length, map, min, refl, sym, ap, subst, ◌∙◌, arith}
-use Rattle.std.proofs.lemmas.List.{drop_all}
-use Rattle.std.specs.Prelude.{nat_lt}
-use Rattle.std.proofs.lemmas.Bool.{lt-ltb, le-ltb, ltb-true, ltb-false}
-use Rattle.life_types.specs.Types.{Types}
-use Rattle.life_core.proofs.SpotLemmas.{code_spots}
-use Rattle.life_core.specs.Function.{Function}
-use Rattle.life_core.specs.Linked.{code_of, points_of, spot_of_linked}
-use Rattle.life_core.specs.Tree.{Spot}
-use Rattle.life_core.specs.declared.program.Local.{Local}
+-- Which limit is told.
+use Rattle.std.proofs.Common.{◌≡◌, ◌<◌, ◌≤◌, ℕ, Bool, true, false, Option, Some, None, ap, ◌∙◌, arith}
+use Rattle.std.specs.Prelude.{if◌then◌else◌}
+use Rattle.std.proofs.lemmas.Bool.{lt-ltb, le-ltb}
+use Rattle.life_types.specs.declared.place.Place.{Place}
 use Rattle.life_tree.specs.declared.limit.LimitFault.{LimitFault}
-use Rattle.life_elab.specs.Over.{causes_in, first_passed, location_count, object_count, over_function}
+use Rattle.life_tree.specs.declared.limit.LimitName.{LimitName}
+use Rattle.life_tree.specs.declared.limit.LimitName.TheVariants.{Locations, Points, Elements}
+use Rattle.life_elab.specs.Over.{first_of, first_passed, limit, passes}
 
-capped : (n : ℕ) → nat_lt 2048 (min n 2049) ≡ nat_lt 2048 n
-capped n = go (nat_lt 2048 n) refl
-  where
-    go : (b : Bool) → nat_lt 2048 n ≡ b → nat_lt 2048 (min n 2049) ≡ nat_lt 2048 n
-    go true e = let many = ltb-true 2048 n e in lt-ltb 2048 (min n 2049) (omega arith) ∙ sym e
-    go false e = let few = ltb-false 2048 n e in le-ltb 2048 (min n 2049) (omega arith) ∙ sym e
+passed : (count most : ℕ) (name : LimitName) (place : Place) → most < count → passes count most name place ≡ Some (limit name place)
+passed count most name place many = ap (λ (b : Bool). if b then Some (limit name place) else None) (lt-ltb most count many)
 
-same_passed : (locations points n m : ℕ) (f : Function) → nat_lt 2048 n ≡ nat_lt 2048 m → first_passed locations points n f.place ≡ first_passed locations points m f.place
-same_passed locations points n m f e = rw e
+not_passed : (count most : ℕ) (name : LimitName) (place : Place) → count ≤ most → passes count most name place ≡ None
+not_passed count most name place few = ap (λ (b : Bool). if b then Some (limit name place) else None) (le-ltb most count few)
 
-pub passed_of : (types : Types) (f : Function) (locations points elements : ℕ) (some others : List Local) (seen : List Spot) (found : Option LimitFault)
-    → found ≡ first_passed locations points elements f.place → locations ≡ location_count types some → some ≡ f.locals → points ≡ points_of f
-    → elements ≡ min (3 + (object_count others + causes_in others seen)) 2049 → others ≡ f.locals → seen ≡ map spot_of_linked (code_of f)
-    → found ≡ over_function types f
-passed_of types f locations points elements some others seen found is located first counted few second are =
-    let at = location_count types f.locals in
-    let all : List Local → List Spot → ℕ = λ (ls : List Local) (xs : List Spot). 3 + (object_count ls + causes_in ls xs) in
-    is
-    ∙ ap (λ (n : ℕ). first_passed n points elements f.place) (located ∙ ap (location_count types) first)
-    ∙ ap (λ (n : ℕ). first_passed at n elements f.place) counted
-    ∙ ap (λ (n : ℕ). first_passed at (points_of f) n f.place) few
-    ∙ same_passed at (points_of f) (min (all others seen) 2049) (all others seen) f (capped (all others seen))
-    ∙ ap (λ (ls : List Local). first_passed at (points_of f) (all ls seen) f.place) second
-    ∙ ap (λ (xs : List Spot). first_passed at (points_of f) (all f.locals xs) f.place) (are ∙ code_spots f)
+more : (count most : ℕ) → (count ≤ most → ⊥) → most < count
+more count most many = omega (arith, many)
 
--- all points are counted
-pub all_counted : {X : Type 0} (locals : List Local) (seen : X → Spot) (points : List X) (i elements total : ℕ) → length points ≤ i → elements ≤ 2049
-    → min (elements + causes_in locals (map seen (drop i points))) 2049 ≡ total → elements ≡ total
-all_counted {X = X} locals seen points i elements total past few rest =
-    let none : min (elements + 0) 2049 ≡ total = subst (λ (xs : List X). min (elements + causes_in locals (map seen xs)) 2049 ≡ total) (drop_all i points past) rest in
-    omega arith
+module _ (locations points elements : ℕ) (place : Place) where
+  -- what comes behind the locations
+  abbrev behind : Option LimitFault
+  behind = first_of (passes points 1024 Points place) (passes elements 2048 Elements place)
+
+  pub over_locations : (locations ≤ 256 → ⊥) → first_passed locations points elements place ≡ Some (limit Locations place)
+  over_locations many = ap (λ (o : Option LimitFault). first_of o behind) (passed locations 256 Locations place (more locations 256 many))
+
+  few_locations : locations ≤ 256 → first_passed locations points elements place ≡ behind
+  few_locations few = ap (λ (o : Option LimitFault). first_of o behind) (not_passed locations 256 Locations place few)
+
+  few_points : points ≤ 1024 → behind ≡ passes elements 2048 Elements place
+  few_points few = ap (λ (o : Option LimitFault). first_of o (passes elements 2048 Elements place)) (not_passed points 1024 Points place few)
+
+  pub over_points : locations ≤ 256 → 1024 < points → first_passed locations points elements place ≡ Some (limit Points place)
+  over_points few many = few_locations few ∙ ap (λ (o : Option LimitFault). first_of o (passes elements 2048 Elements place)) (passed points 1024 Points place many)
+
+  pub over_elements : locations ≤ 256 → points ≤ 1024 → (elements ≤ 2048 → ⊥) → first_passed locations points elements place ≡ Some (limit Elements place)
+  over_elements few little many = few_locations few ∙ few_points little ∙ passed elements 2048 Elements place (more elements 2048 many)
+
+  pub over_none : locations ≤ 256 → points ≤ 1024 → elements ≤ 2048 → first_passed locations points elements place ≡ None
+  over_none few little short = few_locations few ∙ few_points little ∙ not_passed elements 2048 Elements place short

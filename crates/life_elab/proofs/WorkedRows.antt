@@ -23,6 +23,7 @@ use Rattle.life_core.specs.declared.instr.Form.TheVariants.{Plain}
 use Rattle.life_core.specs.declared.operation.Operation.TheVariants.{Binary, Number}
 use Rattle.life_core.specs.declared.operation.Operator.TheVariants.{Add, Less}
 use Rattle.life_elab.specs.Over.{over}
+use Rattle.life_types.specs.Trees.{tree_at}
 use Rattle.life_elab.specs.Programs.{core_program}
 use Rattle.life_typed.specs.Programs.{FunctionForm, ProgramForm, default}
 
@@ -100,6 +101,7 @@ worked : bodies (core_program program) ≡ core ∷ []
 worked = refl
 
 within : over program (core_program program) ≡ None
+unfolding tree_at
 within = refl
 
 -- ---- void f(bool b) { for (int i = 0; i < 2; ++i) if (b || !i) break; }

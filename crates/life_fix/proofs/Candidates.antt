@@ -10,7 +10,7 @@ use Rattle.life_rules.specs.Lines.{kind_number, line_cmp}
 use Rattle.life_rules.specs.contracts.diag.DiagKindOrd.TheImpl.{ghosts as kind}
 use Rattle.life_rules.specs.contracts.diag.DiagOrd.TheImpl.{ghosts as diag}
 use Rattle.life_rules.specs.declared.diag.DiagKind.{DiagKind}
-use Rattle.life_rules.specs.declared.diag.DiagKind.TheVariants.{NullUse, DanglingUse}
+use Rattle.life_rules.specs.declared.diag.DiagKind.TheVariants.{NullUse, DanglingUse, MovedUse, ArgNull, ArgDangling, ArgOverlap, ReturnDangling, ReturnWidens, KeepsBroken}
 use Rattle.life_fix.specs.contracts.listing.CandidateOrd.TheImpl.{ghosts as candidate}
 use Rattle.life_fix.specs.contracts.listing.PrintedLineOrd.TheImpl.{ghosts as printed}
 use Rattle.life_fix.specs.contracts.listing.PrintedLineOrd.TheImpl.Laws.{lawful}
@@ -21,9 +21,23 @@ use Rattle.life_fix.specs.Candidates.{candidate_seen, is_same_line, line_seen, l
 
 kind_cmp : (x y : DiagKind) → kind.cmp x y ≡ nat_cmp (kind_number x) (kind_number y)
 kind_cmp NullUse NullUse = refl
-kind_cmp NullUse DanglingUse = refl
+kind_cmp NullUse _ = refl
 kind_cmp DanglingUse NullUse = refl
-kind_cmp DanglingUse DanglingUse = refl
+kind_cmp DanglingUse _ = refl
+kind_cmp MovedUse NullUse = refl
+kind_cmp MovedUse _ = refl
+kind_cmp ArgNull NullUse = refl
+kind_cmp ArgNull _ = refl
+kind_cmp ArgDangling NullUse = refl
+kind_cmp ArgDangling _ = refl
+kind_cmp ArgOverlap NullUse = refl
+kind_cmp ArgOverlap _ = refl
+kind_cmp ReturnDangling NullUse = refl
+kind_cmp ReturnDangling _ = refl
+kind_cmp ReturnWidens NullUse = refl
+kind_cmp ReturnWidens _ = refl
+kind_cmp KeepsBroken NullUse = refl
+kind_cmp KeepsBroken _ = refl
 
 printed_cmp : (x y : PrintedLine) → printed.cmp x y ≡ line_cmp (line_seen x) (line_seen y)
 printed_cmp x y =

@@ -1,28 +1,35 @@
 -- What is wrong at the points of a function, collected from the rows of a solution.
-use Rattle.std.proofs.Common.{◌≡◌, ◌⊎◌, ◌↔◌, ℕ, zero, suc, ◌+◌, ◌<◌, ◌≤◌, refl, ap, sym, ◌∙◌, inl, inr, Bool, arith, subst, List, [], ◌∷◌, ◌++◌, length, map, option_map, Option, Some, None, Contains, slice_get, add-one}
+use Rattle.std.proofs.Common.{◌≡◌, ◌⊎◌, ◌↔◌, ℕ, zero, suc, ◌+◌, ◌<◌, ◌≤◌, refl, ap, sym, ◌∙◌, inl, inr, Bool, false, true≢false, arith, subst, List, [], ◌∷◌, ◌++◌, length, get_or, map, option_map, Option, Some, None, Contains, IsTrue, slice_get, add-one}
 use Rattle.std.specs.List.{flat_map}
 use Rattle.std.proofs.lemmas.Bool.{cases_eq, cases_lt}
-use Rattle.std.proofs.lemmas.List.{length-map}
+use Rattle.std.proofs.lemmas.List.{append-nil, length-map}
 use Rattle.std.proofs.lemmas.List.Elements.{Contains-append_cases, Contains-append_left, Contains-append_right}
 use Rattle.std.proofs.lemmas.Option.{slice_get-map, slice_get_past, slice_get_within}
 use Rattle.life_types.specs.Types.{Types}
 use Rattle.life_core.specs.Function.{Function}
 use Rattle.life_core.specs.Linked.{Linked, code_of, numbered, points_of, spot_of, spot_of_linked}
 use Rattle.life_core.specs.Node.{spot_seen}
-use Rattle.life_core.specs.Tree.{Spot}
+use Rattle.life_core.specs.Operands.{Base, Name, Operand, Source, Through}
+use Rattle.life_core.specs.Operands as named
+use Rattle.life_core.specs.Step.{Step, Copy, Aim, Cursor, Size, Changes}
+use Rattle.life_core.specs.Step as step
+use Rattle.life_core.specs.Tree.{Node, Action, Question, Return, Stop, Spot}
+use Rattle.life_types.specs.declared.place.Place.{Place}
 use Rattle.life_core.specs.declared.node.SpotRef.{SpotRef}
 use Rattle.life_core.specs.declared.stmt.Point.{Point}
 use Rattle.life_pset.proofs.Members.{none_in_empty}
 use Rattle.life_pset.specs.Table.{Table, IsOf, Names, table_of}
 use Rattle.life_pset.specs.declared.element.Fact.{Fact}
-use Rattle.life_rules.proofs.Giving.{flat_map_from, flat_map_into}
+use Rattle.life_rules.proofs.Giving.{at_head, cond_none, in_tail, flat_map_empty, flat_map_from, flat_map_into, one_premise, two_premises, AllIn}
+use Rattle.life_rules.specs.Along.{base_tells_first, is_target_of, node_tells_first, source_tells_first, tells_first}
+use Rattle.life_rules.specs.Carrying.{is_location}
 use Rattle.life_rules.specs.Deriving.{Derives, entry, along}
-use Rattle.life_rules.specs.Diagnosing.{diags_at, IsDiagnosed}
+use Rattle.life_rules.specs.Diagnosing.{diags_at, diags_of_two, moved_target, moved_through, node_diags_of_two, owner_of_base, owner_of_source, owners, IsDiagnosed, Tells}
 use Rattle.life_rules.specs.FactSets.{Holds}
 use Rattle.life_rules.specs.Lines.{Line}
 use Rattle.life_rules.specs.Listing.{IsListing}
 use Rattle.life_rules.specs.declared.diag.Diag.{Diag}
-use Rattle.life_fix.specs.Finding.{IsWrongBy, IsWrongIn}
+use Rattle.life_fix.specs.Finding.{all_wrong, IsWrongBy, IsWrongIn}
 use Rattle.life_fix.specs.Solution.{IsSolution, Solved, numbered_row, row_of}
 
 -- a listing of the same wrongs
@@ -35,31 +42,103 @@ same_wrongs same listing = record {
 
 -- ---- one row
 
-pub wrong_in_facts : (t : Table) (has : ℕ → ℕ → Bool) (function : ℕ) (spot : Spot) (facts : List Fact) (old new : List Diag) → ((x : Fact) → Contains facts x ↔ Holds t has x)
-    → new ≡ old ++ flat_map (diags_at function (Some spot)) facts → (d : Diag) → Contains new d ↔ (Contains old d ⊎ IsWrongBy t has function spot d)
-wrong_in_facts t has function spot facts old new held is d =
-    let g = diags_at function (Some spot) in (
+-- all that facts make wrong is what some of them do
+told_of_all : (types : Types) (function : ℕ) (f : Function) (spot : Spot) (facts : List Fact) (d : Diag) → Contains (all_wrong types function f spot facts) d
+    → (premises : List Fact) × (AllIn premises facts × Tells types function f (Some spot) premises d)
+told_of_all types function f spot facts d h =
+    elim (Contains-append_cases (flat_map (diags_at types function f (Some spot)) facts) _ d h) [
+      | inl one ↦
+          let x = flat_map_from (diags_at types function f (Some spot)) facts d one in
+          (x.0 ∷ [], (one_premise facts x.0 x.1.0, x.1.1))
+      | inr two ↦
+          let x = flat_map_from (λ a. flat_map (diags_of_two types function f (Some spot) a) facts) facts d two in
+          let y = flat_map_from (diags_of_two types function f (Some spot) x.0) facts d x.1.1 in
+          (x.0 ∷ y.0 ∷ [], (two_premises facts x.0 y.0 x.1.0 y.1.0, y.1.1))
+    ]
+
+all_of_told : (types : Types) (function : ℕ) (f : Function) (spot : Spot) (facts premises : List Fact) (d : Diag) → AllIn premises facts → Tells types function f (Some spot) premises d
+    → Contains (all_wrong types function f spot facts) d
+all_of_told types function f spot facts [] d within h = absurd h
+all_of_told types function f spot facts (a ∷ []) d within h =
+    Contains-append_left (flat_map (diags_at types function f (Some spot)) facts) _ d
+    (flat_map_into (diags_at types function f (Some spot)) facts a d (within a (at_head a [])) h)
+all_of_told types function f spot facts (a ∷ b ∷ []) d within h =
+    Contains-append_right (flat_map (diags_at types function f (Some spot)) facts) _ d
+    (flat_map_into (λ x. flat_map (diags_of_two types function f (Some spot) x) facts) facts a d (within a (at_head a (b ∷ [])))
+    (flat_map_into (diags_of_two types function f (Some spot) a) facts b d (within b (in_tail a (b ∷ []) b (at_head b []))) h))
+all_of_told types function f spot facts (a ∷ b ∷ c ∷ more) d within h = absurd h
+
+pub wrong_in_facts : (types : Types) (function : ℕ) (f : Function) (t : Table) (has : ℕ → ℕ → Bool) (spot : Spot) (facts : List Fact) (old new : List Diag) → ((x : Fact) → Contains facts x ↔ Holds t has x)
+    → new ≡ old ++ all_wrong types function f spot facts → (d : Diag) → Contains new d ↔ (Contains old d ⊎ IsWrongBy types function f t has spot d)
+wrong_in_facts types function f t has spot facts old new held is d =
+    let all = all_wrong types function f spot facts in (
       λ h.
-          elim (Contains-append_cases old (flat_map g facts) d (subst (λ (ds : List Diag). Contains ds d) is h)) [
+          elim (Contains-append_cases old all d (subst (λ (ds : List Diag). Contains ds d) is h)) [
             | inl was ↦ inl was
-            | inr wrong ↦ let x = flat_map_from g facts d wrong in inr (x.0, ((held x.0).0 x.1.0, x.1.1))
+            | inr wrong ↦
+                let told = told_of_all types function f spot facts d wrong in
+                inr (told.0, ((λ x k. (held x).0 (told.1.0 x k)), told.1.1))
           ],
       λ h.
           subst (λ (ds : List Diag). Contains ds d) (sym is)
           (elim h [
-            | inl was ↦ Contains-append_left old (flat_map g facts) d was
-            | inr x ↦ Contains-append_right old (flat_map g facts) d (flat_map_into g facts x.0 d ((held x.0).1 x.1.0) x.1.1)
+            | inl was ↦ Contains-append_left old all d was
+            | inr told ↦ Contains-append_right old all d (all_of_told types function f spot facts told.0 d (λ x k. (held x).1 (told.1.0 x k)) told.1.1)
           ]),
     )
+
+-- where the first fact and another one make nothing wrong, none do
+one_none : {A B : Type 0} (g : A → List B) (x : A) → g x ≡ [] → flat_map g (x ∷ []) ≡ []
+one_none g x none = flat_map_empty_one (g x) none
+  where
+    flat_map_empty_one : {B : Type 0} (ys : List B) → ys ≡ [] → ys ++ [] ≡ []
+    flat_map_empty_one ys none = append-nil ys ∙ none
+
+through_none : (types : Types) (function : ℕ) (f : Function) (place : Place) (a b : Fact) (o : Operand) → is_target_of o a ≡ false → moved_through types function f place a b o ≡ []
+through_none types function f place a b (Name l) h = refl
+through_none types function f place a b (Through p members) h = cond_none (is_location p a.location) (moved_target types function f place p members a.element b) h
+
+module _ (types : Types) (function : ℕ) (f : Function) (place : Place) (a b : Fact) where
+  abbrev told : Operand → List Diag
+  told = moved_through types function f place a b
+
+  base_none : (base : Base) → base_tells_first base a ≡ false → flat_map told (owner_of_base base) ≡ []
+  base_none (named.Owner o) h = one_none told o (through_none types function f place a b o h)
+  base_none (named.Pointer l) h = refl
+
+  source_none : (s : Source) → source_tells_first s a ≡ false → flat_map told (owner_of_source s) ≡ []
+  source_none (named.Whole o) h = one_none told o (through_none types function f place a b o h)
+  source_none _ h = refl
+
+  step_none : (i : Step) → tells_first i a ≡ false → flat_map told (owners i) ≡ []
+  step_none (Copy to from) h = one_none told from (through_none types function f place a b from h)
+  step_none (Aim p s) h = source_none s h
+  step_none (step.Element p base which) h = base_none base h
+  step_none (Cursor p base end) h = base_none base h
+  step_none (Size r base) h = base_none base h
+  step_none (Changes o change) h = one_none told o (through_none types function f place a b o h)
+  step_none _ h = refl
+
+  node_none : (n : Node) → node_tells_first n a ≡ false → node_diags_of_two types function f place n a b ≡ []
+  node_none (Action i) h = step_none i h
+  node_none (Question t) h = refl
+  node_none Return h = refl
+  node_none Stop h = refl
+
+pub none_told_of_first : (types : Types) (function : ℕ) (f : Function) (spot : Spot) (a : Fact) (facts : List Fact) (out : List Diag) → node_tells_first spot.node a ≡ false
+    → out ≡ out ++ flat_map (diags_of_two types function f (Some spot) a) facts
+none_told_of_first types function f spot a facts out h =
+    let none = flat_map_empty (diags_of_two types function f (Some spot) a) facts (λ b. node_none types function f spot.place a b spot.node h) in
+    sym (ap (λ (ds : List Diag). out ++ ds) none ∙ append-nil out)
 
 -- ---- the points one by one
 
 abbrev pub point_at : ℕ → Point
 point_at p = record { 0 = p }
 
--- a derived fact makes it wrong at the point
+-- derived facts make it wrong at the point
 abbrev IsWrongAt : Types → ℕ → Function → ℕ → Diag → Type 0
-IsWrongAt types function f p d = (x : Fact) × (Derives types f (point_at p) x × Contains (diags_at function (spot_of f (point_at p)) x) d)
+IsWrongAt types function f p d = (facts : List Fact) × (((x : Fact) → Contains facts x → Derives types f (point_at p) x) × Tells types function f (spot_of f (point_at p)) facts d)
 
 -- .. at one of the points up to this one
 abbrev IsWrongUpTo : Types → ℕ → Function → ℕ → Diag → Type 0
@@ -67,6 +146,13 @@ IsWrongUpTo types function f k d = (p : ℕ) × ((p ≤ k) × IsWrongAt types fu
 
 abbrev pub AreFoundUpTo : Types → ℕ → Function → ℕ → List Diag → Type 0
 AreFoundUpTo types function f k ds = (d : Diag) → Contains ds d ↔ IsWrongUpTo types function f k d
+
+-- where nothing stands, nothing is told
+nothing_told : (types : Types) (function : ℕ) (f : Function) (facts : List Fact) (d : Diag) → Tells types function f None facts d → ⊥
+nothing_told types function f [] d h = h
+nothing_told types function f (a ∷ []) d h = none_in_empty d h
+nothing_told types function f (a ∷ b ∷ []) d h = none_in_empty d h
+nothing_told types function f (a ∷ b ∷ c ∷ more) d h = h
 
 -- nothing stands at point 0
 pub found_none : (types : Types) (function : ℕ) (f : Function) → AreFoundUpTo types function f 0 []
@@ -76,7 +162,7 @@ found_none types function f d = (
 )
   where
     at_zero : (p : ℕ) → p ≤ 0 → IsWrongAt types function f p d → ⊥
-    at_zero zero le at = none_in_empty d at.1.1
+    at_zero zero le at = nothing_told types function f at.0 d at.1.1
     at_zero (suc p) le at = omega (arith, le)
 
 -- the next point
@@ -129,11 +215,11 @@ there (x ∷ xs) zero lt = (x, refl)
 there (x ∷ xs) (suc k) lt = there xs k (omega (arith, lt))
 
 wrong_at : {R : Type 0} (has : R → ℕ → ℕ → Bool) (location_limit element_limit : R → ℕ) (types : Types) (function : ℕ) (f : Function) (solution : Solved R) → IsSolution has location_limit element_limit types f solution
-    → (point : Point) (row : R) (spot : Spot) → row_of solution.rows point ≡ Some row → spot_of f point ≡ Some spot → (d : Diag) → IsWrongBy solution.table (has row) function spot d ↔ IsWrongAt types function f point.0 d
+    → (point : Point) (row : R) (spot : Spot) → row_of solution.rows point ≡ Some row → spot_of f point ≡ Some spot → (d : Diag) → IsWrongBy types function f solution.table (has row) spot d ↔ IsWrongAt types function f point.0 d
 wrong_at has location_limit element_limit types function f solution solves point row spot row_is spot_is d =
     let holds = row_holds has location_limit element_limit types f solution solves point row row_is in (
-      λ w. (w.0, ((holds w.0).0 w.1.0, subst (λ (s : Option Spot). Contains (diags_at function s w.0) d) (sym spot_is) w.1.1)),
-      λ w. (w.0, ((holds w.0).1 w.1.0, subst (λ (s : Option Spot). Contains (diags_at function s w.0) d) spot_is w.1.1)),
+      λ w. (w.0, ((λ x k. (holds x).0 (w.1.0 x k)), subst (λ (o : Option Spot). Tells types function f o w.0 d) (sym spot_is) w.1.1)),
+      λ w. (w.0, ((λ x k. (holds x).1 (w.1.0 x k)), subst (λ (o : Option Spot). Tells types function f o w.0 d) spot_is w.1.1)),
     )
 
 -- what stands at the point after k points
@@ -144,7 +230,7 @@ spot_after f refs k s same at =
 -- the point after k points, with its row
 pub found_more : {R : Type 0} (has : R → ℕ → ℕ → Bool) (location_limit element_limit : R → ℕ) (types : Types) (function : ℕ) (f : Function) (solution : Solved R) (refs : List SpotRef) (k : ℕ) (s : SpotRef) (row : Option R) (old new : List Diag)
     → IsSolution has location_limit element_limit types f solution → map spot_seen refs ≡ map spot_of_linked (code_of f) → length refs ≡ points_of f → slice_get refs k ≡ Some s → row ≡ row_of solution.rows (point_at (k + 1))
-    → ((d : Diag) → Contains new d ↔ (Contains old d ⊎ IsWrongIn solution.table has function (spot_seen s) row d)) → AreFoundUpTo types function f k old → AreFoundUpTo types function f (k + 1) new
+    → ((d : Diag) → Contains new d ↔ (Contains old d ⊎ IsWrongIn types function f solution.table has (spot_seen s) row d)) → AreFoundUpTo types function f k old → AreFoundUpTo types function f (k + 1) new
 found_more {R = R} has location_limit element_limit types function f solution refs k s row old new solves same count at row_is more was =
     let r = there solution.rows k (omega (arith, slice_get_within refs k s at, count, solves.count)) in
     let is : row ≡ Some r.0 = row_is ∙ ap (numbered_row solution.rows) (add-one k) ∙ r.1 in
@@ -155,12 +241,12 @@ found_more {R = R} has location_limit element_limit types function f solution re
       λ h.
           elim ((more d).0 h) [
             | inl before ↦ inl before
-            | inr new ↦ inr (subst (λ (p : ℕ). IsWrongAt types function f p d) (sym (add-one k)) ((wrong d).0 (subst (λ (o : Option R). IsWrongIn solution.table has function (spot_seen s) o d) is new)))
+            | inr new ↦ inr (subst (λ (p : ℕ). IsWrongAt types function f p d) (sym (add-one k)) ((wrong d).0 (subst (λ (o : Option R). IsWrongIn types function f solution.table has (spot_seen s) o d) is new)))
           ],
       λ h.
           (more d).1 (elim h [
             | inl before ↦ inl before
-            | inr at_next ↦ inr (subst (λ (o : Option R). IsWrongIn solution.table has function (spot_seen s) o d) (sym is) ((wrong d).1 (subst (λ (p : ℕ). IsWrongAt types function f p d) (add-one k) at_next)))
+            | inr at_next ↦ inr (subst (λ (o : Option R). IsWrongIn types function f solution.table has (spot_seen s) o d) (sym is) ((wrong d).1 (subst (λ (p : ℕ). IsWrongAt types function f p d) (add-one k) at_next)))
           ]),
     ) in
     found_next types function f k old new step was
@@ -180,7 +266,7 @@ found_all types function f refs k ds same past found d = (
         | inl behind ↦
             let long : length (code_of f) ≡ length refs = sym (length-map (code_of f) spot_of_linked) ∙ ap length (sym same) ∙ length-map refs spot_seen in
             let none : spot_of f w.0 ≡ None = none_behind (code_of f) w.0.0 (omega (arith, long, past, behind)) in
-            absurd (none_in_empty d (subst (λ (s : Option Spot). Contains (diags_at function s w.1.0) d) none w.1.1.1))
+            absurd (nothing_told types function f w.1.0 d (subst (λ (s : Option Spot). Tells types function f s w.1.0 d) none w.1.1.1))
         | inr within ↦ (found d).1 (w.0.0, (within, w.1))
       ],
 )

@@ -10,6 +10,7 @@ use Rattle.life_rules.proofs.OneFunction.{map_same, own_function}
 use Rattle.life_rules.specs.Diagnosing.{IsDiagnosed}
 use Rattle.life_rules.specs.Lines.{line_of}
 use Rattle.life_rules.specs.Listing.{IsProgramDiagnosed, line_in, program_line}
+use Rattle.life_rules.specs.Texts.{naming_in}
 use Rattle.life_rules.specs.declared.diag.Diag.{Diag}
 use Rattle.life_fix.specs.Candidates.{Lined, lined}
 use Rattle.life_fix.specs.Programs.{AddsDiagnosed}
@@ -38,17 +39,17 @@ one_of : {f g : Function} → Some f ≡ Some g → f ≡ g
 one_of h = cc
 
 -- the next function
-pub found_in_next : (p : Program) (k : ℕ) (f : Function) (before after : List Lined) → slice_get p.functions k ≡ Some f → AddsDiagnosed p.names p.types k f before after
+pub found_in_next : (p : Program) (k : ℕ) (f : Function) (before after : List Lined) → slice_get p.functions k ≡ Some f → AddsDiagnosed (naming_in p) p.types k f before after
     → AreFoundIn (IsDiagnosedUpTo p k) p before → AreFoundIn (IsDiagnosedUpTo p (k + 1)) p after
 found_in_next p k f before after at adds was = record {
   found = was.found ++ adds.found;
   all = λ d. (forth d, back d);
-  are = adds.behind ∙ ap (λ (ls : List Lined). ls ++ map (lined (line_of p.names p.types f)) adds.found) was.are
-      ∙ ap (λ (ls : List Lined). map (lined (program_line p)) was.found ++ ls) (map_same (lined (line_of p.names p.types f)) (lined (program_line p)) adds.found same_line)
+  are = adds.behind ∙ ap (λ (ls : List Lined). ls ++ map (lined (line_of (naming_in p) p.types f)) adds.found) was.are
+      ∙ ap (λ (ls : List Lined). map (lined (program_line p)) was.found ++ ls) (map_same (lined (line_of (naming_in p) p.types f)) (lined (program_line p)) adds.found same_line)
       ∙ sym (map-append (lined (program_line p)) was.found adds.found);
 }
   where
-    same_line : (d : Diag) → Contains adds.found d → lined (line_of p.names p.types f) d ≡ lined (program_line p) d
+    same_line : (d : Diag) → Contains adds.found d → lined (line_of (naming_in p) p.types f) d ≡ lined (program_line p) d
     same_line d h =
         let own : d.function ≡ k = own_function p.types k f d ((adds.all d).0 h) in
         sym (ap (λ (o : Option Function). lined (line_in p o) d) (ap (slice_get p.functions) own ∙ at))

@@ -5,6 +5,7 @@ use Rattle.life_core.specs.Function.{Function, Program}
 use Rattle.life_pset.specs.Elements.{IsWithinLimits}
 use Rattle.life_rules.specs.Diagnosing.{IsDiagnosed}
 use Rattle.life_rules.specs.Lines.{line_of}
+use Rattle.life_rules.specs.Texts.{Naming}
 use Rattle.life_rules.specs.declared.diag.Diag.{Diag}
 use Rattle.life_fix.specs.Candidates.{Lined, lined}
 
@@ -14,7 +15,7 @@ pub record IsProgramWithinLimits (p : Program) : Type 0 where
   pub each : (i : ℕ) (f : Function) → slice_get p.functions i ≡ Some f → IsWithinLimits p.types f
 
 -- the diagnostics of a function, with their lines, stand behind what was there
-pub record AddsDiagnosed (names : List (List ℕ)) (types : Types) (function : ℕ) (f : Function) (before after : List Lined) : Type 0 where
+pub record AddsDiagnosed (names : Naming) (types : Types) (function : ℕ) (f : Function) (before after : List Lined) : Type 0 where
   pub found : List Diag
   pub all : (d : Diag) → Contains found d ↔ IsDiagnosed types function f d
   pub behind : after ≡ before ++ map (lined (line_of names types f)) found

@@ -1,44 +1,48 @@
 // The diagnostics of a function.
 ghost use Rattle.std.specs.List.{flat_map};
 ghost use Rattle.std.specs.Option.{option_copied};
-ghost use Rattle.std.specs.Prelude.{◌≡◌, ◌++◌, ◌⊎◌, ◌↔◌, ℕ, map, Contains, IfOk, OnOk, Some};
-ghost use Rattle.life_core.specs.Function.{function_of, name_bytes};
+ghost use Rattle.std.specs.Prelude.{◌≡◌, ◌++◌, ◌⊎◌, ◌↔◌, Contains, IfOk, OnOk, Some};
+ghost use Rattle.life_core.specs.Function.{function_of};
 ghost use Rattle.life_core.specs.Node.{spot_seen};
 ghost use Rattle.life_pset.specs.Elements.{IsWithinLimits};
-ghost use Rattle.life_rules.specs.Diagnosing.{diags_at, IsDiagnosed};
+ghost use Rattle.life_rules.specs.Along.{node_tells_first};
+ghost use Rattle.life_rules.specs.Diagnosing.{diags_at, diags_of_two, IsDiagnosed};
 ghost use Rattle.life_rules.specs.Listing.{AreDiagnostics};
+ghost use Rattle.life_rules.specs.Texts.{naming_of};
 ghost use Rattle.life_rules.specs.declared.diag.Diag.{Diag};
-ghost use Rattle.life_fix.specs.Finding.{IsWrongBy, IsWrongIn};
+ghost use Rattle.life_fix.specs.Finding.{all_wrong, IsWrongBy, IsWrongIn};
 ghost use Rattle.life_fix.specs.Solution.{IsSolution};
 
 use crate::listing::{listed, push_candidates};
 use crate::solution::Solution;
 use life_core::{CoreFn, FnId, Names, Point, SpotRef, spots};
 use life_pset::{ElementTable, Fact, Rows};
-use life_rules::{Diag, facts_in, push_diags};
-use life_types::{NoMemory, TypeTable};
+use life_rules::{Diag, facts_in, push_diags, push_diags_of_two, tells_first};
+use life_types::{NameId, NoMemory, TypeTable};
 use std::alloc::Global;
 
 /// The diagnostics of the function with this number: what its derived facts make wrong at its points.
 /// They stand in the order of the lines that they print, which is by line, column, kind, bytes of the
 /// name and bytes of the reason. Each line stands once, by the least diagnostic that prints it in the
-/// order of `Diag`. The only error is the want of memory.
+/// order of `Diag`. `functions` are the names of the program's functions, by their numbers. The only error
+/// is the want of memory.
 pub fn diagnostics<R: Rows>(
     alloc: Global,
     f: &CoreFn,
     id: FnId,
     types: &TypeTable,
     names: &Names,
+    functions: &[NameId],
     sol: &Solution<R>,
 ) -> Result<Vec<Diag>, NoMemory>
     requires limits { IsWithinLimits types.now (function_of f.now) }
     requires solution { IsSolution R.has R.location_limit R.element_limit types.now (function_of f.now) sol.now }
     ensures { IfOk result
-        (λ all. AreDiagnostics (map name_bytes names.now.texts.items) types.now id.0 (function_of f.now) all.items) }
+        (λ all. AreDiagnostics (naming_of names.now functions.now) types.now id.0 (function_of f.now) all.items) }
 {
     let found = found(alloc, f, id, types, sol)?;
     let mut candidates = Vec::new(alloc);
-    push_candidates(alloc, names, f, types, &found, &mut candidates)?;
+    push_candidates(alloc, names, functions, f, types, &found, &mut candidates)?;
     listed(alloc, candidates)
 }
 
@@ -60,7 +64,16 @@ pub(crate) fn found<R: Rows>(
     let mut all = Vec::new(alloc);
     for (index, spot) in spots.iter().enumerate() {
         let point = Point(index as u32 + 1);
-        push_row(alloc, id.0, *spot, table, sol.row(point), &mut all)?;
+        push_row(
+            alloc,
+            types,
+            id.0,
+            f,
+            *spot,
+            table,
+            sol.row(point),
+            &mut all,
+        )?;
     }
     Ok(all)
 }
@@ -68,49 +81,122 @@ pub(crate) fn found<R: Rows>(
 // Adds what the facts of a row make wrong at its point.
 fn push_row<R: Rows>(
     alloc: Global,
+    types: &TypeTable,
     function: u32,
+    f: &CoreFn,
     spot: SpotRef,
     table: &ElementTable,
     row: Option<&R>,
     out: &mut Vec<Diag>,
 ) -> Result<(), NoMemory>
     ensures { OnOk result ((d : Diag) → Contains out.new.items d
-        ↔ (Contains out.old.items d ⊎ IsWrongIn table.now R.has function (spot_seen spot.entry) (option_copied row.entry) d)) }
+        ↔ (Contains out.old.items d ⊎ IsWrongIn types.now function (function_of f.now) table.now R.has (spot_seen spot.entry) (option_copied row.entry) d)) }
 {
     match row {
         None => {}
-        Some(row) => push_wrong_by(alloc, function, spot, table, row, out)?,
+        Some(row) => push_wrong_by(alloc, types, function, f, spot, table, row, out)?,
     }
     Ok(())
 }
 
 fn push_wrong_by<R: Rows>(
     alloc: Global,
+    types: &TypeTable,
     function: u32,
+    f: &CoreFn,
     spot: SpotRef,
     table: &ElementTable,
     row: &R,
     out: &mut Vec<Diag>,
 ) -> Result<(), NoMemory>
     ensures { OnOk result ((d : Diag) → Contains out.new.items d
-        ↔ (Contains out.old.items d ⊎ IsWrongBy table.now (R.has row.now) function (spot_seen spot.entry) d)) }
+        ↔ (Contains out.old.items d ⊎ IsWrongBy types.now function (function_of f.now) table.now (R.has row.now) (spot_seen spot.entry) d)) }
 {
     let facts = facts_in(alloc, table, row)?;
-    push_facts(function, spot, &facts, out)?;
+    push_all_wrong(types, function, f, spot, &facts, out)?;
     Ok(())
 }
 
-fn push_facts(
+// Adds what each fact makes wrong, and each two.
+#[tactic(auto, using(std::proofs::Common::append_assoc))]
+fn push_all_wrong(
+    types: &TypeTable,
     function: u32,
+    f: &CoreFn,
     spot: SpotRef,
     facts: &[Fact],
     out: &mut Vec<Diag>,
 ) -> Result<(), NoMemory>
     ensures { OnOk result
-        (out.new.items ≡ out.old.items ++ flat_map (diags_at function (Some (spot_seen spot.entry))) facts.now) }
+        (out.new.items ≡ out.old.items ++ all_wrong types.now function (function_of f.now) (spot_seen spot.entry) facts.now) }
+{
+    push_facts(types, function, f, spot, facts, out)?;
+    push_pairs(types, function, f, spot, facts, out)
+}
+
+fn push_facts(
+    types: &TypeTable,
+    function: u32,
+    f: &CoreFn,
+    spot: SpotRef,
+    facts: &[Fact],
+    out: &mut Vec<Diag>,
+) -> Result<(), NoMemory>
+    ensures { OnOk result
+        (out.new.items ≡ out.old.items ++ flat_map (diags_at types.now function (function_of f.now) (Some (spot_seen spot.entry))) facts.now) }
 {
     for fact in facts {
-        push_diags(function, spot, fact, out)?;
+        push_diags(types, function, f, spot, fact, out)?;
+    }
+    Ok(())
+}
+
+fn push_pairs(
+    types: &TypeTable,
+    function: u32,
+    f: &CoreFn,
+    spot: SpotRef,
+    facts: &[Fact],
+    out: &mut Vec<Diag>,
+) -> Result<(), NoMemory>
+    ensures { OnOk result
+        (out.new.items ≡ out.old.items ++ flat_map (λ first. flat_map (diags_of_two types.now function (function_of f.now) (Some (spot_seen spot.entry)) first) facts.now) facts.now) }
+{
+    for first in facts {
+        push_seconds(
+            tells_first(spot, first),
+            types,
+            function,
+            f,
+            spot,
+            first,
+            facts,
+            out,
+        )?;
+    }
+    Ok(())
+}
+
+// Adds what the first fact and each other make wrong, if they may.
+fn push_seconds(
+    tells: bool,
+    types: &TypeTable,
+    function: u32,
+    f: &CoreFn,
+    spot: SpotRef,
+    first: &Fact,
+    facts: &[Fact],
+    out: &mut Vec<Diag>,
+) -> Result<(), NoMemory>
+    requires { tells ≡ node_tells_first (spot_seen spot).node first.now }
+    ensures { OnOk result
+        (out.new.items ≡ out.old.items ++ flat_map (diags_of_two types.now function (function_of f.now) (Some (spot_seen spot.entry)) first.now) facts.now) }
+{
+    if !tells {
+        return Ok(());
+    }
+    for second in facts {
+        push_diags_of_two(types, function, f, spot, first, second, out)?;
     }
     Ok(())
 }

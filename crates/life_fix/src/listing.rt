@@ -1,15 +1,16 @@
 // A list of diagnostics in the order of their lines.
 ghost use Rattle.std.specs.Prelude.{◌≡◌, ◌++◌, List, length, map, take, Contains, IfOk, OnOk};
 ghost use Rattle.std.specs.List.{dedup};
-ghost use Rattle.life_core.specs.Function.{function_of, name_bytes};
+ghost use Rattle.life_core.specs.Function.{function_of};
 ghost use Rattle.life_rules.specs.Lines.{Line, line_of};
 ghost use Rattle.life_rules.specs.Listing.{IsListing};
+ghost use Rattle.life_rules.specs.Texts.{naming_of};
 ghost use Rattle.life_rules.specs.declared.diag.Diag.{Diag};
 ghost use Rattle.life_fix.specs.Candidates.{candidate_seen, diag_part, is_same_line, line_seen, lined, KeepsLines, Sorts};
 
 use life_core::{CoreFn, Names};
 use life_rules::{Diag, DiagKind, texts_of};
-use life_types::{NoMemory, TypeTable};
+use life_types::{NameId, NoMemory, TypeTable};
 use std::alloc::Global;
 
 /// The line that a diagnostic prints. The order of the fields is the order of lines.
@@ -33,16 +34,17 @@ pub(crate) struct Candidate {
 pub(crate) fn push_candidates(
     alloc: Global,
     names: &Names,
+    functions: &[NameId],
     f: &CoreFn,
     types: &TypeTable,
     found: &[Diag],
     out: &mut Vec<Candidate>,
 ) -> Result<(), NoMemory>
     ensures { OnOk result (map candidate_seen out.new.items ≡ map candidate_seen out.old.items
-        ++ map (lined (line_of (map name_bytes names.now.texts.items) types.now (function_of f.now))) found.now) }
+        ++ map (lined (line_of (naming_of names.now functions.now) types.now (function_of f.now))) found.now) }
 {
     for diag in found {
-        let line = line_of(alloc, names, f, types, diag)?;
+        let line = line_of(alloc, names, functions, f, types, diag)?;
         out.push(Candidate { line, diag: *diag })?;
     }
     Ok(())
@@ -62,14 +64,15 @@ pub(crate) fn listed(alloc: Global, candidates: Vec<Candidate>) -> Result<Vec<Di
 fn line_of(
     alloc: Global,
     names: &Names,
+    functions: &[NameId],
     f: &CoreFn,
     types: &TypeTable,
     d: &Diag,
 ) -> Result<PrintedLine, NoMemory>
     ensures { IfOk result (λ line.
-        line_seen line ≡ line_of (map name_bytes names.now.texts.items) types.now (function_of f.now) d.now) }
+        line_seen line ≡ line_of (naming_of names.now functions.now) types.now (function_of f.now) d.now) }
 {
-    let text = texts_of(alloc, names, f, types, d)?;
+    let text = texts_of(alloc, names, functions, f, types, d)?;
     Ok(PrintedLine {
         line: d.place.line,
         column: d.place.column,

@@ -1,11 +1,12 @@
 // The diagnostics of whole programs.
 ghost use Rattle.std.specs.Prelude.{◌≡◌, ◌<◌, ◌↔◌, Contains, IfOk, OnOk, map};
-ghost use Rattle.life_core.specs.Function.{function_of, name_bytes, program_of};
+ghost use Rattle.life_core.specs.Function.{function_of, program_of};
 ghost use Rattle.life_fix.specs.Candidates.{candidate_seen};
 ghost use Rattle.life_fix.specs.Programs.{AddsDiagnosed, IsProgramWithinLimits};
 ghost use Rattle.life_pset.specs.Elements.{IsWithinLimits};
 ghost use Rattle.life_rules.specs.Diagnosing.{IsDiagnosed};
 ghost use Rattle.life_rules.specs.Listing.{AreProgramDiagnostics};
+ghost use Rattle.life_rules.specs.Texts.{naming_of};
 ghost use Rattle.life_rules.specs.declared.diag.Diag.{Diag};
 
 use crate::diagnosis::found;
@@ -14,8 +15,8 @@ use crate::solver::solve;
 use life_base::Steps;
 use life_core::{CoreFn, CoreProgram, FnId, Names};
 use life_pset::SetRows;
-use life_rules::Diag;
-use life_types::{NoMemory, TypeTable};
+use life_rules::{Diag, function_names};
+use life_types::{NameId, NoMemory, TypeTable};
 use std::alloc::Global;
 use std::marker::Brand;
 use std::sync::ledger::{Blank, Ledger};
@@ -27,6 +28,7 @@ pub fn program_diagnostics(alloc: Global, program: &CoreProgram) -> Result<Vec<D
     requires { IsProgramWithinLimits (program_of program.now) }
     ensures { IfOk result (λ all. AreProgramDiagnostics (program_of program.now) all.items) }
 {
+    let functions = function_names(alloc, &program.functions)?;
     let mut candidates = Vec::new(alloc);
     for (index, f) in program.functions.iter().enumerate() {
         let id = FnId(index as u32);
@@ -36,6 +38,7 @@ pub fn program_diagnostics(alloc: Global, program: &CoreProgram) -> Result<Vec<D
             f,
             &program.types,
             &program.names,
+            &functions,
             &mut candidates,
         )?;
     }
@@ -49,14 +52,15 @@ fn push_diagnosed(
     f: &CoreFn,
     types: &TypeTable,
     names: &Names,
+    functions: &[NameId],
     out: &mut Vec<Candidate>,
 ) -> Result<(), NoMemory>
     requires { IsWithinLimits types.now (function_of f.now) }
-    ensures { OnOk result (AddsDiagnosed (map name_bytes names.now.texts.items) types.now id.0 (function_of f.now)
+    ensures { OnOk result (AddsDiagnosed (naming_of names.now functions.now) types.now id.0 (function_of f.now)
         (map candidate_seen out.old.items) (map candidate_seen out.new.items)) }
 {
     let found = function_found::<Brand>(alloc, id, f, types, Blank::new(1))?;
-    push_candidates(alloc, names, f, types, &found, out)
+    push_candidates(alloc, names, functions, f, types, &found, out)
 }
 
 // All that is wrong in one function, with a counter of its own for the solver.

@@ -2,6 +2,7 @@ pub mod BitJoin
 pub mod BitSetLemmas
 pub mod Bits
 pub mod CandidateLemmas
+pub mod CountLemmas
 pub mod ListedLemmas
 pub mod Members
 pub mod Numbering

@@ -58,11 +58,11 @@ pub element_laws : IsEquivalence element.eq
 element_laws = exact_laws element.eq element_itself exact_element
 
 -- a fact is of the table just where its location and its element are the function's
-pub is_of_iff : (types : Types) (f : Function) (x : Fact) → IsOf (table_of types f) x ↔ (Contains (locations_of types f) x.location × Contains (elements_of f) x.element)
+pub is_of_iff : (types : Types) (f : Function) (x : Fact) → IsOf (table_of types f) x ↔ (Contains (locations_of types f) x.location × Contains (elements_of types f) x.element)
 is_of_iff types f x =
     let t = table_of types f in
     let locations = in_insert_all place.eq exact_place (locations_of types f) x.location in
-    let elements = in_insert_all element.eq exact_element (elements_of f) x.element in (
+    let elements = in_insert_all element.eq exact_element (elements_of types f) x.element in (
       λ h. (
         locations.0 (numbered_contains t.locations h.0 x.location h.1.1.0),
         elements.0 (numbered_contains t.elements h.1.0 x.element h.1.1.1),
@@ -78,7 +78,7 @@ pub one_location : (types : Types) (f : Function) → HasOneNumber (table_of typ
 one_location types f = one_number_each place.eq place_laws (locations_of types f)
 
 pub one_element : (types : Types) (f : Function) → HasOneNumber (table_of types f).elements
-one_element types f = one_number_each element.eq element_laws (elements_of f)
+one_element types f = one_number_each element.eq element_laws (elements_of types f)
 
 -- so a fact has one pair of numbers
 pub one_name : (types : Types) (f : Function) (x : Fact) (l e m n : ℕ) → Names (table_of types f) l e x → Names (table_of types f) m n x → (l ≡ m) × (e ≡ n)
@@ -98,8 +98,8 @@ one_fact types f x y l e a b =
 pub few_locations : (types : Types) (f : Function) → length (table_of types f).locations ≤ length (locations_of types f)
 few_locations types f = length_insert_all place.eq (locations_of types f)
 
-pub few_elements : (types : Types) (f : Function) → length (table_of types f).elements ≤ length (elements_of f)
-few_elements types f = length_insert_all element.eq (elements_of f)
+pub few_elements : (types : Types) (f : Function) → length (table_of types f).elements ≤ length (elements_of types f)
+few_elements types f = length_insert_all element.eq (elements_of types f)
 
 -- so a function within its limits has a table
 pub numbered_table : (types : Types) (f : Function) → IsWithinLimits types f → IsNumbered (table_of types f).locations (table_of types f).elements

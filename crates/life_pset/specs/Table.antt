@@ -19,7 +19,7 @@ pub record Table : Type 0 where
 abbrev pub table_of : Types → Function → Table
 table_of types f = record {
   locations = insert_all place.eq [] (locations_of types f);
-  elements = insert_all element.eq [] (elements_of f);
+  elements = insert_all element.eq [] (elements_of types f);
 }
 
 -- the pair of numbers stands for the fact

@@ -1,9 +1,9 @@
 // Abstract places, and what a pointer may be.
-ghost use Rattle.std.specs.Prelude.{◌≡◌};
+ghost use Rattle.std.specs.Prelude.{◌≡◌, ◌<◌};
 
 use life_types::Place;
 
-/// Where an abstract place begins.
+/// Where an abstract place begins. `member` numbers the pointers of a struct parameter from 0.
 #[derive(Clone, Copy, Debug, PartialEq, Eq, PartialOrd, Ord, Hash)]
 pub enum Root {
     /// The local with this number.
@@ -22,17 +22,122 @@ pub struct AbsPlace {
     pub steps: [u8; 8],
 }
 
+/// The step from an owner to what it owns.
+pub const OWNED_STEP: u8 = 255;
+
+// How many steps a place of a function has at most.
+const MOST_STEPS: u8 = 8;
+
+// The length of what has more steps.
+const TOO_LONG: u8 = 9;
+
 impl AbsPlace {
     ghost use Rattle.life_pset.specs.Elements.{local_place};
+    ghost use Rattle.life_pset.specs.Places.{longer, member_place, members_place, owned_place, path, root_place, stepped, too_long};
+
+    /// The place of a root itself.
+    pub fn of_root(root: Root) -> AbsPlace
+        ensures { result ≡ root_place root }
+    {
+        AbsPlace {
+            root,
+            length: 0,
+            steps: [0; 8],
+        }
+    }
 
     /// The place of the whole local with this number.
     pub fn of_local(local: u32) -> AbsPlace
         ensures { result ≡ local_place local }
     {
+        AbsPlace::of_root(Root::Local(local))
+    }
+
+    /// What the owner at this place owns. What would have more than eight steps is no place of a
+    /// function: its length is 9.
+    pub fn owned(self) -> AbsPlace
+        ensures { result ≡ owned_place self }
+    {
+        self.stepped(OWNED_STEP)
+    }
+
+    /// The member with this number, counted from 0. What would have more than eight steps, or a member
+    /// with a number past 254, is no place of a function: its length is 9.
+    pub fn member(self, member: usize) -> AbsPlace
+        ensures { result ≡ member_place self member }
+    {
+        if member < OWNED_STEP as usize {
+            self.stepped(member as u8)
+        } else {
+            self.too_long()
+        }
+    }
+
+    /// A member of a member, and so on: their numbers from the outermost to the innermost.
+    pub fn members(self, members: &[u32]) -> AbsPlace
+        ensures { result ≡ members_place self members.now }
+    {
+        let mut place = self;
+        for member in members {
+            place = place.member(*member as usize);
+        }
+        place
+    }
+
+    /// A member of a member, and so on, by the steps of a place.
+    pub fn further(self, steps: &[u8]) -> AbsPlace
+        ensures { result ≡ members_place self steps.now }
+    {
+        let mut place = self;
+        for step in steps {
+            place = place.member(*step as usize);
+        }
+        place
+    }
+
+    /// The steps from the root.
+    pub fn path(&self) -> &[u8]
+        ensures { result.now ≡ path self.now }
+    {
+        if self.length < MOST_STEPS {
+            &self.steps[..self.length as usize]
+        } else {
+            &self.steps
+        }
+    }
+
+    // One step further.
+    fn stepped(self, step: u8) -> AbsPlace
+        ensures { result ≡ stepped self step }
+    {
+        if self.length < MOST_STEPS {
+            self.longer(step)
+        } else {
+            self.too_long()
+        }
+    }
+
+    fn longer(self, step: u8) -> AbsPlace
+        requires { self.length < 8 }
+        ensures { result ≡ longer self step }
+    {
+        let mut steps = self.steps;
+        steps[self.length as usize] = step;
         AbsPlace {
-            root: Root::Local(local),
-            length: 0,
-            steps: [0; 8],
+            root: self.root,
+            length: self.length + 1,
+            steps,
+        }
+    }
+
+    fn too_long(self) -> AbsPlace
+        ensures { result ≡ too_long self }
+    {
+        let steps = self.steps;
+        AbsPlace {
+            root: self.root,
+            length: TOO_LONG,
+            steps,
         }
     }
 }
@@ -46,9 +151,18 @@ pub enum CauseKind {
     Ended,
     /// The temporary that it points to ended.
     TemporaryEnded,
+    /// The owner that it points into was changed by its name.
+    Changed,
+    /// The owner that it points into was changed through a pointer.
+    OwnerChanged,
+    /// The owner that it points into was moved from.
+    Moved,
+    /// A function was called that may have changed the owner that it points into.
+    Called,
 }
 
-/// Why a pointer is invalid, and where that came about. `root` is the local that it is about.
+/// Why a pointer is invalid, or an owner moved from, and where that came about. `root` is the local that
+/// it is about, for a call the number of the function, and 0 for a change through a pointer.
 #[derive(Clone, Copy, Debug, PartialEq, Eq, PartialOrd, Ord, Hash)]
 pub struct Cause {
     pub kind: CauseKind,

@@ -1,172 +1,212 @@
 // The elements of a function.
-ghost use Rattle.std.specs.Prelude.{◌≡◌, ◌<◌, ◌^◌, ◌++◌, length, map, IfOk, OnOk};
+ghost use Rattle.std.specs.Prelude.{◌≡◌, ◌<◌, ◌^◌, ◌++◌, ◌∷◌, [], length, map, IfOk, OnOk};
 ghost use Rattle.std.specs.List.{flat_map};
+ghost use Rattle.std.specs.Option.{option_copied};
 ghost use Rattle.life_core.specs.Function.{function_of};
 ghost use Rattle.life_core.specs.Node.{spot_seen};
+ghost use Rattle.life_core.specs.Operands.{operand_of};
 ghost use Rattle.life_core.specs.Step.{step_of};
-ghost use Rattle.life_pset.specs.Causes.{spot_causes};
-ghost use Rattle.life_pset.specs.Elements.{causes_of, causes_of_end, elements_of, end_if, end_kind, object_if, objects_from, step_causes};
+ghost use Rattle.life_pset.specs.Causes.{spot_elements};
+ghost use Rattle.life_pset.specs.Elements.{caused_elements, changed_in, elements_of, end_causes, end_elements, end_if, input_places, inputs_of, moved, objects_from, step_elements};
 
-use crate::element::{AbsPlace, Cause, CauseKind, Element};
-use life_core::{CoreFn, Instr, LocalKind, NodeRef, SpotRef, spots};
-use life_types::{NameId, NoMemory, Place};
+use crate::cause::{called, changed, changed_in, ended, moved, uninitialised};
+use crate::element::{AbsPlace, Cause, Element};
+use crate::input_list::{inputs, push_input_places};
+use crate::place_list::push_object_places;
+use crate::shape::shape_type;
+use life_core::{CoreFn, Instr, Local, LocalKind, NodeRef, Operand, SpotRef, spots};
+use life_types::{NoMemory, Place, TypeTable};
 use std::alloc::Global;
 
-/// The elements that a points-to set of the function may have: null, own and static, then its
-/// objects, in the order of their numbers, then those with a cause, in the order of the points. One
-/// with a cause may stand there more than once.
-pub fn elements(alloc: Global, f: &CoreFn) -> Result<Vec<Element>, NoMemory>
+/// The elements that a points-to set of the function may have: null, own and static, then the places
+/// of its objects and those behind the pointers that its caller hands over, each depth first, then
+/// those with a cause, in the order of the points. One with a cause may stand there more than once.
+pub fn elements(alloc: Global, f: &CoreFn, types: &TypeTable) -> Result<Vec<Element>, NoMemory>
     requires { length f.now.locals.items < 2 ^ 32 }
-    ensures { IfOk result (λ all. all.items ≡ elements_of (function_of f.now)) }
+    ensures { IfOk result (λ all. all.items ≡ elements_of types.now (function_of f.now)) }
 {
     let mut all = vec![in alloc; Element::Null, Element::Own, Element::Static]?;
-    push_objects(f, &mut all)?;
-    let causes = causes(alloc, f)?;
-    push_invalid(&causes, &mut all)?;
+    let objects = object_places(alloc, f, types)?;
+    push_at(&objects, &mut all)?;
+    let behind = places_behind_inputs(alloc, f, types)?;
+    push_at(&behind, &mut all)?;
+    let caused = caused_elements(alloc, f)?;
+    push_elements(&caused, &mut all)?;
     Ok(all)
 }
 
-/// Why a pointer of the function may be invalid: what its points give, in their order.
-pub fn causes(alloc: Global, f: &CoreFn) -> Result<Vec<Cause>, NoMemory>
-    ensures { IfOk result (λ all. all.items ≡ causes_of (function_of f.now)) }
+// The places of the function's objects, in the order of their numbers.
+fn object_places(alloc: Global, f: &CoreFn, types: &TypeTable) -> Result<Vec<AbsPlace>, NoMemory>
+    requires { length f.now.locals.items < 2 ^ 32 }
+    ensures { IfOk result (λ all.
+        all.items ≡ objects_from types.now (function_of f.now).parameters 0 (function_of f.now).locals) }
+{
+    let mut all = Vec::new(alloc);
+    for (number, local) in f.locals.iter().enumerate() {
+        let number = number as u32;
+        let id = shape_type(types, f.parameters, number, local);
+        push_object_places(types, local.kind, id, number, &mut all)?;
+    }
+    Ok(all)
+}
+
+// What stands for what the caller's pointers point to.
+fn places_behind_inputs(
+    alloc: Global,
+    f: &CoreFn,
+    types: &TypeTable,
+) -> Result<Vec<AbsPlace>, NoMemory>
+    requires { length f.now.locals.items < 2 ^ 32 }
+    ensures { IfOk result (λ all. all.items ≡ flat_map (input_places types.now) (inputs_of types.now (function_of f.now))) }
+{
+    let inputs = inputs(alloc, f, types)?;
+    let mut all = Vec::new(alloc);
+    push_input_places(types, &inputs, &mut all)?;
+    Ok(all)
+}
+
+// Adds the places as elements.
+fn push_at(places: &[AbsPlace], all: &mut Vec<Element>) -> Result<(), NoMemory>
+    ensures { OnOk result (all.new.items ≡ all.old.items ++ map Element.At places.now) }
+{
+    for place in places {
+        all.push(Element::At(*place))?;
+    }
+    Ok(())
+}
+
+fn push_elements(elements: &[Element], all: &mut Vec<Element>) -> Result<(), NoMemory>
+    ensures { OnOk result (all.new.items ≡ all.old.items ++ elements.now) }
+{
+    all.extend_from_slice(elements)?;
+    Ok(())
+}
+
+/// The elements with causes that the points of the function may give, in their order.
+pub(crate) fn caused_elements(alloc: Global, f: &CoreFn) -> Result<Vec<Element>, NoMemory>
+    ensures { IfOk result (λ all. all.items ≡ caused_elements (function_of f.now)) }
 {
     let spots = spots(alloc, f)?;
     let mut all = Vec::new(alloc);
-    push_all_causes(f, &spots, &mut all)?;
+    push_all_caused(f, &spots, &mut all)?;
     Ok(all)
 }
 
-// Adds what may be pointed to: the objects, in the order of their numbers.
-fn push_objects(f: &CoreFn, all: &mut Vec<Element>) -> Result<(), NoMemory>
-    requires { length f.now.locals.items < 2 ^ 32 }
-    ensures { OnOk result (all.new.items ≡ all.old.items ++ objects_from 0 (function_of f.now).locals) }
-{
-    for (number, local) in f.locals.iter().enumerate() {
-        push_object(local.kind, number as u32, all)?;
-    }
-    Ok(())
-}
-
-// Adds the local, of this kind and with this number, if it may be pointed to.
-fn push_object(kind: LocalKind, number: u32, all: &mut Vec<Element>) -> Result<(), NoMemory>
-    ensures { OnOk result (all.new.items ≡ all.old.items ++ object_if kind number) }
-{
-    match kind {
-        LocalKind::Object => all.push(Element::At(AbsPlace::of_local(number)))?,
-        LocalKind::Register => {}
-        LocalKind::Range => {}
-    }
-    Ok(())
-}
-
-// Adds the causes that these points may give.
-fn push_all_causes(f: &CoreFn, spots: &[SpotRef], causes: &mut Vec<Cause>) -> Result<(), NoMemory>
+// Adds those that these points may give.
+fn push_all_caused(f: &CoreFn, spots: &[SpotRef], all: &mut Vec<Element>) -> Result<(), NoMemory>
     ensures { OnOk result
-        (causes.new.items ≡ causes.old.items ++ flat_map (spot_causes (function_of f.now)) (map spot_seen spots.now)) }
+        (all.new.items ≡ all.old.items ++ flat_map (spot_elements (function_of f.now)) (map spot_seen spots.now)) }
 {
     for spot in spots {
-        push_spot_causes(f, *spot, causes)?;
+        push_spot_elements(f, *spot, all)?;
     }
     Ok(())
 }
 
-// Adds the causes that a point may give.
-fn push_spot_causes(f: &CoreFn, spot: SpotRef, causes: &mut Vec<Cause>) -> Result<(), NoMemory>
+// Adds those that a point may give.
+fn push_spot_elements(f: &CoreFn, spot: SpotRef, all: &mut Vec<Element>) -> Result<(), NoMemory>
     ensures { OnOk result
-        (causes.new.items ≡ causes.old.items ++ spot_causes (function_of f.now) (spot_seen spot.entry)) }
+        (all.new.items ≡ all.old.items ++ spot_elements (function_of f.now) (spot_seen spot.entry)) }
 {
     match spot.node {
-        NodeRef::Action(instr) => push_causes(f, spot.place, instr, causes),
+        NodeRef::Action(instr) => push_step_elements(f, spot.place, instr, all),
         NodeRef::Question(_) => Ok(()),
         NodeRef::Return => Ok(()),
         NodeRef::Stop => Ok(()),
     }
 }
 
-// Adds the causes that an instruction at a place may give.
-fn push_causes(
+// Adds those that an instruction at a place may give.
+fn push_step_elements(
     f: &CoreFn,
     place: Place,
     instr: &Instr,
-    causes: &mut Vec<Cause>,
+    all: &mut Vec<Element>,
 ) -> Result<(), NoMemory>
     ensures { OnOk result
-        (causes.new.items ≡ causes.old.items ++ step_causes (function_of f.now) place (step_of instr.now)) }
+        (all.new.items ≡ all.old.items ++ step_elements (function_of f.now) place (step_of instr.now)) }
 {
     match instr {
-        Instr::Live { local, .. } => causes.push(Cause {
-            kind: CauseKind::Uninitialised,
-            place,
-            root: *local,
-        })?,
-        Instr::End { locals } => push_ends(f, place, locals, causes)?,
+        Instr::Live { local, .. } => all.push(Element::Invalid(uninitialised(place, *local)))?,
+        Instr::End { locals } => push_ends(f, place, locals, all)?,
+        Instr::Copy { to, .. } => all.push(Element::Invalid(changed_in(place, to)))?,
+        Instr::Move { to, from } => push_move_elements(place, to, *from, all)?,
+        Instr::Change { place: operand, .. } => all.push(Element::Invalid(changed_in(
+            place, operand,
+        )))?,
+        Instr::Make { owner, .. } => all.push(Element::Invalid(changed(place, owner.local)))?,
+        Instr::Call { function, .. } => all.push(Element::Invalid(called(place, *function)))?,
         _ => {}
     }
     Ok(())
 }
 
-// Adds the causes that the end of these locals gives.
+// Adds those of a move: what pointed into the owner that is moved from is invalid, that owner is moved
+// from, and what pointed into the one that is changed is invalid.
+fn push_move_elements(
+    place: Place,
+    to: &Operand,
+    from: u32,
+    all: &mut Vec<Element>,
+) -> Result<(), NoMemory>
+    ensures { OnOk result
+        (all.new.items
+        ≡ all.old.items ++ (Element.Invalid (moved place from) ∷ Element.Moved (moved place from) ∷ Element.Invalid (changed_in place (operand_of to.now)) ∷ [])) }
+{
+    let cause = moved(place, from);
+    all.push(Element::Invalid(cause))?;
+    all.push(Element::Moved(cause))?;
+    all.push(Element::Invalid(changed_in(place, to)))?;
+    Ok(())
+}
+
+// Adds those that the end of these locals gives.
 fn push_ends(
     f: &CoreFn,
     place: Place,
     ended: &[u32],
-    causes: &mut Vec<Cause>,
+    all: &mut Vec<Element>,
 ) -> Result<(), NoMemory>
     ensures { OnOk result
-        (causes.new.items ≡ causes.old.items ++ flat_map (causes_of_end (function_of f.now) place) ended.now) }
+        (all.new.items ≡ all.old.items ++ flat_map (end_elements (function_of f.now) place) ended.now) }
 {
     for local in ended {
-        push_end(f, place, *local, causes)?;
+        push_end(f, place, *local, all)?;
     }
     Ok(())
 }
 
-// Adds the cause that the end of a local gives, if it is an object.
-fn push_end(f: &CoreFn, place: Place, number: u32, causes: &mut Vec<Cause>) -> Result<(), NoMemory>
+// Adds the one that the end of the local with this number gives, if it is an object.
+fn push_end(f: &CoreFn, place: Place, number: u32, all: &mut Vec<Element>) -> Result<(), NoMemory>
     ensures { OnOk result
-        (causes.new.items ≡ causes.old.items ++ causes_of_end (function_of f.now) place number) }
+        (all.new.items ≡ all.old.items ++ end_elements (function_of f.now) place number) }
 {
-    match f.locals.get(number as usize) {
-        Some(local) => {
-            let cause = Cause {
-                kind: kind_of_end(local.name),
-                place,
-                root: number,
-            };
-            push_object_end(local.kind, cause, causes)
-        }
+    push_end_of(place, number, f.locals.get(number as usize), all)
+}
+
+fn push_end_of(
+    place: Place,
+    number: u32,
+    local: Option<&Local>,
+    all: &mut Vec<Element>,
+) -> Result<(), NoMemory>
+    ensures { OnOk result
+        (all.new.items ≡ all.old.items ++ map Element.Invalid (end_causes place number (option_copied local.entry))) }
+{
+    match local {
         None => Ok(()),
+        Some(local) => push_object_end(local.kind, ended(place, number, local), all),
     }
 }
 
 // Adds the cause where it is about an object.
-fn push_object_end(kind: LocalKind, cause: Cause, causes: &mut Vec<Cause>) -> Result<(), NoMemory>
-    ensures { OnOk result (causes.new.items ≡ causes.old.items ++ end_if kind cause) }
+fn push_object_end(kind: LocalKind, cause: Cause, all: &mut Vec<Element>) -> Result<(), NoMemory>
+    ensures { OnOk result (all.new.items ≡ all.old.items ++ map Element.Invalid (end_if kind cause)) }
 {
     match kind {
-        LocalKind::Object => causes.push(cause)?,
+        LocalKind::Object => all.push(Element::Invalid(cause))?,
         LocalKind::Register => {}
         LocalKind::Range => {}
-    }
-    Ok(())
-}
-
-// What has a name is a variable, and else a temporary.
-fn kind_of_end(name: Option<NameId>) -> CauseKind
-    ensures { result ≡ end_kind name }
-{
-    match name {
-        Some(_) => CauseKind::Ended,
-        None => CauseKind::TemporaryEnded,
-    }
-}
-
-// Adds an element for each cause.
-fn push_invalid(causes: &[Cause], all: &mut Vec<Element>) -> Result<(), NoMemory>
-    ensures { OnOk result (all.new.items ≡ all.old.items ++ map Element.Invalid causes.now) }
-{
-    for cause in causes {
-        all.push(Element::Invalid(*cause))?;
     }
     Ok(())
 }

@@ -1,22 +1,38 @@
 //! Points-to sets: what a pointer may point to, and sets of such facts.
 #![tactic(auto)]
 
+mod beneath;
 mod bit_rows;
+mod cause;
+mod counts;
 mod element;
 mod element_list;
+mod input_list;
 mod limits;
 mod location_list;
+mod place_list;
 mod rows;
 mod set_rows;
+mod shape;
 mod table;
 
+pub use beneath::{is_within, overlap, rest_of, under};
 pub use bit_rows::BitRows;
-pub use element::{AbsPlace, Cause, CauseKind, Element, Fact, Root};
-pub use element_list::{causes, elements};
+pub use cause::{called, changed, changed_in, ended, moved, owner_changed, uninitialised};
+pub use counts::{has_few_elements, has_few_locations};
+pub use element::{AbsPlace, Cause, CauseKind, Element, Fact, OWNED_STEP, Root};
+pub use element_list::elements;
+pub use input_list::{InputPointer, inputs, push_local_inputs};
 pub use limits::{
-    ELEMENT_LIMIT, LOCATION_LIMIT, POINT_LIMIT, count_elements, count_points, is_within_limits,
+    ELEMENT_LIMIT, LOCATION_LIMIT, POINT_LIMIT, STEP_LIMIT, count_points, has_short_places,
+    is_within_limits,
 };
-pub use location_list::{count_locations, locations};
+pub use location_list::{locations, push_local_locations};
 pub use rows::Rows;
 pub use set_rows::SetRows;
+pub use shape::{
+    holds_owner_if, is_pointer, is_raw, is_unique, is_variable, is_variable_place, local_type,
+    location_type, member_type, members_at, members_type, operand_type, place_type, shape_type,
+    steps_type, target_of, target_type, ty_at, ty_if,
+};
 pub use table::ElementTable;

@@ -2,10 +2,11 @@
 ghost use Rattle.std.specs.Prelude.{◌≡◌, ◌<◌, ◌^◌, ◌↔◌, length, IfOk, IsTrue};
 ghost use Rattle.life_core.specs.Function.{function_of};
 ghost use Rattle.life_core.specs.Linked.{points_of};
-ghost use Rattle.life_pset.specs.Elements.{elements_of, IsWithinLimits};
+ghost use Rattle.life_pset.specs.Elements.{elements_of, AreShort, IsShort, IsWithinLimits};
 
+use crate::counts::{has_few_elements, has_few_locations};
+use crate::element::Element;
 use crate::element_list::elements;
-use crate::location_list::count_locations;
 use life_core::{CoreFn, spots};
 use life_types::{NoMemory, TypeTable};
 use std::alloc::Global;
@@ -19,6 +20,9 @@ pub const LOCATION_LIMIT: usize = 256;
 /// How many elements a function may have.
 pub const ELEMENT_LIMIT: usize = 2048;
 
+/// How many steps a place of a function may have.
+pub const STEP_LIMIT: u8 = 8;
+
 /// Whether the function passes none of its limits, so that it has an `ElementTable`.
 pub fn is_within_limits(alloc: Global, f: &CoreFn, types: &TypeTable) -> Result<bool, NoMemory>
     ensures { IfOk result (λ within. IsTrue within ↔ IsWithinLimits types.now (function_of f.now)) }
@@ -26,10 +30,15 @@ pub fn is_within_limits(alloc: Global, f: &CoreFn, types: &TypeTable) -> Result<
     if f.locals.len() > u32::MAX as usize {
         return Ok(false);
     }
+    if !has_few_locations(f, types) {
+        return Ok(false);
+    }
+    if !has_few_elements(alloc, f, types)? {
+        return Ok(false);
+    }
     let points = count_points(alloc, f)?;
-    let locations = count_locations(f, types);
-    let elements = count_elements(alloc, f)?;
-    Ok(points <= POINT_LIMIT && locations <= LOCATION_LIMIT && elements <= ELEMENT_LIMIT)
+    let short = has_short_places(alloc, f, types)?;
+    Ok(points <= POINT_LIMIT && short)
 }
 
 /// How many points a function has.
@@ -39,10 +48,33 @@ pub fn count_points(alloc: Global, f: &CoreFn) -> Result<usize, NoMemory>
     Ok(spots(alloc, f)?.len())
 }
 
-/// How many elements a function has: an element is counted as often as something may give it.
-pub fn count_elements(alloc: Global, f: &CoreFn) -> Result<usize, NoMemory>
+/// Whether no place of a function has more steps than it may. Its elements are listed, so let them be
+/// few.
+pub fn has_short_places(alloc: Global, f: &CoreFn, types: &TypeTable) -> Result<bool, NoMemory>
     requires { length f.now.locals.items < 2 ^ 32 }
-    ensures { IfOk result (λ count. count ≡ length (elements_of (function_of f.now))) }
+    ensures { IfOk result (λ short. IsTrue short ↔ AreShort (elements_of types.now (function_of f.now))) }
 {
-    Ok(elements(alloc, f)?.len())
+    let elements = elements(alloc, f, types)?;
+    Ok(are_short(&elements))
+}
+
+// Whether the places among these elements pass no limit.
+fn are_short(elements: &[Element]) -> bool
+    ensures { IsTrue result ↔ AreShort elements.now }
+{
+    for element in elements {
+        if !is_short(element) {
+            return false;
+        }
+    }
+    true
+}
+
+fn is_short(element: &Element) -> bool
+    ensures { IsTrue result ↔ IsShort element.now }
+{
+    match element {
+        Element::At(place) => place.length <= STEP_LIMIT,
+        _ => true,
+    }
 }

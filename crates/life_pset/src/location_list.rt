@@ -1,65 +1,83 @@
 // The locations of a function.
-ghost use Rattle.std.specs.Prelude.{◌≡◌, ℕ, ◌<◌, ◌≤◌, ◌^◌, ◌++◌, length, IfOk, OnOk};
-ghost use Rattle.life_types.specs.Types.{class_at};
+ghost use Rattle.std.specs.Prelude.{◌≡◌, ◌<◌, ◌≤◌, ◌^◌, ◌++◌, length, IfOk, OnOk};
+ghost use Rattle.life_types.specs.Trees.{tree_at};
 ghost use Rattle.life_core.specs.Function.{function_of};
-ghost use Rattle.life_pset.specs.Elements.{location_if, locations_of};
+ghost use Rattle.life_pset.specs.Elements.{local_locations, locations_in, locations_of, pointers_in};
 
 use crate::element::AbsPlace;
-use life_core::CoreFn;
-use life_types::{Class, NoMemory, TyId, TypeTable, class_of};
+use crate::shape::{is_variable, members_of, shape_type, ty_at};
+use life_core::{CoreFn, Local, LocalKind};
+use life_types::{NoMemory, Ty, TyId, TypeTable};
 use std::alloc::Global;
 
-/// The locations of a function, which are what has a points-to set: its pointers, in the order of
-/// their numbers.
+/// The locations of a function, which are what has a points-to set: its pointers and `unique_ptr`s,
+/// also those that are members, and its whole vectors and strings, in the order of its locals and then
+/// of their members, depth first.
 pub fn locations(alloc: Global, f: &CoreFn, types: &TypeTable) -> Result<Vec<AbsPlace>, NoMemory>
     requires { length f.now.locals.items < 2 ^ 32 }
     ensures { IfOk result (λ all. all.items ≡ locations_of types.now (function_of f.now)) }
 {
     let mut all = Vec::new(alloc);
     for (number, local) in f.locals.iter().enumerate() {
-        push_location(types, local.ty, number as u32, &mut all)?;
+        push_local_locations(types, f.parameters, number as u32, local, &mut all)?;
     }
     Ok(all)
 }
 
-/// How many locations a function has.
-pub fn count_locations(f: &CoreFn, types: &TypeTable) -> usize
-    ensures { result ≡ length (locations_of types.now (function_of f.now)) }
-{
-    let mut count = 0;
-    for local in &f.locals {
-        count += locations_of_type(types, local.ty);
-    }
-    count
-}
-
-// Adds the local, of this type and with this number, if it is a location.
-fn push_location(
+/// Adds the locations of a local with this number, in a function with so many parameters.
+pub fn push_local_locations(
     types: &TypeTable,
-    ty: TyId,
+    parameters: u32,
     number: u32,
+    local: &Local,
     all: &mut Vec<AbsPlace>,
 ) -> Result<(), NoMemory>
-    ensures { OnOk result (all.new.items ≡ all.old.items ++ location_if (class_at types.now ty) number) }
+    ensures { OnOk result (all.new.items ≡ all.old.items ++ local_locations types.now parameters number local.now) }
 {
-    match class_of(types, ty) {
-        Class::Pointer => all.push(AbsPlace::of_local(number))?,
-        Class::Value => {}
-        Class::Owner => {}
-        Class::Aggregate => {}
-    }
-    Ok(())
+    let id = shape_type(types, parameters, number, local);
+    push_locations_in(types, local.kind, id, AbsPlace::of_local(number), all)
 }
 
-// How many locations a local of this type is.
-fn locations_of_type(types: &TypeTable, ty: TyId) -> usize
-    ensures count { (x : ℕ) → result ≡ length (location_if (class_at types.now ty) x) }
-    ensures at_most_one { result ≤ 1 }
+fn push_locations_in(
+    types: &TypeTable,
+    kind: LocalKind,
+    id: TyId,
+    at: AbsPlace,
+    all: &mut Vec<AbsPlace>,
+) -> Result<(), NoMemory>
+    ensures { OnOk result (all.new.items ≡ all.old.items ++ locations_in types.now kind id at) }
 {
-    match class_of(types, ty) {
-        Class::Pointer => 1,
-        Class::Value => 0,
-        Class::Owner => 0,
-        Class::Aggregate => 0,
+    if is_variable(kind, ty_at(types, id)) {
+        all.push(at)?;
+        Ok(())
+    } else {
+        push_pointers(types, id, at, all)
     }
+}
+
+// Adds the pointers and `unique_ptr`s of an object of this type at a place.
+#[tactic(auto, using(crate::proofs::CandidateLemmas::below_at, crate::proofs::CandidateLemmas::below_more, crate::proofs::CandidateLemmas::pointers_struct))]
+fn push_pointers(
+    types: &TypeTable,
+    id: TyId,
+    at: AbsPlace,
+    all: &mut Vec<AbsPlace>,
+) -> Result<(), NoMemory>
+    ensures { OnOk result (all.new.items ≡ all.old.items ++ pointers_in at (tree_at types.now id)) }
+{
+    match ty_at(types, id) {
+        Ty::View => all.push(at)?,
+        Ty::Unique(_) => all.push(at)?,
+        Ty::Raw { .. } => all.push(at)?,
+        Ty::Reference { .. } => all.push(at)?,
+        Ty::Iterator { .. } => all.push(at)?,
+        Ty::Span { .. } => all.push(at)?,
+        Ty::Struct(number) => {
+            for (m, member) in members_of(types, id, number).iter().enumerate() {
+                push_pointers(types, *member, at.member(m), all)?;
+            }
+        }
+        _ => {}
+    }
+    Ok(())
 }

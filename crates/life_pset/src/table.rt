@@ -43,7 +43,7 @@ impl ElementTable {
         ensures { IfOk result (λ table. table ≡ table_of types.now (function_of f.now)) }
     {
         let locations = locations(alloc, f, types)?;
-        let elements = elements(alloc, f)?;
+        let elements = elements(alloc, f, types)?;
         let locations = number_all(alloc, &locations)?;
         let elements = number_all(alloc, &elements)?;
         Ok(ElementTable {

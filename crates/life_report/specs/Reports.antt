@@ -3,6 +3,7 @@ use Rattle.std.specs.Prelude.{ℕ, ◌<◌, List, [], ◌∷◌, ◌++◌, Optio
 use Rattle.std.specs.List.{flat_map}
 use Rattle.life_core.specs.Function.{Function, Program}
 use Rattle.life_rules.specs.Lines.{printed}
+use Rattle.life_rules.specs.Texts.{naming_in}
 use Rattle.life_rules.specs.declared.diag.Diag.{Diag}
 
 -- each diagnostic is about a function of the program
@@ -12,7 +13,7 @@ HaveFunctions p ds = All (λ (d : Diag). d.function < length p.functions) ds
 -- the line of a diagnostic
 abbrev pub line_in : Program → Diag → Option Function → List ℕ
 line_in p d None = []
-line_in p d (Some f) = printed p.names p.types f d
+line_in p d (Some f) = printed (naming_in p) p.types f d
 
 abbrev pub line_text : Program → Diag → List ℕ
 line_text p d = line_in p d (slice_get p.functions d.function)

@@ -1,19 +1,23 @@
 -- All that an edge gives is what it gives from none of the facts, from one or from two.
-use Rattle.std.proofs.Common.{◌≡◌, Bool, false, List, [], ◌∷◌, ◌++◌, refl, ap, sym, ◌∙◌, inl, inr, ◌⊎◌, arith, subst, Some, None, Option}
+use Rattle.std.proofs.Common.{◌≡◌, Bool, true, false, true≢false, if◌then◌else◌, cond, List, [], ◌∷◌, ◌++◌, refl, ap, sym, ◌∙◌, inl, inr, ◌⊎◌, arith, subst, Some, None, Option}
 use Rattle.std.specs.Prelude.{Contains, ◌↔◌}
 use Rattle.std.specs.List.{flat_map}
+use Rattle.std.proofs.lemmas.Grind.{flat_map-append}
 use Rattle.std.proofs.lemmas.List.{append-nil}
 use Rattle.std.proofs.lemmas.List.Elements.{Contains-append_left, Contains-append_right, Contains-append_cases, Contains-push_cases}
 use Rattle.life_types.specs.Types.{Types}
 use Rattle.life_core.specs.Function.{Function}
 use Rattle.life_core.specs.Linked.{spot_of}
-use Rattle.life_core.specs.Step.{Step}
+use Rattle.life_types.specs.Trees.{holds_owner}
+use Rattle.life_core.specs.Operands.{Name, Through}
+use Rattle.life_core.specs.Step.{Step, Copy, Move, Changes}
+use Rattle.life_pset.specs.Shapes.{operand_type, tree_if}
 use Rattle.life_core.specs.Tree.{Node, Action, Question, Return, Stop, Spot}
 use Rattle.life_core.specs.declared.stmt.Edge.{Edge}
 use Rattle.life_pset.specs.declared.element.Fact.{Fact}
 use Rattle.life_types.specs.declared.place.Place.{Place}
-use Rattle.life_rules.specs.Along.{all_at, all_along, takes_two, node_takes_two, spot_takes_two}
-use Rattle.life_rules.specs.Carrying.{none_at, one_at, two_at, from_two, node_two, Gives}
+use Rattle.life_rules.specs.Along.{all_at, all_along, takes_first, node_takes_first, spot_takes_first}
+use Rattle.life_rules.specs.Carrying.{is_location, killed_under, none_at, one_at, two_at, from_two, node_two, Gives}
 
 pub none_in_empty : {A : Type 0} (x : A) → Contains [] x → ⊥
 none_in_empty x h = omega (arith, h.1)
@@ -47,46 +51,65 @@ flat_map_into g (y ∷ ys) a x h k =
       | inr more ↦ Contains-append_right (g y) (flat_map g ys) x (flat_map_into g ys a x more k)
     ]
 
-flat_map_empty : {A B : Type 0} (g : A → List B) (xs : List A) → ((a : A) → g a ≡ []) → flat_map g xs ≡ []
+pub flat_map_both : {A B : Type 0} (g : A → List B) (xs ys : List A) → flat_map g (xs ++ ys) ≡ flat_map g xs ++ flat_map g ys
+flat_map_both g xs ys = flat_map-append g xs ys
+
+pub flat_map_empty : {A B : Type 0} (g : A → List B) (xs : List A) → ((a : A) → g a ≡ []) → flat_map g xs ≡ []
 flat_map_empty g [] none = refl
 flat_map_empty g (x ∷ xs) none = rw (none x) (flat_map_empty g xs none)
 
--- where nothing comes of two facts, nothing does
-step_two : (f : Function) (place : Place) (i : Step) (a b : Fact) → takes_two i ≡ false → from_two f place i a b ≡ []
-step_two f place i a b h = refl
+same_either : {A : Type 0} (b : Bool) (xs : List A) → (if b then xs else xs) ≡ xs
+same_either true xs = refl
+same_either false xs = refl
 
-node_two_none : (f : Function) (place : Place) (n : Node) (a b : Fact) → node_takes_two n ≡ false → node_two f place n a b ≡ []
-node_two_none f place (Action i) a b h = step_two f place i a b h
-node_two_none f place (Question t) a b h = refl
-node_two_none f place Return a b h = refl
-node_two_none f place Stop a b h = refl
+pub cond_none : {A : Type 0} (b : Bool) (xs : List A) → b ≡ false → cond b xs [] ≡ []
+cond_none true xs h = absurd (true≢false h)
+cond_none false xs h = refl
 
-two_none : (f : Function) (spot : Option Spot) (a b : Fact) → spot_takes_two spot ≡ false → two_at f spot a b ≡ []
-two_none f None a b h = refl
-two_none f (Some s) a b h = node_two_none f s.place s.node a b h
+-- where nothing comes of the first fact and another one, nothing does
+step_two : (types : Types) (f : Function) (place : Place) (i : Step) (a b : Fact) → takes_first i a ≡ false → from_two types f place i a b ≡ []
+step_two types f place (Copy (Name l) from) a b h = same_either (holds_owner (tree_if types (operand_type types f (Name l)))) []
+step_two types f place (Copy (Through p members) from) a b h =
+    ap (λ (xs : List Fact). if holds_owner (tree_if types (operand_type types f (Through p members))) then xs else []) (cond_none (is_location p a.location) (killed_under place (Copy (Through p members) from) members a.element b) h)
+    ∙ same_either (holds_owner (tree_if types (operand_type types f (Through p members)))) []
+step_two types f place (Move (Name l) y) a b h = refl
+step_two types f place (Move (Through p members) y) a b h = cond_none (is_location p a.location) (killed_under place (Move (Through p members) y) members a.element b) h
+step_two types f place (Changes (Name l) change) a b h = refl
+step_two types f place (Changes (Through p members) change) a b h = cond_none (is_location p a.location) (killed_under place (Changes (Through p members) change) members a.element b) h
+step_two types f place _ a b h = refl
 
-pub none_of_two : (f : Function) (spot : Option Spot) (facts out : List Fact) → spot_takes_two spot ≡ false → out ≡ out ++ flat_map (λ a. flat_map (two_at f spot a) facts) facts
-none_of_two f spot facts out h =
-    let none = flat_map_empty (λ a. flat_map (two_at f spot a) facts) facts (λ a. flat_map_empty (two_at f spot a) facts (λ b. two_none f spot a b h)) in
+node_two_none : (types : Types) (f : Function) (place : Place) (n : Node) (a b : Fact) → node_takes_first n a ≡ false → node_two types f place n a b ≡ []
+node_two_none types f place (Action i) a b h = step_two types f place i a b h
+node_two_none types f place (Question t) a b h = refl
+node_two_none types f place Return a b h = refl
+node_two_none types f place Stop a b h = refl
+
+two_none : (types : Types) (f : Function) (spot : Option Spot) (a b : Fact) → spot_takes_first spot a ≡ false → two_at types f spot a b ≡ []
+two_none types f None a b h = refl
+two_none types f (Some s) a b h = node_two_none types f s.place s.node a b h
+
+pub none_of_first : (types : Types) (f : Function) (spot : Option Spot) (a : Fact) (facts out : List Fact) → spot_takes_first spot a ≡ false → out ≡ out ++ flat_map (two_at types f spot a) facts
+none_of_first types f spot a facts out h =
+    let none = flat_map_empty (two_at types f spot a) facts (λ b. two_none types f spot a b h) in
     sym (ap (λ (xs : List Fact). out ++ xs) none ∙ append-nil out)
 
 -- what stands at a point gives the fact from these
 abbrev GivesAt : Types → Function → Option Bool → Option Spot → List Fact → Fact → Type 0
 GivesAt types f branch spot [] x = Contains (none_at types f spot) x
-GivesAt types f branch spot (a ∷ []) x = Contains (one_at f branch spot a) x
-GivesAt types f branch spot (a ∷ b ∷ []) x = Contains (two_at f spot a b) x
+GivesAt types f branch spot (a ∷ []) x = Contains (one_at types f branch spot a) x
+GivesAt types f branch spot (a ∷ b ∷ []) x = Contains (two_at types f spot a b) x
 GivesAt types f branch spot (a ∷ b ∷ c ∷ more) x = ⊥
 
 abbrev pub AllIn : List Fact → List Fact → Type 0
 AllIn premises facts = (y : Fact) → Contains premises y → Contains facts y
 
-no_premise : (facts : List Fact) → AllIn [] facts
+pub no_premise : (facts : List Fact) → AllIn [] facts
 no_premise facts y h = absurd (none_in_empty y h)
 
-one_premise : (facts : List Fact) (a : Fact) → Contains facts a → AllIn (a ∷ []) facts
+pub one_premise : (facts : List Fact) (a : Fact) → Contains facts a → AllIn (a ∷ []) facts
 one_premise facts a h y k = elim (cons_cases a [] y k) [ inl e ↦ subst (Contains facts) e h | inr none ↦ absurd (none_in_empty y none) ]
 
-two_premises : (facts : List Fact) (a b : Fact) → Contains facts a → Contains facts b → AllIn (a ∷ b ∷ []) facts
+pub two_premises : (facts : List Fact) (a b : Fact) → Contains facts a → Contains facts b → AllIn (a ∷ b ∷ []) facts
 two_premises facts a b h g y k = elim (cons_cases a (b ∷ []) y k) [ inl e ↦ subst (Contains facts) e h | inr more ↦ one_premise facts b g y more ]
 
 given_of_all : (types : Types) (f : Function) (branch : Option Bool) (spot : Option Spot) (facts : List Fact) (x : Fact) → Contains (all_at types f branch spot facts) x
@@ -94,13 +117,13 @@ given_of_all : (types : Types) (f : Function) (branch : Option Bool) (spot : Opt
 given_of_all types f branch spot facts x h =
     elim (Contains-append_cases (none_at types f spot) _ x h) [
       | inl none ↦ ([], (no_premise facts, none))
-      | inr more ↦ elim (Contains-append_cases (flat_map (one_at f branch spot) facts) _ x more) [
+      | inr more ↦ elim (Contains-append_cases (flat_map (one_at types f branch spot) facts) _ x more) [
         | inl one ↦
-            let r = flat_map_from (one_at f branch spot) facts x one in
+            let r = flat_map_from (one_at types f branch spot) facts x one in
             (r.0 ∷ [], (one_premise facts r.0 r.1.0, r.1.1))
         | inr two ↦
-            let r = flat_map_from (λ a. flat_map (two_at f spot a) facts) facts x two in
-            let s = flat_map_from (two_at f spot r.0) facts x r.1.1 in
+            let r = flat_map_from (λ a. flat_map (two_at types f spot a) facts) facts x two in
+            let s = flat_map_from (two_at types f spot r.0) facts x r.1.1 in
             (r.0 ∷ s.0 ∷ [], (two_premises facts r.0 s.0 r.1.0 s.1.0, s.1.1))
       ]
     ]
@@ -110,12 +133,12 @@ all_of_given : (types : Types) (f : Function) (branch : Option Bool) (spot : Opt
 all_of_given types f branch spot facts [] x in_facts g = Contains-append_left (none_at types f spot) _ x g
 all_of_given types f branch spot facts (a ∷ []) x in_facts g =
     Contains-append_right (none_at types f spot) _ x
-    (Contains-append_left (flat_map (one_at f branch spot) facts) _ x (flat_map_into (one_at f branch spot) facts a x (in_facts a (at_head a [])) g))
+    (Contains-append_left (flat_map (one_at types f branch spot) facts) _ x (flat_map_into (one_at types f branch spot) facts a x (in_facts a (at_head a [])) g))
 all_of_given types f branch spot facts (a ∷ b ∷ []) x in_facts g =
     Contains-append_right (none_at types f spot) _ x
-    (Contains-append_right (flat_map (one_at f branch spot) facts) _ x
-    (flat_map_into (λ a. flat_map (two_at f spot a) facts) facts a x (in_facts a (at_head a (b ∷ [])))
-    (flat_map_into (two_at f spot a) facts b x (in_facts b (in_tail a (b ∷ []) b (at_head b []))) g)))
+    (Contains-append_right (flat_map (one_at types f branch spot) facts) _ x
+    (flat_map_into (λ a. flat_map (two_at types f spot a) facts) facts a x (in_facts a (at_head a (b ∷ [])))
+    (flat_map_into (two_at types f spot a) facts b x (in_facts b (in_tail a (b ∷ []) b (at_head b []))) g)))
 all_of_given types f branch spot facts (a ∷ b ∷ c ∷ more) x in_facts g = absurd g
 
 gives_at : (types : Types) (f : Function) (edge : Edge) (premises : List Fact) (x : Fact) → Gives types f edge premises x → GivesAt types f edge.branch (spot_of f edge.from) premises x

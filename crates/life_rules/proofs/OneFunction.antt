@@ -1,7 +1,9 @@
 -- The diagnostics of a program that has one function are those of the function.
-use Rattle.std.proofs.Common.{◌≡◌, ℕ, zero, suc, inl, inr, List, [], ◌∷◌, map, Option, Some, None, refl, sym, ap, subst, ◌∙◌}
+use Rattle.std.proofs.Common.{◌≡◌, ℕ, zero, suc, inl, inr, List, [], ◌∷◌, ◌++◌, map, Option, Some, None, refl, sym, ap, subst, ◌∙◌}
+use Rattle.std.specs.List.{flat_map}
 use Rattle.std.specs.List.Sorted.{IsStrictlySortedBy}
-use Rattle.std.specs.Prelude.{Bool, true, false, cond, Contains, slice_get}
+use Rattle.std.proofs.lemmas.List.Elements.{Contains-append_cases}
+use Rattle.std.specs.Prelude.{Bool, true, false, cond, ◌&&◌, Contains, slice_get}
 use Rattle.life_types.specs.Types.{Types}
 use Rattle.life_types.specs.declared.place.Place.{Place}
 use Rattle.life_core.specs.Function.{Function, Program}
@@ -11,44 +13,110 @@ use Rattle.life_pset.specs.declared.element.AbsPlace.{AbsPlace}
 use Rattle.life_pset.specs.declared.element.Element.{Element}
 use Rattle.life_pset.specs.declared.element.Element.TheVariants as element
 use Rattle.life_pset.specs.declared.element.Fact.{Fact}
-use Rattle.life_rules.specs.Carrying.{is_location}
-use Rattle.life_rules.specs.Diagnosing.{uses, misused, misused_as, node_diags, diags_at, IsDiagnosed}
+use Rattle.life_core.specs.Operands.{Location, Operand, Name, Through}
+use Rattle.life_pset.specs.Places.{members_place}
+use Rattle.life_pset.specs.Shapes.{is_variable_place}
+use Rattle.life_pset.specs.contracts.element.AbsPlacePartialEq.TheImpl.{ghosts as compared}
+use Rattle.life_rules.specs.Carrying.{is_location, is_rooted, located}
+use Rattle.life_rules.specs.Diagnosing.{uses, reads, opens, owners, told, misused, misread, misopened, moved_use, dangling_result, misused_as, misread_as, misopened_as, moved_as, node_diags, diags_at, moved_target, moved_through, node_diags_of_two, diags_of_two, Tells, IsDiagnosed}
+use Rattle.life_rules.specs.Texts.{is_result, naming_in}
 use Rattle.life_rules.specs.Lines.{line_of, line_cmp}
 use Rattle.life_rules.specs.Listing.{Represents, AreDiagnostics, IsProgramDiagnosed, line_in, program_line, AreProgramDiagnostics}
 use Rattle.life_rules.specs.declared.diag.Diag.{Diag}
+use Rattle.life_rules.specs.declared.diag.DiagKind.{DiagKind}
+use Rattle.life_rules.specs.declared.diag.DiagKind.TheVariants.{NullUse, DanglingUse, MovedUse, ReturnDangling}
+use Rattle.life_rules.specs.declared.diag.Why.{Why}
+use Rattle.life_rules.specs.declared.diag.Why.TheVariants as why
 use Rattle.life_rules.proofs.Giving.{none_in_empty, at_head, in_tail, cons_cases, flat_map_from}
 
 -- ---- a diagnostic names the function in which it was found
 
-only_one : (a d : Diag) → Contains (a ∷ []) d → a ≡ d
-only_one a d h = elim (cons_cases a [] d h) [ inl is ↦ is | inr none ↦ absurd (none_in_empty d none) ]
+-- these are all of the function with this number
+abbrev AllOf : ℕ → List Diag → Type 0
+AllOf n ds = (d : Diag) → Contains ds d → d.function ≡ n
 
-misused_in : (n : ℕ) (place : Place) (l : AbsPlace) (e : Element) (d : Diag) → Contains (misused n place l e) d → d.function ≡ n
-misused_in n place l element.Null d h = sym (ap (λ (x : Diag). x.function) (only_one _ d h))
-misused_in n place l (element.Invalid c) d h = sym (ap (λ (x : Diag). x.function) (only_one _ d h))
-misused_in n place l (element.Moved c) d h = absurd (none_in_empty d h)
-misused_in n place l element.Own d h = absurd (none_in_empty d h)
-misused_in n place l element.Static d h = absurd (none_in_empty d h)
-misused_in n place l (element.At target) d h = absurd (none_in_empty d h)
+none_of : (n : ℕ) → AllOf n []
+none_of n d h = absurd (none_in_empty d h)
 
-if_misused : (n : ℕ) (place : Place) (fact : Fact) (b : Bool) (d : Diag) → Contains (cond b (misused n place fact.location fact.element) []) d → d.function ≡ n
-if_misused n place fact true d h = misused_in n place fact.location fact.element d h
-if_misused n place fact false d h = absurd (none_in_empty d h)
+told_of : (n : ℕ) (place : Place) (kind : DiagKind) (l : AbsPlace) (why : Why) → AllOf n (told n place kind l why)
+told_of n place kind l why d h = elim (cons_cases _ [] d h) [ inl is ↦ sym (ap (λ (x : Diag). x.function) is) | inr none ↦ absurd (none_in_empty d none) ]
 
-node_in : (n : ℕ) (place : Place) (node : Node) (fact : Fact) (d : Diag) → Contains (node_diags n place node fact) d → d.function ≡ n
-node_in n place (Action i) fact d h =
-    let from = flat_map_from (misused_as n place fact) (uses i) d h in
-    if_misused n place fact (is_location from.0 fact.location) d from.1.1
-node_in n place (Question t) fact d h = absurd (none_in_empty d h)
-node_in n place Return fact d h = absurd (none_in_empty d h)
-node_in n place Stop fact d h = absurd (none_in_empty d h)
+both_of : (n : ℕ) (xs ys : List Diag) → AllOf n xs → AllOf n ys → AllOf n (xs ++ ys)
+both_of n xs ys first second d h = elim (Contains-append_cases xs ys d h) [ inl one ↦ first d one | inr two ↦ second d two ]
 
-spot_in : (n : ℕ) (spot : Option Spot) (fact : Fact) (d : Diag) → Contains (diags_at n spot fact) d → d.function ≡ n
-spot_in n None fact d h = absurd (none_in_empty d h)
-spot_in n (Some s) fact d h = node_in n s.place s.node fact d h
+each_of : {A : Type 0} (n : ℕ) (g : A → List Diag) (xs : List A) → ((x : A) → AllOf n (g x)) → AllOf n (flat_map g xs)
+each_of n g xs all d h = let from = flat_map_from g xs d h in all from.0 d from.1.1
+
+if_of : (n : ℕ) (b : Bool) (xs : List Diag) → AllOf n xs → AllOf n (cond b xs [])
+if_of n true xs all = all
+if_of n false xs all = none_of n
+
+misused_of : (n : ℕ) (place : Place) (l : AbsPlace) (e : Element) → AllOf n (misused n place l e)
+misused_of n place l element.Null = told_of n place NullUse l why.Null
+misused_of n place l (element.Invalid c) = told_of n place DanglingUse l (why.Cause c)
+misused_of n place l _ = none_of n
+
+misread_of : (n : ℕ) (place : Place) (l : AbsPlace) (e : Element) → AllOf n (misread n place l e)
+misread_of n place l (element.Invalid c) = told_of n place DanglingUse l (why.Cause c)
+misread_of n place l _ = none_of n
+
+misopened_of : (n : ℕ) (place : Place) (l : AbsPlace) (e : Element) → AllOf n (misopened n place l e)
+misopened_of n place l element.Null = told_of n place NullUse l why.Null
+misopened_of n place l (element.Moved c) = told_of n place NullUse l (why.Cause c)
+misopened_of n place l _ = none_of n
+
+moved_use_of : (n : ℕ) (place : Place) (l : AbsPlace) (e : Element) → AllOf n (moved_use n place l e)
+moved_use_of n place l (element.Moved c) = told_of n place MovedUse l (why.Cause c)
+moved_use_of n place l _ = none_of n
+
+dangling_of : (n : ℕ) (place : Place) (l : AbsPlace) (e : Element) → AllOf n (dangling_result n place l e)
+dangling_of n place l (element.Invalid c) = told_of n place ReturnDangling l (why.Cause c)
+dangling_of n place l _ = none_of n
+
+moved_as_of : (types : Types) (n : ℕ) (f : Function) (place : Place) (fact : Fact) (o : Operand) → AllOf n (moved_as types n f place fact o)
+moved_as_of types n f place fact (Name l) = if_of n (is_location l fact.location && is_variable_place types f fact.location) _ (moved_use_of n place fact.location fact.element)
+moved_as_of types n f place fact (Through p members) = none_of n
+
+node_of : (types : Types) (n : ℕ) (f : Function) (place : Place) (node : Node) (fact : Fact) → AllOf n (node_diags types n f place node fact)
+node_of types n f place (Action i) fact =
+    both_of n _ _ (each_of n (misused_as n place fact) (uses i) (λ p. if_of n (is_location p fact.location) _ (misused_of n place fact.location fact.element)))
+    (both_of n _ _ (each_of n (misread_as n place fact) (reads i) (λ p. if_of n (is_location p fact.location) _ (misread_of n place fact.location fact.element)))
+    (both_of n _ _ (each_of n (misopened_as n place fact) (opens i) (λ p. if_of n (is_location p fact.location) _ (misopened_of n place fact.location fact.element)))
+    (each_of n (moved_as types n f place fact) (owners i) (moved_as_of types n f place fact))))
+node_of types n f place (Question t) fact = none_of n
+node_of types n f place Return fact = if_of n (is_result types f f.parameters && is_rooted f.parameters fact.location) _ (dangling_of n place fact.location fact.element)
+node_of types n f place Stop fact = none_of n
+
+spot_of_one : (types : Types) (n : ℕ) (f : Function) (spot : Option Spot) (fact : Fact) → AllOf n (diags_at types n f spot fact)
+spot_of_one types n f None fact = none_of n
+spot_of_one types n f (Some s) fact = node_of types n f s.place s.node fact
+
+target_of : (types : Types) (n : ℕ) (f : Function) (place : Place) (p : Location) (members : List ℕ) (e : Element) (b : Fact) → AllOf n (moved_target types n f place p members e b)
+target_of types n f place p members (element.At a) b = if_of n (compared.eq b.location (members_place a members) && is_variable_place types f b.location) _ (moved_use_of n place (located p) b.element)
+target_of types n f place p members _ b = none_of n
+
+through_of : (types : Types) (n : ℕ) (f : Function) (place : Place) (a b : Fact) (o : Operand) → AllOf n (moved_through types n f place a b o)
+through_of types n f place a b (Name l) = none_of n
+through_of types n f place a b (Through p members) = if_of n (is_location p a.location) _ (target_of types n f place p members a.element b)
+
+node_of_two : (types : Types) (n : ℕ) (f : Function) (place : Place) (node : Node) (a b : Fact) → AllOf n (node_diags_of_two types n f place node a b)
+node_of_two types n f place (Action i) a b = each_of n (moved_through types n f place a b) (owners i) (through_of types n f place a b)
+node_of_two types n f place (Question t) a b = none_of n
+node_of_two types n f place Return a b = none_of n
+node_of_two types n f place Stop a b = none_of n
+
+spot_of_two : (types : Types) (n : ℕ) (f : Function) (spot : Option Spot) (a b : Fact) → AllOf n (diags_of_two types n f spot a b)
+spot_of_two types n f None a b = none_of n
+spot_of_two types n f (Some s) a b = node_of_two types n f s.place s.node a b
+
+told_own : (types : Types) (n : ℕ) (f : Function) (spot : Option Spot) (facts : List Fact) (d : Diag) → Tells types n f spot facts d → d.function ≡ n
+told_own types n f spot [] d h = absurd h
+told_own types n f spot (a ∷ []) d h = spot_of_one types n f spot a d h
+told_own types n f spot (a ∷ b ∷ []) d h = spot_of_two types n f spot a b d h
+told_own types n f spot (a ∷ b ∷ c ∷ more) d h = absurd h
 
 pub own_function : (types : Types) (n : ℕ) (f : Function) (d : Diag) → IsDiagnosed types n f d → d.function ≡ n
-own_function types n f d h = spot_in n (spot_of f h.0) h.1.0 d h.1.1.1
+own_function types n f d h = told_own types n f (spot_of f h.0) h.1.0 d h.1.1.1
 
 -- ---- lists on which two functions agree
 
@@ -68,9 +136,9 @@ first_alone f g (suc n) e = absurd (clash e)
     clash : {g : Function} → ◌≡◌ {A = Option Function} None (Some g) → ⊥
     clash e = cc
 
-pub one_function : (p : Program) (f : Function) (ds : List Diag) → p.functions ≡ f ∷ [] → AreDiagnostics p.names p.types 0 f ds → AreProgramDiagnostics p ds
+pub one_function : (p : Program) (f : Function) (ds : List Diag) → p.functions ≡ f ∷ [] → AreDiagnostics (naming_in p) p.types 0 f ds → AreProgramDiagnostics p ds
 one_function p f ds alone listing = record {
-  sorted = subst (IsStrictlySortedBy line_cmp) (sym (map_same (program_line p) (line_of p.names p.types f) ds (λ d h. own_line d (number d (listing.only d h))))) listing.sorted;
+  sorted = subst (IsStrictlySortedBy line_cmp) (sym (map_same (program_line p) (line_of (naming_in p) p.types f) ds (λ d h. own_line d (number d (listing.only d h))))) listing.sorted;
   only = λ d h. (f, (at_number d (number d (listing.only d h)), subst (λ n. IsDiagnosed p.types n f d) (sym (number d (listing.only d h))) (listing.only d h)));
   each = each;
 }
@@ -81,7 +149,7 @@ one_function p f ds alone listing = record {
     at_number : (d : Diag) → d.function ≡ 0 → slice_get p.functions d.function ≡ Some f
     at_number d e = ap (λ (fs : List Function). slice_get fs d.function) alone ∙ ap (slice_get (f ∷ [])) e
 
-    own_line : (d : Diag) → d.function ≡ 0 → program_line p d ≡ line_of p.names p.types f d
+    own_line : (d : Diag) → d.function ≡ 0 → program_line p d ≡ line_of (naming_in p) p.types f d
     own_line d e = ap (λ o. line_in p o d) (at_number d e)
 
     each : (d : Diag) → IsProgramDiagnosed p d → (e : Diag) × (Contains ds e × Represents (program_line p) e d)

@@ -12,6 +12,7 @@ use Rattle.std.proofs.lemmas.Map.Keys.{Less-from_sorted, sorted_tail}
 use Rattle.life_types.specs.contracts.place.PlacePartialEq.TheImpl.{ghosts as place_eq}
 use Rattle.life_types.specs.declared.place.Place.{Place}
 use Rattle.life_pset.proofs.Members.{cons_cases, in_head, in_tail, none_in_empty}
+use Rattle.life_pset.proofs.Numbers.{exact_element}
 use Rattle.life_pset.specs.contracts.element.AbsPlacePartialEq.TheImpl.{ghosts as abs_place_eq}
 use Rattle.life_pset.specs.contracts.element.CausePartialEq.TheImpl.{ghosts as cause_eq}
 use Rattle.life_pset.specs.declared.element.AbsPlace.{AbsPlace}
@@ -114,7 +115,7 @@ kind_exact : (x y : DiagKind) → kind_eq.eq x y ≡ true → x ≡ y
 kind_exact x y h = search rules
 
 why_exact : (x y : Why) → why_eq.eq x y ≡ true → x ≡ y
-why_exact x y h = search (rules, cause_exact)
+why_exact x y h = search (rules, cause_exact, exact_element)
 
 -- diagnostics that `==` tells apart by none of their fields are equal
 pub diag_exact : (x y : Diag) → diag_eq.eq x y ≡ true → x ≡ y

@@ -6,10 +6,10 @@ use Rattle.std.specs.declared.cmp.Ordering.{Ordering}
 use Rattle.life_types.specs.Places.{position_text}
 use Rattle.life_types.specs.Types.{Types}
 use Rattle.life_core.specs.Function.{Function}
-use Rattle.life_rules.specs.Texts.{place_text, why_text}
+use Rattle.life_rules.specs.Texts.{Naming, place_text, why_text}
 use Rattle.life_rules.specs.declared.diag.Diag.{Diag}
 use Rattle.life_rules.specs.declared.diag.DiagKind.{DiagKind}
-use Rattle.life_rules.specs.declared.diag.DiagKind.TheVariants.{NullUse, DanglingUse}
+use Rattle.life_rules.specs.declared.diag.DiagKind.TheVariants.{NullUse, DanglingUse, MovedUse, ArgNull, ArgDangling, ArgOverlap, ReturnDangling, ReturnWidens, KeepsBroken}
 
 -- what is printed of a diagnostic: nothing else tells two of them apart
 pub record Line : Type 0 where
@@ -22,12 +22,26 @@ pub record Line : Type 0 where
 abbrev pub kind_number : DiagKind → ℕ
 kind_number NullUse = 1
 kind_number DanglingUse = 2
+kind_number MovedUse = 3
+kind_number ArgNull = 4
+kind_number ArgDangling = 5
+kind_number ArgOverlap = 6
+kind_number ReturnDangling = 7
+kind_number ReturnWidens = 8
+kind_number KeepsBroken = 9
 
 abbrev pub kind_text : DiagKind → List ℕ
 kind_text NullUse = codes "null-use"
 kind_text DanglingUse = codes "dangling-use"
+kind_text MovedUse = codes "moved-use"
+kind_text ArgNull = codes "arg-null"
+kind_text ArgDangling = codes "arg-dangling"
+kind_text ArgOverlap = codes "arg-overlap"
+kind_text ReturnDangling = codes "return-dangling"
+kind_text ReturnWidens = codes "return-widens"
+kind_text KeepsBroken = codes "keeps-broken"
 
-abbrev pub line_of : List (List ℕ) → Types → Function → Diag → Line
+abbrev pub line_of : Naming → Types → Function → Diag → Line
 line_of names types f d = record {
   line = d.place.line;
   column = d.place.column;
@@ -44,6 +58,6 @@ line_cmp x y =
     (ordering_then (nat_cmp x.kind y.kind) (ordering_then (slice_cmp nat_cmp x.name y.name) (slice_cmp nat_cmp x.why y.why))))
 
 -- what the line prints: place, kind, name and reason, parted by a colon and a space
-abbrev pub printed : List (List ℕ) → Types → Function → Diag → List ℕ
+abbrev pub printed : Naming → Types → Function → Diag → List ℕ
 printed names types f d =
     position_text d.place ++ codes ": " ++ kind_text d.kind ++ codes ": " ++ place_text names types f d.name ++ codes ": " ++ why_text names types f d.why ++ codes "\n"

@@ -6,6 +6,7 @@ use Rattle.life_types.specs.Types.{Types}
 use Rattle.life_core.specs.Function.{Function, Program}
 use Rattle.life_rules.specs.Diagnosing.{IsDiagnosed}
 use Rattle.life_rules.specs.Lines.{Line, kind_number, line_of, line_cmp}
+use Rattle.life_rules.specs.Texts.{Naming, naming_in}
 use Rattle.life_rules.specs.contracts.diag.DiagOrd.TheImpl.{ghosts as diag}
 use Rattle.life_rules.specs.declared.diag.Diag.{Diag}
 
@@ -21,7 +22,7 @@ pub record IsListing (IsWrong : Diag → Type 0) (line : Diag → Line) (ds : Li
   pub each : (d : Diag) → IsWrong d → (e : Diag) × (Contains ds e × Represents line e d)
 
 -- the diagnostics of the function with this number
-abbrev pub AreDiagnostics : List (List ℕ) → Types → ℕ → Function → List Diag → Type 0
+abbrev pub AreDiagnostics : Naming → Types → ℕ → Function → List Diag → Type 0
 AreDiagnostics names types function f ds = IsListing (IsDiagnosed types function f) (line_of names types f) ds
 
 -- ---- the diagnostics of a whole program
@@ -33,7 +34,7 @@ IsProgramDiagnosed p d = (f : Function) × ((slice_get p.functions d.function �
 -- its line in that function
 abbrev pub line_in : Program → Option Function → Diag → Line
 line_in p None d = record { line = d.place.line; column = d.place.column; kind = kind_number d.kind; name = []; why = [] }
-line_in p (Some f) d = line_of p.names p.types f d
+line_in p (Some f) d = line_of (naming_in p) p.types f d
 
 abbrev pub program_line : Program → Diag → Line
 program_line p d = line_in p (slice_get p.functions d.function) d

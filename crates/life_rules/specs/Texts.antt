@@ -1,69 +1,179 @@
--- The texts of places, of causes and of reasons.
-use Rattle.std.specs.Prelude.{ℕ, Bool, true, false, ◌&&◌, nat_eq, List, [], ◌++◌, Option, Some, None, codes, slice_get}
+-- The texts of places, of elements, of causes and of reasons.
+use Rattle.std.specs.Prelude.{ℕ, Bool, true, false, ◌&&◌, if◌then◌else◌, nat_eq, List, [], ◌∷◌, ◌++◌, Option, Some, None, codes, map, slice_get}
 use Rattle.life_types.specs.Places.{position_text}
 use Rattle.life_types.specs.Types.{Types}
 use Rattle.life_types.specs.declared.ty.NameId.{NameId}
 use Rattle.life_types.specs.declared.ty.Ty.{Ty}
-use Rattle.life_types.specs.declared.ty.Ty.TheVariants.{Void}
-use Rattle.life_core.specs.Function.{Function}
+use Rattle.life_types.specs.declared.ty.Ty.TheVariants as ty
+use Rattle.life_types.specs.declared.ty.TyId.{TyId}
+use Rattle.life_core.specs.Function.{Function, Program, member_name, member_names, name_bytes}
 use Rattle.life_core.specs.declared.program.Local.{Local}
+use Rattle.life_core.specs.declared.program.LocalKind.{LocalKind}
+use Rattle.life_core.specs.declared.program.LocalKind.TheVariants as local_kind
+use Rattle.life_core.specs.declared.program.Names.{Names}
+use Rattle.life_pset.specs.Elements.{Input, local_inputs}
+use Rattle.life_pset.specs.Places.{owned_step, path}
+use Rattle.life_pset.specs.Shapes.{local_type, member_type, target_type, ty_if}
 use Rattle.life_pset.specs.declared.element.AbsPlace.{AbsPlace}
 use Rattle.life_pset.specs.declared.element.Cause.{Cause}
 use Rattle.life_pset.specs.declared.element.CauseKind.{CauseKind}
-use Rattle.life_pset.specs.declared.element.CauseKind.TheVariants.{Uninitialised, Ended, TemporaryEnded}
+use Rattle.life_pset.specs.declared.element.CauseKind.TheVariants.{Uninitialised, Ended, TemporaryEnded, Changed, OwnerChanged, Moved, Called}
+use Rattle.life_pset.specs.declared.element.Element.{Element}
+use Rattle.life_pset.specs.declared.element.Element.TheVariants as element
 use Rattle.life_pset.specs.declared.element.Root.{Root}
 use Rattle.life_pset.specs.declared.element.Root.TheVariants as root
 use Rattle.life_rules.specs.declared.diag.Why.{Why}
 use Rattle.life_rules.specs.declared.diag.Why.TheVariants as why
 
+-- ---- names
+
+-- the texts of a program's names, the names of each struct's members, and those of the functions, by their numbers
+pub record Naming : Type 0 where
+  pub texts : List (List ℕ)
+  pub members : List (List NameId)
+  pub functions : List NameId
+
+abbrev pub naming_of : Names → List NameId → Naming
+naming_of names functions = record { texts = map name_bytes names.texts.items; members = map member_names names.members.items; functions = functions }
+
+abbrev pub function_name : Function → NameId
+function_name f = f.name
+
+-- .. of a program
+abbrev pub naming_in : Program → Naming
+naming_in p = record { texts = p.names; members = p.members; functions = map function_name p.functions }
+
 abbrev pub or_nothing : Option (List ℕ) → List ℕ
 or_nothing None = []
 or_nothing (Some text) = text
 
-abbrev pub name_text : List (List ℕ) → NameId → List ℕ
-name_text names name = or_nothing (slice_get names name.0)
+abbrev pub name_text : Naming → NameId → List ℕ
+name_text names name = or_nothing (slice_get names.texts name.0)
+
+abbrev pub name_if : Naming → Option NameId → List ℕ
+name_if names None = []
+name_if names (Some name) = name_text names name
+
+-- ---- locals
 
 -- a function with a result has it behind its parameters
 abbrev pub has_value : Option Ty → Bool
 has_value None = false
-has_value (Some Void) = false
+has_value (Some ty.Void) = false
 has_value (Some _) = true
 
 abbrev pub is_result : Types → Function → ℕ → Bool
 is_result types f x = nat_eq x f.parameters && has_value (slice_get types.types f.result.0)
 
--- a variable prints as its name, and what has none as the result or as a temporary
-abbrev pub nameless : Bool → List ℕ
-nameless true = codes "result"
-nameless false = codes "temporary"
+-- a variable prints as its name, and what has none as a range, as the result or as a temporary
+abbrev pub nameless : Bool → LocalKind → List ℕ
+nameless result local_kind.Range = codes "range"
+nameless true _ = codes "result"
+nameless false _ = codes "temporary"
 
-abbrev pub named : List (List ℕ) → Bool → Option NameId → List ℕ
-named names result None = nameless result
-named names result (Some name) = name_text names name
+abbrev pub named : Naming → Bool → LocalKind → Option NameId → List ℕ
+named names result kind None = nameless result kind
+named names result kind (Some name) = name_text names name
 
-abbrev pub named_local : List (List ℕ) → Bool → Option Local → List ℕ
+abbrev pub named_local : Naming → Bool → Option Local → List ℕ
 named_local names result None = []
-named_local names result (Some l) = named names result l.name
+named_local names result (Some l) = named names result l.kind l.name
 
-abbrev pub local_text : List (List ℕ) → Types → Function → ℕ → List ℕ
+abbrev pub local_text : Naming → Types → Function → ℕ → List ℕ
 local_text names types f x = named_local names (is_result types f x) (slice_get f.locals x)
 
-abbrev pub root_text : List (List ℕ) → Types → Function → Root → List ℕ
-root_text names types f (root.Local x) = local_text names types f x
-root_text names types f (root.Input parameter member) = codes "in(" ++ local_text names types f parameter ++ codes ")"
+-- ---- the steps of a place
 
--- no type that is built so far has members or owns anything, so a place is its root
-abbrev pub place_text : List (List ℕ) → Types → Function → AbsPlace → List ℕ
-place_text names types f place = root_text names types f place.root
+-- what a step leads to; the characters of a string have no parts
+abbrev pub owned_type : Ty → Option TyId
+owned_type (ty.Vector item) = Some item
+owned_type (ty.Unique target) = Some target
+owned_type _ = None
 
-abbrev pub cause_subject : List ℕ → CauseKind → List ℕ
-cause_subject name Uninitialised = name ++ codes " uninitialised at "
-cause_subject name Ended = name ++ codes " ended at "
-cause_subject name TemporaryEnded = codes "temporary ended at "
+abbrev pub step_type : Types → Option TyId → ℕ → Option TyId
+step_type types id step = if nat_eq step owned_step then owned_type (ty_if types id) else member_type types id step
 
-abbrev pub cause_text : List (List ℕ) → Types → Function → Cause → List ℕ
-cause_text names types f c = cause_subject (local_text names types f c.root) c.kind ++ position_text c.place
+-- a member prints as a dot and its name, an owned step as a mark
+abbrev pub member_text : Naming → Ty → ℕ → List ℕ
+member_text names (ty.Struct number) m = codes "." ++ name_if names (member_name names.members number m)
+member_text names _ m = []
 
-abbrev pub why_text : List (List ℕ) → Types → Function → Why → List ℕ
+abbrev pub step_text : Naming → Ty → ℕ → List ℕ
+step_text names t step = if nat_eq step owned_step then codes "'" else member_text names t step
+
+abbrev pub steps_text : Naming → Types → Option TyId → List ℕ → List ℕ
+steps_text names types id [] = []
+steps_text names types id (s ∷ ss) = step_text names (ty_if types id) s ++ steps_text names types (step_type types id s) ss
+
+-- ---- places
+
+-- a part of a local
+abbrev pub part_text : Naming → Types → Function → ℕ → List ℕ → List ℕ
+part_text names types f x steps = local_text names types f x ++ steps_text names types (local_type types f x) steps
+
+-- the pointer with this number among those of a parameter
+abbrev pub inputs_at : Types → (parameters x : ℕ) → Option Local → List Input
+inputs_at types n x None = []
+inputs_at types n x (Some l) = local_inputs types n x l
+
+abbrev pub input_number : Option ℕ → ℕ
+input_number None = 0
+input_number (Some k) = k
+
+abbrev pub input_of : Types → Function → ℕ → Option ℕ → Option Input
+input_of types f q member = slice_get (inputs_at types f.parameters q (slice_get f.locals q)) (input_number member)
+
+-- what the caller passed for a pointer prints by the pointer's text
+abbrev pub input_text : Naming → Types → Function → ℕ → Option Input → List ℕ
+input_text names types f q None = codes "in(" ++ local_text names types f q ++ codes ")"
+input_text names types f q (Some i) = codes "in(" ++ part_text names types f q (path i.pointer) ++ codes ")"
+
+abbrev pub behind_type : Types → Option Input → Option TyId
+behind_type types None = None
+behind_type types (Some i) = target_type types i.ty
+
+abbrev pub rooted_text : Naming → Types → Function → Root → List ℕ → List ℕ
+rooted_text names types f (root.Local x) steps = part_text names types f x steps
+rooted_text names types f (root.Input q member) steps =
+    let input = input_of types f q member in
+    input_text names types f q input ++ steps_text names types (behind_type types input) steps
+
+abbrev pub place_text : Naming → Types → Function → AbsPlace → List ℕ
+place_text names types f place = rooted_text names types f place.root (path place)
+
+-- ---- causes, elements and reasons
+
+abbrev pub function_text : Naming → ℕ → List ℕ
+function_text names g = name_if names (slice_get names.functions g)
+
+-- what became of the variable, or what was done
+abbrev pub cause_subject : Naming → Types → Function → ℕ → CauseKind → List ℕ
+cause_subject names types f x Uninitialised = local_text names types f x ++ codes " uninitialised at "
+cause_subject names types f x Ended = local_text names types f x ++ codes " ended at "
+cause_subject names types f x TemporaryEnded = codes "temporary ended at "
+cause_subject names types f x Changed = local_text names types f x ++ codes " changed at "
+cause_subject names types f x OwnerChanged = codes "owner changed at "
+cause_subject names types f x Moved = local_text names types f x ++ codes " moved at "
+cause_subject names types f g Called = codes "call of " ++ function_text names g ++ codes " at "
+
+abbrev pub cause_text : Naming → Types → Function → Cause → List ℕ
+cause_text names types f c = cause_subject names types f c.root c.kind ++ position_text c.place
+
+abbrev pub element_text : Naming → Types → Function → Element → List ℕ
+element_text names types f element.Null = codes "null"
+element_text names types f (element.Invalid c) = codes "invalid(" ++ cause_text names types f c ++ codes ")"
+element_text names types f (element.Moved c) = codes "moved(" ++ cause_text names types f c ++ codes ")"
+element_text names types f element.Own = codes "own"
+element_text names types f element.Static = codes "static"
+element_text names types f (element.At a) = place_text names types f a
+
+-- what a result may be that it shouldn't
+abbrev pub points_text : Naming → Types → Function → Element → List ℕ
+points_text names types f element.Null = codes "may be null"
+points_text names types f e = codes "may point to " ++ element_text names types f e
+
+abbrev pub why_text : Naming → Types → Function → Why → List ℕ
 why_text names types f why.Null = codes "may be null"
 why_text names types f (why.Cause c) = cause_text names types f c
+why_text names types f (why.Overlap name) = codes "overlaps " ++ name_text names name
+why_text names types f (why.Points e) = points_text names types f e

@@ -3,20 +3,24 @@ ghost use Rattle.std.specs.List.{flat_map};
 ghost use Rattle.std.specs.Prelude.{◌≡◌, ◌++◌, [], false, option_map, OnOk};
 ghost use Rattle.life_core.specs.Function.{function_of};
 ghost use Rattle.life_core.specs.Node.{spot_seen};
-ghost use Rattle.life_rules.specs.Along.{all_at, spot_takes_two};
+ghost use Rattle.life_rules.specs.Along.{all_at, spot_takes_first};
 ghost use Rattle.life_rules.specs.Carrying.{none_at, one_at, two_at};
 
-use crate::carry::{
-    push_from_none, push_from_one, push_from_two, push_unless, stops_at, takes_two,
-};
+use crate::branch::stops_at;
+use crate::none::push_from_none;
+use crate::one::push_from_one;
+use crate::push::push_unless;
+use crate::two::{push_from_two, takes_first};
 use life_core::{CoreFn, NodeRef, SpotRef};
 use life_pset::Fact;
 use life_types::{NoMemory, TypeTable};
+use std::alloc::Global;
 
 /// Adds all that comes of none of these facts, of each one and of each two. It looks at each two
-/// only where something comes of two facts at all.
+/// only where something comes of the first and another one.
 #[tactic(auto, using(std::proofs::Common::append_assoc))]
 pub fn push_all(
+    alloc: Global,
     types: &TypeTable,
     f: &CoreFn,
     branch: Option<bool>,
@@ -27,12 +31,13 @@ pub fn push_all(
     ensures { OnOk result
         (out.new.items ≡ out.old.items ++ all_at types.now (function_of f.now) branch (option_map spot_seen spot.entry) facts.now) }
 {
-    push_none(types, f, spot, out)?;
-    push_ones(f, branch, spot, facts, out)?;
-    push_twos_if(takes_two_at(spot), f, spot, facts, out)
+    push_none(alloc, types, f, spot, out)?;
+    push_ones(types, f, branch, spot, facts, out)?;
+    push_twos(types, f, spot, facts, out)
 }
 
 fn push_none(
+    alloc: Global,
     types: &TypeTable,
     f: &CoreFn,
     spot: Option<SpotRef>,
@@ -44,7 +49,7 @@ fn push_none(
     match spot {
         None => {}
         Some(spot) => match spot.node {
-            NodeRef::Action(instr) => push_from_none(types, f, spot.place, instr, out)?,
+            NodeRef::Action(instr) => push_from_none(alloc, types, f, spot.place, instr, out)?,
             NodeRef::Question(_) => {}
             NodeRef::Return => {}
             NodeRef::Stop => {}
@@ -54,6 +59,7 @@ fn push_none(
 }
 
 fn push_ones(
+    types: &TypeTable,
     f: &CoreFn,
     branch: Option<bool>,
     spot: Option<SpotRef>,
@@ -61,15 +67,16 @@ fn push_ones(
     out: &mut Vec<Fact>,
 ) -> Result<(), NoMemory>
     ensures { OnOk result
-        (out.new.items ≡ out.old.items ++ flat_map (one_at (function_of f.now) branch (option_map spot_seen spot.entry)) facts.now) }
+        (out.new.items ≡ out.old.items ++ flat_map (one_at types.now (function_of f.now) branch (option_map spot_seen spot.entry)) facts.now) }
 {
     for fact in facts {
-        push_one(f, branch, spot, *fact, out)?;
+        push_one(types, f, branch, spot, *fact, out)?;
     }
     Ok(())
 }
 
 fn push_one(
+    types: &TypeTable,
     f: &CoreFn,
     branch: Option<bool>,
     spot: Option<SpotRef>,
@@ -77,12 +84,12 @@ fn push_one(
     out: &mut Vec<Fact>,
 ) -> Result<(), NoMemory>
     ensures { OnOk result
-        (out.new.items ≡ out.old.items ++ one_at (function_of f.now) branch (option_map spot_seen spot.entry) fact) }
+        (out.new.items ≡ out.old.items ++ one_at types.now (function_of f.now) branch (option_map spot_seen spot.entry) fact) }
 {
     match spot {
         None => {}
         Some(spot) => match spot.node {
-            NodeRef::Action(instr) => push_from_one(f, spot.place, instr, fact, out)?,
+            NodeRef::Action(instr) => push_from_one(types, f, spot.place, instr, fact, out)?,
             NodeRef::Question(test) => push_unless(stops_at(test, branch, fact), fact, out)?,
             NodeRef::Return => out.push(fact)?,
             NodeRef::Stop => out.push(fact)?,
@@ -91,13 +98,13 @@ fn push_one(
     Ok(())
 }
 
-fn takes_two_at(spot: Option<SpotRef>) -> bool
-    ensures { result ≡ spot_takes_two (option_map spot_seen spot.entry) }
+fn takes_first_at(spot: Option<SpotRef>, fact: &Fact) -> bool
+    ensures { result ≡ spot_takes_first (option_map spot_seen spot.entry) fact.now }
 {
     match spot {
         None => false,
         Some(spot) => match spot.node {
-            NodeRef::Action(instr) => takes_two(instr),
+            NodeRef::Action(instr) => takes_first(instr, fact),
             NodeRef::Question(_) => false,
             NodeRef::Return => false,
             NodeRef::Stop => false,
@@ -105,44 +112,55 @@ fn takes_two_at(spot: Option<SpotRef>) -> bool
     }
 }
 
-// Adds what comes of each two facts, if something does.
-fn push_twos_if(
-    takes: bool,
+fn push_twos(
+    types: &TypeTable,
     f: &CoreFn,
     spot: Option<SpotRef>,
     facts: &[Fact],
     out: &mut Vec<Fact>,
 ) -> Result<(), NoMemory>
-    requires { takes ≡ spot_takes_two (option_map spot_seen spot) }
     ensures { OnOk result
-        (out.new.items ≡ out.old.items ++ flat_map (λ first. flat_map (two_at (function_of f.now) (option_map spot_seen spot.entry) first) facts.now) facts.now) }
+        (out.new.items ≡ out.old.items ++ flat_map (λ first. flat_map (two_at types.now (function_of f.now) (option_map spot_seen spot.entry) first) facts.now) facts.now) }
 {
-    if !takes {
-        return Ok(());
-    }
     for first in facts {
-        push_seconds(f, spot, *first, facts, out)?;
+        push_seconds(
+            takes_first_at(spot, first),
+            types,
+            f,
+            spot,
+            *first,
+            facts,
+            out,
+        )?;
     }
     Ok(())
 }
 
+// Adds what comes of the first fact and each other, if something does.
 fn push_seconds(
+    takes: bool,
+    types: &TypeTable,
     f: &CoreFn,
     spot: Option<SpotRef>,
     first: Fact,
     facts: &[Fact],
     out: &mut Vec<Fact>,
 ) -> Result<(), NoMemory>
+    requires { takes ≡ spot_takes_first (option_map spot_seen spot) first }
     ensures { OnOk result
-        (out.new.items ≡ out.old.items ++ flat_map (two_at (function_of f.now) (option_map spot_seen spot.entry) first) facts.now) }
+        (out.new.items ≡ out.old.items ++ flat_map (two_at types.now (function_of f.now) (option_map spot_seen spot.entry) first) facts.now) }
 {
+    if !takes {
+        return Ok(());
+    }
     for second in facts {
-        push_two(f, spot, first, *second, out)?;
+        push_two(types, f, spot, first, *second, out)?;
     }
     Ok(())
 }
 
 fn push_two(
+    types: &TypeTable,
     f: &CoreFn,
     spot: Option<SpotRef>,
     first: Fact,
@@ -150,12 +168,14 @@ fn push_two(
     out: &mut Vec<Fact>,
 ) -> Result<(), NoMemory>
     ensures { OnOk result
-        (out.new.items ≡ out.old.items ++ two_at (function_of f.now) (option_map spot_seen spot.entry) first second) }
+        (out.new.items ≡ out.old.items ++ two_at types.now (function_of f.now) (option_map spot_seen spot.entry) first second) }
 {
     match spot {
         None => {}
         Some(spot) => match spot.node {
-            NodeRef::Action(instr) => push_from_two(f, spot.place, instr, first, second, out)?,
+            NodeRef::Action(instr) => push_from_two(
+                types, f, spot.place, instr, first, second, out,
+            )?,
             NodeRef::Question(_) => {}
             NodeRef::Return => {}
             NodeRef::Stop => {}

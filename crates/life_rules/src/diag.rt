@@ -1,6 +1,6 @@
 // Diagnostics.
-use life_pset::{AbsPlace, Cause};
-use life_types::Place;
+use life_pset::{AbsPlace, Cause, Element};
+use life_types::{NameId, Place};
 
 /// What is wrong.
 #[derive(Clone, Copy, Debug, PartialEq, Eq, PartialOrd, Ord, Hash)]
@@ -9,6 +9,20 @@ pub enum DiagKind {
     NullUse,
     /// A pointer that may be invalid is used.
     DanglingUse,
+    /// A vector or a string that may be moved from is used.
+    MovedUse,
+    /// An argument may be null where the parameter doesn't admit it.
+    ArgNull,
+    /// An argument may be invalid.
+    ArgDangling,
+    /// Two arguments overlap, and the owner behind one of them may be changed.
+    ArgOverlap,
+    /// A result may be invalid.
+    ReturnDangling,
+    /// A result may be what its function doesn't promise.
+    ReturnWidens,
+    /// An owner is changed that a parameter keeps.
+    KeepsBroken,
 }
 
 /// Why it is wrong.
@@ -16,8 +30,12 @@ pub enum DiagKind {
 pub enum Why {
     /// The pointer may be null.
     Null,
-    /// What made the pointer invalid.
+    /// What made the pointer invalid, or the owner moved from.
     Cause(Cause),
+    /// The parameter with which another one overlaps.
+    Overlap(NameId),
+    /// What the result may be.
+    Points(Element),
 }
 
 /// A diagnostic: in which function, at which place in the file, what is wrong, with which location,

@@ -36,7 +36,7 @@ pub fn given_facts<R: Rows>(
 {
     let facts = facts_in(alloc, table, from)?;
     let mut all = Vec::new(alloc);
-    push_all(types, f, edge.branch, spot, &facts, &mut all)?;
+    push_all(alloc, types, f, edge.branch, spot, &facts, &mut all)?;
     Ok(all)
 }
 

@@ -2,22 +2,32 @@
 #![tactic(auto)]
 
 mod along;
-mod carry;
+mod branch;
 mod diag;
 mod edge_transfer;
 mod entry;
+mod kill;
 mod laws;
 mod matching;
+mod names;
+mod none;
+mod one;
+mod push;
 mod row_facts;
 mod spot;
 mod texts;
+mod two;
+mod writes;
 mod wrong;
+mod wrong_two;
 
 pub use diag::{Diag, DiagKind, DiagText, Why};
 pub use edge_transfer::{given_facts, transfer};
 pub use entry::entry_facts;
 pub use laws::one_function_is_the_program;
+pub use names::function_names;
 pub use row_facts::{add_facts, facts_in};
 pub use spot::spot_in;
-pub use texts::{kind_name, place_text, texts_of};
+pub use texts::{element_text, kind_name, place_text, texts_of};
 pub use wrong::push_diags;
+pub use wrong_two::{push_diags_of_two, tells_first};

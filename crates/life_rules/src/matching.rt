@@ -1,14 +1,23 @@
-// Which facts a rule speaks of.
+// Which facts a rule speaks of, and what it makes of their elements.
 ghost use Rattle.std.specs.Prelude.{◌≡◌};
-ghost use Rattle.life_rules.specs.Carrying.{is_held, is_location, is_null, is_root, is_rooted, is_rooted_among, is_target, points_among};
+ghost use Rattle.life_core.specs.Operands.{location_of};
+ghost use Rattle.life_rules.specs.Carrying.{given_over, gotten, is_held, is_location, is_null, is_root, is_rooted, is_rooted_among, located, part_of, points_among, points_under, position_in, reached};
 
-use life_pset::{AbsPlace, Element, Root};
+use life_core::Location;
+use life_pset::{AbsPlace, Element, Root, under};
 
-/// Whether the place is the whole local with this number: the location of a pointer.
-pub fn is_location(pointer: u32, location: &AbsPlace) -> bool
-    ensures { result ≡ is_location pointer location.now }
+/// The place that a location names.
+pub fn located(location: &Location) -> AbsPlace
+    ensures { result ≡ located (location_of location.now) }
 {
-    *location == AbsPlace::of_local(pointer)
+    AbsPlace::of_local(location.local).members(&location.members)
+}
+
+/// Whether the place is that of the location.
+pub fn is_location(location: &Location, place: &AbsPlace) -> bool
+    ensures { result ≡ is_location (location_of location.now) place.now }
+{
+    *place == located(location)
 }
 
 /// Whether the place is the local with this number, or lies in it.
@@ -48,18 +57,17 @@ pub fn points_among(locals: &[u32], element: &Element) -> bool
     }
 }
 
-/// Whether a pointer with this element may be followed to another pointer's target, or to one that
-/// ended.
-pub fn is_target(element: &Element) -> bool
-    ensures { result ≡ is_target element.now }
+/// Whether the element points to what the owner at a place owns, or into that.
+pub fn points_under(owner: &AbsPlace, element: &Element) -> bool
+    ensures { result ≡ points_under owner.now element.now }
 {
     match element {
         Element::Null => false,
-        Element::Invalid(_) => true,
+        Element::Invalid(_) => false,
         Element::Moved(_) => false,
         Element::Own => false,
-        Element::Static => true,
-        Element::At(_) => true,
+        Element::Static => false,
+        Element::At(place) => under(owner, place),
     }
 }
 
@@ -88,5 +96,61 @@ pub fn is_held(element: &Element) -> bool
         Element::Own => true,
         Element::Static => true,
         Element::At(_) => true,
+    }
+}
+
+/// A place itself, or what the owner there owns.
+pub fn part_of(owned: bool, place: AbsPlace) -> AbsPlace
+    ensures { result ≡ part_of owned place }
+{
+    if owned { place.owned() } else { place }
+}
+
+/// What is reached through a pointer with this element: a part of its target, and static and invalid as
+/// they are.
+pub fn reached(owned: bool, members: &[u32], element: Element) -> Option<Element>
+    ensures { result ≡ reached owned members.now element }
+{
+    match element {
+        Element::Null => None,
+        Element::Invalid(cause) => Some(Element::Invalid(cause)),
+        Element::Moved(_) => None,
+        Element::Own => None,
+        Element::Static => Some(Element::Static),
+        Element::At(place) => Some(Element::At(part_of(owned, place.members(members)))),
+    }
+}
+
+/// The position in the owner that a pointer with this element points to.
+pub fn position_in(members: &[u32], element: Element) -> Option<Element>
+    ensures { result ≡ position_in members.now element }
+{
+    match element {
+        Element::At(place) => Some(Element::At(place.members(members).owned())),
+        _ => None,
+    }
+}
+
+/// What a `std::unique_ptr` at a place, with this element, gives to a pointer.
+pub fn gotten(owner: AbsPlace, element: Element) -> Option<Element>
+    ensures { result ≡ gotten owner element }
+{
+    match element {
+        Element::Null => Some(Element::Null),
+        Element::Moved(_) => Some(Element::Null),
+        Element::Own => Some(Element::At(owner.owned())),
+        _ => None,
+    }
+}
+
+/// What a `std::unique_ptr` with this element gives to another one.
+pub fn given_over(element: Element) -> Option<Element>
+    ensures { result ≡ given_over element }
+{
+    match element {
+        Element::Null => Some(Element::Null),
+        Element::Moved(_) => Some(Element::Null),
+        Element::Own => Some(Element::Own),
+        _ => None,
     }
 }

@@ -1,14 +1,19 @@
-// The texts of places and of reasons.
-ghost use Rattle.std.specs.Prelude.{◌≡◌, ◌++◌, map, IfOk, OnOk};
-ghost use Rattle.life_core.specs.Function.{function_of, name_bytes};
+// The texts of places, of elements and of reasons.
+ghost use Rattle.std.specs.Option.{option_copied};
+ghost use Rattle.std.specs.Prelude.{◌≡◌, ◌++◌, map, option_map, IfOk, OnOk};
+ghost use Rattle.life_core.specs.Function.{function_of, member_name, member_names};
 ghost use Rattle.life_types.specs.Places.{position_text};
+ghost use Rattle.life_pset.specs.Inputs.{input_seen};
 ghost use Rattle.life_rules.specs.Lines.{kind_text};
-ghost use Rattle.life_rules.specs.Texts.{cause_subject, cause_text, is_result, local_text, name_text, named, nameless, place_text, root_text, why_text};
+ghost use Rattle.life_rules.specs.Texts.{behind_type, cause_subject, cause_text, element_text, function_text, input_number, input_of, input_text, inputs_at, is_result, local_text, member_text, name_if, name_text, named, nameless, naming_of, owned_type, part_text, place_text, points_text, step_text, step_type, steps_text, why_text};
 
 use crate::diag::{Diag, DiagKind, DiagText, Why};
-use life_core::{CoreFn, Names};
-use life_pset::{AbsPlace, Cause, CauseKind, Root};
-use life_types::{NameId, NoMemory, Place, Ty, TypeTable};
+use life_core::{CoreFn, Local, LocalKind, Names};
+use life_pset::{
+    AbsPlace, Cause, CauseKind, Element, InputPointer, OWNED_STEP, Root, local_type, member_type,
+    push_local_inputs, target_type, ty_if,
+};
+use life_types::{NameId, NoMemory, Place, Ty, TyId, TypeTable};
 use std::alloc::Global;
 
 /// The name of a kind of diagnostic, as reports print it.
@@ -18,48 +23,78 @@ pub fn kind_name(kind: DiagKind) -> &'static str
     match kind {
         DiagKind::NullUse => "null-use",
         DiagKind::DanglingUse => "dangling-use",
+        DiagKind::MovedUse => "moved-use",
+        DiagKind::ArgNull => "arg-null",
+        DiagKind::ArgDangling => "arg-dangling",
+        DiagKind::ArgOverlap => "arg-overlap",
+        DiagKind::ReturnDangling => "return-dangling",
+        DiagKind::ReturnWidens => "return-widens",
+        DiagKind::KeepsBroken => "keeps-broken",
     }
 }
 
-/// The text of an abstract place of a function: the name of the variable at its root. The local that
-/// holds a function's result prints as `result`, any other without a name as `temporary`, and what
-/// the caller passed for a parameter P as `in(P)`. A local that the function doesn't have has an
-/// empty text. The only error is the want of memory.
+/// The text of an abstract place of a function: the name of the variable at its root, then a dot and the
+/// name for each member, and a `'` for each step from an owner to what it owns. The local that holds a
+/// function's result prints as `result`, the hidden range or iterator of a loop over a range as `range`,
+/// any other without a name as `temporary`, and what the caller passed for a parameter P as `in(P)`, for
+/// a member `in(P.m)`. A local that the function doesn't have has an empty text. `functions` are the
+/// names of the program's functions, by their numbers. The only error is the want of memory.
 pub fn place_text(
     alloc: Global,
     names: &Names,
+    functions: &[NameId],
     f: &CoreFn,
     types: &TypeTable,
     place: &AbsPlace,
 ) -> Result<Vec<u8>, NoMemory>
     ensures { IfOk result (λ text.
-        text.items ≡ place_text (map name_bytes names.now.texts.items) types.now (function_of f.now) place.now) }
+        text.items ≡ place_text (naming_of names.now functions.now) types.now (function_of f.now) place.now) }
 {
     let mut text = Vec::new(alloc);
-    push_root(names, f, types, place.root, &mut text)?;
+    push_place(alloc, names, functions, f, types, place, &mut text)?;
     Ok(text)
 }
 
-/// What a diagnostic of a function is printed with: the text of its location, and the reason, which
-/// is `may be null` or what made the pointer invalid, and where. The only error is the want of
-/// memory.
+/// The text of an element of a points-to set. The only error is the want of memory.
+pub fn element_text(
+    alloc: Global,
+    names: &Names,
+    functions: &[NameId],
+    f: &CoreFn,
+    types: &TypeTable,
+    element: &Element,
+) -> Result<Vec<u8>, NoMemory>
+    ensures { IfOk result (λ text.
+        text.items ≡ element_text (naming_of names.now functions.now) types.now (function_of f.now) element.now) }
+{
+    let mut text = Vec::new(alloc);
+    push_element(alloc, names, functions, f, types, *element, &mut text)?;
+    Ok(text)
+}
+
+/// What a diagnostic of a function is printed with: the text of its location, and the reason: that it
+/// may be null, what made the pointer invalid or the owner moved from, and where, with which parameter
+/// another one overlaps, or what a result may point to. The only error is the want of memory.
 pub fn texts_of(
     alloc: Global,
     names: &Names,
+    functions: &[NameId],
     f: &CoreFn,
     types: &TypeTable,
     d: &Diag,
 ) -> Result<DiagText, NoMemory>
     ensures name { IfOk result (λ text.
-        text.name.items ≡ place_text (map name_bytes names.now.texts.items) types.now (function_of f.now) d.now.name) }
+        text.name.items ≡ place_text (naming_of names.now functions.now) types.now (function_of f.now) d.now.name) }
     ensures why { IfOk result (λ text.
-        text.why.items ≡ why_text (map name_bytes names.now.texts.items) types.now (function_of f.now) d.now.why) }
+        text.why.items ≡ why_text (naming_of names.now functions.now) types.now (function_of f.now) d.now.why) }
 {
-    let name = place_text(alloc, names, f, types, &d.name)?;
+    let name = place_text(alloc, names, functions, f, types, &d.name)?;
     let mut why = Vec::new(alloc);
-    push_why(alloc, names, f, types, d.why, &mut why)?;
+    push_why(alloc, names, functions, f, types, d.why, &mut why)?;
     Ok(DiagText { name, why })
 }
+
+// ---- names
 
 // The line and the column, with a colon between.
 fn push_position(alloc: Global, place: Place, out: &mut Vec<u8>) -> Result<(), NoMemory>
@@ -72,9 +107,14 @@ fn push_position(alloc: Global, place: Place, out: &mut Vec<u8>) -> Result<(), N
     Ok(())
 }
 
-fn push_name(names: &Names, name: NameId, out: &mut Vec<u8>) -> Result<(), NoMemory>
+fn push_name(
+    names: &Names,
+    functions: &[NameId],
+    name: NameId,
+    out: &mut Vec<u8>,
+) -> Result<(), NoMemory>
     ensures { OnOk result
-        (out.new.items ≡ out.old.items ++ name_text (map name_bytes names.now.texts.items) name) }
+        (out.new.items ≡ out.old.items ++ name_text (naming_of names.now functions.now) name) }
 {
     if let Some(text) = names.texts.get(name.0 as usize) {
         out.extend_from_slice(text)?;
@@ -82,38 +122,61 @@ fn push_name(names: &Names, name: NameId, out: &mut Vec<u8>) -> Result<(), NoMem
     Ok(())
 }
 
-// Whether the local with this number holds the function's result.
-fn is_result(f: &CoreFn, types: &TypeTable, local: u32) -> bool
+fn push_name_if(
+    names: &Names,
+    functions: &[NameId],
+    name: Option<NameId>,
+    out: &mut Vec<u8>,
+) -> Result<(), NoMemory>
+    ensures { OnOk result
+        (out.new.items ≡ out.old.items ++ name_if (naming_of names.now functions.now) name) }
+{
+    match name {
+        None => Ok(()),
+        Some(id) => push_name(names, functions, id, out),
+    }
+}
+
+// ---- locals
+
+/// Whether the local with this number holds the function's result.
+pub fn is_result(f: &CoreFn, types: &TypeTable, local: u32) -> bool
     ensures { result ≡ is_result types.now (function_of f.now) local }
 {
     local == f.parameters && !matches!(types.get(f.result), None | Some(Ty::Void))
 }
 
-fn push_nameless(is_result: bool, out: &mut Vec<u8>) -> Result<(), NoMemory>
-    ensures { OnOk result (out.new.items ≡ out.old.items ++ nameless is_result) }
+fn push_nameless(is_result: bool, kind: LocalKind, out: &mut Vec<u8>) -> Result<(), NoMemory>
+    ensures { OnOk result (out.new.items ≡ out.old.items ++ nameless is_result kind) }
 {
-    let text = if is_result { "result" } else { "temporary" };
+    let text = match kind {
+        LocalKind::Range => "range",
+        _ => { if is_result { "result" } else { "temporary" } }
+    };
     out.extend_from_slice(text.as_bytes())?;
     Ok(())
 }
 
 fn push_named(
     names: &Names,
+    functions: &[NameId],
     is_result: bool,
+    kind: LocalKind,
     name: Option<NameId>,
     out: &mut Vec<u8>,
 ) -> Result<(), NoMemory>
     ensures { OnOk result
-        (out.new.items ≡ out.old.items ++ named (map name_bytes names.now.texts.items) is_result name) }
+        (out.new.items ≡ out.old.items ++ named (naming_of names.now functions.now) is_result kind name) }
 {
     match name {
-        None => push_nameless(is_result, out),
-        Some(name) => push_name(names, name, out),
+        None => push_nameless(is_result, kind, out),
+        Some(name) => push_name(names, functions, name, out),
     }
 }
 
 fn push_local(
     names: &Names,
+    functions: &[NameId],
     f: &CoreFn,
     types: &TypeTable,
     local: u32,
@@ -121,57 +184,350 @@ fn push_local(
 ) -> Result<(), NoMemory>
     ensures { OnOk result
         (out.new.items
-        ≡ out.old.items ++ local_text (map name_bytes names.now.texts.items) types.now (function_of f.now) local) }
+        ≡ out.old.items ++ local_text (naming_of names.now functions.now) types.now (function_of f.now) local) }
 {
     match f.locals.get(local as usize) {
         None => Ok(()),
-        Some(found) => push_named(names, is_result(f, types, local), found.name, out),
+        Some(found) => push_named(
+            names,
+            functions,
+            is_result(f, types, local),
+            found.kind,
+            found.name,
+            out,
+        ),
     }
 }
 
-fn push_root(
+// ---- steps
+
+// The type that an owner owns; the characters of a string have no type in the table.
+fn owned_type(ty: Ty) -> Option<TyId>
+    ensures { result ≡ owned_type ty }
+{
+    match ty {
+        Ty::Vector(item) => Some(item),
+        Ty::Unique(target) => Some(target),
+        _ => None,
+    }
+}
+
+fn step_type(types: &TypeTable, id: Option<TyId>, step: u8) -> Option<TyId>
+    ensures { result ≡ step_type types.now id step }
+{
+    if step == OWNED_STEP {
+        owned_type(ty_if(types, id))
+    } else {
+        member_type(types, id, step as usize)
+    }
+}
+
+// The name of a member, by the numbers of the struct and the member.
+fn member_name(names: &Names, number: u32, member: usize) -> Option<NameId>
+    ensures { result ≡ member_name (map member_names names.now.members.items) number member }
+{
+    match names.members.get(number as usize) {
+        None => None,
+        Some(members) => members.get(member).copied(),
+    }
+}
+
+fn push_member(
     names: &Names,
+    functions: &[NameId],
+    ty: Ty,
+    member: usize,
+    out: &mut Vec<u8>,
+) -> Result<(), NoMemory>
+    ensures { OnOk result
+        (out.new.items ≡ out.old.items ++ member_text (naming_of names.now functions.now) ty member) }
+{
+    match ty {
+        Ty::Struct(number) => {
+            out.extend_from_slice(b".")?;
+            push_name_if(names, functions, member_name(names, number, member), out)?;
+        }
+        _ => {}
+    }
+    Ok(())
+}
+
+fn push_step(
+    names: &Names,
+    functions: &[NameId],
+    ty: Ty,
+    step: u8,
+    out: &mut Vec<u8>,
+) -> Result<(), NoMemory>
+    ensures { OnOk result
+        (out.new.items ≡ out.old.items ++ step_text (naming_of names.now functions.now) ty step) }
+{
+    if step == OWNED_STEP {
+        out.extend_from_slice(b"'")?;
+        Ok(())
+    } else {
+        push_member(names, functions, ty, step as usize, out)
+    }
+}
+
+fn push_steps(
+    names: &Names,
+    functions: &[NameId],
+    types: &TypeTable,
+    id: Option<TyId>,
+    steps: &[u8],
+    out: &mut Vec<u8>,
+) -> Result<(), NoMemory>
+    ensures { OnOk result
+        (out.new.items ≡ out.old.items ++ steps_text (naming_of names.now functions.now) types.now id steps.now) }
+{
+    let mut here = id;
+    for step in steps {
+        push_step(names, functions, ty_if(types, here), *step, out)?;
+        here = step_type(types, here, *step);
+    }
+    Ok(())
+}
+
+// ---- places
+
+#[tactic(auto, using(std::proofs::Common::append_assoc))]
+fn push_part(
+    names: &Names,
+    functions: &[NameId],
     f: &CoreFn,
     types: &TypeTable,
-    root: Root,
+    local: u32,
+    steps: &[u8],
     out: &mut Vec<u8>,
 ) -> Result<(), NoMemory>
     ensures { OnOk result
         (out.new.items
-        ≡ out.old.items ++ root_text (map name_bytes names.now.texts.items) types.now (function_of f.now) root) }
+        ≡ out.old.items ++ part_text (naming_of names.now functions.now) types.now (function_of f.now) local steps.now) }
 {
-    match root {
-        Root::Local(local) => push_local(names, f, types, local, out)?,
-        Root::Input { parameter, .. } => {
-            out.extend_from_slice(b"in(")?;
-            push_local(names, f, types, parameter, out)?;
-            out.extend_from_slice(b")")?;
-        }
+    push_local(names, functions, f, types, local, out)?;
+    push_steps(
+        names,
+        functions,
+        types,
+        local_type(types, f, local),
+        steps,
+        out,
+    )
+}
+
+// The pointer for which a caller passed what this root stands for.
+fn input_of(
+    alloc: Global,
+    f: &CoreFn,
+    types: &TypeTable,
+    parameter: u32,
+    member: Option<u8>,
+) -> Result<Option<InputPointer>, NoMemory>
+    ensures { IfOk result (λ input.
+        option_map input_seen input ≡ input_of types.now (function_of f.now) parameter member) }
+{
+    let mut inputs = Vec::new(alloc);
+    push_inputs_at(
+        alloc,
+        types,
+        f.parameters,
+        parameter,
+        f.locals.get(parameter as usize),
+        &mut inputs,
+    )?;
+    Ok(inputs.get(input_number(member)).copied())
+}
+
+fn push_inputs_at(
+    alloc: Global,
+    types: &TypeTable,
+    parameters: u32,
+    number: u32,
+    local: Option<&Local>,
+    out: &mut Vec<InputPointer>,
+) -> Result<(), NoMemory>
+    ensures { OnOk result
+        (map input_seen out.new.items ≡ map input_seen out.old.items ++ inputs_at types.now parameters number (option_copied local.entry)) }
+{
+    match local {
+        None => Ok(()),
+        Some(local) => push_local_inputs(alloc, types, parameters, number, local, out),
     }
+}
+
+fn input_number(member: Option<u8>) -> usize
+    ensures { result ≡ input_number member }
+{
+    match member {
+        None => 0,
+        Some(number) => number as usize,
+    }
+}
+
+fn push_input(
+    names: &Names,
+    functions: &[NameId],
+    f: &CoreFn,
+    types: &TypeTable,
+    parameter: u32,
+    input: Option<InputPointer>,
+    out: &mut Vec<u8>,
+) -> Result<(), NoMemory>
+    ensures { OnOk result
+        (out.new.items
+        ≡ out.old.items ++ input_text (naming_of names.now functions.now) types.now (function_of f.now) parameter (option_map input_seen input)) }
+{
+    out.extend_from_slice(b"in(")?;
+    match input {
+        None => push_local(names, functions, f, types, parameter, out)?,
+        Some(input) => push_part(
+            names,
+            functions,
+            f,
+            types,
+            parameter,
+            input.pointer.path(),
+            out,
+        )?,
+    }
+    out.extend_from_slice(b")")?;
     Ok(())
 }
 
-// What became of the pointer or of the variable, given the variable's text.
-fn push_subject(name: &[u8], kind: CauseKind, out: &mut Vec<u8>) -> Result<(), NoMemory>
-    ensures { OnOk result (out.new.items ≡ out.old.items ++ cause_subject name.now kind) }
+fn behind_type(types: &TypeTable, input: Option<InputPointer>) -> Option<TyId>
+    ensures { result ≡ behind_type types.now (option_map input_seen input) }
+{
+    match input {
+        None => None,
+        Some(input) => target_type(types, input.ty),
+    }
+}
+
+fn push_place(
+    alloc: Global,
+    names: &Names,
+    functions: &[NameId],
+    f: &CoreFn,
+    types: &TypeTable,
+    place: &AbsPlace,
+    out: &mut Vec<u8>,
+) -> Result<(), NoMemory>
+    ensures { OnOk result
+        (out.new.items
+        ≡ out.old.items ++ place_text (naming_of names.now functions.now) types.now (function_of f.now) place.now) }
+{
+    match place.root {
+        Root::Local(local) => push_part(names, functions, f, types, local, place.path(), out),
+        Root::Input { parameter, member } => {
+            let input = input_of(alloc, f, types, parameter, member)?;
+            push_behind(
+                names,
+                functions,
+                f,
+                types,
+                parameter,
+                input,
+                place.path(),
+                out,
+            )
+        }
+    }
+}
+
+#[tactic(auto, using(std::proofs::Common::append_assoc))]
+fn push_behind(
+    names: &Names,
+    functions: &[NameId],
+    f: &CoreFn,
+    types: &TypeTable,
+    parameter: u32,
+    input: Option<InputPointer>,
+    steps: &[u8],
+    out: &mut Vec<u8>,
+) -> Result<(), NoMemory>
+    ensures { OnOk result
+        (out.new.items
+        ≡ out.old.items ++ (input_text (naming_of names.now functions.now) types.now (function_of f.now) parameter (option_map input_seen input) ++ steps_text (naming_of names.now functions.now) types.now (behind_type types.now (option_map input_seen input)) steps.now)) }
+{
+    push_input(names, functions, f, types, parameter, input, out)?;
+    push_steps(
+        names,
+        functions,
+        types,
+        behind_type(types, input),
+        steps,
+        out,
+    )
+}
+
+// ---- causes, elements and reasons
+
+fn push_function(
+    names: &Names,
+    functions: &[NameId],
+    number: u32,
+    out: &mut Vec<u8>,
+) -> Result<(), NoMemory>
+    ensures { OnOk result
+        (out.new.items ≡ out.old.items ++ function_text (naming_of names.now functions.now) number) }
+{
+    push_name_if(
+        names,
+        functions,
+        functions.get(number as usize).copied(),
+        out,
+    )
+}
+
+// What became of the pointer or of the variable, or what was done.
+#[tactic(auto, using(std::proofs::Common::append_assoc))]
+fn push_subject(
+    names: &Names,
+    functions: &[NameId],
+    f: &CoreFn,
+    types: &TypeTable,
+    root: u32,
+    kind: CauseKind,
+    out: &mut Vec<u8>,
+) -> Result<(), NoMemory>
+    ensures { OnOk result
+        (out.new.items
+        ≡ out.old.items ++ cause_subject (naming_of names.now functions.now) types.now (function_of f.now) root kind) }
 {
     match kind {
         CauseKind::Uninitialised => {
-            out.extend_from_slice(name)?;
+            push_local(names, functions, f, types, root, out)?;
             out.extend_from_slice(b" uninitialised at ")?;
         }
         CauseKind::Ended => {
-            out.extend_from_slice(name)?;
+            push_local(names, functions, f, types, root, out)?;
             out.extend_from_slice(b" ended at ")?;
         }
         CauseKind::TemporaryEnded => out.extend_from_slice(b"temporary ended at ")?,
+        CauseKind::Changed => {
+            push_local(names, functions, f, types, root, out)?;
+            out.extend_from_slice(b" changed at ")?;
+        }
+        CauseKind::OwnerChanged => out.extend_from_slice(b"owner changed at ")?,
+        CauseKind::Moved => {
+            push_local(names, functions, f, types, root, out)?;
+            out.extend_from_slice(b" moved at ")?;
+        }
+        CauseKind::Called => {
+            out.extend_from_slice(b"call of ")?;
+            push_function(names, functions, root, out)?;
+            out.extend_from_slice(b" at ")?;
+        }
     }
     Ok(())
 }
 
+#[tactic(auto, using(std::proofs::Common::append_assoc))]
 fn push_cause(
     alloc: Global,
     names: &Names,
+    functions: &[NameId],
     f: &CoreFn,
     types: &TypeTable,
     cause: Cause,
@@ -179,17 +535,77 @@ fn push_cause(
 ) -> Result<(), NoMemory>
     ensures { OnOk result
         (out.new.items
-        ≡ out.old.items ++ cause_text (map name_bytes names.now.texts.items) types.now (function_of f.now) cause) }
+        ≡ out.old.items ++ cause_text (naming_of names.now functions.now) types.now (function_of f.now) cause) }
 {
-    let mut name = Vec::new(alloc);
-    push_local(names, f, types, cause.root, &mut name)?;
-    push_subject(&name, cause.kind, out)?;
+    push_subject(names, functions, f, types, cause.root, cause.kind, out)?;
     push_position(alloc, cause.place, out)
 }
 
+#[tactic(auto, using(std::proofs::Common::append_assoc))]
+fn push_element(
+    alloc: Global,
+    names: &Names,
+    functions: &[NameId],
+    f: &CoreFn,
+    types: &TypeTable,
+    element: Element,
+    out: &mut Vec<u8>,
+) -> Result<(), NoMemory>
+    ensures { OnOk result
+        (out.new.items
+        ≡ out.old.items ++ element_text (naming_of names.now functions.now) types.now (function_of f.now) element) }
+{
+    match element {
+        Element::Null => out.extend_from_slice(b"null")?,
+        Element::Invalid(cause) => {
+            out.extend_from_slice(b"invalid(")?;
+            push_cause(alloc, names, functions, f, types, cause, out)?;
+            out.extend_from_slice(b")")?;
+        }
+        Element::Moved(cause) => {
+            out.extend_from_slice(b"moved(")?;
+            push_cause(alloc, names, functions, f, types, cause, out)?;
+            out.extend_from_slice(b")")?;
+        }
+        Element::Own => out.extend_from_slice(b"own")?,
+        Element::Static => out.extend_from_slice(b"static")?,
+        Element::At(place) => push_place(alloc, names, functions, f, types, &place, out)?,
+    }
+    Ok(())
+}
+
+// What a result may be that it shouldn't.
+#[tactic(auto, using(std::proofs::Common::append_assoc))]
+fn push_points(
+    alloc: Global,
+    names: &Names,
+    functions: &[NameId],
+    f: &CoreFn,
+    types: &TypeTable,
+    element: Element,
+    out: &mut Vec<u8>,
+) -> Result<(), NoMemory>
+    ensures { OnOk result
+        (out.new.items
+        ≡ out.old.items ++ points_text (naming_of names.now functions.now) types.now (function_of f.now) element) }
+{
+    match element {
+        Element::Null => {
+            out.extend_from_slice(b"may be null")?;
+            Ok(())
+        }
+        _ => {
+            out.extend_from_slice(b"may point to ")?;
+            push_element(alloc, names, functions, f, types, element, out)
+        }
+    }
+}
+
+#[tactic(auto, using(std::proofs::Common::append_assoc))]
 fn push_why(
     alloc: Global,
     names: &Names,
+    functions: &[NameId],
     f: &CoreFn,
     types: &TypeTable,
     why: Why,
@@ -197,11 +613,16 @@ fn push_why(
 ) -> Result<(), NoMemory>
     ensures { OnOk result
         (out.new.items
-        ≡ out.old.items ++ why_text (map name_bytes names.now.texts.items) types.now (function_of f.now) why) }
+        ≡ out.old.items ++ why_text (naming_of names.now functions.now) types.now (function_of f.now) why) }
 {
     match why {
         Why::Null => out.extend_from_slice(b"may be null")?,
-        Why::Cause(cause) => push_cause(alloc, names, f, types, cause, out)?,
+        Why::Cause(cause) => push_cause(alloc, names, functions, f, types, cause, out)?,
+        Why::Overlap(name) => {
+            out.extend_from_slice(b"overlaps ")?;
+            push_name(names, functions, name, out)?;
+        }
+        Why::Points(element) => push_points(alloc, names, functions, f, types, element, out)?,
     }
     Ok(())
 }

@@ -1,18 +1,21 @@
 -- A pointer that is aimed or repointed gets the set of what it points to.
-use Rattle.std.proofs.Common.{ℕ, List, [], Some, true, refl, sym, ap, subst, inl, inr}
-use Rattle.std.specs.Prelude.{Contains, slice_get, ◌&&◌}
+use Rattle.std.proofs.Common.{◌≡◌, ℕ, List, [], ◌∷◌, Some, Bool, true, refl, sym, ap, subst, ◌∙◌, inl, inr}
+use Rattle.std.specs.Prelude.{Contains, slice_get, cond}
 use Rattle.life_types.specs.Types.{Types}
 use Rattle.life_types.specs.declared.place.Place.{Place}
 use Rattle.life_core.specs.Function.{Function}
-use Rattle.life_core.specs.Proper.{APointer, IsStepReady}
+use Rattle.life_core.specs.Proper.{APointer, IsOperandReady, IsStepReady}
 use Rattle.life_core.specs.Step.{Aim, Repoint}
 use Rattle.life_core.specs.Operands.{Location, Operand, Name, Through, Source}
 use Rattle.life_core.specs.Operands as source
 use Rattle.life_pset.specs.Elements.{local_place}
 use Rattle.life_pset.specs.Table.{IsOf, table_of}
+use Rattle.life_pset.specs.Places.{members_place}
+use Rattle.life_pset.specs.declared.element.AbsPlace.{AbsPlace}
+use Rattle.life_pset.specs.declared.element.Element.{Element}
 use Rattle.life_pset.specs.declared.element.Element.TheVariants as element
 use Rattle.life_pset.specs.declared.element.Fact.{Fact}
-use Rattle.life_rules.specs.Carrying.{fact_at, named_target, aimed_facts}
+use Rattle.life_rules.specs.Carrying.{fact_at, facts_at, facts_if, given_if, is_location, located}
 use Rattle.life_rules.proofs.Giving.{at_head}
 use Rattle.life_store.specs.Doing.{Setting, Next, put_cell, on_pointer, on_found, pointer_to, text_length, aimed, does}
 use Rattle.life_store.specs.State.{Null, Points, State, holdings_of}
@@ -20,30 +23,34 @@ use Rattle.life_store.proofs.CellLemmas.{held_is, pointer_cell, view_cell}
 use Rattle.life_store.proofs.Housing.{Housed}
 use Rattle.life_sound.proofs.Covering.{Known, valid_one}
 use Rattle.life_sound.proofs.Facts.{pointer_location, null_element, object_element, fact_of, element_in, Closed, made, if_given, Clean}
-use Rattle.life_sound.proofs.Places.{same_location, other_location}
+use Rattle.life_sound.proofs.Places.{located_whole, same_location, other_location}
 use Rattle.life_sound.proofs.Reaching.{Sees, reached}
 use Rattle.life_sound.proofs.Sorts.{IsSorted, named_sort}
 use Rattle.life_sound.proofs.Writing.{IsSafe, pointer_known, view_known}
 
+-- the element is given to the pointer itself
+at_pointer : (p : Location) → p.members ≡ [] → (e : Element) → Contains (facts_at (located p) (Some e)) (fact_at (local_place p.local) e)
+at_pointer p whole e = subst (λ (l : AbsPlace). Contains (fact_at l e ∷ []) (fact_at (local_place p.local) e)) (sym (located_whole p whole)) (at_head (fact_at (local_place p.local) e) [])
+
 module _ (n : ℕ) (types : Types) (fs : List Function) (f : Function) (place : Place) (S S' : Fact → Type 0) (st : State) (h : Housed st.world.content st.cells) (sorted : IsSorted types f (holdings_of st)) (k : Known S st) where
   pub aim_known : (p : Location) (source : Source) → IsStepReady types fs f (holdings_of st) (Aim p source) → Clean n place (Aim p source) S → Closed types f place (Aim p source) S S'
       → (s : Setting) → IsSafe S' (aimed s p.local source st)
-  aim_known p source.Null ready clean cl s = pointer_known types f place S S' st sorted k (Aim p source.Null) cl p.local Null ready.1 (λ q e ne. other_location p.local q ne) record {
+  aim_known p source.Null ready clean cl s = pointer_known types f place S S' st sorted k (Aim p source.Null) cl p.local Null ready.1 (λ q e ne. other_location p ready.0 q ne) record {
     known = element.Null;
-    holds = cl.none _ (fact_of types f (local_place p.local) element.Null (pointer_location types f p.local ready.1) (null_element f)) (at_head _ []);
+    holds = cl.none _ (fact_of types f (local_place p.local) element.Null (pointer_location types f p.local ready.1) (null_element types f)) (at_pointer p ready.0 element.Null);
     covers = tt;
   }
   aim_known p (source.Text n') ready clean cl s =
-      view_known types f place S S' st sorted k (Aim p (source.Text n')) cl p.local (record { text = Some n'; index = 0; count = text_length (slice_get s.texts n') }) ready.1 (λ q e ne. other_location p.local q ne)
+      view_known types f place S S' st sorted k (Aim p (source.Text n')) cl p.local (record { text = Some n'; index = 0; count = text_length (slice_get s.texts n') }) ready.1 (λ q e ne. other_location p ready.0 q ne)
   aim_known p source.Empty ready clean cl s = absurd ready.1
   aim_known p (source.Whole o) ready clean cl s = absurd ready.1
   aim_known p (source.Get l) ready clean cl s = absurd ready.1
   aim_known p (source.Place o) ready clean cl s =
       let at = reached n place (Aim p (source.Place o)) S clean st h k o (λ q used. used) ready.1.1 in
       subst (λ found. IsSafe S' (on_found found (λ m i object. Next (put_cell p.local (Points (pointer_to st.world.content m i)) st)))) (sym at.here)
-      (pointer_known types f place S S' st sorted k (Aim p (source.Place o)) cl p.local (pointer_to st.world.content at.number at.index) ready.1.0 (λ q e ne. other_location p.local q ne) record {
+      (pointer_known types f place S S' st sorted k (Aim p (source.Place o)) cl p.local (pointer_to st.world.content at.number at.index) ready.1.0 (λ q e ne. other_location p ready.0 q ne) record {
         known = element.At (local_place at.local);
-        holds = holds o at.local at.seen cl (fact_of types f (local_place p.local) _ (pointer_location types f p.local ready.1.0) (object_element types f at.local (named_sort types f st.cells at.local at.number sorted at.named)));
+        holds = holds o at.local ready.1.1 at.seen cl (fact_of types f (local_place p.local) _ (pointer_location types f p.local ready.1.0) (object_element types f at.local (named_sort types f st.cells at.local at.number sorted at.named)));
         covers = record {
           local = at.local;
           place_is = refl;
@@ -52,25 +59,30 @@ module _ (n : ℕ) (types : Types) (fs : List Function) (f : Function) (place : 
         };
       })
     where
-      holds : (o : Operand) (y : ℕ) → Sees S o y → Closed types f place (Aim p (source.Place o)) S S' → IsOf (table_of types f) (fact_at (local_place p.local) (element.At (local_place y))) → S' (fact_at (local_place p.local) (element.At (local_place y)))
-      holds (Name l) y seen cl of =
-          cl.none _ of (subst (λ z. Contains (aimed_facts p.local (named_target (source.Place (Name l)))) (fact_at (local_place p.local) (element.At (local_place z)))) seen (at_head _ []))
-      holds (Through q members) y seen cl of =
+      holds : (o : Operand) (y : ℕ) → IsOperandReady (holdings_of st) o → Sees S o y → Closed types f place (Aim p (source.Place o)) S S' → IsOf (table_of types f) (fact_at (local_place p.local) (element.At (local_place y))) → S' (fact_at (local_place p.local) (element.At (local_place y)))
+      holds (Name l) y whole seen cl of =
+          cl.none _ of
+          (subst (λ (a : AbsPlace). Contains (facts_at (located p) (Some (element.At a))) (fact_at (local_place p.local) (element.At (local_place y)))) (sym (located_whole l whole.0 ∙ ap local_place seen))
+          (at_pointer p ready.0 (element.At (local_place y))))
+      holds (Through q members) y whole seen cl of =
           made types f place (Aim p (source.Place (Through q members))) S S' cl (fact_at (local_place q.local) (element.At (local_place y))) (fact_at (local_place p.local) (element.At (local_place y))) seen of
-          (if_given _ _ (ap (λ b. b && true) (same_location q.local)))
+          (subst (λ (ms : List ℕ). Contains (facts_if (is_location q (local_place q.local)) (located p) (Some (element.At (members_place (local_place y) ms)))) (fact_at (local_place p.local) (element.At (local_place y)))) (sym whole.0)
+          (subst (λ (b : Bool). Contains (cond b (facts_at (located p) (Some (element.At (local_place y)))) []) (fact_at (local_place p.local) (element.At (local_place y)))) (sym (same_location q whole.1.0))
+          (at_pointer p ready.0 (element.At (local_place y)))))
 
   pub repoint_known : (p q : Location) → IsStepReady types fs f (holdings_of st) (Repoint p q) → Closed types f place (Repoint p q) S S' → (s : Setting) → IsSafe S' (does s types f (Repoint p q) st)
   repoint_known p q (inl ready) cl s =
       let cell = pointer_cell st.cells q.local ready.1.1 in
       let c = k.covered q.local cell.0 cell.1 (held_is st.cells q.local APointer (Points cell.0) ready.1.1 cell.1) in
       subst (λ o. IsSafe S' (on_pointer o (λ v. Next (put_cell p.local (Points v) st)))) (sym cell.1)
-      (pointer_known types f place S S' st sorted k (Repoint p q) cl p.local cell.0 ready.0.1 (λ y e ne. other_location p.local y ne) record {
+      (pointer_known types f place S S' st sorted k (Repoint p q) cl p.local cell.0 ready.0.1 (λ y e ne. other_location p ready.0.0 y ne) record {
         known = c.known;
         holds = made types f place (Repoint p q) S S' cl (fact_at (local_place q.local) c.known) (fact_at (local_place p.local) c.known) c.holds
-            (fact_of types f (local_place p.local) c.known (pointer_location types f p.local ready.0.1) (element_in types f _ (cl.of _ c.holds))) (if_given _ _ (same_location q.local));
+            (fact_of types f (local_place p.local) c.known (pointer_location types f p.local ready.0.1) (element_in types f _ (cl.of _ c.holds)))
+            (subst (λ (l : AbsPlace). Contains (given_if (is_location q (local_place q.local)) (fact_at l c.known)) (fact_at (local_place p.local) c.known)) (sym (located_whole p ready.0.0)) (if_given _ _ (same_location q ready.1.0)));
         covers = c.covers;
       })
   repoint_known p q (inr ready) cl s =
       let cell = view_cell st.cells q.local ready.1.1 in
       subst (λ o. IsSafe S' (on_pointer o (λ v. Next (put_cell p.local (Points v) st)))) (sym cell.1)
-      (view_known types f place S S' st sorted k (Repoint p q) cl p.local cell.0 ready.0.1 (λ y e ne. other_location p.local y ne))
+      (view_known types f place S S' st sorted k (Repoint p q) cl p.local cell.0 ready.0.1 (λ y e ne. other_location p ready.0.0 y ne))

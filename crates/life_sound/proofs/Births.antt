@@ -1,10 +1,11 @@
 -- A birth makes what is known of a pointer that is born, and keeps the rest.
 use Rattle.std.proofs.Common.{◌≡◌, ◌≢◌, ℕ, ◌+◌, ◌*◌, List, [], Option, Some, None, true, false, refl, sym, ap, subst, ◌∙◌, arith, ⊎_elim, ◌⊎◌}
 use Rattle.std.specs.Prelude.{Contains, slice_get, slice_set, nat_lt}
-use Rattle.std.proofs.lemmas.Bool.{cond_both, ne_eqb}
+use Rattle.std.proofs.lemmas.Bool.{cond_both, false≢true, ne_eqb}
 use Rattle.life_types.specs.Types.{Types}
 use Rattle.life_types.specs.declared.place.Place.{Place}
-use Rattle.life_types.specs.declared.ty.Class.{Class}
+use Rattle.life_types.specs.declared.ty.Ty.{Ty}
+use Rattle.life_types.specs.declared.ty.Ty.TheVariants as type
 use Rattle.life_types.specs.declared.ty.TyId.{TyId}
 use Rattle.life_core.specs.Function.{Function}
 use Rattle.life_core.specs.Proper.{Holding, Blank, AnObject, ANumber, APointer, AView, sort_of, IsStepReady}
@@ -12,12 +13,13 @@ use Rattle.life_core.specs.Step.{Live}
 use Rattle.life_core.specs.declared.instr.Form.{Form}
 use Rattle.life_core.specs.declared.instr.Form.TheVariants as way
 use Rattle.life_core.specs.declared.program.Local.{Local}
-use Rattle.life_pset.specs.Elements.{local_place, location_if, uninitialised, elements_of}
+use Rattle.life_pset.specs.Elements.{local_place, uninitialised, elements_of}
+use Rattle.life_pset.specs.Shapes.{or_void, ty_if}
 use Rattle.life_pset.specs.declared.element.Element.{Element}
 use Rattle.life_pset.specs.declared.element.Element.TheVariants as element
 use Rattle.life_pset.specs.declared.element.Fact.{Fact}
-use Rattle.life_rules.specs.Carrying.{fact_at, locations_at, born, born_facts, drops}
-use Rattle.life_rules.proofs.Giving.{at_head}
+use Rattle.life_rules.specs.Carrying.{fact_at, facts_at, locations_at, locations_of_local, born, born_raw, born_facts, drops, from_none, own_type}
+use Rattle.life_rules.proofs.Giving.{at_head, flat_map_into}
 use Rattle.life_store.specs.Content.{live_words_of, is_valid_in}
 use Rattle.life_store.specs.Doing.{Setting, Next, Traps, put_cell, put_content, is_valid, with_value_object, born_pointer, live_as, live_over, live_local}
 use Rattle.life_store.specs.State.{Target, Pointer, Empty, Named, Points, State, holdings_of}
@@ -25,7 +27,8 @@ use Rattle.life_store.specs.declared.run.TrapKind.TheVariants as trap
 use Rattle.life_store.proofs.CellLemmas.{some_same, empty_cell_is, cell_cases, cell_other}
 use Rattle.life_store.proofs.Housing.{Housed, born_cases}
 use Rattle.life_sound.proofs.Covering.{IsRaw, covers_on, Cover, Known, birth_timely}
-use Rattle.life_sound.proofs.Facts.{pointer_local, pointer_location, null_element, cause_element, fact_of, Closed}
+use Rattle.life_sound.proofs.Facts.{local_location, pointer_local, pointer_location, null_element, caused_element, fact_of, Closed}
+use Rattle.life_sound.proofs.Located.{is_direct, IsDirect}
 use Rattle.life_sound.proofs.Sorts.{IsSorted}
 use Rattle.life_sound.proofs.Writing.{IsSafe, known_kept, put_known}
 
@@ -82,25 +85,35 @@ module _ (types : Types) (fs : List Function) (f : Function) (place : Place) (S 
       born_known ty =
           known_kept types f place S S' (put_cell x (Named st.world.content.births) (put_content (with_value_object ty st.world.content) st)) (Live x form) cl stays (object_known S st h k ty x empty)
         where
-          stays : (q : ℕ) (w : Pointer) (e : Element) → slice_get (slice_set st.cells x (Named st.world.content.births)) q ≡ Some (Points w) → drops (Live x form) (fact_at (local_place q) e) ≡ false
+          stays : (q : ℕ) (w : Pointer) (e : Element) → slice_get (slice_set st.cells x (Named st.world.content.births)) q ≡ Some (Points w) → drops types f place (Live x form) (fact_at (local_place q) e) ≡ false
           stays q w e at = ne_eqb x q (born_other S st h k ty x empty q w at).0
 
       -- a pointer is born: it is null, or invalid from the start
-      born_holds : (e : Element) → e ≡ born place x form → sort_of types f x ≡ APointer → Contains (elements_of f) e → S' (fact_at (local_place x) e)
+      born_there : (l : Local) → slice_get f.locals x ≡ Some l → IsDirect types l.ty → Contains (from_none types f place (Live x form)) (fact_at (local_place x) (born_raw place x form))
+      born_there l is direct =
+          flat_map_into (born_facts types f place x form) (locations_of_local types f x) (local_place x) (fact_at (local_place x) (born_raw place x form))
+          (subst (λ (o : Option Local). Contains (locations_at types f.parameters x o) (local_place x)) (sym is) (local_location types f.parameters x l direct))
+          (subst (λ (o : Option Local). Contains (facts_at (local_place x) (born place x form (ty_if types (own_type o)))) (fact_at (local_place x) (born_raw place x form))) (sym is)
+          (subst (λ (o : Option Ty). Contains (facts_at (local_place x) (born place x form (or_void o))) (fact_at (local_place x) (born_raw place x form))) (sym direct.1.0) (by_type direct.0 direct.1.1)))
+        where
+          by_type : (t : Ty) → is_direct t ≡ true → Contains (facts_at (local_place x) (born place x form t)) (fact_at (local_place x) (born_raw place x form))
+          by_type (type.Raw target constant) h = at_head (fact_at (local_place x) (born_raw place x form)) []
+          by_type (type.Reference target constant) h = at_head (fact_at (local_place x) (born_raw place x form)) []
+          by_type _ h = absurd (false≢true h)
+
+      born_holds : (e : Element) → e ≡ born_raw place x form → sort_of types f x ≡ APointer → Contains (elements_of types f) e → S' (fact_at (local_place x) e)
       born_holds e is sort of =
           let l = pointer_local types f x sort in
           cl.none (fact_at (local_place x) e) (fact_of types f (local_place x) e (pointer_location types f x sort) of)
-          (subst (λ (b : Element). Contains (born_facts b (locations_at types x (slice_get f.locals x))) (fact_at (local_place x) e)) is
-          (subst (λ o. Contains (born_facts e (locations_at types x o)) (fact_at (local_place x) e)) (sym l.1.0)
-          (subst (λ (c : Class). Contains (born_facts e (location_if c x)) (fact_at (local_place x) e)) (sym l.1.1) (at_head (fact_at (local_place x) e) []))))
+          (subst (λ (b : Element). Contains (from_none types f place (Live x form)) (fact_at (local_place x) b)) (sym is) (born_there l.0 l.1.0 l.1.1))
 
       born_cover : (form' : Form) → form' ≡ form → sort_of types f x ≡ APointer → Cover S' st.world.content st.cells x (born_pointer form')
       born_cover way.Plain is sort = record {
         known = element.Invalid (uninitialised place x);
-        holds = born_holds _ (ap (born place x) is) sort (cause_element f _ (cl.causes _ (at_head _ [])));
+        holds = born_holds _ (ap (born_raw place x) is) sort (caused_element types f _ (cl.causes _ (at_head _ [])));
         covers = tt;
       }
-      born_cover way.Zero is sort = record { known = element.Null; holds = born_holds _ (ap (born place x) is) sort (null_element f); covers = tt }
+      born_cover way.Zero is sort = record { known = element.Null; holds = born_holds _ (ap (born_raw place x) is) sort (null_element types f); covers = tt }
 
       as_safe : (sort : Holding) (ty : TyId) → sort_of types f x ≡ sort → IsSafe S' (live_as s sort ty form x st)
       as_safe Blank ty e = tt

@@ -1,5 +1,5 @@
 -- A test carries on what covers the value that was tested, and all of the other pointers.
-use Rattle.std.proofs.Common.{◌≡◌, ◌≢◌, ℕ, zero, suc, Some, Bool, true, false, refl, sym, ap, subst, ◌∙◌, ⊎_elim}
+use Rattle.std.proofs.Common.{◌≡◌, ◌≢◌, ℕ, zero, suc, [], Some, Bool, true, false, refl, sym, ap, subst, ◌∙◌, ⊎_elim}
 use Rattle.std.specs.Prelude.{ℤ, pos, negsuc, slice_get, cond, ◌&&◌}
 use Rattle.std.proofs.lemmas.Bool.Decides.{eqb_tells}
 use Rattle.life_core.specs.Proper.{IsTestReady}
@@ -58,9 +58,9 @@ and_false true = refl
 and_false false = refl
 
 -- a test for null keeps what covers its pointer's value
-null_on : (at : Location) (branch : Bool) (v : Pointer) (S S' : Fact → Type 0) (st : State) → slice_get st.cells at.local ≡ Some (Points v) → ((e : Element) → Covers st.world.content st.cells e v → cond branch (is_null e) (is_held e) ≡ false)
+null_on : (at : Location) → at.members ≡ [] → (branch : Bool) (v : Pointer) (S S' : Fact → Type 0) (st : State) → slice_get st.cells at.local ≡ Some (Points v) → ((e : Element) → Covers st.world.content st.cells e v → cond branch (is_null e) (is_held e) ≡ false)
     → Passes (NotNull at) branch S S' → Known S st → Known S' st
-null_on location branch v S S' st is left passes k = known_on S S' st (λ q w e at cov s. passes (fact_at (local_place q) e) s (gone q w e at cov)) k
+null_on location whole branch v S S' st is left passes k = known_on S S' st (λ q w e at cov s. passes (fact_at (local_place q) e) s (gone q w e at cov)) k
   where
     p : ℕ
     p = location.local
@@ -68,13 +68,13 @@ null_on location branch v S S' st is left passes k = known_on S S' st (λ q w e 
     points_same : {a b : Pointer} → Points a ≡ Points b → a ≡ b
     points_same e = cc
 
-    gone : (q : ℕ) (w : Pointer) (e : Element) → slice_get st.cells q ≡ Some (Points w) → Covers st.world.content st.cells e w → (is_location p (local_place q) && cond branch (is_null e) (is_held e)) ≡ false
+    gone : (q : ℕ) (w : Pointer) (e : Element) → slice_get st.cells q ≡ Some (Points w) → Covers st.world.content st.cells e w → (is_location location (local_place q) && cond branch (is_null e) (is_held e)) ≡ false
     gone q w e at cov =
         ⊎_elim
         (λ s.
         let same : w ≡ v = points_same (some_same (sym at ∙ ap (slice_get st.cells) (sym s.1) ∙ is)) in
-        ap (λ b. is_location p (local_place q) && b) (left e (subst (Covers st.world.content st.cells e) same cov)) ∙ and_false (is_location p (local_place q)))
-        (λ d. ap (λ b. b && cond branch (is_null e) (is_held e)) (other_location p q d.1))
+        ap (λ b. is_location location (local_place q) && b) (left e (subst (Covers st.world.content st.cells e) same cov)) ∙ and_false (is_location location (local_place q)))
+        (λ d. ap (λ b. b && cond branch (is_null e) (is_held e)) (other_location location whole q d.1))
         (eqb_tells p q)
 
 pub test_known : (t : Test) (S H F : Fact → Type 0) (n : ℕ) (st : State) → IsTestReady (holdings_of st) t → Passes t true S H → Passes t false S F → Known S st → IsKnownBy H F (test_at t n st)
@@ -109,7 +109,7 @@ test_known (NotNull p) S H F n st ready held failed k =
         clash e = cc
 
     go : (v : Pointer) → slice_get st.cells p.local ≡ Some (Points v) → IsKnownBy H F (by_pointer v n st)
-    go Null e = null_on p false Null S F st e (held_left st.world.content st.cells) failed k
-    go Wild e = null_on p true Wild S H st e (λ x cov. null_left st.world.content st.cells Wild x wild cov) held k
-    go (To t) e = null_on p true (To t) S H st e (λ x cov. null_left st.world.content st.cells (To t) x (aimed t) cov) held k
-    go (Static c) e = null_on p true (Static c) S H st e (λ x cov. null_left st.world.content st.cells (Static c) x (viewed c) cov) held k
+    go Null e = null_on p ready.0 false Null S F st e (held_left st.world.content st.cells) failed k
+    go Wild e = null_on p ready.0 true Wild S H st e (λ x cov. null_left st.world.content st.cells Wild x wild cov) held k
+    go (To t) e = null_on p ready.0 true (To t) S H st e (λ x cov. null_left st.world.content st.cells (To t) x (aimed t) cov) held k
+    go (Static c) e = null_on p ready.0 true (Static c) S H st e (λ x cov. null_left st.world.content st.cells (Static c) x (viewed c) cov) held k

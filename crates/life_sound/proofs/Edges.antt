@@ -1,6 +1,7 @@
 -- The derived facts of a point and of the points to which it leads.
 use Rattle.std.proofs.Common.{◌≡◌, ℕ, zero, suc, ◌+◌, List, [], ◌∷◌, ◌++◌, Option, Some, None, Bool, true, false, sym, ap, subst, arith, ⊎_elim}
 use Rattle.std.specs.Prelude.{Contains, slice_get, option_map}
+use Rattle.std.specs.List.{flat_map}
 use Rattle.std.proofs.lemmas.List.Elements.{Contains-append_left, Contains-append_right}
 use Rattle.life_types.specs.Types.{Types}
 use Rattle.life_types.specs.declared.place.Place.{Place}
@@ -14,7 +15,7 @@ use Rattle.life_pset.specs.Table.{IsOf, table_of}
 use Rattle.life_pset.specs.declared.element.Fact.{Fact}
 use Rattle.life_rules.specs.Carrying.{unless, none_at, one_at, two_at}
 use Rattle.life_rules.specs.Deriving.{Derives, entry, along}
-use Rattle.life_rules.specs.Diagnosing.{diags_at, IsDiagnosed}
+use Rattle.life_rules.specs.Diagnosing.{diags_at, misused_as, uses, IsDiagnosed}
 use Rattle.life_rules.specs.declared.diag.Diag.{Diag}
 use Rattle.life_rules.proofs.Giving.{none_in_empty, at_head, cons_cases}
 use Rattle.life_store.proofs.CellLemmas.{none_some, some_same}
@@ -72,10 +73,10 @@ module _ (types : Types) (f : Function) where
       let is = spot_is b l here in
       record {
         of = λ x s. derived_of types f s;
-        causes = λ c h. point_causes f b l c here h;
+        causes = λ e h. point_causes f b l e here h;
         none = λ x of h. along e [] among (λ y k. absurd (none_in_empty y k)) (of, subst (λ o. Contains (none_at types f o) x) (sym is) h);
-        one = λ a x s of h. along e (a ∷ []) among (one_held (FactsAt types f b) a s) (of, subst (λ o. Contains (one_at f None o a) x) (sym is) h);
-        two = λ a c x s t of h. along e (a ∷ c ∷ []) among (two_held (FactsAt types f b) a c s t) (of, subst (λ o. Contains (two_at f o a c) x) (sym is) h);
+        one = λ a x s of h. along e (a ∷ []) among (one_held (FactsAt types f b) a s) (of, subst (λ o. Contains (one_at types f None o a) x) (sym is) h);
+        two = λ a c x s t of h. along e (a ∷ c ∷ []) among (two_held (FactsAt types f b) a c s t) (of, subst (λ o. Contains (two_at types f o a c) x) (sym is) h);
       }
 
   -- a test's point, and the point to which a branch leads
@@ -85,7 +86,7 @@ module _ (types : Types) (f : Function) where
       let l : Linked = record { spot = spot_at place (Question t); leads = leads } in
       let e = edge b q (Some branch) in
       along e (a ∷ []) (edge_at f b l e here out) (one_held (FactsAt types f b) a s)
-      (derived_of types f s, subst (λ o. Contains (one_at f (Some branch) o a) a) (sym (spot_is b l here)) (subst (λ g. Contains (unless g a) a) (sym stays) (at_head a [])))
+      (derived_of types f s, subst (λ o. Contains (one_at types f (Some branch) o a) a) (sym (spot_is b l here)) (subst (λ g. Contains (unless g a) a) (sym stays) (at_head a [])))
 
   pub held_passes : (t : Test) (b q : ℕ) (place : Place) (failed : Option ℕ) → numbered (code_of f) b ≡ Some (record { spot = spot_at place (Question t); leads = parts (Some q) failed }) → Passes t true (FactsAt types f b) (FactsAt types f q)
   held_passes t b q place failed here = passes t b q place true (parts (Some q) failed) here (first_edge b q failed)
@@ -97,4 +98,5 @@ module _ (types : Types) (f : Function) where
   pub clean_at : (n : ℕ) → ((d : Diag) → IsDiagnosed types n f d → ⊥) → (i : Step) (b : ℕ) (place : Place) (leads : List Lead) → numbered (code_of f) b ≡ Some (record { spot = spot_at place (Action i); leads = leads }) → Clean n place i (FactsAt types f b)
   clean_at n none i b place leads here x s d h =
       let l : Linked = record { spot = spot_at place (Action i); leads = leads } in
-      none d (record { 0 = b }, (x, (s, subst (λ o. Contains (diags_at n o x) d) (sym (spot_is b l here)) h)))
+      let told = Contains-append_left (flat_map (misused_as n place x) (uses i)) _ d h in
+      none d (record { 0 = b }, (x ∷ [], (one_held (FactsAt types f b) x s, subst (λ o. Contains (diags_at types n f o x) d) (sym (spot_is b l here)) told)))

@@ -8,7 +8,7 @@ use Rattle.life_core.specs.Function.{Function}
 use Rattle.life_core.specs.Proper.{AnObject, sort_of, IsStepReady}
 use Rattle.life_core.specs.Step.{End}
 use Rattle.life_core.specs.declared.program.LocalKind.{LocalKind}
-use Rattle.life_pset.specs.Elements.{local_place, ended_local, end_if, end_causes, causes_of_end}
+use Rattle.life_pset.specs.Elements.{local_place, ended_local, end_if, end_causes, causes_of_end, end_elements}
 use Rattle.life_pset.specs.declared.element.Cause.{Cause}
 use Rattle.life_pset.specs.declared.element.Element.{Element}
 use Rattle.life_pset.specs.declared.element.Element.TheVariants as element
@@ -22,12 +22,12 @@ use Rattle.life_store.specs.State.{Target, Pointer, Null, Wild, To, Static, Empt
 use Rattle.life_store.proofs.Housing.{Housed}
 use Rattle.life_sound.proofs.Covering.{IsRaw, Covers, Cover, Known}
 use Rattle.life_sound.proofs.Ending.{AfterEnds, ends_are}
-use Rattle.life_sound.proofs.Facts.{object_local, cause_element, fact_of, Closed, kept, made, among, map_into}
+use Rattle.life_sound.proofs.Facts.{object_local, caused_element, fact_of, Closed, kept, made, among, map_into}
 use Rattle.life_sound.proofs.Sorts.{IsSorted, named_sort}
 use Rattle.life_sound.proofs.Writing.{IsSafe}
 
 module _ (types : Types) (f : Function) (place : Place) (xs : List ℕ) (S S' : Fact → Type 0) (st st' : State) (sorted : IsSorted types f (holdings_of st)) (k : Known S st) (cl : Closed types f place (End xs) S S') (after : AfterEnds xs st st') where
-  stays : (q : ℕ) (e : Element) → list_any (λ z. nat_eq z q) xs ≡ false → points_among xs e ≡ false → drops (End xs) (fact_at (local_place q) e) ≡ false
+  stays : (q : ℕ) (e : Element) → list_any (λ z. nat_eq z q) xs ≡ false → points_among xs e ≡ false → drops types f place (End xs) (fact_at (local_place q) e) ≡ false
   stays q e out none = ap (λ b. b || points_among xs e) out ∙ none
 
   -- what ended makes a pointer to it invalid
@@ -39,7 +39,8 @@ module _ (types : Types) (f : Function) (place : Place) (xs : List ℕ) (S S' : 
       let causes : Contains (causes_of_end f place y) c =
       subst (λ o. Contains (end_causes place y o) c) (sym l.1.0) (subst (λ (kind : LocalKind). Contains (end_if kind c) c) (sym l.1.1) (at_head c [])) in
       let location = ((is_of_iff types f (fact_at (local_place q) (element.At (local_place y)))).0 (cl.of _ s)).0 in
-      let of = fact_of types f (local_place q) (element.Invalid c) location (cause_element f c (cl.causes c (flat_map_into (causes_of_end f place) xs y c (among xs y inside) causes))) in (
+      let of = fact_of types f (local_place q) (element.Invalid c) location (caused_element types f (element.Invalid c)
+      (cl.causes (element.Invalid c) (flat_map_into (end_elements f place) xs y (element.Invalid c) (among xs y inside) (map_into element.Invalid (causes_of_end f place y) c causes)))) in (
         c,
         made types f place (End xs) S S' cl (fact_at (local_place q) (element.At (local_place y))) (fact_at (local_place q) (element.Invalid c)) s of
             (subst (λ b. Contains (cond b [] (ended_element f place xs (local_place q) (element.At (local_place y)))) (fact_at (local_place q) (element.Invalid c))) (sym out)

@@ -9,6 +9,7 @@ mod Ending
 mod Ends
 mod Entering
 pub mod Facts
+pub mod Located
 mod Places
 mod Reaching
 mod Sorts

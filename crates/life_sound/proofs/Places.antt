@@ -1,13 +1,20 @@
 -- The places of locals: one is that of a pointer just where they are the same local.
-use Rattle.std.proofs.Common.{◌≡◌, ◌≢◌, ℕ, Bool, true, false, refl, ap}
+use Rattle.std.proofs.Common.{◌≡◌, ◌≢◌, ℕ, List, [], Bool, true, false, refl, ap, ◌∙◌}
+use Rattle.life_core.specs.Operands.{Location}
 use Rattle.life_pset.specs.Elements.{local_place}
+use Rattle.life_pset.specs.Places.{members_place}
+use Rattle.life_pset.specs.contracts.element.AbsPlacePartialEq.TheImpl.{ghosts as compared}
 use Rattle.life_pset.specs.declared.element.AbsPlace.{AbsPlace}
 use Rattle.life_pset.specs.declared.element.Root.TheVariants as root
 use Rattle.life_pset.proofs.Numbers.{exact_place, place_laws}
-use Rattle.life_rules.specs.Carrying.{is_location}
+use Rattle.life_rules.specs.Carrying.{is_location, located}
 
-pub same_location : (p : ℕ) → is_location p (local_place p) ≡ true
-same_location p = place_laws.refl (local_place p)
+-- a location without members is its local
+pub located_whole : (p : Location) → p.members ≡ [] → located p ≡ local_place p.local
+located_whole p none = ap (members_place (local_place p.local)) none
+
+pub same_location : (p : Location) → p.members ≡ [] → is_location p (local_place p.local) ≡ true
+same_location p none = ap (compared.eq (local_place p.local)) (located_whole p none) ∙ place_laws.refl (local_place p.local)
 
 local_same : (p q : ℕ) → local_place q ≡ local_place p → p ≡ q
 local_same p q e = inside (ap (λ (l : AbsPlace). l.root) e)
@@ -15,9 +22,9 @@ local_same p q e = inside (ap (λ (l : AbsPlace). l.root) e)
     inside : root.Local q ≡ root.Local p → p ≡ q
     inside e = cc
 
-pub other_location : (p q : ℕ) → p ≢ q → is_location p (local_place q) ≡ false
-other_location p q ne = go (is_location p (local_place q)) refl
+pub other_location : (p : Location) → p.members ≡ [] → (q : ℕ) → p.local ≢ q → is_location p (local_place q) ≡ false
+other_location p none q ne = go (is_location p (local_place q)) refl
   where
     go : (b : Bool) → is_location p (local_place q) ≡ b → is_location p (local_place q) ≡ false
-    go true e = absurd (ne (local_same p q (exact_place (local_place q) (local_place p) e)))
+    go true e = absurd (ne (local_same p.local q (exact_place (local_place q) (located p) e ∙ located_whole p none)))
     go false e = e

@@ -41,8 +41,8 @@ pub record Reached (S : Fact → Type 0) (st : State) (o : Operand) : Type 0 whe
   pub seen : Sees S o local
 
 module _ (n : ℕ) (place : Place) (i : Step) (S : Fact → Type 0) (clean : Clean n place i S) (st : State) (h : Housed st.world.content st.cells) (k : Known S st) where
-  through : (at : Location) (members : List ℕ) → Contains (uses i) at.local → (v : Pointer) → slice_get st.cells at.local ≡ Some (Points v) → Cover S st.world.content st.cells at.local v → Reached S st (Through at members)
-  through at members used v e cover = go v e cover.known cover.holds cover.covers
+  through : (at : Location) (members : List ℕ) → at.members ≡ [] → Contains (uses i) at → (v : Pointer) → slice_get st.cells at.local ≡ Some (Points v) → Cover S st.world.content st.cells at.local v → Reached S st (Through at members)
+  through at members whole used v e cover = go v e cover.known cover.holds cover.covers
     where
       p : ℕ
       p = at.local
@@ -67,11 +67,11 @@ module _ (n : ℕ) (place : Place) (i : Step) (S : Fact → Type 0) (clean : Cle
           }
 
       go : (v : Pointer) → slice_get st.cells p ≡ Some (Points v) → (known : Element) → S (fact_at (local_place p) known) → Covers st.world.content st.cells known v → Reached S st (Through at members)
-      go Null e element.Null s cov = absurd (unused n place i S clean p element.Null _ used (at_head _ []) s)
+      go Null e element.Null s cov = absurd (unused n place i S clean at whole element.Null _ used (at_head _ []) s)
       go Wild e element.Null s cov = absurd cov
       go (To t) e element.Null s cov = absurd cov
       go (Static c) e element.Null s cov = absurd cov
-      go v e (element.Invalid cause) s cov = absurd (unused n place i S clean p (element.Invalid cause) _ used (at_head _ []) s)
+      go v e (element.Invalid cause) s cov = absurd (unused n place i S clean at whole (element.Invalid cause) _ used (at_head _ []) s)
       go v e (element.Moved cause) s cov = absurd cov
       go v e element.Own s cov = absurd cov
       go v e element.Static s cov = absurd cov
@@ -80,7 +80,7 @@ module _ (n : ℕ) (place : Place) (i : Step) (S : Fact → Type 0) (clean : Cle
       go (To t) e (element.At place') s cov = pointed t e place' s cov
       go (Static c) e (element.At place') s cov = absurd cov
 
-  pub reached : (o : Operand) → ((p : ℕ) → Contains (used_in o) p → Contains (uses i) p) → IsOperandReady (holdings_of st) o → Reached S st o
+  pub reached : (o : Operand) → ((p : Location) → Contains (used_in o) p → Contains (uses i) p) → IsOperandReady (holdings_of st) o → Reached S st o
   reached (Name at) used ready =
       let cell = named_cell st.cells at.local ready.1 in
       let l = h.lives at.local cell.0 cell.1 in record {
@@ -97,4 +97,4 @@ module _ (n : ℕ) (place : Place) (i : Step) (S : Fact → Type 0) (clean : Cle
   reached (Through p members) used ready =
       let cell = pointer_cell st.cells p.local ready.1.1 in
       let raw = held_is st.cells p.local APointer (Points cell.0) ready.1.1 cell.1 in
-      through p members (used p.local (at_head p.local [])) cell.0 cell.1 (k.covered p.local cell.0 cell.1 raw)
+      through p members ready.1.0 (used p (at_head p [])) cell.0 cell.1 (k.covered p.local cell.0 cell.1 raw)

@@ -102,7 +102,7 @@ suits_object Empty suits = absurd suits
 suits_object (Named n) suits = absurd suits
 suits_object (Points p) suits = absurd suits
 
-module _ (types : Types) (f : Function) (place : Place) (i : Step) (S S' : Fact → Type 0) (cl : Closed types f place i S S') (keeps : (fact : Fact) → drops i fact ≡ false) (s : Setting)
+module _ (types : Types) (f : Function) (place : Place) (i : Step) (S S' : Fact → Type 0) (cl : Closed types f place i S S') (keeps : (fact : Fact) → drops types f place i fact ≡ false) (s : Setting)
     (st : State) (h : Housed st.world.content st.cells) (sorted : IsSorted types f (holdings_of st)) (k : Known S st) where
   object_safe : (ty : TyId) (z : ℤ) (x : ℕ) → slice_get st.cells x ≡ Some Empty → IsSafe S' (born_with s ty z x st)
   object_safe ty z x empty =

@@ -20,7 +20,7 @@ examine_program-requires-clause-whole c =
 pub examine_program-requires-clause-within : goal.examine_program-requires-clause-within
 examine_program-requires-clause-within c =
     let served = c.in_ok-served.ensures.0 c.if-served.true in
-    within_limits (program_of c.args.program) c.requires served.few
+    within_limits (program_of c.args.program) c.requires served.within
 
 pub returns-then-served : goal.returns-then-served
 returns-then-served c = served_comes (program_of c.args.program) c.examine_program.result (c.in_ok-served.ensures.0 c.if-served.true) c.examine_program.ensures

@@ -1,8 +1,9 @@
 use Rattle.std.proofs.Common.{◌≡◌, ◌↔◌, ◌++◌, Contains, List, ap, map, subst, sym, ◌∙◌}
 use Rattle.std.proofs.lemmas.Result.{IfOk-weaker}
-use Rattle.life_core.specs.Function.{function_of, name_bytes}
+use Rattle.life_core.specs.Function.{function_of}
 use Rattle.life_rules.specs.Diagnosing.{IsDiagnosed}
 use Rattle.life_rules.specs.Lines.{line_of}
+use Rattle.life_rules.specs.Texts.{naming_of}
 use Rattle.life_rules.specs.declared.diag.Diag.{Diag}
 use Rattle.life_fix.proofs.Finding.{same_wrongs}
 use Rattle.life_fix.specs.Candidates.{candidate_seen, lined}
@@ -11,7 +12,7 @@ use Rattle.life_fix.proofs.diagnosis.diagnostics.Goals as goal
 
 pub returns : goal.returns
 returns g c =
-    let line = line_of (map name_bytes c.args.names.now.texts.items) c.args.types.now (function_of c.args.f.now) in
+    let line = line_of (naming_of c.args.names.now c.args.functions.now) c.args.types.now (function_of c.args.f.now) in
     let same = subst (λ (ds : List Diag). (d : Diag) → Contains ds d ↔ IsDiagnosed c.args.types.now c.args.id.0 (function_of c.args.f.now) d)
     (sym c.deref.ensures.value) c.in_ok-found.ensures in
     let before : map candidate_seen c.push_candidates.new.out.items ≡ map (lined line) c.deref.result.now =

@@ -19,7 +19,7 @@ loop-index-preserved g c =
     let row = option_copied c.row.result in
     let at : slice_get refs k ≡ Some spot = slice_get-get_or refs k spot c.loop-index-test.true ∙ ap Some (sym c.spot-item.is) in
     let more = subst (λ (t : Table). (d : Diag) → Contains c.push_row.new.out.items d
-    ↔ (Contains c.loop-index.all.items d ⊎ IsWrongIn t rows.has c.args.id.0 (spot_seen spot) row d)) c.table-table.ensures c.in_ok-push_row.ensures in
+    ↔ (Contains c.loop-index.all.items d ⊎ IsWrongIn c.args.types.now c.args.id.0 (function_of c.args.f.now) t rows.has (spot_seen spot) row d)) c.table-table.ensures c.in_ok-push_row.ensures in
     found_more rows.has rows.location_limit rows.element_limit c.args.types.now c.args.id.0 (function_of c.args.f.now) c.args.sol.now refs k spot row
     c.loop-index.all.items c.push_row.new.out.items c.requires.solution
     (ap (map spot_seen) c.deref-spot-items.ensures.value ∙ c.in_ok-spots.ensures.all)

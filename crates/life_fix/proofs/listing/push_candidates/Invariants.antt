@@ -1,9 +1,10 @@
 use Rattle.std.proofs.Common.{◌≡◌, ◌++◌, map, take}
-use Rattle.life_core.specs.Function.{function_of, name_bytes}
+use Rattle.life_core.specs.Function.{function_of}
 use Rattle.life_rules.specs.Lines.{line_of}
+use Rattle.life_rules.specs.Texts.{naming_of}
 use Rattle.life_fix.specs.Candidates.{candidate_seen, lined}
 use Rattle.life_fix.proofs.listing.push_candidates.Given as goal
 
 -- those so far stand with their lines behind what was there
 abbrev pub invariant-loop-diag : goal.invariant-loop-diag
-invariant-loop-diag l = map candidate_seen l.out.items ≡ map candidate_seen l.fn.out.items ++ map (lined (line_of (map name_bytes l.names.texts.items) l.types (function_of l.f))) (take l.diag-index l.found)
+invariant-loop-diag l = map candidate_seen l.out.items ≡ map candidate_seen l.fn.out.items ++ map (lined (line_of (naming_of l.names l.functions) l.types (function_of l.f))) (take l.diag-index l.found)

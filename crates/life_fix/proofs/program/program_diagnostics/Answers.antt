@@ -1,11 +1,14 @@
-use Rattle.std.proofs.Common.{◌≡◌, ◌≤◌, ◌<◌, ℕ, Some, List, map, length, get_or, slice_get, ap, sym, ◌∙◌, arith}
+use Rattle.std.proofs.Common.{◌≡◌, ◌≤◌, ◌<◌, ℕ, Some, List, map, length, get_or, slice_get, ap, subst, sym, ◌∙◌, arith}
 use Rattle.std.proofs.lemmas.List.{length-map}
 use Rattle.std.proofs.lemmas.Option.{slice_get-get_or, slice_get-map}
 use Rattle.std.proofs.lemmas.Result.{IfOk-weaker}
 use Rattle.std.specs.Prelude.{option_map}
 use Rattle.life_core.specs.Function.{function_of, program_of}
 use Rattle.life_core.specs.declared.program.CoreFn.{CoreFn}
+use Rattle.life_types.specs.declared.ty.NameId.{NameId}
+use Rattle.life_rules.specs.Texts.{function_name, naming_of}
 use Rattle.life_fix.specs.Candidates.{candidate_seen}
+use Rattle.life_fix.specs.Programs.{AddsDiagnosed}
 use Rattle.life_fix.proofs.Finding.{same_wrongs}
 use Rattle.life_fix.proofs.ProgramFound.{found_in_all, found_in_next}
 use Rattle.life_fix.proofs.program.program_diagnostics.Goals as goal
@@ -23,9 +26,12 @@ push_diagnosed-requires c =
 
 pub loop-index-preserved : goal.loop-index-preserved
 loop-index-preserved c =
+    let names = c.deref-in-loop-index.ensures.value ∙ c.in_ok-functions.ensures ∙ ap (λ (fs : List CoreFn). map function_name (map function_of fs)) c.deref.ensures.value in
+    let adds = subst (λ (ns : List NameId). AddsDiagnosed (naming_of c.args.program.now.names ns) c.args.program.now.types c.loop-index.index (function_of c.f-item.result)
+    (map candidate_seen c.loop-index.candidates.items) (map candidate_seen c.push_diagnosed.new.out.items)) names c.in_ok-push_diagnosed.ensures in
     found_in_next (program_of c.args.program.now) c.loop-index.index (function_of c.f-item.result) (map candidate_seen c.loop-index.candidates.items) (map candidate_seen c.push_diagnosed.new.out.items)
     (at c.args.program.now.functions.items c.deref-f-items.result.now c.loop-index.index c.f-item.result c.deref-f-items.ensures.value c.loop-index-test.true c.f-item.is)
-    c.in_ok-push_diagnosed.ensures c.loop-index.invariant
+    adds c.loop-index.invariant
 
 pub returns : goal.returns
 returns c =

@@ -4,4 +4,5 @@ use Rattle.life_pset.proofs.location_list.locations.Given as goal
 
 abbrev pub invariant-loop-number : goal.invariant-loop-number
 invariant-loop-number l =
-    l.all.items ++ locations_from l.types l.number (drop l.number l.local-items) ≡ locations_from l.types 0 l.local-items
+    let from = locations_from l.types l.f.parameters in
+    l.all.items ++ from l.number (drop l.number l.local-items) ≡ from 0 l.local-items

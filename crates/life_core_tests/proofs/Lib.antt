@@ -1,2 +1,0 @@
-mod WorkedPrograms
-mod WorkedRuns

@@ -1,2 +1,0 @@
-pub mod WorkedPrograms
-pub mod WorkedRuns

@@ -1,0 +1,12 @@
+use Rattle.std.proofs.Common.{◌≡◌, ◌++◌, drop, Some}
+use Rattle.std.specs.List.{flat_map}
+use Rattle.life_core.specs.Function.{function_of}
+use Rattle.life_core.specs.Node.{spot_seen}
+use Rattle.life_rules.specs.Diagnosing.{diags_of_two}
+use Rattle.life_fix.proofs.diagnosis.push_seconds.Given as goal
+
+-- what was added, and what is left to add
+abbrev pub invariant-loop-second : goal.invariant-loop-second
+invariant-loop-second l =
+    let wrong = diags_of_two l.types l.function (function_of l.f) (Some (spot_seen l.spot)) l.first in
+    l.out.items ++ flat_map wrong (drop l.second-index l.facts) ≡ l.fn.out.items ++ flat_map wrong l.facts

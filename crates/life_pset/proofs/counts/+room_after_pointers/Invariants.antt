@@ -1,0 +1,17 @@
+use Rattle.std.proofs.Common.{◌≡◌, ℕ, List, ◌-◌, drop}
+use Rattle.life_types.specs.declared.ty.TyId.{TyId}
+use Rattle.life_types.specs.Trees.{struct_of, tree_at, AllBelow}
+use Rattle.life_pset.specs.Counts.{member_pointer_count}
+use Rattle.life_pset.proofs.counts.+room_after_pointers.Given as goal
+
+-- the parts of a type have smaller numbers
+abbrev pub decreases-room_after_pointers : goal.decreases-room_after_pointers
+decreases-room_after_pointers l = l.id.0
+
+abbrev pub invariant-loop-member : goal.invariant-loop-member
+invariant-loop-member l =
+    let count : List TyId → ℕ = λ ids. member_pointer_count (struct_of (tree_at l.types) ids) in
+    record {
+      left : l.left - count (drop l.member-index l.members) ≡ l.room - count l.members;
+      below : AllBelow l.fn.id.0 (drop l.member-index l.members);
+    }

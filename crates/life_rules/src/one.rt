@@ -1,0 +1,454 @@
+// What an instruction makes of one fact.
+ghost use Rattle.std.specs.Option.{option_copied};
+ghost use Rattle.std.specs.Prelude.{◌≡◌, ◌++◌, OnOk};
+ghost use Rattle.life_core.specs.Function.{function_of};
+ghost use Rattle.life_core.specs.Operands.{base_of, location_of, operand_of, source_of};
+ghost use Rattle.life_core.specs.Step.{change_of, step_of};
+ghost use Rattle.life_pset.specs.Elements.{causes_of_end, end_causes, end_if};
+ghost use Rattle.life_rules.specs.Carrying.{aimed_from, copied_facts, copied_from, copied_location, element_from, ended_element, ended_facts, ended_root, from_one, invalid_facts, killed_facts, kills, makes, moved_facts, position_facts, position_from, reached_from, taken};
+
+use crate::kill::{KillPair, kills, push_after_kill, push_killed};
+use crate::matching::{
+    given_over, gotten, is_location, is_rooted_among, located, position_in, reached,
+};
+use crate::push::{push_at_if, push_if, push_unless};
+use crate::writes::{drops, is_whole, writes};
+use life_core::{Base, Change, CoreFn, Instr, Local, LocalKind, Location, Operand, Source};
+use life_pset::{
+    AbsPlace, Cause, Element, Fact, Root, ended, is_pointer, is_unique, is_within, location_type,
+    place_type, rest_of, ty_if,
+};
+use life_types::{NoMemory, Place, TypeTable};
+
+/// Adds what an instruction at a place makes of one fact: the fact itself, unless the instruction
+/// drops it, and what the instruction makes of it.
+#[tactic(auto, using(std::proofs::Common::append_assoc))]
+pub fn push_from_one(
+    types: &TypeTable,
+    f: &CoreFn,
+    place: Place,
+    instr: &Instr,
+    fact: Fact,
+    out: &mut Vec<Fact>,
+) -> Result<(), NoMemory>
+    ensures { OnOk result
+        (out.new.items ≡ out.old.items ++ from_one types.now (function_of f.now) place (step_of instr.now) fact) }
+{
+    push_unless(drops(types, f, place, instr, fact), fact, out)?;
+    push_made(types, f, place, instr, fact, out)
+}
+
+// Adds what an instruction makes of a fact, beside keeping it.
+fn push_made(
+    types: &TypeTable,
+    f: &CoreFn,
+    place: Place,
+    instr: &Instr,
+    fact: Fact,
+    out: &mut Vec<Fact>,
+) -> Result<(), NoMemory>
+    ensures { OnOk result
+        (out.new.items ≡ out.old.items ++ makes types.now (function_of f.now) place (step_of instr.now) fact) }
+{
+    match instr {
+        Instr::End { locals } => push_ended(f, place, locals, fact, out),
+        Instr::Copy { to, from } => push_copy(types, f, place, instr, to, from, fact, out),
+        Instr::Move { to, from } => push_move(types, f, place, instr, to, *from, fact, out),
+        Instr::Aim { pointer, source } => push_aimed_from(pointer, source, fact, out),
+        Instr::Repoint { pointer, from } => push_taken(pointer, from, fact, out),
+        Instr::Advance { pointer, from, .. } => push_taken(pointer, from, fact, out),
+        Instr::Cut { pointer, from, .. } => push_taken(pointer, from, fact, out),
+        Instr::Element { pointer, base, .. } => push_element_from(pointer, base, fact, out),
+        Instr::Cursor { pointer, base, .. } => push_element_from(pointer, base, fact, out),
+        Instr::Change {
+            place: operand,
+            change,
+        } => push_change(types, f, place, instr, operand, change, fact, out),
+        Instr::Make { .. } => push_killed_facts(types, f, place, instr, fact, out),
+        _ => Ok(()),
+    }
+}
+
+// ---- ends
+
+// Adds that a pointer to what ended is invalid (ISO/IEC 14882:2017 [basic.stc]), unless it ended
+// itself.
+fn push_ended(
+    f: &CoreFn,
+    place: Place,
+    locals: &[u32],
+    fact: Fact,
+    out: &mut Vec<Fact>,
+) -> Result<(), NoMemory>
+    ensures { OnOk result
+        (out.new.items ≡ out.old.items ++ ended_facts (function_of f.now) place locals.now fact) }
+{
+    if is_rooted_among(locals, &fact.location) {
+        return Ok(());
+    }
+    push_ended_element(f, place, locals, fact.location, fact.element, out)
+}
+
+fn push_ended_element(
+    f: &CoreFn,
+    place: Place,
+    locals: &[u32],
+    location: AbsPlace,
+    element: Element,
+    out: &mut Vec<Fact>,
+) -> Result<(), NoMemory>
+    ensures { OnOk result
+        (out.new.items ≡ out.old.items ++ ended_element (function_of f.now) place locals.now location element) }
+{
+    match element {
+        Element::Null => {}
+        Element::Invalid(_) => {}
+        Element::Moved(_) => {}
+        Element::Own => {}
+        Element::Static => {}
+        Element::At(target) => push_ended_root(f, place, locals, location, target.root, out)?,
+    }
+    Ok(())
+}
+
+fn push_ended_root(
+    f: &CoreFn,
+    place: Place,
+    locals: &[u32],
+    location: AbsPlace,
+    root: Root,
+    out: &mut Vec<Fact>,
+) -> Result<(), NoMemory>
+    ensures { OnOk result
+        (out.new.items ≡ out.old.items ++ ended_root (function_of f.now) place locals.now location root) }
+{
+    match root {
+        Root::Local(number) => {
+            if locals.contains(&number) {
+                push_invalid(place, location, number, f.locals.get(number as usize), out)?;
+            }
+        }
+        Root::Input { .. } => {}
+    }
+    Ok(())
+}
+
+// Adds that the location is invalid since the local with this number ended, if that is an object.
+fn push_invalid(
+    place: Place,
+    location: AbsPlace,
+    number: u32,
+    local: Option<&Local>,
+    out: &mut Vec<Fact>,
+) -> Result<(), NoMemory>
+    ensures { OnOk result
+        (out.new.items ≡ out.old.items ++ invalid_facts location (end_causes place number (option_copied local.entry))) }
+{
+    match local {
+        None => {}
+        Some(local) => {
+            push_invalid_object(local.kind, location, ended(place, number, local), out)?;
+        }
+    }
+    Ok(())
+}
+
+fn push_invalid_object(
+    kind: LocalKind,
+    location: AbsPlace,
+    cause: Cause,
+    out: &mut Vec<Fact>,
+) -> Result<(), NoMemory>
+    ensures { OnOk result (out.new.items ≡ out.old.items ++ invalid_facts location (end_if kind cause)) }
+{
+    match kind {
+        LocalKind::Object => out.push(Fact {
+            location,
+            element: Element::Invalid(cause),
+        })?,
+        LocalKind::Register => {}
+        LocalKind::Range => {}
+    }
+    Ok(())
+}
+
+// ---- owners that are changed
+
+// Adds that a pointer under what is changed by its name is invalid, unless its set is replaced.
+fn push_killed_facts(
+    types: &TypeTable,
+    f: &CoreFn,
+    place: Place,
+    instr: &Instr,
+    fact: Fact,
+    out: &mut Vec<Fact>,
+) -> Result<(), NoMemory>
+    ensures { OnOk result
+        (out.new.items ≡ out.old.items ++ killed_facts types.now (function_of f.now) place (step_of instr.now) fact) }
+{
+    if writes(instr, &fact.location) {
+        return Ok(());
+    }
+    push_killed(
+        kills(types, f, place, instr),
+        fact.location,
+        fact.element,
+        out,
+    )
+}
+
+#[tactic(auto, using(std::proofs::Common::append_assoc))]
+fn push_copy(
+    types: &TypeTable,
+    f: &CoreFn,
+    place: Place,
+    instr: &Instr,
+    to: &Operand,
+    from: &Operand,
+    fact: Fact,
+    out: &mut Vec<Fact>,
+) -> Result<(), NoMemory>
+    ensures { OnOk result
+        (out.new.items
+        ≡ out.old.items ++ (killed_facts types.now (function_of f.now) place (step_of instr.now) fact ++ copied_facts types.now (function_of f.now) (kills types.now (function_of f.now) place (step_of instr.now)) (operand_of to.now) (operand_of from.now) fact)) }
+{
+    push_killed_facts(types, f, place, instr, fact, out)?;
+    push_copied(types, f, kills(types, f, place, instr), to, from, fact, out)
+}
+
+// Adds what the pointers of the copy take from the pointer of the other that the fact is about.
+fn push_copied(
+    types: &TypeTable,
+    f: &CoreFn,
+    kills: KillPair,
+    to: &Operand,
+    from: &Operand,
+    fact: Fact,
+    out: &mut Vec<Fact>,
+) -> Result<(), NoMemory>
+    ensures { OnOk result
+        (out.new.items ≡ out.old.items ++ copied_facts types.now (function_of f.now) kills (operand_of to.now) (operand_of from.now) fact) }
+{
+    match to {
+        Operand::Name(to) => match from {
+            Operand::Name(from) => {
+                push_copied_from(types, f, kills, located(to), located(from), fact, out)
+            }
+            Operand::Through { .. } => Ok(()),
+        },
+        Operand::Through { .. } => Ok(()),
+    }
+}
+
+fn push_copied_from(
+    types: &TypeTable,
+    f: &CoreFn,
+    kills: KillPair,
+    to: AbsPlace,
+    from: AbsPlace,
+    fact: Fact,
+    out: &mut Vec<Fact>,
+) -> Result<(), NoMemory>
+    ensures { OnOk result
+        (out.new.items ≡ out.old.items ++ copied_from types.now (function_of f.now) kills to from fact) }
+{
+    let is_copied = is_within(&from, &fact.location)
+        && is_pointer(ty_if(types, place_type(types, f, &fact.location)));
+    if !is_copied {
+        return Ok(());
+    }
+    let location = copied_location(from, to, &fact.location);
+    push_after_kill(kills, location, fact.element, out)
+}
+
+// The location in the copy that a location in the other is copied to.
+fn copied_location(from: AbsPlace, to: AbsPlace, location: &AbsPlace) -> AbsPlace
+    ensures { result ≡ copied_location from to location.now }
+{
+    to.further(rest_of(location.path(), from.length as usize))
+}
+
+#[tactic(auto, using(std::proofs::Common::append_assoc))]
+fn push_move(
+    types: &TypeTable,
+    f: &CoreFn,
+    place: Place,
+    instr: &Instr,
+    to: &Operand,
+    from: u32,
+    fact: Fact,
+    out: &mut Vec<Fact>,
+) -> Result<(), NoMemory>
+    ensures { OnOk result
+        (out.new.items
+        ≡ out.old.items ++ (killed_facts types.now (function_of f.now) place (step_of instr.now) fact ++ moved_facts types.now (function_of f.now) (operand_of to.now) from fact)) }
+{
+    push_killed_facts(types, f, place, instr, fact, out)?;
+    push_given_over(types, f, to, from, fact, out)
+}
+
+// Adds what a `std::unique_ptr` takes from the local that is moved from.
+fn push_given_over(
+    types: &TypeTable,
+    f: &CoreFn,
+    to: &Operand,
+    from: u32,
+    fact: Fact,
+    out: &mut Vec<Fact>,
+) -> Result<(), NoMemory>
+    ensures { OnOk result
+        (out.new.items ≡ out.old.items ++ moved_facts types.now (function_of f.now) (operand_of to.now) from fact) }
+{
+    match to {
+        Operand::Name(to) => {
+            let is_taken = is_whole(from, &fact.location)
+                && is_unique(ty_if(types, location_type(types, f, to)));
+            push_at_if(is_taken, located(to), given_over(fact.element), out)
+        }
+        Operand::Through { .. } => Ok(()),
+    }
+}
+
+#[tactic(auto, using(std::proofs::Common::append_assoc))]
+fn push_change(
+    types: &TypeTable,
+    f: &CoreFn,
+    place: Place,
+    instr: &Instr,
+    operand: &Operand,
+    change: &Change,
+    fact: Fact,
+    out: &mut Vec<Fact>,
+) -> Result<(), NoMemory>
+    ensures { OnOk result
+        (out.new.items
+        ≡ out.old.items ++ (killed_facts types.now (function_of f.now) place (step_of instr.now) fact ++ position_facts (operand_of operand.now) (change_of change.now) fact)) }
+{
+    push_killed_facts(types, f, place, instr, fact, out)?;
+    push_position_facts(operand, change, fact, out)
+}
+
+// Adds the position in an owner behind a pointer, for the pointer that is given that of what is erased.
+fn push_position_facts(
+    operand: &Operand,
+    change: &Change,
+    fact: Fact,
+    out: &mut Vec<Fact>,
+) -> Result<(), NoMemory>
+    ensures { OnOk result
+        (out.new.items ≡ out.old.items ++ position_facts (operand_of operand.now) (change_of change.now) fact) }
+{
+    match change {
+        Change::Erase { into, .. } => push_position_from(into, operand, fact, out),
+        _ => Ok(()),
+    }
+}
+
+fn push_position_from(
+    pointer: &Location,
+    operand: &Operand,
+    fact: Fact,
+    out: &mut Vec<Fact>,
+) -> Result<(), NoMemory>
+    ensures { OnOk result
+        (out.new.items ≡ out.old.items ++ position_from (location_of pointer.now) (operand_of operand.now) fact) }
+{
+    match operand {
+        Operand::Name(_) => Ok(()),
+        Operand::Through {
+            pointer: through,
+            members,
+        } => push_at_if(
+            is_location(through, &fact.location),
+            located(pointer),
+            position_in(members, fact.element),
+            out,
+        ),
+    }
+}
+
+// ---- pointers that take from another one
+
+// Adds the element to a pointer's set, if it is one of the pointer from which that is taken.
+fn push_taken(
+    pointer: &Location,
+    from: &Location,
+    fact: Fact,
+    out: &mut Vec<Fact>,
+) -> Result<(), NoMemory>
+    ensures { OnOk result
+        (out.new.items ≡ out.old.items ++ taken (location_of pointer.now) (location_of from.now) fact) }
+{
+    let location = located(pointer);
+    push_if(
+        is_location(from, &fact.location),
+        Fact {
+            location,
+            element: fact.element,
+        },
+        out,
+    )
+}
+
+// Adds what is reached through the pointer of an operand: its targets or a member of them, or what the
+// owner there owns.
+fn push_reached_from(
+    pointer: &Location,
+    owned: bool,
+    operand: &Operand,
+    fact: Fact,
+    out: &mut Vec<Fact>,
+) -> Result<(), NoMemory>
+    ensures { OnOk result
+        (out.new.items ≡ out.old.items ++ reached_from (location_of pointer.now) owned (operand_of operand.now) fact) }
+{
+    match operand {
+        Operand::Name(_) => Ok(()),
+        Operand::Through {
+            pointer: through,
+            members,
+        } => push_at_if(
+            is_location(through, &fact.location),
+            located(pointer),
+            reached(owned, members, fact.element),
+            out,
+        ),
+    }
+}
+
+fn push_aimed_from(
+    pointer: &Location,
+    source: &Source,
+    fact: Fact,
+    out: &mut Vec<Fact>,
+) -> Result<(), NoMemory>
+    ensures { OnOk result
+        (out.new.items ≡ out.old.items ++ aimed_from (location_of pointer.now) (source_of source.now) fact) }
+{
+    match source {
+        Source::Place(operand) => push_reached_from(pointer, false, operand, fact, out),
+        Source::Whole(operand) => push_reached_from(pointer, true, operand, fact, out),
+        Source::Get(owner) => push_at_if(
+            is_location(owner, &fact.location),
+            located(pointer),
+            gotten(located(owner), fact.element),
+            out,
+        ),
+        _ => Ok(()),
+    }
+}
+
+fn push_element_from(
+    pointer: &Location,
+    base: &Base,
+    fact: Fact,
+    out: &mut Vec<Fact>,
+) -> Result<(), NoMemory>
+    ensures { OnOk result
+        (out.new.items ≡ out.old.items ++ element_from (location_of pointer.now) (base_of base.now) fact) }
+{
+    match base {
+        Base::Owner(operand) => push_reached_from(pointer, true, operand, fact, out),
+        Base::Pointer(from) => push_taken(pointer, from, fact, out),
+    }
+}
