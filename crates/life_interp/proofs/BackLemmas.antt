@@ -3,9 +3,9 @@ use Rattle.std.proofs.Common.{◌≡◌, ℕ, List, [], ◌∷◌, ◌++◌, Opt
 use Rattle.std.specs.Prelude.{ℤ, option_map}
 use Rattle.life_core.specs.Function.{Function, Program}
 use Rattle.life_core.specs.Operands.{location_of}
-use Rattle.life_store.specs.Calls.{results, target_given}
-use Rattle.life_store.specs.Content.{Content}
 use Rattle.life_store.specs.Doing.{Setting, Next}
+use Rattle.life_interp.specs.SoFar.{results, target_given}
+use Rattle.life_store.specs.Content.{Content}
 use Rattle.life_store.specs.Meaning.{Back}
 use Rattle.life_interp.specs.Cells.{one_seen, state_of, world_of}
 use Rattle.life_interp.specs.Frames.{function_at, stack_seen}

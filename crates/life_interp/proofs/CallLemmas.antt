@@ -9,9 +9,9 @@ use Rattle.life_core.specs.Operands.{Argument, Location}
 use Rattle.life_core.specs.Step.{Call}
 use Rattle.life_core.specs.declared.program.FnId.{FnId}
 use Rattle.life_types.specs.declared.place.Place.{Place}
-use Rattle.life_store.specs.Calls.{all_handed}
-use Rattle.life_store.specs.Content.{Content}
 use Rattle.life_store.specs.Doing.{Setting}
+use Rattle.life_interp.specs.SoFar.{all_handed}
+use Rattle.life_store.specs.Content.{Content}
 use Rattle.life_store.specs.Meaning.{Trapped, Quit}
 use Rattle.life_store.specs.State as state
 use Rattle.life_store.specs.declared.run.TrapKind.TheVariants as trap

@@ -7,9 +7,10 @@ use Rattle.life_core.specs.Function.{Function, Program}
 use Rattle.life_core.specs.Linked.{enter, no_exits}
 use Rattle.life_core.specs.declared.program.Local.{Local}
 use Rattle.life_types.specs.declared.place.Place.{Place}
-use Rattle.life_store.specs.Calls.{parameters_given, pointer_back, pointer_handed, with_handed}
-use Rattle.life_store.specs.Content.{Content}
+use Rattle.life_store.specs.Calls.{pointer_back, pointer_handed, with_handed}
 use Rattle.life_store.specs.Doing.{Setting, Next}
+use Rattle.life_interp.specs.SoFar.{parameters_given}
+use Rattle.life_store.specs.Content.{Content}
 use Rattle.life_store.specs.Meaning.{empty_cell, frame}
 use Rattle.life_store.specs.References.{Rows}
 use Rattle.life_store.specs.State as state

@@ -7,10 +7,10 @@ use Rattle.life_types.specs.declared.ty.TyId.{TyId}
 use Rattle.life_core.specs.declared.program.Local.{Local}
 use Rattle.life_core.specs.Function.{Function}
 use Rattle.life_core.specs.Proper.{Holding, held_by}
-use Rattle.life_store.specs.Calls.{born_with, given, given_if, given_to}
+use Rattle.life_store.specs.Doing.{Setting, Effect, Next, Traps, Here, found_at, on_found, on_next, put_cell, with_value_object, word_of_number}
+use Rattle.life_interp.specs.SoFar.{born_with, given, given_if, given_to, saved}
 use Rattle.life_store.specs.Cells.{at, set, at-set_same, at-set_other}
 use Rattle.life_store.specs.Content.{Content, cost, newborn, with_object, with_word, live_words_of}
-use Rattle.life_store.specs.Doing.{Setting, Effect, Next, Traps, Here, found_at, on_found, on_next, put_cell, saved, with_value_object, word_of_number}
 use Rattle.life_store.specs.References.{Rows, object_of}
 use Rattle.life_store.specs.State as state
 use Rattle.life_store.specs.State.{State}

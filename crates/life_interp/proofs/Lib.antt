@@ -1,12 +1,15 @@
 pub mod BackLemmas
 pub mod CallLemmas
 pub mod CodeLists
+pub mod FirstWords
 pub mod FitLemmas
 pub mod FrameLemmas
 pub mod GiveLemmas
 pub mod LocalLemmas
 pub mod PointLemmas
 pub mod RunLemmas
+pub mod SameCalls
+pub mod SameSteps
 pub mod StepLemmas
 pub mod WalkLemmas
 pub mod Walks

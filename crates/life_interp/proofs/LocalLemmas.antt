@@ -10,7 +10,8 @@ use Rattle.life_core.specs.Function.{Function}
 use Rattle.life_core.specs.Proper.{Holding, held_by, sort_of}
 use Rattle.life_store.specs.Cells.{at, set, unset, at-set_same}
 use Rattle.life_store.specs.Content.{Content, Object, newborn, with_birth, with_resize, live_words_of}
-use Rattle.life_store.specs.Doing.{Setting, born_pointer, Effect, Next, Traps, Strays, put_cell, born_object, with_value_object, live_as, live_over, live_local, on_next, end_object, end_cell, cell}
+use Rattle.life_store.specs.Doing.{Setting, born_pointer, Effect, Next, Traps, Strays, put_cell, born_object, with_value_object, on_next, cell}
+use Rattle.life_interp.specs.SoFar.{live_as, live_over, live_local, end_object, end_cell}
 use Rattle.life_store.specs.References.{Rows, object_of}
 use Rattle.life_store.specs.State as state
 use Rattle.life_store.specs.State.{State}

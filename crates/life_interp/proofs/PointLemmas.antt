@@ -19,7 +19,8 @@ use Rattle.life_core.specs.declared.operand.Location.{Location}
 use Rattle.life_core.specs.declared.program.FnId.{FnId}
 use Rattle.life_types.specs.declared.place.Place.{Place}
 use Rattle.life_store.specs.Content.{Content}
-use Rattle.life_store.specs.Doing.{Setting, Next, does}
+use Rattle.life_store.specs.Doing.{Setting, Next}
+use Rattle.life_interp.specs.SoFar.{does}
 use Rattle.life_interp.specs.Cells.{state_of, world_of}
 use Rattle.life_interp.specs.Fits.{most_births, Grows}
 use Rattle.life_interp.specs.Frames.{function_at, point_at, stack_seen}

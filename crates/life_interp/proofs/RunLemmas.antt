@@ -9,7 +9,7 @@ use Rattle.life_core.specs.declared.exits.Entry.{Entry}
 use Rattle.life_core.specs.declared.exits.Entry.TheVariants as entries
 use Rattle.life_core.specs.Function.{Function, Program}
 use Rattle.life_core.specs.Linked.{entry_of, no_exits, target_of}
-use Rattle.life_core.specs.Proper.{AreProper, IsProperProgram}
+use Rattle.life_core.specs.Proper.{IsProperProgram, parameter_sorts}
 use Rattle.life_store.specs.Calls.{entry_arguments, parameters_given}
 use Rattle.life_store.specs.Cells.{at-none, none}
 use Rattle.life_store.specs.Content.{Content, empty_content}
@@ -20,12 +20,13 @@ use Rattle.life_store.specs.State.{State, World}
 use Rattle.life_store.specs.declared.run.FaultKind.{FaultKind}
 use Rattle.life_store.specs.declared.run.TrapKind.{TrapKind}
 use Rattle.life_store.specs.declared.run.TrapKind.TheVariants as trap
-use Rattle.life_store.proofs.CallsReturn.{proper_at}
-use Rattle.life_store.proofs.NeverLost.{never_lost}
+use Rattle.life_store.proofs.CallsReturn.{calls_good, proper_at}
+use Rattle.life_store.proofs.NeverLost.{first_housed, first_suited, never_lost}
 use Rattle.life_interp.specs.Cells.{state_of, world_of}
 use Rattle.life_interp.specs.Fits.{IsHoused}
 use Rattle.life_interp.specs.Frames.{function_at, stack_seen, AllBegin}
 use Rattle.life_interp.specs.Runs.{barred_as, IsBarred, RunEnds, TakesFront}
+use Rattle.life_interp.specs.SoFar as so_far
 use Rattle.life_interp.specs.Steps.{TellsEnd}
 use Rattle.life_interp.specs.Walk.{walk}
 use Rattle.life_interp.specs.Walking.{from, output_of, Sunk, Takes, TakesPart, WalkEnds}
@@ -36,7 +37,9 @@ use Rattle.life_interp.specs.declared.frames.Frames.{Frames}
 use Rattle.life_interp.specs.declared.frames.Waiting.{Waiting}
 use Rattle.life_interp.specs.declared.outcome.Outcome.TheVariants as outcome
 use Rattle.life_interp.proofs.CodeLists.{function_there}
-use Rattle.life_interp.proofs.Walks.{calls_come, ends_alone, AreStatements, EndsAs}
+use Rattle.life_interp.proofs.FirstWords.{AreFirst}
+use Rattle.life_interp.proofs.SameCalls.{entry_same, parameters_same}
+use Rattle.life_interp.proofs.Walks.{calls_come, ends_alone, enters_standing, EndsAs}
 
 -- ---- the beginning
 
@@ -57,9 +60,11 @@ enters_first entries.Continue h = absurd (not_some h)
 pub all_begin : (p : Program) → IsProperProgram p → AllBegin p.functions
 all_begin p proper n g there = enters_first (entry_of g.body) (proper_at p.types p.functions p.functions n g proper there).begins
 
-are_statements : (types : Types) (all fs : List Function) → AreProper types all fs → AreStatements fs
-are_statements types all [] h = tt
-are_statements types all (g ∷ gs) h = (h.0.statement, are_statements types all gs h.1)
+-- the entry's arguments are numbers
+arguments_first : (types : Types) (f : Function) (x n : ℕ) (input : List ℤ) → AreFirst (entry_arguments types f x n input)
+arguments_first types f x zero input = tt
+arguments_first types f x (suc n) [] = tt
+arguments_first types f x (suc n) (z ∷ zs) = (tt, arguments_first types f (x + 1) n zs)
 
 -- what holds of the entry
 pub if_there : (fs : List Function) (i : ℕ) (f : Function) (P : Function → Type 0) → slice_get fs i ≡ Some f → P f → IfSome (slice_get fs i) P
@@ -102,6 +107,10 @@ module _ (given : Given) (p : Program) (entry : ℕ) (f : Function) (input : Lis
   abbrev begins : Effect
   begins = parameters_given (setting_of given p) p.types f 0 arguments (frame f first)
 
+  -- .. as the machine makes them
+  begins_same : begins ≡ so_far.parameters_given (setting_of given p) p.types f 0 arguments (frame f first)
+  begins_same = parameters_same (setting_of given p) p.types f (parameter_sorts p.types f) arguments 0 (frame f first) (first_suited p f input admitted)
+
   abbrev body : ℕ → State → Called
   body d st = finish p.types f (exec (setting_of given p) p.types f (calls (setting_of given p) p d) f.body n st)
 
@@ -139,9 +148,11 @@ module _ (given : Given) (p : Program) (entry : ℕ) (f : Function) (input : Lis
   ends_barred le ending.WriteFault h k t = nothing_front k run.output t
 
   module _ (le : 1 ≤ given.depth) (c : Content) (empty : c ≡ empty_content) (x : Ending)
-      (h : (output : List ℕ) (ins : List ℤ) → TellsEnd (parameters_given (setting_of given p) p.types f 0 arguments (frame f (world_of c output ins))) x) where
+      (h : (output : List ℕ) (ins : List ℤ) → TellsEnd (so_far.parameters_given (setting_of given p) p.types f 0 arguments (frame f (world_of c output ins))) x) where
     tells : TellsEnd begins x
-    tells = subst (λ (d : Content). TellsEnd (parameters_given (setting_of given p) p.types f 0 arguments (frame f (world_of d [] (drop f.parameters input)))) x) empty (h [] (drop f.parameters input))
+    tells =
+        subst (λ (e : Effect). TellsEnd e x) (sym begins_same)
+        (subst (λ (d : Content). TellsEnd (so_far.parameters_given (setting_of given p) p.types f 0 arguments (frame f (world_of d [] (drop f.parameters input)))) x) empty (h [] (drop f.parameters input)))
 
     pub can_be_barred : IsBarred x
     can_be_barred = barred_so le x tells
@@ -159,7 +170,8 @@ module _ (given : Given) (p : Program) (entry : ℕ) (f : Function) (input : Lis
           let s = setting_of given p in
           let one = proper_at p.types p.functions p.functions entry f proper there in
           let same = ap (run_from f.place first) (called_is d eq ∙ ap (λ x. begun x first (body d)) is) in
-          let ends = ends_alone s p [] f (calls s p d) (calls_come s p (are_statements p.types p.functions p.functions proper) d [] (omega (arith, eq))) refl one.statement n st in
+          let stands = enters_standing s p f [] arguments first one (first_suited p f input admitted) (first_housed p.types f f.parameters input) (arguments_first p.types f 0 f.parameters input) st is in
+          let ends = ends_alone s p [] f (calls s p d) (calls_come s p proper d [] (omega (arith, eq))) arguments one (calls_good s p proper d) (λ u left. entry_same p.types f u left.sorted admitted.values) refl n st stands in
           let walked = same_end f.place first (body d st) _ ends (found_as _ same) in
           same
           ∙ ap (run_from f.place first) (sym walked)
@@ -167,12 +179,12 @@ module _ (given : Given) (p : Program) (entry : ℕ) (f : Function) (input : Lis
 
   -- .. as the machine begins it
   pub run_from_frames : (frames : Frames) (c d : Content) (taken : ℕ) → 1 ≤ given.depth → frames.function ≡ entry → frames.point ≡ Some 1 → frames.waiting.items ≡ [] → taken ≡ f.parameters → c ≡ empty_content
-      → ((output : List ℕ) (ins : List ℤ) → parameters_given (setting_of given p) p.types f 0 arguments (frame f (world_of c output ins)) ≡ Next (state_of d frames.cells.items output ins))
+      → ((output : List ℕ) (ins : List ℤ) → so_far.parameters_given (setting_of given p) p.types f 0 arguments (frame f (world_of c output ins)) ≡ Next (state_of d frames.cells.items output ins))
       → run ≡ run_from f.place first (from p.functions frames d (drop taken input) (walk (setting_of given p) p n) n [])
   run_from_frames frames c d taken le function point waiting count empty let_in =
       let s = setting_of given p in
       let st = λ (k : ℕ). state_of d frames.cells.items [] (drop k input) in
-      let is = subst (λ (x : Content). parameters_given s p.types f 0 arguments (frame f (world_of x [] (drop f.parameters input))) ≡ Next (st f.parameters)) empty (let_in [] (drop f.parameters input)) in
+      let is = begins_same ∙ subst (λ (x : Content). so_far.parameters_given s p.types f 0 arguments (frame f (world_of x [] (drop f.parameters input))) ≡ Next (st f.parameters)) empty (let_in [] (drop f.parameters input)) in
       let here = function_there p.functions entry f there in
       run_walks (st f.parameters) le is
       ∙ ap (λ (k : ℕ). run_from f.place first (walk s p n [] f (Some 1) (st k))) (sym count)

@@ -7,7 +7,8 @@ use Rattle.std.specs.Int.{cast_signed, w64}
 use Rattle.std.specs.Prelude.{ℤ, pos, slice_get, slice_set, option_map}
 use Rattle.life_core.specs.Operands.{Operand, Name, Through}
 use Rattle.life_store.specs.Content.{Content, Object}
-use Rattle.life_store.specs.Doing.{Effect, Strays, Found, named_by, behind_cell, on_found, on_number, on_pointer, put_cell, resolve}
+use Rattle.life_store.specs.Doing.{Effect, Strays, Found, named_by, on_found, on_number, on_pointer, put_cell}
+use Rattle.life_interp.specs.SoFar.{behind_cell, resolve}
 use Rattle.life_store.specs.References.{Rows, object_of, asked_of}
 use Rattle.life_store.specs.State as state
 use Rattle.life_store.specs.State.{State}

@@ -15,11 +15,11 @@ use Rattle.life_core.specs.Linked.{Lead, Linked, code_of, enter, no_exits, numbe
 use Rattle.life_core.specs.Proper.{Holding, Blank, AnObject, ANumber, APointer, AView, sort_of}
 use Rattle.life_core.specs.Step.{Step, Live, End, Eval, Load, Save, Copy, Move, Aim, Repoint, Element, Cursor, Advance, Cut, Size, Same, Changes, Make, Call, Port, Ports, Writes, WritesView, Takes, Test, NonZero, NotNull}
 use Rattle.life_core.specs.Tree.{Node, Action, Question, Return, Stop}
-use Rattle.life_store.specs.Calls.{all_handed, born_with, given, given_if, given_to, number_given, parameters_given, results, target_given}
+use Rattle.life_store.specs.Doing.{Setting, put_cell, put_content, with_value_object, Effect, Next, Traps, Faults, Strays, Found, Here, Fixed, Outside, Wrong, Astray, cell, characters_in, found_at, input_taken, number_text, on_found, on_number, on_pointer, born_object, on_next, computed_into, evaluated, type_of}
+use Rattle.life_interp.specs.SoFar.{test_at, all_handed, born_with, given, given_if, given_to, number_given, parameters_given, results, target_given, does, on_view, live_as, live_over, live_local, end_object, end_cell, end_locals, aimed, port, resolve}
 use Rattle.life_store.specs.Cells.{at}
 use Rattle.life_store.specs.Content.{Object, live_words_of}
-use Rattle.life_store.specs.Doing.{Setting, put_cell, put_content, with_value_object, Effect, Next, Traps, Faults, Strays, Found, Here, Wrong, Astray, does, cell, characters_in, found_at, input_taken, number_text, on_found, on_number, on_pointer, on_view, born_object, live_as, live_over, live_local, on_next, end_object, end_cell, end_locals, computed_into, evaluated, aimed, port, resolve, type_of}
-use Rattle.life_store.specs.Meaning.{Verdict, Holds, Fails, Cut, by_number, by_pointer, frame, number_test, pointer_test, test_at, Called, Quit, Trapped}
+use Rattle.life_store.specs.Meaning.{Verdict, Holds, Fails, Cut, by_number, by_pointer, frame, number_test, pointer_test, Called, Quit, Trapped}
 use Rattle.life_store.specs.Numbers.{Computed, negated, truth, is_zero, combined}
 use Rattle.life_store.specs.State.{Characters, Pointer, Null, Wild, To, Static, Cell, Empty, Named, Number, Points, World, State}
 use Rattle.life_store.specs.declared.run.TrapKind.TheVariants as trap
@@ -45,6 +45,8 @@ EffectBegins front Strays = Unit {0}
 
 found_begins : (front : List ℕ) (x : Found) (go : ℕ → ℕ → Object → Effect) → ((n i : ℕ) (o : Object) → EffectBegins front (go n i o)) → EffectBegins front (on_found x go)
 found_begins front (Here n i o) go h = h n i o
+found_begins front (Fixed c) go h = tt
+found_begins front Outside go h = tt
 found_begins front (Wrong kind) go h = tt
 found_begins front Astray go h = tt
 

@@ -1,4 +1,5 @@
 pub mod Cells
+pub mod SoFar
 pub mod Fits
 pub mod Steps
 pub mod Walk

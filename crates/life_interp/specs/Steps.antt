@@ -5,9 +5,9 @@ use Rattle.std.specs.declared.vec.Vec.{Vec}
 use Rattle.life_types.specs.Types.{Types}
 use Rattle.life_core.specs.Function.{Function}
 use Rattle.life_core.specs.Operands.{Operand, Name, Through}
-use Rattle.life_store.specs.Calls.{parameters_given}
+use Rattle.life_store.specs.Doing.{Setting, Effect, Next, Traps, Faults, Strays, Found, Here, Wrong, Astray, named_by, on_found, on_number, on_pointer, put_cell, number_in_word, cell, characters_in, input_taken, with_output}
+use Rattle.life_interp.specs.SoFar.{parameters_given, behind_cell, saved, resolve, on_view}
 use Rattle.life_store.specs.Content.{Content, Object, live_words_of, word_at}
-use Rattle.life_store.specs.Doing.{Setting, Effect, Next, Traps, Faults, Strays, Found, Here, Wrong, Astray, named_by, behind_cell, on_found, on_number, on_pointer, saved, put_cell, number_in_word, resolve, cell, characters_in, input_taken, on_view, with_output}
 use Rattle.life_store.specs.Meaning.{frame}
 use Rattle.life_store.specs.References.{Rows, HasWord, object_of}
 use Rattle.life_store.specs.State as state

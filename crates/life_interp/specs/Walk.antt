@@ -6,9 +6,9 @@ use Rattle.life_core.specs.Linked.{Lead, Linked, code_of, enter, no_exits, numbe
 use Rattle.life_core.specs.Operands.{Location}
 use Rattle.life_core.specs.Step.{Step, Call}
 use Rattle.life_core.specs.Tree.{Node, Action, Question, Return, Stop}
-use Rattle.life_store.specs.Calls.{all_handed, parameters_given, results, target_given}
-use Rattle.life_store.specs.Doing.{Setting, Effect, Next, Traps, Faults, Strays, does}
-use Rattle.life_store.specs.Meaning.{Trapped, Faulted, Stray, Exhausted, Verdict, Holds, Fails, Cut, test_at, Called, Back, Quit, frame}
+use Rattle.life_store.specs.Doing.{Setting, Effect, Next, Traps, Faults, Strays}
+use Rattle.life_interp.specs.SoFar.{test_at, all_handed, parameters_given, results, target_given, does}
+use Rattle.life_store.specs.Meaning.{Trapped, Faulted, Stray, Exhausted, Verdict, Holds, Fails, Cut, Called, Back, Quit, frame}
 use Rattle.life_store.specs.State.{Cell, World, State}
 use Rattle.life_store.specs.declared.run.TrapKind.TheVariants as trap
 

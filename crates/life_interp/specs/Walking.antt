@@ -9,10 +9,10 @@ use Rattle.life_core.specs.Function.{Function, Program}
 use Rattle.life_core.specs.Linked.{Lead, enter, no_exits}
 use Rattle.life_core.specs.Step.{Step, Call, Ports, Test}
 use Rattle.life_types.specs.declared.place.Place.{Place}
-use Rattle.life_store.specs.Calls.{results}
-use Rattle.life_store.specs.Content.{Content}
 use Rattle.life_store.specs.Doing.{Setting, Effect, Next}
-use Rattle.life_store.specs.Meaning.{Trapped, Faulted, Stray, Exhausted, Verdict, Holds, Fails, Cut, test_at, Called, Back, Barred, Quit, value_in}
+use Rattle.life_interp.specs.SoFar.{test_at, results}
+use Rattle.life_store.specs.Content.{Content}
+use Rattle.life_store.specs.Meaning.{Trapped, Faulted, Stray, Exhausted, Verdict, Holds, Fails, Cut, Called, Back, Barred, Quit, value_in}
 use Rattle.life_store.specs.State as state
 use Rattle.life_store.specs.State.{World, State}
 use Rattle.life_interp.specs.Cells.{state_of, world_of}

@@ -10,8 +10,8 @@ ghost use Rattle.life_interp.specs.Steps.{Begins, IsSet, LeavesBoth};
 ghost use Rattle.life_interp.specs.Walking.{acts, barred_of, returns, Enters, Moves};
 ghost use Rattle.life_interp.specs.declared.ending.Halt.TheVariants as halts;
 ghost use Rattle.life_interp.specs.declared.value.Cell.TheVariants as held;
-ghost use Rattle.life_store.specs.Calls.{target_given};
 ghost use Rattle.life_store.specs.Doing.{Setting};
+ghost use Rattle.life_interp.specs.SoFar.{target_given};
 
 use crate::ending::{Ending, Halt, halt_at};
 use crate::frames::{Frames, Waiting};

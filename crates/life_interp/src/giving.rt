@@ -4,8 +4,8 @@ ghost use Rattle.life_core.specs.Function.{function_of};
 ghost use Rattle.life_interp.specs.Cells.{cell_seen, cells_seen};
 ghost use Rattle.life_interp.specs.Fits.{most_births, CanBear, CanStep, CellFits, CellsFit, Gives, Grows, IsFit, Later};
 ghost use Rattle.life_interp.specs.Steps.{LeavesBoth};
-ghost use Rattle.life_store.specs.Calls.{born_with, given, parameters_given};
 ghost use Rattle.life_store.specs.Doing.{Setting};
+ghost use Rattle.life_interp.specs.SoFar.{born_with, given, parameters_given};
 
 use crate::ending::Ending;
 use crate::frame::put_at;

@@ -6,7 +6,8 @@ ghost use Rattle.life_interp.specs.Fits.{CanBear, CanStep, Grows, IsFit, Later};
 ghost use Rattle.life_interp.specs.Steps.{BirthFails, LeavesBoth};
 ghost use Rattle.life_store.specs.Cells.{set};
 ghost use Rattle.life_store.specs.Content.{live_words_of};
-ghost use Rattle.life_store.specs.Doing.{with_value_object, cell, born_object, born_pointer, end_cell, end_locals, live_local, Setting};
+ghost use Rattle.life_store.specs.Doing.{with_value_object, cell, born_object, born_pointer, Setting};
+ghost use Rattle.life_interp.specs.SoFar.{end_cell, end_locals, live_local};
 
 use crate::ending::Ending;
 use crate::frame::{cell_at, put_cell};

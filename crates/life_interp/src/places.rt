@@ -1,6 +1,7 @@
 // What an operand names.
 ghost use Rattle.life_core.specs.Operands.{operand_of};
-ghost use Rattle.life_store.specs.Doing.{behind, found_at};
+ghost use Rattle.life_store.specs.Doing.{found_at};
+ghost use Rattle.life_interp.specs.SoFar.{behind};
 ghost use Rattle.life_interp.specs.Cells.{pointer_seen};
 ghost use Rattle.life_interp.specs.Fits.{IsFit, IsHoused, IsRef, PointerFits};
 ghost use Rattle.life_interp.specs.Steps.{place_in, Finds};

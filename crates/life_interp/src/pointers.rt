@@ -6,7 +6,8 @@ ghost use Rattle.life_interp.specs.Cells.{pointer_seen};
 ghost use Rattle.life_interp.specs.Fits.{CellsFit, IsFit};
 ghost use Rattle.life_interp.specs.Steps.{repointed, LeavesCells};
 ghost use Rattle.life_store.specs.Content.{Content};
-ghost use Rattle.life_store.specs.Doing.{aimed, text_length, viewed, Setting};
+ghost use Rattle.life_store.specs.Doing.{text_length, viewed, Setting};
+ghost use Rattle.life_interp.specs.SoFar.{aimed};
 ghost use Rattle.life_store.specs.References.{Rows};
 
 use crate::ending::Ending;

@@ -8,7 +8,7 @@ ghost use Rattle.life_interp.specs.Fits.{CellsFit};
 ghost use Rattle.life_interp.specs.Steps.{taken_into, viewed_from};
 ghost use Rattle.life_interp.specs.Walking.{LeavesInput, Performs, Writes};
 ghost use Rattle.life_store.specs.Content.{Content};
-ghost use Rattle.life_store.specs.Doing as doing;
+ghost use Rattle.life_interp.specs.SoFar as so_far;
 ghost use Rattle.life_store.specs.Doing.{as_long, characters_in, number_text, Setting};
 ghost use Rattle.life_store.specs.References.{Rows};
 
@@ -34,7 +34,7 @@ pub(crate) fn pass<O: Sink>(
     out: &mut O,
 ) -> Result<(), Ending>
     ensures step { (s : Setting) (c : Content) → s.texts ≡ (program_of program.now).texts
-        → Performs (doing.port s (program_of program.now).types (function_of f.now) (port_of port.now)) c cells.old.items (drop taken.old input.now) c cells.new.items (drop taken.new input.now)
+        → Performs (so_far.port s (program_of program.now).types (function_of f.now) (port_of port.now)) c cells.old.items (drop taken.old input.now) c cells.new.items (drop taken.new input.now)
         (record { old = O.taken out.old; new = O.taken out.new; faults = O.faults out.old; later = O.faults out.new }) result }
     ensures fits { (c : Content) (rows : Rows) → CellsFit c rows cells.old.items → OnOk result (CellsFit c rows cells.new.items) }
 {

@@ -6,7 +6,8 @@ ghost use Rattle.life_core.specs.Step.{step_of};
 ghost use Rattle.life_interp.specs.Fits.{CanStep, Grows, IsFit, Later};
 ghost use Rattle.life_interp.specs.Steps.{IsSet, LeavesBoth};
 ghost use Rattle.life_interp.specs.Walking.{IsOwn, IsQuiet, Performs};
-ghost use Rattle.life_store.specs.Doing.{does, Setting};
+ghost use Rattle.life_store.specs.Doing.{Setting};
+ghost use Rattle.life_interp.specs.SoFar.{does};
 
 use crate::ending::Ending;
 use crate::locals::{end, live};

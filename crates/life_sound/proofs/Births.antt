@@ -1,5 +1,5 @@
 -- A birth makes what is known of a pointer that is born, and keeps the rest.
-use Rattle.std.proofs.Common.{◌≡◌, ◌≢◌, ℕ, ◌+◌, ◌*◌, List, [], Option, Some, None, true, false, refl, sym, ap, subst, ◌∙◌, arith, ⊎_elim, ◌⊎◌}
+use Rattle.std.proofs.Common.{◌≡◌, ◌≢◌, ℕ, ◌+◌, ◌*◌, List, [], Option, Some, None, true, false, refl, sym, ap, subst, ◌∙◌, arith, ⊎_elim}
 use Rattle.std.specs.Prelude.{Contains, slice_get, slice_set, nat_lt}
 use Rattle.std.proofs.lemmas.Bool.{cond_both, false≢true, ne_eqb}
 use Rattle.life_types.specs.Types.{Types}
@@ -29,7 +29,7 @@ use Rattle.life_store.proofs.Housing.{Housed, born_cases}
 use Rattle.life_sound.proofs.Covering.{IsRaw, covers_on, Cover, Known, birth_timely}
 use Rattle.life_sound.proofs.Facts.{local_location, pointer_local, pointer_location, null_element, caused_element, fact_of, Closed}
 use Rattle.life_sound.proofs.Located.{is_direct, IsDirect}
-use Rattle.life_sound.proofs.Sorts.{IsSorted}
+use Rattle.life_store.proofs.Sorts.{IsSorted}
 use Rattle.life_sound.proofs.Writing.{IsSafe, known_kept, put_known}
 
 -- ---- an object is born where nothing is: what is there stays
@@ -115,8 +115,24 @@ module _ (types : Types) (fs : List Function) (f : Function) (place : Place) (S 
       }
       born_cover way.Zero is sort = record { known = element.Null; holds = born_holds _ (ap (born_raw place x) is) sort (null_element types f); covers = tt }
 
-      as_safe : (sort : Holding) (ty : TyId) → sort_of types f x ≡ sort → IsSafe S' (live_as s sort ty form x st)
-      as_safe Blank ty e = tt
+      blank_object : Blank ≡ AnObject → ⊥
+      blank_object e = cc
+
+      blank_pointer : Blank ≡ APointer → ⊥
+      blank_pointer e = cc
+
+      view_object : AView ≡ AnObject → ⊥
+      view_object e = cc
+
+      view_pointer : AView ≡ APointer → ⊥
+      view_pointer e = cc
+
+      -- what is born is a value or a pointer
+      neither : {sort : Holding} → (sort ≡ AnObject → ⊥) → (sort ≡ APointer → ⊥) → sort_of types f x ≡ sort → ⊥
+      neither a b is = ⊎_elim (λ o. a (sym is ∙ o)) (λ p. b (sym is ∙ p)) ready.1
+
+      as_safe : (sort : Holding) (ty : TyId) → sort_of types f x ≡ sort → IsSafe S' (live_as s types sort ty form x st)
+      as_safe Blank ty e = absurd (neither blank_object blank_pointer e)
       as_safe AnObject ty e =
           cond_both (nat_lt s.given.cells (live_words_of st.world.content + (2 + 1 * 1))) (Traps trap.Cells)
           (Next (put_cell x (Named st.world.content.births) (put_content (with_value_object ty st.world.content) st))) (IsSafe S') (λ _. tt) (λ _. born_known ty)
@@ -127,8 +143,8 @@ module _ (types : Types) (fs : List Function) (f : Function) (place : Place) (S 
         where
           same : (w : Pointer) → Points (born_pointer form) ≡ Points w → born_pointer form ≡ w
           same w e = cc
-      as_safe AView ty e = tt
+      as_safe AView ty e = absurd (neither view_object view_pointer e)
 
       go : (l : Option Local) → slice_get f.locals x ≡ l → IsSafe S' (live_local s types f l form x st)
       go None e = tt
-      go (Some l) e = subst (λ o. IsSafe S' (live_over s o (sort_of types f x) l.ty form x st)) (sym empty) (as_safe (sort_of types f x) l.ty refl)
+      go (Some l) e = subst (λ o. IsSafe S' (live_over s types o (sort_of types f x) l.ty form x st)) (sym empty) (as_safe (sort_of types f x) l.ty refl)

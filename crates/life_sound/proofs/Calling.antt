@@ -10,7 +10,7 @@ use Rattle.life_core.specs.ByValue.{is_pointer, takes_pointer, gives_pointer, is
 use Rattle.life_core.specs.Function.{Function}
 use Rattle.life_core.specs.Linked.{Linked, code_of, goes, numbered, parts, spot_at}
 use Rattle.life_core.specs.Operands.{Argument, Location}
-use Rattle.life_core.specs.Proper.{IsCallReady, IsProper, IsStepReady, IsTargetReady, parameter_sorts, result_sort}
+use Rattle.life_core.specs.Proper.{AreArgumentsReady, IsCallReady, IsProper, IsStepReady, IsTargetReady, parameter_sorts, result_sort}
 use Rattle.life_core.specs.Step.{Step, Call, Test}
 use Rattle.life_core.specs.Tree.{Action, Question}
 use Rattle.life_core.specs.declared.exits.Exits.{Exits}
@@ -18,13 +18,13 @@ use Rattle.life_core.specs.declared.program.FnId.{FnId}
 use Rattle.life_pset.specs.declared.element.Fact.{Fact}
 use Rattle.life_rules.specs.Diagnosing.{IsDiagnosed}
 use Rattle.life_rules.specs.declared.diag.Diag.{Diag}
-use Rattle.life_store.specs.Calls.{all_handed, target_given}
+use Rattle.life_store.specs.Calls.{all_handed, lent, target_given}
 use Rattle.life_store.specs.Content.{Content, is_valid_in}
 use Rattle.life_store.specs.Doing.{Setting, Effect, Next, Traps, Faults, Strays, does}
 use Rattle.life_store.specs.Meaning.{Stop, Trapped, Faulted, Stray, Exhausted, Verdict, Holds, Fails, Cut, Called, Back, Barred, Quit, Callee, Answer, act, came_back, call_with, paid, test_at, with_world}
 use Rattle.life_store.specs.State.{Cell, Named, World, State, holdings_of}
 use Rattle.life_store.proofs.Going.{InvAt, GoodAnswer, GoodVerdict, Keeps}
-use Rattle.life_store.proofs.Handing.{AreSuited, HandsAll, hands_all}
+use Rattle.life_store.proofs.Handing.{AreSuited, HandsAll, hands_all, lent_ready, taken_ready}
 use Rattle.life_store.proofs.Housing.{Housed}
 use Rattle.life_store.proofs.Standing.{Standing, Leaving, IsHeld, GoodCalled, GoodCallee, proper_keeps}
 use Rattle.life_store.proofs.Waiting.{get_behind, get_front, housed_more}
@@ -33,7 +33,7 @@ use Rattle.life_sound.proofs.ByValue.{neither, all_numbered}
 use Rattle.life_sound.proofs.Covering.{IsTimely, covers_on, Known}
 use Rattle.life_sound.proofs.Edges.{FactsAt, closed_at, held_passes, failed_passes, clean_at}
 use Rattle.life_sound.proofs.Facts.{Closed, Clean}
-use Rattle.life_sound.proofs.Sorts.{IsSorted, reached_sorted}
+use Rattle.life_store.proofs.Sorts.{IsSorted, reached_sorted}
 use Rattle.life_sound.proofs.Sparing.{Spared, Leads, leads_on, Tells, test_tells, behind_housed, step_spares}
 use Rattle.life_sound.proofs.Steps.{step_safe}
 use Rattle.life_sound.proofs.Targets.{IsFresh, target_fresh, target_safe}
@@ -142,33 +142,38 @@ module _ (types : Types) (fs : List Function) (f : Function) (outer : List Cell)
   module _ (number : ℕ) (s : Setting) (call : Callee) (callee : GoodCallee types fs call) (safe : SafeCallee types fs call) where
     -- what came back goes to the target
     back_sound : (S : Fact → Type 0) (place : Place) (x : Exits) (id : FnId) (g : Function) (target : Option Location) (xs : List Argument) (st : State) (r : Called)
-        → IsSorted types f (holdings_of st) → Known S st → IsSpared st → IsTargetReady types f (holdings_of st) (result_sort types g) target → gives_pointer types f target ≡ false
+        → IsSorted types f (holdings_of st) → Known S st → IsSpared st → AreArgumentsReady (holdings_of st) (parameter_sorts types g) xs → IsTargetReady types f (holdings_of st) (result_sort types g) target → gives_pointer types f target ≡ false
         → Closed types f place (Call target id xs) S (LeadFacts x.next) → GoodCalled types g (outer ++ st.cells) r → SafeCalled (outer ++ st.cells) st.world.content r
-        → Stands x (came_back s types f place target st r) → IsSound x (came_back s types f place target st r)
-    back_sound S place x id g target xs st (Back n w values) sorted k spared ready none cl good kind a =
+        → Stands x (came_back s types f place target xs st r) → IsSound x (came_back s types f place target xs st r)
+    back_sound S place x id g target xs st (Back n w values) sorted k spared given ready none cl good kind a =
         let known = call_known S outer st w k kind.0 kind.1 in
         let still = spared_then outer st.cells before st.world.content w.content spared kind.1 in
-        paid_sound place w x (target_given s types f target values (with_world w st)) n a
+        let same = taken_ready s types f (parameter_sorts types g) target xs values st w given in
+        subst (λ e. IsSound x (paid place w e n)) (sym same)
+        (paid_sound place w x (target_given s types f target values (with_world w st)) n (subst (λ e. Stands x (paid place w e n)) same a)
         (target_safe types f place (Call target id xs) S (LeadFacts x.next) cl (λ fact. refl) s (with_world w st) (behind_housed w.content outer st.cells good.0) sorted known
         (result_sort types g) target values none ready good.1)
         (leads_on (IsFresh outer before s types f) IsSpared (λ st' fresh. fresh.0) (target_given s types f target values (with_world w st))
-        (target_fresh outer before s types f target values (with_world w st) (still, kind.0)))
-    back_sound S place x id g target xs st (Barred trap) sorted k spared ready none cl good kind a = tt
-    back_sound S place x id g target xs st (Quit stop w) sorted k spared ready none cl good kind a = kind
+        (target_fresh outer before s types f (holdings_of st) w.content (result_sort types g) target values (with_world w st) ready good.1 (still, kind.0))))
+    back_sound S place x id g target xs st (Barred trap) sorted k spared given ready none cl good kind a = tt
+    back_sound S place x id g target xs st (Quit stop w) sorted k spared given ready none cl good kind a = kind
 
     call_sound : (S : Fact → Type 0) (place : Place) (x : Exits) (id : FnId) (o : Option Function) (target : Option Location) (xs : List Argument) (n : ℕ) (st : State) → slice_get fs id.0 ≡ o
         → Housed st.world.content (outer ++ st.cells) → IsSorted types f (holdings_of st) → Known S st → IsSpared st → IsCallReady types f (holdings_of st) o target xs
         → takes_pointer types o ≡ false → gives_pointer types f target ≡ false → Closed types f place (Call target id xs) S (LeadFacts x.next)
-        → Stands x (came_back s types f place target st (call_with call id.0 (all_handed st xs) n st.world)) → IsSound x (came_back s types f place target st (call_with call id.0 (all_handed st xs) n st.world))
+        → Stands x (came_back s types f place target xs st (call_with call id.0 (all_handed types f st xs) n (lent types f xs st).world)) → IsSound x (came_back s types f place target xs st (call_with call id.0 (all_handed types f st xs) n (lent types f xs st).world))
     call_sound S place x id None target xs n st is h sorted k spared ready takes gives cl a = absurd ready
     call_sound S place x id (Some g) target xs n st is h sorted k spared ready takes gives cl a =
-        let handed : HandsAll st (parameter_sorts types g) xs = hands_all outer st h (parameter_sorts types g) xs ready.0 in
+        let handed : HandsAll types f st (parameter_sorts types g) xs = hands_all types f outer st h (parameter_sorts types g) xs ready.0 in
         let waiting = housed_more st.world.content (outer ++ st.cells) handed.values h handed.loose in
-        subst (λ o. IsSound x (came_back s types f place target st (call_with call id.0 o n st.world))) (sym handed.are)
-        (back_sound S place x id g target xs st (call id.0 handed.values n st.world) sorted k spared ready.1 gives cl
+        let same = lent_ready types f (holdings_of st) (parameter_sorts types g) xs st ready.0 in
+        subst (λ (u : State). IsSound x (came_back s types f place target xs st (call_with call id.0 (all_handed types f st xs) n u.world))) (sym same)
+        (subst (λ o. IsSound x (came_back s types f place target xs st (call_with call id.0 o n st.world))) (sym handed.are)
+        (back_sound S place x id g target xs st (call id.0 handed.values n st.world) sorted k spared ready.0 ready.1 gives cl
         (callee id.0 g (outer ++ st.cells) handed.values n st.world is handed.suited waiting)
         (safe id.0 g (outer ++ st.cells) handed.values n st.world is takes handed.suited waiting k.timely)
-        (subst (λ o. Stands x (came_back s types f place target st (call_with call id.0 o n st.world))) handed.are a))
+        (subst (λ o. Stands x (came_back s types f place target xs st (call_with call id.0 o n st.world))) handed.are
+        (subst (λ (u : State). Stands x (came_back s types f place target xs st (call_with call id.0 (all_handed types f st xs) n u.world))) same a))))
 
     act_sound : (S : Fact → Type 0) (place : Place) (i : Step) (x : Exits) (n : ℕ) (st : State) → Housed st.world.content (outer ++ st.cells) → IsSorted types f (holdings_of st) → Known S st → IsSpared st
         → IsStepReady types fs f (holdings_of st) i → Clean number place i S → Closed types f place i S (LeadFacts x.next) → is_by_value types fs f i ≡ true
@@ -180,7 +185,7 @@ module _ (types : Types) (fs : List Function) (f : Function) (outer : List Cell)
         let own = behind_housed st.world.content outer st.cells h in
         paid_sound place st.world x (does s types f i st) n a
         (step_safe number types fs f place S (LeadFacts x.next) st own sorted k s i tt ready clean cl)
-        (step_spares outer before number types fs f place S st h own k spared s i tt ready clean)
+        (step_spares outer before number types fs f place S st sorted h own k spared s i tt ready clean)
 
     -- ---- a proper function of which nothing is diagnosed keeps to this
 
@@ -189,10 +194,10 @@ module _ (types : Types) (fs : List Function) (f : Function) (outer : List Cell)
     sound_keeps proper none by_value = record {
       acts = acts;
       asks = λ b place t held failed here m st inv.
-          verdict_sound held failed (test_at t m st) (mine.asks b place t held failed here m st inv.standing)
-          (test_known t (FactsAt types f b) (LeadFacts held) (LeadFacts failed) m st (proper.ready b (holdings_of st) _ inv.standing.reached here)
+          verdict_sound held failed (test_at types f t m st) (mine.asks b place t held failed here m st inv.standing)
+          (test_known types f t (FactsAt types f b) (LeadFacts held) (LeadFacts failed) m st (proper.ready b (holdings_of st) _ inv.standing.reached here)
           (lead_held t b place held failed here) (lead_failed t b place held failed here) inv.known)
-          (test_tells IsSpared m st inv.spared t);
+          (test_tells IsSpared m st inv.spared types f t);
       returns = λ b place here st inv. record { leaving = mine.returns b place here st inv.standing; timely = inv.known.timely; spared = inv.spared };
       stops = λ b place here st inv. tt;
       exhausted = tt;

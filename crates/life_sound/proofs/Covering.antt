@@ -153,12 +153,12 @@ module _ (c : Content) (m i w value : ℕ) (o : Object) (there : at c.objects m 
       (set_cases c.objects m t.object (with_word i w value o))
 
 -- so what is known of a state stays known where a value is saved
-pub saved_known : (S : Fact → Type 0) (st : State) (z : ℤ) (m i : ℕ) (o : Object) → at st.world.content.objects m ≡ Some o → Known S st → Known S (saved z m i o st)
-saved_known S st z m i o there k = record {
+pub saved_known : (S : Fact → Type 0) (st : State) (z : ℤ) (m i w : ℕ) (o : Object) → at st.world.content.objects m ≡ Some o → Known S st → Known S (saved z m i w o st)
+saved_known S st z m i w o there k = record {
   covered = λ q v e raw. let c = k.covered q v e raw in record {
     known = c.known;
     holds = c.holds;
-    covers = covers_on st.world.content (with_object m (with_word i 0 (word_of_number z) o) st.world.content) st.cells st.cells (λ y t named valid. (named, write_valid st.world.content m i 0 (word_of_number z) o there t valid)) c.known v c.covers;
+    covers = covers_on st.world.content (with_object m (with_word i w (word_of_number z) o) st.world.content) st.cells st.cells (λ y t named valid. (named, write_valid st.world.content m i w (word_of_number z) o there t valid)) c.known v c.covers;
   };
-  timely = write_timely st.world.content m i 0 (word_of_number z) o there k.timely;
+  timely = write_timely st.world.content m i w (word_of_number z) o there k.timely;
 }

@@ -23,7 +23,7 @@ use Rattle.life_store.proofs.Housing.{Housed}
 use Rattle.life_sound.proofs.Covering.{IsRaw, Covers, Cover, Known}
 use Rattle.life_sound.proofs.Ending.{AfterEnds, ends_are}
 use Rattle.life_sound.proofs.Facts.{object_local, caused_element, fact_of, Closed, kept, made, among, map_into}
-use Rattle.life_sound.proofs.Sorts.{IsSorted, named_sort}
+use Rattle.life_store.proofs.Sorts.{IsSorted, named_sort}
 use Rattle.life_sound.proofs.Writing.{IsSafe}
 
 module _ (types : Types) (f : Function) (place : Place) (xs : List ℕ) (S S' : Fact → Type 0) (st st' : State) (sorted : IsSorted types f (holdings_of st)) (k : Known S st) (cl : Closed types f place (End xs) S S') (after : AfterEnds xs st st') where
@@ -87,7 +87,7 @@ module _ (types : Types) (f : Function) (place : Place) (xs : List ℕ) (S S' : 
   }
 
 pub end_known : (types : Types) (fs : List Function) (f : Function) (place : Place) (xs : List ℕ) (S S' : Fact → Type 0) (st : State) → Housed st.world.content st.cells → IsSorted types f (holdings_of st) → Known S st
-    → IsStepReady types fs f (holdings_of st) (End xs) → Closed types f place (End xs) S S' → IsSafe S' (end_locals xs st)
+    → IsStepReady types fs f (holdings_of st) (End xs) → Closed types f place (End xs) S S' → IsSafe S' (end_locals types f xs st)
 end_known types fs f place xs S S' st h sorted k ready cl =
-    let after = ends_are xs st h ready in
+    let after = ends_are types f xs st sorted h ready in
     subst (IsSafe S') (sym after.1.0) (known types f place xs S S' st after.0 sorted k cl after.1.1)

@@ -28,9 +28,9 @@ use Rattle.life_sound.proofs.ByValue.{plain_entry}
 use Rattle.life_sound.proofs.Calling.{IsSafeStop, SafeCalled, SafeCallee, Sound, SoundlyLeft, IsSound, sound_keeps}
 use Rattle.life_sound.proofs.Covering.{IsTimely, Known}
 use Rattle.life_sound.proofs.Edges.{FactsAt}
-use Rattle.life_sound.proofs.Sorts.{held}
+use Rattle.life_store.proofs.Sorts.{held}
 use Rattle.life_sound.proofs.Sparing.{Spared, Leads}
-use Rattle.life_sound.proofs.Targets.{IsFresh, parameters_fresh}
+use Rattle.life_sound.proofs.Targets.{IsFresh, parameters_fresh, suited_values}
 
 -- what is spared with more is spared
 front_spared : (outer more : List Cell) (before now : Content) → Spared (outer ++ more) before now → Spared outer before now
@@ -80,7 +80,7 @@ module _ (s : Setting) (types : Types) (fs : List Function) (f : Function) (numb
       → list_any is_pointer (parameter_sorts types f) ≡ false → AreSuited (parameter_sorts types f) xs → Housed w.content (outer ++ xs) → IsTimely w.content → SafeCalled outer w.content (entered s types (Some f) call xs n w)
   entered_safe callee safe proper none by_value plain suited h timely =
       begun_safe (parameters_given s types f 0 xs (frame f w)) (λ st. finish types f (exec s types f call f.body n st)) (entry_gives outer s types f xs w h suited)
-      (parameters_fresh (outer ++ xs) w.content s types f xs 0 (frame f w) (all_spared (outer ++ xs) w.content h, timely))
+      (parameters_fresh (outer ++ xs) w.content s types f xs 0 (frame f w) (suited_values (parameter_sorts types f) xs suited) (all_spared (outer ++ xs) w.content h, timely))
       (λ st is h' fresh. finish_safe (exec s types f call f.body n st)
       (body_good s types f call (Sound types f (outer ++ xs) w.content) (SoundlyLeft types f (outer ++ xs) w.content) IsSafeStop
       (sound_keeps types fs f (outer ++ xs) w.content number s call callee safe proper none by_value) proper.statement proper.straight n st

@@ -12,7 +12,6 @@ pub mod Facts
 pub mod Located
 mod Places
 mod Reaching
-mod Sorts
 mod Soundness
 mod Sparing
 mod Steps

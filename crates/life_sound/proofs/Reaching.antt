@@ -13,12 +13,15 @@ use Rattle.life_pset.specs.declared.element.Fact.{Fact}
 use Rattle.life_rules.specs.Carrying.{fact_at}
 use Rattle.life_rules.specs.Diagnosing.{used_in, uses}
 use Rattle.life_rules.proofs.Giving.{at_head}
+use Rattle.life_core.specs.Function.{Function}
+use Rattle.life_types.specs.Types.{Types}
 use Rattle.life_store.specs.Cells.{at}
 use Rattle.life_store.specs.Content.{Object, Content}
 use Rattle.life_store.specs.Doing.{Here, found_if, behind_cell, named_by, resolve}
 use Rattle.life_store.specs.State.{Target, Pointer, Null, Wild, To, Static, Named, Points, State, holdings_of}
 use Rattle.life_store.proofs.CellLemmas.{held_is, named_cell, pointer_cell}
-use Rattle.life_store.proofs.Found.{found_here}
+use Rattle.life_store.proofs.Found.{found_here, reached_here}
+use Rattle.life_store.proofs.WholeLocals.{whole_cell}
 use Rattle.life_store.proofs.Housing.{Housed}
 use Rattle.life_sound.proofs.Covering.{PointsTo, Covers, Cover, Known}
 use Rattle.life_sound.proofs.Facts.{Clean, unused}
@@ -29,19 +32,19 @@ Sees S (Name l) local = l.local ≡ local
 Sees S (Through p members) local = S (fact_at (local_place p.local) (element.At (local_place local)))
 
 -- the position where the operand lies, and the local that names the object
-pub record Reached (S : Fact → Type 0) (st : State) (o : Operand) : Type 0 where
+pub record Reached (types : Types) (f : Function) (S : Fact → Type 0) (st : State) (o : Operand) : Type 0 where
   pub number : ℕ
   pub index : ℕ
   pub object : Object
-  pub here : resolve o st ≡ Here number index object
+  pub here : resolve types f o st ≡ Here number index object
   pub there : at st.world.content.objects number ≡ Some object
   pub within : index < length object.slots
   pub local : ℕ
   pub named : slice_get st.cells local ≡ Some (Named number)
   pub seen : Sees S o local
 
-module _ (n : ℕ) (place : Place) (i : Step) (S : Fact → Type 0) (clean : Clean n place i S) (st : State) (h : Housed st.world.content st.cells) (k : Known S st) where
-  through : (at : Location) (members : List ℕ) → at.members ≡ [] → Contains (uses i) at → (v : Pointer) → slice_get st.cells at.local ≡ Some (Points v) → Cover S st.world.content st.cells at.local v → Reached S st (Through at members)
+module _ (n : ℕ) (types : Types) (f : Function) (place : Place) (i : Step) (S : Fact → Type 0) (clean : Clean n place i S) (st : State) (h : Housed st.world.content st.cells) (k : Known S st) where
+  through : (at : Location) (members : List ℕ) → at.members ≡ [] → Contains (uses i) at → (v : Pointer) → slice_get st.cells at.local ≡ Some (Points v) → Cover S st.world.content st.cells at.local v → Reached types f S st (Through at members)
   through at members whole used v e cover = go v e cover.known cover.holds cover.covers
     where
       p : ℕ
@@ -50,7 +53,7 @@ module _ (n : ℕ) (place : Place) (i : Step) (S : Fact → Type 0) (clean : Cle
       c : Content
       c = st.world.content
 
-      pointed : (t : Target) → slice_get st.cells p ≡ Some (Points (To t)) → (place' : AbsPlace) → S (fact_at (local_place p) (element.At place')) → PointsTo st.world.content st.cells place' t → Reached S st (Through at members)
+      pointed : (t : Target) → slice_get st.cells p ≡ Some (Points (To t)) → (place' : AbsPlace) → S (fact_at (local_place p) (element.At place')) → PointsTo st.world.content st.cells place' t → Reached types f S st (Through at members)
       pointed t e place' s to =
           let l = h.lives to.local t.object to.named in
           let aims = h.aims p t e in
@@ -58,7 +61,7 @@ module _ (n : ℕ) (place : Place) (i : Step) (S : Fact → Type 0) (clean : Cle
             number = t.object;
             index = t.index;
             object = l.object;
-            here = ap (behind_cell st.world.content) e ∙ ap (λ b. found_if b st.world.content t) to.valid ∙ found_here st.world.content t.object t.index l.object l.there within;
+            here = ap (behind_cell st.world.content) (whole_cell types f at st whole ∙ e) ∙ ap (λ b. found_if b st.world.content t) to.valid ∙ reached_here st.world.content t.object t.index l.object l.there within;
             there = l.there;
             within = within;
             local = to.local;
@@ -66,7 +69,7 @@ module _ (n : ℕ) (place : Place) (i : Step) (S : Fact → Type 0) (clean : Cle
             seen = subst (λ q. S (fact_at (local_place p) (element.At q))) to.place_is s;
           }
 
-      go : (v : Pointer) → slice_get st.cells p ≡ Some (Points v) → (known : Element) → S (fact_at (local_place p) known) → Covers st.world.content st.cells known v → Reached S st (Through at members)
+      go : (v : Pointer) → slice_get st.cells p ≡ Some (Points v) → (known : Element) → S (fact_at (local_place p) known) → Covers st.world.content st.cells known v → Reached types f S st (Through at members)
       go Null e element.Null s cov = absurd (unused n place i S clean at whole element.Null _ used (at_head _ []) s)
       go Wild e element.Null s cov = absurd cov
       go (To t) e element.Null s cov = absurd cov
@@ -80,7 +83,7 @@ module _ (n : ℕ) (place : Place) (i : Step) (S : Fact → Type 0) (clean : Cle
       go (To t) e (element.At place') s cov = pointed t e place' s cov
       go (Static c) e (element.At place') s cov = absurd cov
 
-  pub reached : (o : Operand) → ((p : Location) → Contains (used_in o) p → Contains (uses i) p) → IsOperandReady (holdings_of st) o → Reached S st o
+  pub reached : (o : Operand) → ((p : Location) → Contains (used_in o) p → Contains (uses i) p) → IsOperandReady (holdings_of st) o → Reached types f S st o
   reached (Name at) used ready =
       let cell = named_cell st.cells at.local ready.1 in
       let l = h.lives at.local cell.0 cell.1 in record {

@@ -12,7 +12,7 @@ use Rattle.life_store.proofs.Housing.{Housed}
 use Rattle.life_store.proofs.Settling.{IsPlain}
 use Rattle.life_sound.proofs.Covering.{Known}
 use Rattle.life_sound.proofs.Facts.{Closed, Clean}
-use Rattle.life_sound.proofs.Sorts.{IsSorted}
+use Rattle.life_store.proofs.Sorts.{IsSorted}
 use Rattle.life_sound.proofs.Writing.{IsSafe}
 use Rattle.life_sound.proofs.Births.{live_known}
 use Rattle.life_sound.proofs.Ends.{end_known}

@@ -8,13 +8,13 @@ use Rattle.life_types.specs.declared.ty.TyId.{TyId}
 use Rattle.life_core.specs.ByValue.{is_pointer, gives_pointer}
 use Rattle.life_core.specs.Function.{Function}
 use Rattle.life_core.specs.Operands.{Location}
-use Rattle.life_core.specs.Proper.{Holding, Blank, AnObject, ANumber, APointer, AView, held_by, sort_of, IsTargetReady}
+use Rattle.life_core.specs.Proper.{Holding, Blank, AnObject, ANumber, APointer, AView, Holdings, held_by, sort_of, IsTargetReady}
 use Rattle.life_core.specs.Step.{Step}
 use Rattle.life_core.specs.declared.program.Local.{Local}
 use Rattle.life_pset.specs.Elements.{local_place}
 use Rattle.life_pset.specs.declared.element.Fact.{Fact}
 use Rattle.life_rules.specs.Carrying.{fact_at, drops}
-use Rattle.life_store.specs.Calls.{born_with, number_given, given_to, given_if, given, parameters_given, first_given, target_given}
+use Rattle.life_store.specs.Calls.{born_with, number_given, given_to, given_if, given, parameters_given, first_given, result_given, target_given}
 use Rattle.life_store.specs.Cells.{at, at-set_same}
 use Rattle.life_store.specs.Content.{Content, live_words_of, with_word}
 use Rattle.life_store.specs.Doing.{Setting, Effect, Next, Traps, Found, Here, put_cell, put_content, word_of_number, found_at, on_found, on_next, with_value_object, saved}
@@ -22,12 +22,13 @@ use Rattle.life_store.specs.State.{Pointer, Null, Wild, To, Static, Cell, Empty,
 use Rattle.life_store.specs.declared.run.TrapKind.TheVariants as trap
 use Rattle.life_store.proofs.CellLemmas.{empty_cell_is}
 use Rattle.life_store.proofs.Found.{found_here}
-use Rattle.life_store.proofs.Giving.{Suits, GivesBack}
+use Rattle.life_store.proofs.Giving.{Suits, IsFirst, GivesBack}
+use Rattle.life_store.proofs.Handing.{AreSuited}
 use Rattle.life_store.proofs.Housing.{Housed, value_object}
 use Rattle.life_sound.proofs.Births.{object_known}
 use Rattle.life_sound.proofs.Covering.{IsTimely, Known, birth_timely, write_timely, saved_known}
 use Rattle.life_sound.proofs.Facts.{Closed}
-use Rattle.life_sound.proofs.Sorts.{IsSorted}
+use Rattle.life_store.proofs.Sorts.{IsSorted}
 use Rattle.life_sound.proofs.Sparing.{Spared, Leads, on_next_leads, born_spared, written_spared, newest_other}
 use Rattle.life_sound.proofs.Writing.{IsSafe, known_kept, number_known, view_known}
 
@@ -41,13 +42,46 @@ born_found ty c = found_here (with_value_object ty c) c.births 0 (value_object t
 
 -- an object comes to life and is given its value: a trap, or the state behind both
 born_with_cases : (P : Effect → Type 0) (s : Setting) (ty : TyId) (z : ℤ) (x : ℕ) (st : State) → P (Traps trap.Cells)
-    → P (Next (saved z st.world.content.births 0 (value_object ty st.world.content.clock) (put_cell x (Named st.world.content.births) (put_content (with_value_object ty st.world.content) st)))) → P (born_with s ty z x st)
+    → P (Next (saved z st.world.content.births 0 0 (value_object ty st.world.content.clock) (put_cell x (Named st.world.content.births) (put_content (with_value_object ty st.world.content) st)))) → P (born_with s ty z x st)
 born_with_cases P s ty z x st trapped next =
     let c = st.world.content in
     let born = put_cell x (Named c.births) (put_content (with_value_object ty c) st) in
     cond_both (nat_lt s.given.cells (live_words_of c + (2 + 1 * 1))) (Traps trap.Cells) (Next born)
-    (λ (e : Effect). P (on_next e (λ st'. on_found (found_at st'.world.content c.births 0) (λ n i o. Next (saved z n i o st'))))) (λ _. trapped)
-    (λ _. subst (λ (r : Found). P (on_found r (λ n i o. Next (saved z n i o born)))) (sym (born_found ty c)) next)
+    (λ (e : Effect). P (on_next e (λ st'. on_found (found_at st'.world.content c.births 0) (λ n i o. Next (saved z n i 0 o st'))))) (λ _. trapped)
+    (λ _. subst (λ (r : Found). P (on_found r (λ n i o. Next (saved z n i 0 o born)))) (sym (born_found ty c)) next)
+
+-- ---- what is given is a number or a pointer
+
+abbrev pub IsValue : Cell → Type 0
+IsValue Empty = ⊥
+IsValue (Named n) = ⊥
+IsValue (Number z) = Unit {0}
+IsValue (Points p) = Unit {0}
+
+abbrev pub AreValues : List Cell → Type 0
+AreValues [] = Unit {0}
+AreValues (v ∷ vs) = IsValue v × AreValues vs
+
+suited_value : (sort : Holding) (v : Cell) → Suits sort v → IsValue v
+suited_value sort (Number z) suits = tt
+suited_value sort (Points p) suits = tt
+suited_value AnObject Empty suits = absurd suits
+suited_value AnObject (Named n) suits = absurd suits
+suited_value _ _ suits = absurd suits
+
+pub suited_values : (sorts : List Holding) (vs : List Cell) → AreSuited sorts vs → AreValues vs
+suited_values [] [] suited = tt
+suited_values (sort ∷ sorts) (v ∷ vs) suited = (suited_value sort v suited.0, suited_values sorts vs suited.1)
+suited_values [] (v ∷ vs) suited = absurd suited
+suited_values (sort ∷ sorts) [] suited = absurd suited
+
+abbrev IsFirstValue : List Cell → Type 0
+IsFirstValue [] = Unit {0}
+IsFirstValue (v ∷ vs) = IsValue v
+
+first_value : (c : Content) (sort : Holding) (values : List Cell) → IsFirst c sort values → IsFirstValue values
+first_value c sort [] first = tt
+first_value c sort (v ∷ vs) first = suited_value sort v first.0
 
 -- ---- the objects of waiting frames stay, and what is pointed to now is valid
 
@@ -68,31 +102,37 @@ module _ (outer : List Cell) (before : Content) (s : Setting) (types : Types) (f
   number_fresh ANumber ty z x st fresh = fresh
   number_fresh _ ty z x st fresh = tt
 
-  to_fresh : (sort : Holding) (ty : TyId) (v : Cell) (x : ℕ) (st : State) → IsFresh st → Leads IsFresh (given_to s sort ty v x st)
-  to_fresh sort ty Empty x st fresh = tt
-  to_fresh sort ty (Named n) x st fresh = tt
-  to_fresh sort ty (Number z) x st fresh = number_fresh sort ty z x st fresh
-  to_fresh sort ty (Points p) x st fresh = fresh
+  to_fresh : (sort : Holding) (ty : TyId) (v : Cell) (x : ℕ) (st : State) → IsValue v → IsFresh st → Leads IsFresh (given_to s types sort ty v x st)
+  to_fresh sort ty Empty x st value fresh = absurd value
+  to_fresh sort ty (Named n) x st value fresh = absurd value
+  to_fresh sort ty (Number z) x st value fresh = number_fresh sort ty z x st fresh
+  to_fresh sort ty (Points p) x st value fresh = fresh
 
-  given_fresh : (v : Cell) (x : ℕ) (st : State) → IsFresh st → Leads IsFresh (given s types f v x st)
-  given_fresh v x st fresh = go (slice_get f.locals x)
+  given_fresh : (v : Cell) (x : ℕ) (st : State) → IsValue v → IsFresh st → Leads IsFresh (given s types f v x st)
+  given_fresh v x st value fresh = go (slice_get f.locals x)
     where
       go : (l : Option Local) → Leads IsFresh (given_if s types f l v x st)
       go None = tt
-      go (Some l) = to_fresh (sort_of types f x) l.ty v x st fresh
+      go (Some l) = to_fresh (sort_of types f x) l.ty v x st value fresh
 
-  pub parameters_fresh : (vs : List Cell) (x : ℕ) (st : State) → IsFresh st → Leads IsFresh (parameters_given s types f x vs st)
-  parameters_fresh [] x st fresh = fresh
-  parameters_fresh (v ∷ vs) x st fresh =
-      on_next_leads IsFresh (given s types f v x st) (parameters_given s types f (x + 1) vs) (given_fresh v x st fresh) (λ st' still. parameters_fresh vs (x + 1) st' still)
+  pub parameters_fresh : (vs : List Cell) (x : ℕ) (st : State) → AreValues vs → IsFresh st → Leads IsFresh (parameters_given s types f x vs st)
+  parameters_fresh [] x st values fresh = fresh
+  parameters_fresh (v ∷ vs) x st values fresh =
+      on_next_leads IsFresh (given s types f v x st) (parameters_given s types f (x + 1) vs) (given_fresh v x st values.0 fresh) (λ st' still. parameters_fresh vs (x + 1) st' values.1 still)
 
-  first_fresh : (values : List Cell) (x : ℕ) (st : State) → IsFresh st → Leads IsFresh (first_given s types f values x st)
-  first_fresh [] x st fresh = tt
-  first_fresh (v ∷ vs) x st fresh = given_fresh v x st fresh
+  first_fresh : (values : List Cell) (l : Location) (st : State) → l.members ≡ [] → IsFirstValue values → IsFresh st → Leads IsFresh (first_given s types f values l st)
+  first_fresh [] l st whole first fresh = tt
+  first_fresh (v ∷ vs) l st whole first fresh = subst (λ ms. Leads IsFresh (result_given s types f l ms v st)) (sym whole) (given_fresh v l.local st first fresh)
 
-  pub target_fresh : (target : Option Location) (values : List Cell) (st : State) → IsFresh st → Leads IsFresh (target_given s types f target values st)
-  target_fresh None values st fresh = fresh
-  target_fresh (Some l) values st fresh = first_fresh values l.local st fresh
+  pub target_fresh : (hs : Holdings) (c : Content) (sort : Holding) (target : Option Location) (values : List Cell) (st : State) → IsTargetReady types f hs sort target → GivesBack c sort values → IsFresh st
+      → Leads IsFresh (target_given s types f target values st)
+  target_fresh hs c sort None values st ready gives fresh = fresh
+  target_fresh hs c ANumber (Some l) values st (inl ready) gives fresh = first_fresh values l st ready.0 (first_value c ANumber values gives) fresh
+  target_fresh hs c ANumber (Some l) values st (inr ready) gives fresh = first_fresh values l st ready.0.0 (first_value c ANumber values gives) fresh
+  target_fresh hs c APointer (Some l) values st ready gives fresh = first_fresh values l st ready.0 (first_value c APointer values gives) fresh
+  target_fresh hs c AView (Some l) values st ready gives fresh = first_fresh values l st ready.0 (first_value c AView values gives) fresh
+  target_fresh hs c Blank (Some l) values st ready gives fresh = absurd ready
+  target_fresh hs c AnObject (Some l) values st ready gives fresh = absurd ready
 
 -- ---- what is known stays known, where no raw pointer and no reference is given
 
@@ -109,8 +149,8 @@ module _ (types : Types) (f : Function) (place : Place) (i : Step) (S S' : Fact 
       let c = st.world.content in
       let born = put_cell x (Named c.births) (put_content (with_value_object ty c) st) in
       born_with_cases (IsSafe S') s ty z x st tt
-      (known_kept types f place S S' (saved z c.births 0 (value_object ty c.clock) born) i cl (λ q w e is. keeps (fact_at (local_place q) e))
-      (saved_known S born z c.births 0 (value_object ty c.clock) (born_there ty c) (object_known S st h k ty x empty)))
+      (known_kept types f place S S' (saved z c.births 0 0 (value_object ty c.clock) born) i cl (λ q w e is. keeps (fact_at (local_place q) e))
+      (saved_known S born z c.births 0 0 (value_object ty c.clock) (born_there ty c) (object_known S st h k ty x empty)))
 
   view_safe : (p : Pointer) (x : ℕ) → sort_of types f x ≡ AView → Suits AView (Points p) → IsSafe S' (Next (put_cell x (Points p) st))
   view_safe (Static c) x is suits = view_known types f place S S' st sorted k i cl x c is (λ q e ne. keeps (fact_at (local_place q) e))
@@ -128,7 +168,7 @@ module _ (types : Types) (f : Function) (place : Place) (i : Step) (S S' : Fact 
       clash e = cc
 
   to_safe : (sort : Holding) (ty : TyId) (v : Cell) (x : ℕ) → sort_of types f x ≡ sort → is_pointer sort ≡ false → Suits sort v → (sort ≡ AnObject → slice_get st.cells x ≡ Some Empty)
-      → IsSafe S' (given_to s sort ty v x st)
+      → IsSafe S' (given_to s types sort ty v x st)
   to_safe AnObject ty (Number z) x is none suits empty = object_safe ty z x (empty refl)
   to_safe ANumber ty (Number z) x is none suits empty = number_known types f place S S' st sorted k i cl x z is (λ q e. keeps (fact_at (local_place q) e))
   to_safe AView ty (Points p) x is none suits empty = view_safe p x is suits
@@ -146,12 +186,14 @@ module _ (types : Types) (f : Function) (place : Place) (i : Step) (S S' : Fact 
       go (Some l) e = to_safe (sort_of types f x) l.ty v x refl none suits empty
 
   -- a register, or a view
-  plain_safe : (sort : Holding) (l : Location) (v : Cell) → (sort ≡ AnObject → ⊥) → gives_pointer types f (Some l) ≡ false → sort_of types f l.local ≡ sort → Suits sort v → IsSafe S' (given s types f v l.local st)
-  plain_safe sort l v other none is suits = local_safe v l.local none (subst (λ k. Suits k v) (sym is) suits) (λ e. absurd (other (sym is ∙ e)))
+  plain_safe : (sort : Holding) (l : Location) (v : Cell) → (sort ≡ AnObject → ⊥) → gives_pointer types f (Some l) ≡ false → (l.members ≡ []) × (sort_of types f l.local ≡ sort) → Suits sort v → IsSafe S' (result_given s types f l l.members v st)
+  plain_safe sort l v other none is suits =
+      subst (λ ms. IsSafe S' (result_given s types f l ms v st)) (sym is.0) (local_safe v l.local none (subst (λ k. Suits k v) (sym is.1) suits) (λ e. absurd (other (sym is.1 ∙ e))))
 
   -- a variable that comes to life
-  living_safe : (l : Location) (v : Cell) → gives_pointer types f (Some l) ≡ false → sort_of types f l.local ≡ AnObject → slice_get st.cells l.local ≡ Some Empty → Suits ANumber v → IsSafe S' (given s types f v l.local st)
-  living_safe l v none is empty suits = local_safe v l.local none (subst (λ k. Suits k v) (sym is) (suits_object v suits)) (λ e. empty)
+  living_safe : (l : Location) (v : Cell) → gives_pointer types f (Some l) ≡ false → (l.members ≡ []) × (sort_of types f l.local ≡ AnObject) → slice_get st.cells l.local ≡ Some Empty → Suits ANumber v → IsSafe S' (result_given s types f l l.members v st)
+  living_safe l v none is empty suits =
+      subst (λ ms. IsSafe S' (result_given s types f l ms v st)) (sym is.0) (local_safe v l.local none (subst (λ k. Suits k v) (sym is.1) (suits_object v suits)) (λ e. empty))
 
   number_object : ANumber ≡ AnObject → ⊥
   number_object e = cc
@@ -162,10 +204,10 @@ module _ (types : Types) (f : Function) (place : Place) (i : Step) (S S' : Fact 
   pub target_safe : (sort : Holding) (target : Option Location) (values : List Cell) → gives_pointer types f target ≡ false → IsTargetReady types f (holdings_of st) sort target
       → GivesBack st.world.content sort values → IsSafe S' (target_given s types f target values st)
   target_safe sort None values none ready gives = known_kept types f place S S' st i cl (λ q w e is. keeps (fact_at (local_place q) e)) k
-  target_safe ANumber (Some l) (v ∷ vs) none (inl ready) gives = plain_safe ANumber l v number_object none ready.1 gives.0
-  target_safe ANumber (Some l) (v ∷ vs) none (inr ready) gives = living_safe l v none ready.0.1 (empty_cell_is st.cells l.local ready.1) gives.0
+  target_safe ANumber (Some l) (v ∷ vs) none (inl ready) gives = plain_safe ANumber l v number_object none ready gives.0
+  target_safe ANumber (Some l) (v ∷ vs) none (inr ready) gives = living_safe l v none ready.0 (empty_cell_is st.cells l.local ready.1) gives.0
   target_safe APointer (Some l) values none ready gives = absurd (false≢true (sym none ∙ ap is_pointer ready.1))
-  target_safe AView (Some l) (v ∷ vs) none ready gives = plain_safe AView l v view_object none ready.1 gives.0
+  target_safe AView (Some l) (v ∷ vs) none ready gives = plain_safe AView l v view_object none ready gives.0
   target_safe ANumber (Some l) [] none ready gives = absurd gives
   target_safe AView (Some l) [] none ready gives = absurd gives
   target_safe Blank (Some l) values none ready gives = absurd ready

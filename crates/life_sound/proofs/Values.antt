@@ -1,5 +1,5 @@
 -- Values that are computed, loaded, saved and ported: no pointer changes.
-use Rattle.std.proofs.Common.{ℕ, List, [], ◌∷◌, refl, sym, subst}
+use Rattle.std.proofs.Common.{◌∙◌, ℕ, List, [], ◌∷◌, refl, sym, subst}
 use Rattle.std.specs.Prelude.{ℤ, Ok, Err, slice_get}
 use Rattle.life_types.specs.Types.{Types}
 use Rattle.life_types.specs.declared.place.Place.{Place}
@@ -10,16 +10,16 @@ use Rattle.life_core.specs.Operands.{Operand}
 use Rattle.life_core.specs.declared.operation.Operation.{Operation}
 use Rattle.life_core.specs.declared.operation.Operation.TheVariants as operation
 use Rattle.life_pset.specs.declared.element.Fact.{Fact}
-use Rattle.life_store.specs.Content.{word_at}
-use Rattle.life_store.specs.Doing.{Setting, Next, put_cell, number_in_word, converted, type_of, on_number, resolve, on_found, computed_into, evaluated, saved, as_long, characters_in, input_taken, number_text, on_view, with_output, does}
+use Rattle.life_store.specs.Doing.{Setting, Next, put_cell, converted, type_of, on_number, operand_word, resolve, loaded_from, on_found, computed_into, evaluated, saved, as_long, characters_in, input_taken, number_text, on_view, with_output, does}
 use Rattle.life_store.specs.Numbers.{Computed, negated, truth, is_zero, combined}
 use Rattle.life_store.specs.State.{Number, State, holdings_of}
 use Rattle.life_store.proofs.CellLemmas.{number_cell, view_cell}
 use Rattle.life_store.proofs.Housing.{Housed}
+use Rattle.life_store.proofs.WholeLocals.{whole_cell}
 use Rattle.life_sound.proofs.Covering.{Known, saved_known}
 use Rattle.life_sound.proofs.Facts.{Closed, Clean}
 use Rattle.life_sound.proofs.Reaching.{reached}
-use Rattle.life_sound.proofs.Sorts.{IsSorted}
+use Rattle.life_store.proofs.Sorts.{IsSorted}
 use Rattle.life_sound.proofs.Writing.{IsSafe, known_kept, number_known}
 
 module _ (n : ℕ) (types : Types) (fs : List Function) (f : Function) (place : Place) (S S' : Fact → Type 0) (st : State) (h : Housed st.world.content st.cells) (sorted : IsSorted types f (holdings_of st)) (k : Known S st) where
@@ -47,16 +47,16 @@ module _ (n : ℕ) (types : Types) (fs : List Function) (f : Function) (place : 
   pub load_known : (r : ℕ) (o : Operand) → IsStepReady types fs f (holdings_of st) (Load r o) → Clean n place (Load r o) S → Closed types f place (Load r o) S S'
       → (s : Setting) → IsSafe S' (does s types f (Load r o) st)
   load_known r o ready clean cl s =
-      let at = reached n place (Load r o) S clean st h k o (λ p used. used) ready.1 in
-      subst (λ found. IsSafe S' (on_found found (λ m i object. Next (put_cell r (Number (number_in_word (word_at object i 0))) st)))) (sym at.here) (number_known types f place S S' st sorted k (Load r o) cl r _ ready.0 (λ q e. refl))
+      let at = reached n types f place (Load r o) S clean st h k o (λ p used. used) ready.1 in
+      subst (λ found. IsSafe S' (loaded_from s types f r o st found)) (sym at.here) (number_known types f place S S' st sorted k (Load r o) cl r _ ready.0 (λ q e. refl))
 
   pub save_known : (o : Operand) (r : ℕ) → IsStepReady types fs f (holdings_of st) (Save o r) → Clean n place (Save o r) S → Closed types f place (Save o r) S S' → (s : Setting) → IsSafe S' (does s types f (Save o r) st)
   save_known o r ready clean cl s =
       let cell = number_cell st.cells r ready.0 in
-      let at = reached n place (Save o r) S clean st h k o (λ p used. used) ready.1 in
-      subst (λ v. IsSafe S' (on_number v (λ z. on_found (resolve o st) (λ m i object. Next (saved z m i object st))))) (sym cell.1)
-      (subst (λ found. IsSafe S' (on_found found (λ m i object. Next (saved cell.0 m i object st)))) (sym at.here)
-      (known_kept types f place S S' (saved cell.0 at.number at.index at.object st) (Save o r) cl (λ q w e is. refl) (saved_known S st cell.0 at.number at.index at.object at.there k)))
+      let at = reached n types f place (Save o r) S clean st h k o (λ p used. used) ready.1 in
+      subst (λ v. IsSafe S' (on_number v (λ z. on_found (resolve types f o st) (λ m i object. Next (saved z m i (operand_word types f o st) object st))))) (sym cell.1)
+      (subst (λ found. IsSafe S' (on_found found (λ m i object. Next (saved cell.0 m i (operand_word types f o st) object st)))) (sym at.here)
+      (known_kept types f place S S' (saved cell.0 at.number at.index (operand_word types f o st) at.object st) (Save o r) cl (λ q w e is. refl) (saved_known S st cell.0 at.number at.index (operand_word types f o st) at.object at.there k)))
 
   pub port_known : (p : Port) → IsStepReady types fs f (holdings_of st) (Ports p) → Closed types f place (Ports p) S S' → (s : Setting) → IsSafe S' (does s types f (Ports p) st)
   port_known (Writes r) ready cl s =
@@ -67,7 +67,7 @@ module _ (n : ℕ) (types : Types) (fs : List Function) (f : Function) (place : 
       written text = known_kept types f place S S' (with_output text st) (Ports (Writes r)) cl (λ q w e is. refl) (record { covered = k.covered; timely = k.timely })
   port_known (WritesView l) ready cl s =
       let cell = view_cell st.cells l.local ready.1 in
-      subst (λ o. IsSafe S' (on_view o (λ c. Next (with_output (characters_in s.texts c) st)))) (sym cell.1) (written (characters_in s.texts cell.0))
+      subst (λ o. IsSafe S' (on_view s st.world.content o (λ text. Next (with_output text st)))) (sym (whole_cell types f l st ready.0 ∙ cell.1)) (written (characters_in s.texts cell.0))
     where
       written : (text : List ℕ) → Known S' (with_output text st)
       written text = known_kept types f place S S' (with_output text st) (Ports (WritesView l)) cl (λ q w e is. refl) (record { covered = k.covered; timely = k.timely })

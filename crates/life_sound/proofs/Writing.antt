@@ -15,7 +15,7 @@ use Rattle.life_store.specs.State.{Characters, Target, Pointer, Static, Cell, Na
 use Rattle.life_store.proofs.CellLemmas.{cell_cases, cell_other}
 use Rattle.life_sound.proofs.Covering.{IsRaw, covers_on, Cover, Known}
 use Rattle.life_sound.proofs.Facts.{Closed, kept}
-use Rattle.life_sound.proofs.Sorts.{IsSorted, named_sort}
+use Rattle.life_store.proofs.Sorts.{IsSorted, named_sort}
 
 -- the next state is known, and there is no fault; that no step strays is known of each proper program
 abbrev pub IsSafe : (Fact → Type 0) → Effect → Type 0

@@ -97,7 +97,7 @@ module _ (s : Setting) (types : Types) (f : Function) (call : Callee) (I : ℕ �
         (statement_good a b inner hs.0 ks'.0 (has_front code b (linked a b inner) (linked c (b + size a) x) has) n st (subst (λ to. InvAt I to st) (enter_then a c b x hs.0) inv))
         (λ m s' g. condition_good c (b + size a) x hs.1 ks'.1 (behind_first a b inner (linked c (b + size a) x) has) m s' g)
     condition_good (Acts place i) b x h k has n st inv = absurd (false≢true h)
-    condition_good (Asks place t) b x h k has n st inv = ask_good I Left Allowed keeps.exhausted t x.on_true x.on_false n st (λ m. keeps.asks b place t x.on_true x.on_false has.0 m st inv)
+    condition_good (Asks place t) b x h k has n st inv = ask_good I Left Allowed keeps.exhausted types f t x.on_true x.on_false n st (λ m. keeps.asks b place t x.on_true x.on_false has.0 m st inv)
     condition_good (Both a c) b x h k has n st inv =
         let hs = and_parts (is_condition a) (is_condition c) h in
         let ks = and_parts (test_straight a) (test_straight c) k in

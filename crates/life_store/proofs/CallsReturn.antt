@@ -6,7 +6,8 @@ use Rattle.life_core.specs.Function.{Function, Program}
 use Rattle.life_core.specs.Linked.{enter, no_exits}
 use Rattle.life_core.specs.Proper.{Holding, Blank, AnObject, ANumber, APointer, AView, Reaches, starts, IsProper, AreProper, IsProperProgram, IsResultReady, entry_holdings, parameter_sorts, result_sort}
 use Rattle.life_types.specs.Types.{Types}
-use Rattle.life_store.specs.Calls.{number_or_zero, pointer_back, given_back, parameters_given}
+use Rattle.life_types.specs.declared.ty.Ty.{Ty}
+use Rattle.life_store.specs.Calls.{number_or_zero, pointer_back, given_back, slots_back, parameters_given}
 use Rattle.life_store.specs.Doing.{Setting, Effect, Next, Traps, Faults, Strays, cell}
 use Rattle.life_store.specs.Meaning.{Answer, Normal, Broke, Continued, Returned, Stopped, Called, Callee, exec, frame, finish, begun, entered, calls}
 use Rattle.life_store.specs.State.{Static, Cell, Number, Points, World, State, holdings_of}
@@ -23,20 +24,21 @@ use Rattle.life_store.proofs.Waiting.{number_loose, behind_loose, housed_front}
 -- ---- the result
 
 module _ (outer : List Cell) (st : State) (h : Housed st.world.content (outer ++ st.cells)) (x : ℕ) where
-  number_first : (o : Option Cell) → IsFirst st.world.content ANumber (number_or_zero o ∷ [])
-  number_first (Some (Number z)) = (tt, number_loose st.world.content z)
-  number_first _ = (tt, number_loose st.world.content (pos 0))
+  number_first : (o : Option Cell) (slots : List Cell) → IsFirst st.world.content ANumber ((number_or_zero o ∷ []) ++ slots)
+  number_first (Some (Number z)) slots = (tt, number_loose st.world.content z)
+  number_first _ slots = (tt, number_loose st.world.content (pos 0))
 
-  back_gives : (sort : Holding) → IsResultReady (holdings_of st) x sort → GivesBack st.world.content sort (given_back sort (cell st x))
-  back_gives ANumber ready = number_first (cell st x)
-  back_gives APointer ready =
+  -- .. whatever comes back for the slots
+  back_gives : (ty : Option Ty) (slots : List Cell) (sort : Holding) → IsResultReady (holdings_of st) x sort → GivesBack st.world.content sort (given_back ty sort (cell st x) ++ slots)
+  back_gives ty slots ANumber ready = number_first (cell st x) slots
+  back_gives ty slots APointer ready =
       let v = pointer_cell st.cells x ready in
-      subst (λ o. IsFirst st.world.content APointer (pointer_back o)) (sym v.1) (held_is st.cells x APointer (Points v.0) ready v.1, behind_loose st.world.content outer st.cells h x v.0 v.1)
-  back_gives AView ready =
+      subst (λ o. IsFirst st.world.content APointer (pointer_back o ++ slots)) (sym v.1) (held_is st.cells x APointer (Points v.0) ready v.1, behind_loose st.world.content outer st.cells h x v.0 v.1)
+  back_gives ty slots AView ready =
       let v = view_cell st.cells x ready in
-      subst (λ o. IsFirst st.world.content AView (pointer_back o)) (sym v.1) (refl, behind_loose st.world.content outer st.cells h x (Static v.0) v.1)
-  back_gives Blank ready = tt
-  back_gives AnObject ready = tt
+      subst (λ o. IsFirst st.world.content AView (pointer_back o ++ slots)) (sym v.1) (refl, behind_loose st.world.content outer st.cells h x (Static v.0) v.1)
+  back_gives ty slots Blank ready = tt
+  back_gives ty slots AnObject ready = tt
 
 -- ---- one call
 
@@ -47,7 +49,7 @@ module _ (types : Types) (f : Function) (outer xs : List Cell) where
   finish_good (Broke n st) g = absurd g
   finish_good (Continued n st) g = absurd g
   finish_good (Returned n st) g =
-      (housed_front st.world.content outer xs (housed_front st.world.content (outer ++ xs) st.cells g.housed), back_gives (outer ++ xs) st g.housed f.parameters (result_sort types f) g.ready)
+      (housed_front st.world.content outer xs (housed_front st.world.content (outer ++ xs) st.cells g.housed), back_gives (outer ++ xs) st g.housed f.parameters (slice_get types.types f.result.0) (slots_back types f 0 f.parameters st) (result_sort types f) g.ready)
   finish_good (Stopped stop w) g = g
 
   begun_good : (e : Effect) (w : World) (run : State → Called) → Gives (outer ++ xs) (entry_holdings types f) e

@@ -8,7 +8,7 @@ use Rattle.life_core.specs.Proper.{Holding, Blank, AnObject, ANumber, APointer, 
 use Rattle.life_core.specs.declared.program.Local.{Local}
 use Rattle.life_types.specs.Types.{Types}
 use Rattle.life_types.specs.declared.ty.TyId.{TyId}
-use Rattle.life_store.specs.Calls.{born_with, given_to, given_if, given, target_given}
+use Rattle.life_store.specs.Calls.{born_with, given_to, given_if, given, result_given, target_given}
 use Rattle.life_store.specs.Cells.{at, at-set_same}
 use Rattle.life_store.specs.Content.{Content, live_words_of, with_word}
 use Rattle.life_store.specs.Doing.{Setting, Effect, Next, Traps, Faults, Strays, Found, Here, put_cell, put_content, with_value_object, word_of_number, found_at, on_found, on_next, saved}
@@ -77,7 +77,7 @@ born_found ty c = found_here (with_value_object ty c) c.births 0 (value_object t
 module _ (outer : List Cell) (s : Setting) (st : State) (h : Housed st.world.content (outer ++ st.cells)) where
   -- the object of a new variable is written
   written_gives : (ty : TyId) (z : ℤ) (x : ℕ) → Gives outer (slice_set (holdings_of st) x AnObject)
-      (Next (saved z st.world.content.births 0 (value_object ty st.world.content.clock) (put_cell x (Named st.world.content.births) (put_content (with_value_object ty st.world.content) st))))
+      (Next (saved z st.world.content.births 0 0 (value_object ty st.world.content.clock) (put_cell x (Named st.world.content.births) (put_content (with_value_object ty st.world.content) st))))
   written_gives ty z x =
       let c = st.world.content in
       let o = value_object ty c.clock in (
@@ -92,15 +92,15 @@ module _ (outer : List Cell) (s : Setting) (st : State) (h : Housed st.world.con
       let born = put_cell x (Named c.births) (put_content (with_value_object ty c) st) in
       let hs = slice_set (holdings_of st) x AnObject in
       cond_both (nat_lt s.given.cells (live_words_of c + (2 + 1 * 1))) (Traps trap.Cells) (Next born)
-      (λ (e : Effect). Gives outer hs (on_next e (λ st'. on_found (found_at st'.world.content c.births 0) (λ n i o. Next (saved z n i o st'))))) (λ _. tt)
-      (λ _. subst (λ (r : Found). Gives outer hs (on_found r (λ n i o. Next (saved z n i o born)))) (sym (born_found ty c)) (written_gives ty z x))
+      (λ (e : Effect). Gives outer hs (on_next e (λ st'. on_found (found_at st'.world.content c.births 0) (λ n i o. Next (saved z n i 0 o st'))))) (λ _. tt)
+      (λ _. subst (λ (r : Found). Gives outer hs (on_found r (λ n i o. Next (saved z n i 0 o born)))) (sym (born_found ty c)) (written_gives ty z x))
 
-  to_gives : (sort : Holding) (ty : TyId) (v : Cell) (x : ℕ) → Suits sort v → IsLoose st.world.content v → Gives outer (slice_set (holdings_of st) x sort) (given_to s sort ty v x st)
-  to_gives AnObject ty (Number z) x suits loose = born_with_gives ty z x
-  to_gives ANumber ty (Number z) x suits loose = number_settles outer st h x z
-  to_gives APointer ty (Points p) x suits loose = pointer_settles outer st h x p APointer suits loose
-  to_gives AView ty (Points p) x suits loose = pointer_settles outer st h x p AView suits loose
-  to_gives _ ty _ x suits loose = absurd suits
+  to_gives : (types : Types) (sort : Holding) (ty : TyId) (v : Cell) (x : ℕ) → Suits sort v → IsLoose st.world.content v → Gives outer (slice_set (holdings_of st) x sort) (given_to s types sort ty v x st)
+  to_gives types AnObject ty (Number z) x suits loose = born_with_gives ty z x
+  to_gives types ANumber ty (Number z) x suits loose = number_settles outer st h x z
+  to_gives types APointer ty (Points p) x suits loose = pointer_settles outer st h x p APointer suits loose
+  to_gives types AView ty (Points p) x suits loose = pointer_settles outer st h x p AView suits loose
+  to_gives types _ ty _ x suits loose = absurd suits
 
   pub local_gives : (types : Types) (f : Function) (v : Cell) (x : ℕ) → Suits (sort_of types f x) v → IsLoose st.world.content v
       → Gives outer (slice_set (holdings_of st) x (sort_of types f x)) (given s types f v x st)
@@ -108,7 +108,7 @@ module _ (outer : List Cell) (s : Setting) (st : State) (h : Housed st.world.con
     where
       go : (l : Option Local) → slice_get f.locals x ≡ l → Gives outer (slice_set (holdings_of st) x (sort_of types f x)) (given_if s types f l v x st)
       go None e = absurd (blank_suits v (subst (λ k. Suits k v) (ap (held_by types) e) suits))
-      go (Some l) e = to_gives (sort_of types f x) l.ty v x suits loose
+      go (Some l) e = to_gives types (sort_of types f x) l.ty v x suits loose
 
 -- ---- what a call gives back
 
@@ -124,18 +124,19 @@ GivesBack c AView values = IsFirst c AView values
 GivesBack c _ values = Unit {0}
 
 module _ (outer : List Cell) (s : Setting) (types : Types) (f : Function) (st : State) (h : Housed st.world.content (outer ++ st.cells)) where
-  local_settles : (l : Location) (sort : Holding) (v : Cell) → sort_of types f l.local ≡ sort → Suits sort v → IsLoose st.world.content v
-      → Settles outer (slice_set (holdings_of st) l.local (sort_of types f l.local)) (given s types f v l.local st)
+  local_settles : (l : Location) (sort : Holding) (v : Cell) → (l.members ≡ []) × (sort_of types f l.local ≡ sort) → Suits sort v → IsLoose st.world.content v
+      → Settles outer (slice_set (holdings_of st) l.local (sort_of types f l.local)) (result_given s types f l l.members v st)
   local_settles l sort v is suits loose =
-      gives_settles outer _ (given s types f v l.local st) (local_gives outer s st h types f v l.local (subst (λ k. Suits k v) (sym is) suits) loose)
+      subst (λ ms. Settles outer (slice_set (holdings_of st) l.local (sort_of types f l.local)) (result_given s types f l ms v st)) (sym is.0)
+      (gives_settles outer _ (given s types f v l.local st) (local_gives outer s st h types f v l.local (subst (λ k. Suits k v) (sym is.1) suits) loose))
 
   pub target_settles : (sort : Holding) (target : Option Location) (values : List Cell) → IsTargetReady types f (holdings_of st) sort target → GivesBack st.world.content sort values
       → Settles outer (target_after types f target (holdings_of st)) (target_given s types f target values st)
   target_settles sort None values ready gives = (refl, h)
-  target_settles ANumber (Some l) (v ∷ vs) (inl ready) gives = local_settles l ANumber v ready.1 gives.0 gives.1
-  target_settles ANumber (Some l) (v ∷ vs) (inr ready) gives = local_settles l AnObject v ready.0.1 (suits_object v gives.0) gives.1
-  target_settles APointer (Some l) (v ∷ vs) ready gives = local_settles l APointer v ready.1 gives.0 gives.1
-  target_settles AView (Some l) (v ∷ vs) ready gives = local_settles l AView v ready.1 gives.0 gives.1
+  target_settles ANumber (Some l) (v ∷ vs) (inl ready) gives = local_settles l ANumber v ready gives.0 gives.1
+  target_settles ANumber (Some l) (v ∷ vs) (inr ready) gives = local_settles l AnObject v ready.0 (suits_object v gives.0) gives.1
+  target_settles APointer (Some l) (v ∷ vs) ready gives = local_settles l APointer v ready gives.0 gives.1
+  target_settles AView (Some l) (v ∷ vs) ready gives = local_settles l AView v ready gives.0 gives.1
   target_settles ANumber (Some l) [] ready gives = absurd gives
   target_settles APointer (Some l) [] ready gives = absurd gives
   target_settles AView (Some l) [] ready gives = absurd gives

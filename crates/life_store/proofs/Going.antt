@@ -44,7 +44,7 @@ pub record Keeps (s : Setting) (types : Types) (f : Function) (call : Callee) (I
   pub acts : (b : ℕ) (place : Place) (i : Step) (x : Exits) → numbered (code_of f) b ≡ Some (record { spot = spot_at place (Action i); leads = goes x.next })
       → (n : ℕ) (st : State) → I b st → GoodAnswer I Left Allowed x (act s types f call place i n st)
   pub asks : (b : ℕ) (place : Place) (t : Test) (held failed : Option ℕ) → numbered (code_of f) b ≡ Some (record { spot = spot_at place (Question t); leads = parts held failed })
-      → (n : ℕ) (st : State) → I b st → GoodVerdict I Allowed held failed (test_at t n st)
+      → (n : ℕ) (st : State) → I b st → GoodVerdict I Allowed held failed (test_at types f t n st)
   pub returns : (b : ℕ) (place : Place) → numbered (code_of f) b ≡ Some (record { spot = spot_at place Return; leads = [] }) → (st : State) → I b st → Left st
   pub stops : (b : ℕ) (place : Place) → numbered (code_of f) b ≡ Some (record { spot = spot_at place StopHere; leads = [] }) → (st : State) → I b st → Allowed (Trapped trap.Assert place)
   pub exhausted : Allowed Exhausted
@@ -71,9 +71,10 @@ module _ (I : ℕ → State → Type 0) (Left : State → Type 0) (Allowed : Sto
   perform_good s types f call place i x zero st g = exhausted
   perform_good s types f call place i x (suc n) st g = g n
 
-  pub ask_good : (t : Test) (held failed : Option ℕ) (n : ℕ) (st : State) → ((m : ℕ) → GoodVerdict I Allowed held failed (test_at t m st)) → GoodVerdict I Allowed held failed (ask t n st)
-  ask_good t held failed zero st g = exhausted
-  ask_good t held failed (suc n) st g = g n
+  pub ask_good : (types : Types) (f : Function) (t : Test) (held failed : Option ℕ) (n : ℕ) (st : State) → ((m : ℕ) → GoodVerdict I Allowed held failed (test_at types f t m st))
+      → GoodVerdict I Allowed held failed (ask types f t n st)
+  ask_good types f t held failed zero st g = exhausted
+  ask_good types f t held failed (suc n) st g = g n
 
   pub leave_good : (x : Exits) (n : ℕ) (st : State) → Left st → GoodAnswer I Left Allowed x (leave n st)
   leave_good x zero st left = exhausted

@@ -14,7 +14,10 @@ pub mod NeverLost
 pub mod Onward
 pub mod RowLemmas
 pub mod Settling
+pub mod Sorts
 pub mod SlotLemmas
 pub mod Standing
 pub mod StoreLemmas
 pub mod Waiting
+pub mod WholeLocals
+mod WorkedOwners

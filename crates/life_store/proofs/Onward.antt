@@ -1,15 +1,15 @@
 -- What is straight is left at its end alone.
-use Rattle.std.proofs.Common.{ℕ, zero, suc, Option}
+use Rattle.std.proofs.Common.{ℕ, zero, suc, List, Option}
 use Rattle.std.proofs.lemmas.Bool.{and_parts, false≢true}
 use Rattle.std.specs.Prelude.{IsTrue}
 use Rattle.life_core.specs.Function.{Function}
 use Rattle.life_core.specs.Shape.{is_straight}
 use Rattle.life_core.specs.Step.{Step, Call}
-use Rattle.life_core.specs.Operands.{Location}
+use Rattle.life_core.specs.Operands.{Argument, Location}
 use Rattle.life_core.specs.Tree.{Tree, Skip, Then, Acts, Asks, Both, Either, Negated, Choice, Turns, Breaks, Continues, Returns, Stops}
 use Rattle.life_types.specs.Types.{Types}
 use Rattle.life_types.specs.declared.place.Place.{Place}
-use Rattle.life_store.specs.Calls.{all_handed, target_given}
+use Rattle.life_store.specs.Calls.{all_handed, lent, taken_back}
 use Rattle.life_store.specs.Doing.{Setting, Effect, Next, Traps, Faults, Strays, does}
 use Rattle.life_store.specs.Meaning.{Answer, Normal, Broke, Continued, Returned, Stopped, Verdict, Holds, Fails, Cut, Called, Back, Barred, Quit, paid, with_world, came_back, call_with, act, perform, stop_at, then_do, choose, exec, test, Callee}
 use Rattle.life_store.specs.State.{World, State}
@@ -34,13 +34,13 @@ choose_onward (Fails n st) a b k l = l n st
 choose_onward (Cut stop w) a b k l = tt
 
 module _ (s : Setting) (types : Types) (f : Function) (call : Callee) where
-  back_onward : (place : Place) (target : Option Location) (st : State) (r : Called) → IsOnward (came_back s types f place target st r)
-  back_onward place target st (Back n w values) = paid_onward place w (target_given s types f target values (with_world w st)) n
-  back_onward place target st (Barred kind) = tt
-  back_onward place target st (Quit stop w) = tt
+  back_onward : (place : Place) (target : Option Location) (xs : List Argument) (st : State) (r : Called) → IsOnward (came_back s types f place target xs st r)
+  back_onward place target xs st (Back n w values) = paid_onward place w (taken_back s types f target xs values (with_world w (lent types f xs st))) n
+  back_onward place target xs st (Barred kind) = tt
+  back_onward place target xs st (Quit stop w) = tt
 
   act_onward : (place : Place) (i : Step) (n : ℕ) (st : State) → IsOnward (act s types f call place i n st)
-  act_onward place (Call target g xs) n st = back_onward place target st (call_with call g.0 (all_handed st xs) n st.world)
+  act_onward place (Call target g xs) n st = back_onward place target xs st (call_with call g.0 (all_handed types f st xs) n (lent types f xs st).world)
   act_onward place i n st = paid_onward place st.world (does s types f i st) n
 
   perform_onward : (place : Place) (i : Step) (n : ℕ) (st : State) → IsOnward (perform s types f call place i n st)

@@ -1,6 +1,6 @@
 -- The states that come to a point are reached with what their cells hold, and their stores are housed; a
 -- proper function keeps to this where the functions that it calls do.
-use Rattle.std.proofs.Common.{◌≡◌, ℕ, zero, suc, List, ◌++◌, Option, Some, None, refl, sym, subst, true, false, arith}
+use Rattle.std.proofs.Common.{◌≡◌, ℕ, zero, suc, List, ◌++◌, Option, Some, None, refl, sym, ap, subst, ◌∙◌, true, false, arith}
 use Rattle.std.specs.Prelude.{ℤ, pos, negsuc, IsSome, Contains, slice_get}
 use Rattle.std.proofs.lemmas.Bool.{false≢true}
 use Rattle.life_core.specs.Function.{Function}
@@ -12,16 +12,17 @@ use Rattle.life_core.specs.Tree.{Action, Question}
 use Rattle.life_core.specs.declared.exits.Exits.{Exits}
 use Rattle.life_types.specs.Types.{Types}
 use Rattle.life_types.specs.declared.place.Place.{Place}
-use Rattle.life_store.specs.Calls.{all_handed, target_given}
+use Rattle.life_store.specs.Calls.{all_handed, lent, target_given}
 use Rattle.life_store.specs.Doing.{Setting, Effect, Next, Traps, Faults, Strays, does}
-use Rattle.life_store.specs.Meaning.{Stop, Trapped, Faulted, Stray, Exhausted, Answer, Called, Back, Barred, Quit, Callee, paid, with_world, came_back, call_with, act, by_number, by_pointer, number_test, pointer_test, test_at}
+use Rattle.life_store.specs.Meaning.{Stop, Trapped, Faulted, Stray, Exhausted, Answer, Called, Back, Barred, Quit, Callee, paid, with_world, came_back, call_with, act, by_number, by_pointer, number_test, pointer_test, tested, whole_tested, test_at}
 use Rattle.life_store.specs.State.{Pointer, Null, Wild, To, Static, Cell, World, State, holdings_of}
 use Rattle.life_store.proofs.CellLemmas.{number_cell, pointer_cell}
 use Rattle.life_store.proofs.Giving.{GivesBack, target_settles}
 use Rattle.life_store.proofs.Going.{InvAt, GoodEffect, GoodAnswer, GoodVerdict, Keeps, paid_good}
-use Rattle.life_store.proofs.Handing.{AreSuited, HandsAll, hands_all}
+use Rattle.life_store.proofs.Handing.{AreSuited, HandsAll, hands_all, lent_ready, taken_ready}
 use Rattle.life_store.proofs.Housing.{Housed}
 use Rattle.life_store.proofs.Settling.{Settles, step_settles}
+use Rattle.life_store.proofs.Sorts.{IsSorted, reached_sorted}
 use Rattle.life_store.proofs.Waiting.{housed_more}
 
 -- ---- what each point of a proper function asks of a state, where these cells wait
@@ -100,13 +101,14 @@ module _ (types : Types) (f : Function) (outer : List Cell) where
   pointer_stands held failed (Static c) n st a b = a
 
   test_stands : (t : Test) (held failed : Option ℕ) (n : ℕ) (st : State) → IsTestReady (holdings_of st) t → StandsAt held st → StandsAt failed st
-      → GoodVerdict (Standing types f outer) IsHeld held failed (test_at t n st)
+      → GoodVerdict (Standing types f outer) IsHeld held failed (test_at types f t n st)
   test_stands (NonZero r) held failed n st ready a b =
       let cell = number_cell st.cells r ready in
       subst (λ o. GoodVerdict (Standing types f outer) IsHeld held failed (number_test o n st)) (sym cell.1) (number_stands held failed cell.0 n st a b)
   test_stands (NotNull p) held failed n st ready a b =
       let cell = pointer_cell st.cells p.local ready.1 in
-      subst (λ o. GoodVerdict (Standing types f outer) IsHeld held failed (pointer_test o n st)) (sym cell.1) (pointer_stands held failed cell.0 n st a b)
+      let is = ap (λ ms. tested types f p ms (slice_get st.cells p.local) st.world.content) ready.0 ∙ ap (λ o. whole_tested o st.world.content) cell.1 in
+      subst (λ o. GoodVerdict (Standing types f outer) IsHeld held failed (pointer_test o n st)) (sym is) (pointer_stands held failed cell.0 n st a b)
 
   first_lead : (held failed : Option ℕ) → Contains (parts held failed) (record { branch = Some true; to = held })
   first_lead held failed = (0, omega arith, refl)
@@ -119,27 +121,29 @@ module _ (types : Types) (f : Function) (outer : List Cell) where
   module _ (fs : List Function) (s : Setting) (call : Callee) (callee : GoodCallee types fs call) where
     -- what came back goes to the target
     back_stands : (place : Place) (x : Exits) (g : Function) (target : Option Location) (xs : List Argument) (st : State) (r : Called) → IsCallReady types f (holdings_of st) (Some g) target xs
-        → AllStand (target_after types f target (holdings_of st)) x.next → GoodCalled types g (outer ++ st.cells) r → Good x (came_back s types f place target st r)
+        → AllStand (target_after types f target (holdings_of st)) x.next → GoodCalled types g (outer ++ st.cells) r → Good x (came_back s types f place target xs st r)
     back_stands place x g target xs st (Back n w values) ready stands good =
-        paid_stands place x _ w (target_given s types f target values (with_world w st)) n stands
-        (target_settles outer s types f (with_world w st) good.0 (result_sort types g) target values ready.1 good.1)
+        subst (λ e. Good x (paid place w e n)) (sym (taken_ready s types f (parameter_sorts types g) target xs values st w ready.0))
+        (paid_stands place x _ w (target_given s types f target values (with_world w st)) n stands
+        (target_settles outer s types f (with_world w st) good.0 (result_sort types g) target values ready.1 good.1))
     back_stands place x g target xs st (Barred kind) ready stands good = tt
     back_stands place x g target xs st (Quit stop w) ready stands good = good
 
     call_stands : (place : Place) (x : Exits) (k : ℕ) (o : Option Function) (target : Option Location) (xs : List Argument) (n : ℕ) (st : State) → slice_get fs k ≡ o → Housed st.world.content (outer ++ st.cells)
         → IsCallReady types f (holdings_of st) o target xs
-        → AllStand (target_after types f target (holdings_of st)) x.next → Good x (came_back s types f place target st (call_with call k (all_handed st xs) n st.world))
+        → AllStand (target_after types f target (holdings_of st)) x.next → Good x (came_back s types f place target xs st (call_with call k (all_handed types f st xs) n (lent types f xs st).world))
     call_stands place x k None target xs n st is h ready stands = absurd ready
     call_stands place x k (Some g) target xs n st is h ready stands =
-        let handed : HandsAll st (parameter_sorts types g) xs = hands_all outer st h (parameter_sorts types g) xs ready.0 in
-        subst (λ o. Good x (came_back s types f place target st (call_with call k o n st.world))) (sym handed.are)
+        let handed : HandsAll types f st (parameter_sorts types g) xs = hands_all types f outer st h (parameter_sorts types g) xs ready.0 in
+        subst (λ (u : State). Good x (came_back s types f place target xs st (call_with call k (all_handed types f st xs) n u.world))) (sym (lent_ready types f (holdings_of st) (parameter_sorts types g) xs st ready.0))
+        (subst (λ o. Good x (came_back s types f place target xs st (call_with call k o n st.world))) (sym handed.are)
         (back_stands place x g target xs st (call k handed.values n st.world) ready stands
-        (callee k g (outer ++ st.cells) handed.values n st.world is handed.suited (housed_more st.world.content (outer ++ st.cells) handed.values h handed.loose)))
+        (callee k g (outer ++ st.cells) handed.values n st.world is handed.suited (housed_more st.world.content (outer ++ st.cells) handed.values h handed.loose))))
 
-    act_stands : (place : Place) (i : Step) (x : Exits) (n : ℕ) (st : State) → Housed st.world.content (outer ++ st.cells) → IsStepReady types fs f (holdings_of st) i
+    act_stands : (place : Place) (i : Step) (x : Exits) (n : ℕ) (st : State) → IsSorted types f (holdings_of st) → Housed st.world.content (outer ++ st.cells) → IsStepReady types fs f (holdings_of st) i
         → AllStand (holdings_past types f (Action i) (holdings_of st)) x.next → Good x (act s types f call place i n st)
-    act_stands place (Call target g xs) x n st h ready stands = call_stands place x g.0 (slice_get fs g.0) target xs n st refl h ready stands
-    act_stands place i x n st h ready stands = paid_stands place x _ st.world (does s types f i st) n stands (step_settles outer s types fs f st h i tt ready)
+    act_stands place (Call target g xs) x n st sorted h ready stands = call_stands place x g.0 (slice_get fs g.0) target xs n st refl h ready stands
+    act_stands place i x n st sorted h ready stands = paid_stands place x _ st.world (does s types f i st) n stands (step_settles outer s types fs f st sorted h i tt ready)
 
     -- ---- a proper function keeps to this
 
@@ -167,4 +171,4 @@ module _ (types : Types) (f : Function) (outer : List Cell) where
 
         acts : (b : ℕ) (place : Place) (i : Step) (x : Exits) → numbered (code_of f) b ≡ Some (record { spot = spot_at place (Action i); leads = goes x.next })
             → (n : ℕ) (st : State) → Standing types f outer b st → Good x (act s types f call place i n st)
-        acts b place i x here n st inv = act_stands place i x n st inv.housed (proper.ready b (holdings_of st) _ inv.reached here) (leads b place i x.next st here inv)
+        acts b place i x here n st inv = act_stands place i x n st (reached_sorted types fs f proper inv.reached) inv.housed (proper.ready b (holdings_of st) _ inv.reached here) (leads b place i x.next st here inv)

@@ -6,13 +6,15 @@ use Rattle.life_types.specs.declared.ty.Ty.{Ty}
 use Rattle.life_types.specs.declared.ty.Ty.TheVariants as ty
 use Rattle.life_core.specs.declared.program.Local.{Local}
 use Rattle.life_core.specs.Function.{Function, Program}
-use Rattle.life_core.specs.Operands.{Location}
+use Rattle.life_core.specs.Operands.{Argument, Location}
 use Rattle.life_core.specs.Proper.{Holding, AnObject, parameter_sorts}
 use Rattle.life_core.specs.Step.{Step, Call, Test, NonZero, NotNull}
 use Rattle.life_core.specs.Tree.{Tree, Skip, Then, Acts, Asks, Both, Either, Negated, Choice, Turns, Breaks, Continues, Returns, Stops}
 use Rattle.life_store.specs.Content.{Content, empty_content}
-use Rattle.life_store.specs.Calls.{all_handed, entry_arguments, parameters_given, results, target_given}
-use Rattle.life_store.specs.Doing.{Given, Setting, Effect, Next, Traps, Faults, Strays, does, cell}
+use Rattle.life_store.specs.Calls.{all_handed, entry_arguments, lent, parameters_given, results, taken_back}
+use Rattle.life_store.specs.Doing.{Given, Setting, Effect, Next, Traps, Faults, Strays, does, cell, member_cell, owned_pointer}
+use Rattle.life_store.specs.Edits.{owned_at}
+use Rattle.life_store.specs.Parts.{Parts, Unique, local_type, location_parts, word_within}
 use Rattle.life_store.specs.State.{Pointer, Null, Wild, To, Static, Cell, Empty, Named, Number, Points, World, State}
 use Rattle.life_store.specs.declared.run.FaultKind.{FaultKind}
 use Rattle.life_store.specs.declared.run.TrapKind.{TrapKind}
@@ -63,10 +65,10 @@ paid place before Strays n = Stopped Stray before
 abbrev pub with_world : World → State → State
 with_world w st = record st { world = w }
 
-abbrev pub came_back : Setting → Types → Function → Place → Option Location → State → Called → Answer
-came_back s types f place target st (Back n w values) = paid place w (target_given s types f target values (with_world w st)) n
-came_back s types f place target st (Barred kind) = Stopped (Trapped kind place) st.world
-came_back s types f place target st (Quit stop w) = Stopped stop w
+abbrev pub came_back : Setting → Types → Function → Place → Option Location → List Argument → State → Called → Answer
+came_back s types f place target xs st (Back n w values) = paid place w (taken_back s types f target xs values (with_world w (lent types f xs st))) n
+came_back s types f place target xs st (Barred kind) = Stopped (Trapped kind place) st.world
+came_back s types f place target xs st (Quit stop w) = Stopped stop w
 
 abbrev pub call_with : Callee → ℕ → Option (List Cell) → ℕ → World → Called
 call_with call g None n w = Quit Stray w
@@ -74,7 +76,7 @@ call_with call g (Some xs) n w = call g xs n w
 
 -- an instruction that has been paid for
 abbrev pub act : Setting → Types → Function → Callee → Place → Step → ℕ → State → Answer
-act s types f call place (Call target g xs) n st = came_back s types f place target st (call_with call g.0 (all_handed st xs) n st.world)
+act s types f call place (Call target g xs) n st = came_back s types f place target xs st (call_with call g.0 (all_handed types f st xs) n (lent types f xs st).world)
 act s types f call place i n st = paid place st.world (does s types f i st) n
 
 abbrev pub perform : Setting → Types → Function → Callee → Place → Step → ℕ → State → Answer
@@ -105,13 +107,32 @@ pointer_test (Some (Named m)) n st = Cut Stray st.world
 pointer_test (Some (Number z)) n st = Cut Stray st.world
 pointer_test (Some (Points p)) n st = by_pointer p n st
 
-abbrev pub test_at : Test → ℕ → State → Verdict
-test_at (NonZero r) n st = number_test (cell st r) n st
-test_at (NotNull p) n st = pointer_test (cell st p.local) n st
+-- a unique_ptr is null where it owns nothing
+abbrev pub owner_tested : Content → (object word : ℕ) → Option Cell
+owner_tested c n w = Some (Points (owned_pointer c (owned_at c (record { object = n; index = 0; word = w }))))
 
-abbrev pub ask : Test → ℕ → State → Verdict
-ask t zero st = Cut Exhausted st.world
-ask t (suc n) st = test_at t n st
+abbrev pub member_tested : Types → Function → Location → Parts → Option Cell → Content → Option Cell
+member_tested types f l (Unique ty target) (Some (Named n)) c = owner_tested c n (word_within types (local_type types f l.local) l.members)
+member_tested types f l _ v c = member_cell types f l.local l.members v c
+
+abbrev pub whole_tested : Option Cell → Content → Option Cell
+whole_tested None c = None
+whole_tested (Some Empty) c = Some Empty
+whole_tested (Some (Named n)) c = owner_tested c n 0
+whole_tested (Some (Number z)) c = Some (Number z)
+whole_tested (Some (Points p)) c = Some (Points p)
+
+abbrev pub tested : Types → Function → Location → List ℕ → Option Cell → Content → Option Cell
+tested types f l [] v c = whole_tested v c
+tested types f l (m ∷ ms) v c = member_tested types f l (location_parts types f l) v c
+
+abbrev pub test_at : Types → Function → Test → ℕ → State → Verdict
+test_at types f (NonZero r) n st = number_test (cell st r) n st
+test_at types f (NotNull p) n st = pointer_test (tested types f p p.members (cell st p.local) st.world.content) n st
+
+abbrev pub ask : Types → Function → Test → ℕ → State → Verdict
+ask types f t zero st = Cut Exhausted st.world
+ask types f t (suc n) st = test_at types f t n st
 
 abbrev pub leave : ℕ → State → Answer
 leave zero st = Stopped Exhausted st.world
@@ -191,7 +212,7 @@ module _ (s : Setting) (types : Types) (f : Function) (call : Callee) where
     test Skip n st = Cut Stray st.world
     test (Then a b) n st = then_ask (exec a n st) (test b)
     test (Acts place i) n st = Cut Stray st.world
-    test (Asks place t) n st = ask t n st
+    test (Asks place t) n st = ask types f t n st
     test (Both a b) n st = decide (test a n st) (test b) Fails
     test (Either a b) n st = decide (test a n st) Holds (test b)
     test (Negated a) n st = decide (test a n st) Fails Holds

@@ -3,10 +3,13 @@ use Rattle.std.specs.Prelude.{ℕ, ℤ, List, Option, map}
 use Rattle.life_core.specs.Proper.{Holding, Blank, AnObject, ANumber, APointer, AView}
 use Rattle.life_store.specs.Content.{Content}
 
--- a position in an object, and the moment at which the pointer was made
+-- a position in an object, the word of the slot there at which begins what is pointed to, how many positions a span or a view has from
+-- there on (what points to one thing has one), and the moment at which the pointer was made
 pub record Target : Type 0 where
   pub object : ℕ
   pub index : ℕ
+  pub word : ℕ
+  pub count : ℕ
   pub moment : ℕ
 
 -- characters that never end: of a text of the program, or of none, from an index on

@@ -6,7 +6,7 @@ use mir.Val.{SFits}
 use Rattle.std.specs.Int.{w64}
 use Rattle.std.specs.Prelude.{option_map}
 use Rattle.life_core.specs.Function.{function_of, program_of}
-use Rattle.life_store.specs.Calls.{results}
+use Rattle.life_interp.specs.SoFar.{results}
 use Rattle.life_interp.specs.Cells.{one_seen, state_of}
 use Rattle.life_interp.specs.Fits.{CellsFit}
 use Rattle.life_interp.specs.Frames.{waiting_cells, AreThere}

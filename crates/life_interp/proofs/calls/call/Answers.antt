@@ -3,7 +3,7 @@ use Rattle.std.specs.Prelude.{option_map}
 use Rattle.life_core.specs.Function.{program_of}
 use Rattle.life_core.specs.Operands.{argument_of, location_of}
 use Rattle.life_core.specs.Step.{Call}
-use Rattle.life_store.specs.Calls.{all_handed}
+use Rattle.life_interp.specs.SoFar.{all_handed}
 use Rattle.life_interp.specs.Cells.{cells_seen, state_of}
 use Rattle.life_interp.specs.Fits.{CellsFit}
 use Rattle.life_interp.specs.Frames.{all_cells, function_at, waiting_cells}

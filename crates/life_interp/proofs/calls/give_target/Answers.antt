@@ -3,7 +3,7 @@ use Rattle.std.specs.Prelude.{option_map}
 use Rattle.life_core.specs.Function.{function_of, program_of}
 use Rattle.life_core.specs.Operands.{location_of}
 use Rattle.life_core.specs.declared.operand.Location.{Location}
-use Rattle.life_store.specs.Calls.{target_given}
+use Rattle.life_interp.specs.SoFar.{target_given}
 use Rattle.life_interp.specs.Cells.{one_seen}
 use Rattle.life_interp.specs.Steps.{LeavesBoth}
 use Rattle.life_interp.specs.declared.value.Cell.{Cell}

@@ -1,6 +1,6 @@
 use Rattle.std.proofs.Common.{ap, subst, sym, ◌∙◌, arith}
 use Rattle.life_core.specs.Function.{function_of, program_of}
-use Rattle.life_store.specs.Calls.{parameters_given}
+use Rattle.life_interp.specs.SoFar.{parameters_given}
 use Rattle.life_store.specs.State.{State}
 use Rattle.life_interp.specs.Cells.{cells_seen}
 use Rattle.life_interp.specs.Steps.{TellsEnd}

@@ -1,8 +1,8 @@
 use Rattle.std.proofs.Common.{◌+◌, List, drop, ap, subst, sym, ◌∙◌, arith}
 use Rattle.std.specs.Prelude.{slice_index_or}
 use Rattle.life_core.specs.Function.{function_of}
-use Rattle.life_store.specs.Calls.{given, parameters_given}
 use Rattle.life_store.specs.Doing.{on_next}
+use Rattle.life_interp.specs.SoFar.{given, parameters_given}
 use Rattle.life_store.specs.State as state
 use Rattle.life_interp.specs.Cells.{cell_seen, cells_seen, state_of}
 use Rattle.life_interp.specs.Steps.{TellsEnd}

@@ -2,7 +2,8 @@ use Rattle.std.proofs.Common.{◌+◌, List, drop, map, ap, refl, subst, sym, �
 use Rattle.std.proofs.lemmas.Option.{slice_get_read}
 use Rattle.life_core.specs.Operands.{argument_of}
 use Rattle.life_core.specs.declared.operand.Argument.{Argument}
-use Rattle.life_store.specs.Calls.{all_handed, with_handed}
+use Rattle.life_store.specs.Calls.{with_handed}
+use Rattle.life_interp.specs.SoFar.{all_handed}
 use Rattle.life_store.specs.State as state
 use Rattle.life_interp.specs.Cells.{cells_seen, state_of}
 use Rattle.life_interp.specs.Fits.{CellsFit}

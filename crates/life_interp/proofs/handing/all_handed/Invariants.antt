@@ -3,7 +3,7 @@ use Rattle.std.specs.Prelude.{ℤ}
 use Rattle.life_core.specs.Operands.{argument_of}
 use Rattle.life_interp.specs.Cells.{cells_seen, state_of}
 use Rattle.life_interp.specs.Fits.{CellsFit}
-use Rattle.life_store.specs.Calls.{all_handed}
+use Rattle.life_interp.specs.SoFar.{all_handed}
 use Rattle.life_store.specs.Content.{Content}
 use Rattle.life_store.specs.References.{Rows}
 use Rattle.life_interp.proofs.FrameLemmas.{joined}

@@ -1,6 +1,6 @@
 use Rattle.std.proofs.Common.{ap, sym, ◌∙◌}
 use Rattle.life_core.specs.Operands.{argument_of}
-use Rattle.life_store.specs.Calls.{handed}
+use Rattle.life_interp.specs.SoFar.{handed}
 use Rattle.life_interp.specs.Cells.{state_of}
 use Rattle.life_interp.proofs.FrameLemmas.{if_fits}
 use Rattle.life_interp.proofs.handing.handed.Goals as goal

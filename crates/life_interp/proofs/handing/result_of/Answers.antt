@@ -1,6 +1,6 @@
 use Rattle.std.proofs.Common.{ap, sym, ◌∙◌}
-use Rattle.life_store.specs.Calls.{given_back}
 use Rattle.life_store.specs.Doing.{cell}
+use Rattle.life_interp.specs.SoFar.{given_back}
 use Rattle.life_interp.specs.Cells.{sort_seen, state_of}
 use Rattle.life_interp.proofs.FrameLemmas.{if_fits, pointer_back_is}
 use Rattle.life_interp.proofs.handing.result_of.Goals as goal

@@ -1,6 +1,7 @@
 use Rattle.std.proofs.Common.{◌+◌, ℕ, List, drop, ap, subst, sym, ◌∙◌}
 use Rattle.std.proofs.lemmas.List.{drop_more}
-use Rattle.life_store.specs.Doing.{end_locals, end_cell, cell, on_next}
+use Rattle.life_store.specs.Doing.{cell, on_next}
+use Rattle.life_interp.specs.SoFar.{end_locals, end_cell}
 use Rattle.life_interp.specs.Cells.{state_of}
 use Rattle.life_interp.specs.Steps.{TellsEnd}
 use Rattle.life_interp.proofs.FitLemmas.{later_on}

@@ -1,6 +1,6 @@
 use Rattle.std.proofs.Common.{◌≡◌, List, ℕ, drop}
 use Rattle.std.specs.Prelude.{ℤ}
-use Rattle.life_store.specs.Doing.{end_locals}
+use Rattle.life_interp.specs.SoFar.{end_locals}
 use Rattle.life_interp.specs.Cells.{state_of}
 use Rattle.life_interp.specs.Fits.{IsFit, Later}
 use Rattle.life_interp.proofs.locals.end.Given as goal

@@ -2,7 +2,8 @@ use Rattle.std.proofs.Common.{List, Some, None, ap, sym, ◌∙◌}
 use Rattle.std.specs.Prelude.{slice_get}
 use Rattle.life_store.specs.Cells.{unset}
 use Rattle.life_store.specs.Content.{Content, without}
-use Rattle.life_store.specs.Doing.{Next, end_cell, put_cell}
+use Rattle.life_store.specs.Doing.{Next, put_cell}
+use Rattle.life_interp.specs.SoFar.{end_cell}
 use Rattle.life_store.specs.State as state
 use Rattle.life_interp.specs.Cells.{state_of}
 use Rattle.life_interp.specs.declared.value.Cell.{Cell}

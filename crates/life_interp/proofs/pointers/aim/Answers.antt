@@ -1,6 +1,7 @@
 use Rattle.std.proofs.Common.{List, ap, subst, sym, ◌∙◌}
 use Rattle.life_core.specs.Operands.{operand_of, source_of}
-use Rattle.life_store.specs.Doing.{Next, aimed, put_cell, viewed}
+use Rattle.life_store.specs.Doing.{Next, put_cell, viewed}
+use Rattle.life_interp.specs.SoFar.{aimed}
 use Rattle.life_store.specs.State as state
 use Rattle.life_interp.specs.Cells.{state_of}
 use Rattle.life_interp.specs.Fits.{CellsFit}
@@ -47,7 +48,7 @@ returns-in-Ok-clause-step g c = λ set texts output input.
     let st = state_of content c.args.cells.now.items output input in
     ap (λ s. aimed set c.args.pointer (source_of s) st) c.in-Place.is
     ∙ place_found (operand_of c.in-Place.operand) content rows c.args.cells.now.items p _ output input there
-    ∙ ap (λ m. Next (put_cell c.args.pointer (state.Points (state.To (record { object = p.object.birth; index = p.index; moment = m }))) st)) (sym c.now.ensures)
+    ∙ ap (λ m. Next (put_cell c.args.pointer (state.Points (state.To (record { object = p.object.birth; index = p.index; word = 0; count = 1; moment = m }))) st)) (sym c.now.ensures)
     ∙ ap Next (put_now content c.args.cells.now.items c.put_cell-in-Ok.new.cells.items c.args.pointer (held.Points (leads.To p.object p.index c.now.result)) output input c.put_cell-in-Ok.ensures)
 
 pub returns-in-Ok-clause-fits : goal.returns-in-Ok-clause-fits

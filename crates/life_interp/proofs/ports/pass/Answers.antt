@@ -4,7 +4,7 @@ use Rattle.std.specs.declared.vec.Vec.{Vec}
 use Rattle.life_core.specs.declared.instr.Port.{Port}
 use Rattle.life_core.specs.Function.{function_of, name_bytes, program_of}
 use Rattle.life_core.specs.Step.{port_of}
-use Rattle.life_store.specs.Doing.{port}
+use Rattle.life_interp.specs.SoFar.{port}
 use Rattle.life_interp.specs.Steps.{taken_into, viewed_from}
 use Rattle.life_interp.specs.Walking.{Performs, Sunk}
 use Rattle.life_interp.specs.declared.value.Cell.{Cell}

@@ -6,7 +6,7 @@ use Rattle.life_core.specs.declared.instr.Instr.{Instr}
 use Rattle.life_core.specs.Function.{function_of, program_of}
 use Rattle.life_core.specs.Operands.{operand_of}
 use Rattle.life_core.specs.Step.{step_of}
-use Rattle.life_store.specs.Doing.{does, end_locals}
+use Rattle.life_interp.specs.SoFar.{does, end_locals}
 use Rattle.life_interp.specs.Steps.{stored, LeavesBoth}
 use Rattle.life_interp.specs.declared.value.Cell.{Cell}
 use Rattle.life_interp.proofs.WalkLemmas.{fit_where_ok}

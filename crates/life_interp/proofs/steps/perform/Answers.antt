@@ -2,7 +2,7 @@ use Rattle.std.proofs.Common.{drop, subst, sym}
 use Rattle.life_core.specs.declared.instr.Instr.{Instr}
 use Rattle.life_core.specs.Function.{function_of, program_of}
 use Rattle.life_core.specs.Step.{step_of}
-use Rattle.life_store.specs.Doing.{does}
+use Rattle.life_interp.specs.SoFar.{does}
 use Rattle.life_interp.specs.Walking.{Performs, Sunk}
 use Rattle.life_interp.proofs.WalkLemmas.{fit_where_ok, performs_quiet, untouched}
 use Rattle.life_interp.proofs.steps.perform.Goals as goal

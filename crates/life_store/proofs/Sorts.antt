@@ -27,7 +27,7 @@ module _ (types : Types) (f : Function) where
   written_sorted : (hs : Holdings) (x : ℕ) → IsSorted types f hs → IsSorted types f (slice_set hs x (sort_of types f x))
   written_sorted hs x s = set_sorted hs x (sort_of types f x) (inr refl) s
 
-  blanked_sorted : (xs : List ℕ) (hs : Holdings) → IsSorted types f hs → IsSorted types f (blanked xs hs)
+  pub blanked_sorted : (xs : List ℕ) (hs : Holdings) → IsSorted types f hs → IsSorted types f (blanked xs hs)
   blanked_sorted [] hs s = s
   blanked_sorted (x ∷ xs) hs s = blanked_sorted xs (slice_set hs x Blank) (set_sorted hs x Blank (inl refl) s)
 

@@ -1,0 +1,255 @@
+-- What is ready the machine does as the meaning says.
+use Rattle.std.proofs.Common.{◌≡◌, ◌⊎◌, ⊎_elim, inl, inr, ℕ, length, List, [], ◌∷◌, ◌++◌, Option, Some, None, Bool, true, false, refl, sym, ap, subst, ◌∙◌, arith}
+use Rattle.std.proofs.lemmas.Bool.{lt-ltb}
+use Rattle.std.specs.Prelude.{slice_get, slice_set}
+use Rattle.life_types.specs.Types.{Types}
+use Rattle.life_types.specs.declared.ty.TyId.{TyId}
+use Rattle.life_core.specs.Function.{Function}
+use Rattle.life_core.specs.Operands.{Location, Operand, Name, Through, Source}
+use Rattle.life_core.specs.Operands as source
+use Rattle.life_core.specs.Proper.{Holding, Blank, AnObject, ANumber, APointer, AView, Holdings, sort_of, IsOperandReady, IsSourceReady, IsPortReady, IsStepReady, IsTestReady}
+use Rattle.life_core.specs.Step.{Step, Live, End, Eval, Load, Save, Copy, Move, Aim, Repoint, Element, Cursor, Advance, Cut, Size, Same, Changes, Make, Call, Port, Ports, Writes, WritesView, Takes, Test, NonZero, NotNull}
+use Rattle.life_core.specs.declared.instr.Form.{Form}
+use Rattle.life_core.specs.declared.program.Local.{Local}
+use Rattle.life_store.specs.Cells.{at}
+use Rattle.life_store.specs.Content.{Object, Content, word_at}
+use Rattle.life_store.specs.Doing as doing
+use Rattle.life_store.specs.Doing.{Setting, Effect, Next, Traps, Faults, Strays, Found, Here, Fixed, Outside, Wrong, Astray, here_if, reached_if, is_valid, cell, put_cell, member_pointed, operand_word, pointer_word, on_number, on_pointer, on_next, on_place, on_found, number_in_word}
+use Rattle.life_store.specs.Iterators.{at_index}
+use Rattle.life_store.specs.Meaning as meaning
+use Rattle.life_store.specs.Meaning.{pointer_test, tested, whole_tested}
+use Rattle.life_store.specs.Parts.{Single, local_parts, local_type, location_type, target_type, word_within}
+use Rattle.life_store.specs.State.{Characters, Target, Pointer, Null, Wild, To, Static, Cell, Empty, Named, Number, Points, State, holding_of_pointer, holdings_of}
+use Rattle.life_store.proofs.CellLemmas.{held_is, holdings_set, pointer_cell, view_cell}
+use Rattle.life_store.proofs.Found.{IsThere, operand_there}
+use Rattle.life_store.proofs.Housing.{Housed, Aims}
+use Rattle.life_store.proofs.Settling.{IsPlain}
+use Rattle.life_store.proofs.Sorts.{IsSorted, blanked_sorted, named_sort}
+use Rattle.life_store.proofs.Waiting.{aims_behind}
+use Rattle.life_store.proofs.WholeLocals.{object_single, whole_cell, whole_pointed}
+use Rattle.life_interp.specs.SoFar as so_far
+use Rattle.life_interp.proofs.FirstWords.{AreFirst, get_first}
+
+-- ---- one after the other
+
+pub next_same : (e : Effect) (go go' : State → Effect) → ((st : State) → e ≡ Next st → go st ≡ go' st) → on_next e go ≡ on_next e go'
+next_same (Next st) go go' h = h st refl
+next_same (Traps kind) go go' h = refl
+next_same (Faults kind) go go' h = refl
+next_same Strays go go' h = refl
+
+-- ---- operands
+
+-- a character is never there
+fixed_never : (c : Content) (x : Found) (go : ℕ → ℕ → Object → Effect) (fixed : Characters → Effect) → IsThere c x → on_place x go fixed ≡ on_found x go
+fixed_never c (Here n i o) go fixed there = refl
+fixed_never c (Fixed s) go fixed there = absurd there
+fixed_never c Outside go fixed there = refl
+fixed_never c (Wrong kind) go fixed there = refl
+fixed_never c Astray go fixed there = absurd there
+
+view_pointer : AView ≡ APointer → ⊥
+view_pointer e = cc
+
+module _ (c : Content) where
+  target_same : (t : Target) → Aims c t → doing.found_if (is_valid c t) c t ≡ so_far.found_if (is_valid c t) c t
+  target_same t aims = go (is_valid c t)
+    where
+      living : (o : Option Object) → at c.objects t.object ≡ o → doing.reached_in o t.object t.index ≡ doing.found_in o t.object t.index
+      living None e = refl
+      living (Some o) e =
+          let within = lt-ltb t.index (length o.slots) (aims.slot o e) in
+          ap (λ b. reached_if b t.object t.index o) within ∙ sym (ap (λ b. here_if b t.object t.index o) within)
+
+      go : (b : Bool) → doing.found_if b c t ≡ so_far.found_if b c t
+      go true = living (at c.objects t.object) refl
+      go false = refl
+
+  behind_same : (v : Pointer) → holding_of_pointer v ≡ APointer → ((t : Target) → v ≡ To t → Aims c t) → doing.behind c v ≡ so_far.behind c v
+  behind_same Null kind aims = refl
+  behind_same Wild kind aims = refl
+  behind_same (To t) kind aims = target_same t (aims t refl)
+  behind_same (Static s) kind aims = absurd (view_pointer kind)
+
+module _ (types : Types) (f : Function) (outer : List Cell) (st : State) (h : Housed st.world.content (outer ++ st.cells)) (first : AreFirst st.cells) where
+  resolve_same : (o : Operand) → IsOperandReady (holdings_of st) o → doing.resolve types f o st ≡ so_far.resolve o st
+  resolve_same (Name l) ready = refl
+  resolve_same (Through p members) ready =
+      let v = pointer_cell st.cells p.local ready.1.1 in
+      let c = st.world.content in
+      let kind = held_is st.cells p.local APointer (Points v.0) ready.1.1 v.1 in
+      ap (doing.behind_cell c) (whole_cell types f p st ready.1.0 ∙ v.1)
+      ∙ behind_same c v.0 kind (λ t e. aims_behind c outer st.cells h p.local t (v.1 ∙ ap (λ u. Some (Points u)) e))
+      ∙ ap (so_far.behind_cell c) (sym v.1)
+
+  -- it begins at the first word
+  pointer_word_first : (v : Pointer) (x : ℕ) → slice_get st.cells x ≡ Some (Points v) → pointer_word (Some (Points v)) ≡ 0
+  pointer_word_first Null x e = refl
+  pointer_word_first Wild x e = refl
+  pointer_word_first (To t) x e = get_first st.cells x (Points (To t)) first e
+  pointer_word_first (Static c) x e = refl
+
+  word_first : (o : Operand) → IsOperandReady (holdings_of st) o → operand_word types f o st ≡ 0
+  word_first (Name l) ready = ap (word_within types (local_type types f l.local)) ready.0
+  word_first (Through p members) ready =
+      let v = pointer_cell st.cells p.local ready.1.1 in
+      let word = ap pointer_word (whole_cell types f p st ready.1.0 ∙ v.1) ∙ pointer_word_first v.0 p.local v.1 in
+      let within = ap (word_within types (target_type types (location_type types f p))) ready.0 in
+      omega (arith, word, within)
+
+  -- what is done with an operand that is ready
+  place_same : (o : Operand) (go : ℕ → ℕ → ℕ → Object → Effect) (fixed : Characters → Effect) → IsOperandReady (holdings_of st) o
+      → on_place (doing.resolve types f o st) (go (operand_word types f o st)) fixed ≡ on_found (so_far.resolve o st) (go 0)
+  place_same o go fixed ready =
+      fixed_never st.world.content (doing.resolve types f o st) (go (operand_word types f o st)) fixed (operand_there types f outer st o h ready)
+      ∙ ap (λ w. on_found (doing.resolve types f o st) (go w)) (word_first o ready)
+      ∙ ap (λ x. on_found x (go 0)) (resolve_same o ready)
+
+-- ---- births and ends
+
+blank_object : Blank ≡ AnObject → ⊥
+blank_object e = cc
+
+blank_pointer : Blank ≡ APointer → ⊥
+blank_pointer e = cc
+
+view_object : AView ≡ AnObject → ⊥
+view_object e = cc
+
+module _ (s : Setting) (types : Types) where
+  born_same : (sort : Holding) (ty : TyId) (form : Form) (x : ℕ) (st : State) → (sort ≡ AnObject) ⊎ (sort ≡ APointer) → doing.live_as s types sort ty form x st ≡ so_far.live_as s sort ty form x st
+  born_same AnObject ty form x st e = refl
+  born_same ANumber ty form x st e = refl
+  born_same APointer ty form x st e = refl
+  born_same Blank ty form x st e = absurd (⊎_elim blank_object blank_pointer e)
+  born_same AView ty form x st e = absurd (⊎_elim view_object view_pointer e)
+
+  over_same : (o : Option Cell) (sort : Holding) (ty : TyId) (form : Form) (x : ℕ) (st : State) → (sort ≡ AnObject) ⊎ (sort ≡ APointer)
+      → doing.live_over s types o sort ty form x st ≡ so_far.live_over s o sort ty form x st
+  over_same None sort ty form x st e = refl
+  over_same (Some Empty) sort ty form x st e = born_same sort ty form x st e
+  over_same (Some (Named n)) sort ty form x st e = refl
+  over_same (Some (Number z)) sort ty form x st e = refl
+  over_same (Some (Points p)) sort ty form x st e = refl
+
+  live_same : (f : Function) (l : Option Local) (form : Form) (x : ℕ) (st : State) → (sort_of types f x ≡ AnObject) ⊎ (sort_of types f x ≡ APointer)
+      → doing.live_local s types f l form x st ≡ so_far.live_local s types f l form x st
+  live_same f None form x st e = refl
+  live_same f (Some l) form x st e = over_same (cell st x) (sort_of types f x) l.ty form x st e
+
+strays_on : {st : State} → Strays ≡ Next st → ⊥
+strays_on e = cc
+
+same_cells : {a b : State} → Next a ≡ Next b → a.cells ≡ b.cells
+same_cells e = cc
+
+module _ (types : Types) (f : Function) where
+  -- what owns nothing ends alone
+  object_end_same : (o : Option Object) (n x : ℕ) (st : State) → doing.end_object Single o n x st ≡ so_far.end_object o n x st
+  object_end_same None n x st = refl
+  object_end_same (Some o) n x st = refl
+
+  end_same : (x : ℕ) (st : State) → IsSorted types f (holdings_of st) → doing.end_cell (local_parts types f x) (cell st x) x st ≡ so_far.end_cell (cell st x) x st
+  end_same x st sorted = go (cell st x) refl
+    where
+      go : (o : Option Cell) → slice_get st.cells x ≡ o → doing.end_cell (local_parts types f x) o x st ≡ so_far.end_cell o x st
+      go None e = refl
+      go (Some Empty) e = refl
+      go (Some (Number z)) e = refl
+      go (Some (Points p)) e = refl
+      go (Some (Named n)) e =
+          ap (λ parts. doing.end_object parts (at st.world.content.objects n) n x st) (object_single types f x (named_sort types f st.cells x n sorted e))
+          ∙ object_end_same (at st.world.content.objects n) n x st
+
+  -- .. and leaves a blank
+  ended_is : (x : ℕ) (o : Option Cell) (st st' : State) → so_far.end_cell o x st ≡ Next st' → st'.cells ≡ slice_set st.cells x Empty
+  ended_is x None st st' e = absurd (strays_on e)
+  ended_is x (Some Empty) st st' e = absurd (strays_on e)
+  ended_is x (Some (Number z)) st st' e = absurd (strays_on e)
+  ended_is x (Some (Points p)) st st' e = sym (same_cells e)
+  ended_is x (Some (Named n)) st st' e = go (at st.world.content.objects n) e
+    where
+      go : (o : Option Object) → so_far.end_object o n x st ≡ Next st' → st'.cells ≡ slice_set st.cells x Empty
+      go None e = absurd (strays_on e)
+      go (Some o) e = sym (same_cells e)
+
+  ends_same : (xs : List ℕ) (st : State) → IsSorted types f (holdings_of st) → doing.end_locals types f xs st ≡ so_far.end_locals xs st
+  ends_same [] st sorted = refl
+  ends_same (x ∷ xs) st sorted =
+      ap (λ e. on_next e (doing.end_locals types f xs)) (end_same x st sorted)
+      ∙ next_same (so_far.end_cell (cell st x) x st) (doing.end_locals types f xs) (so_far.end_locals xs)
+      (λ st' e. ends_same xs st' (subst (λ (hs : Holdings). IsSorted types f hs) (sym (left st' e)) (blanked_sorted types f (x ∷ []) (holdings_of st) sorted)))
+    where
+      left : (st' : State) → so_far.end_cell (cell st x) x st ≡ Next st' → holdings_of st' ≡ slice_set (holdings_of st) x Blank
+      left st' e = ap holdings_in (ended_is x (cell st x) st st' e) ∙ holdings_set st.cells x Empty
+        where
+          holdings_in : List Cell → Holdings
+          holdings_in cells = holdings_of (record { world = st.world; cells = cells })
+
+-- ---- the instructions
+
+module _ (s : Setting) (types : Types) (fs : List Function) (f : Function) (outer : List Cell) (st : State) (sorted : IsSorted types f (holdings_of st)) (h : Housed st.world.content (outer ++ st.cells)) (first : AreFirst st.cells) where
+  aim_same : (p : Location) (sort : Holding) (x : Source) → p.members ≡ [] → IsSourceReady (holdings_of st) sort x → doing.aimed s types f p x st ≡ so_far.aimed s p.local x st
+  aim_same p sort source.Null whole ready = whole_pointed types f p st whole Null
+  aim_same p sort (source.Text n) whole ready = whole_pointed types f p st whole (doing.viewed s.texts n)
+  aim_same p sort source.Empty whole ready = absurd ready
+  aim_same p sort (source.Whole o) whole ready = absurd ready
+  aim_same p sort (source.Get l) whole ready = absurd ready
+  aim_same p sort (source.Place o) whole ready =
+      ap (λ ms. on_place (doing.resolve types f o st) (λ n i object. member_pointed types f p.local ms (cell st p.local) (doing.pointer_to st.world.content n i (operand_word types f o st)) st)
+      (λ c. doing.on_character s.texts c (λ z. member_pointed types f p.local ms (cell st p.local) (whole_at c) st))) whole
+      ∙ place_same types f outer st h first o (λ w n i object. Next (put_cell p.local (Points (doing.pointer_to st.world.content n i w)) st)) _ ready.1
+    where
+      whole_at : Characters → Pointer
+      whole_at c = at_index 0 c.index (Static c)
+
+  repoint_same : (p q : Location) → p.members ≡ [] → q.members ≡ [] → doing.does s types f (Repoint p q) st ≡ so_far.does s types f (Repoint p q) st
+  repoint_same p q whole from =
+      ap (λ o. on_pointer o (λ v. member_pointed types f p.local p.members (cell st p.local) v st)) (whole_cell types f q st from)
+      ∙ ap (λ ms. on_pointer (cell st q.local) (λ v. member_pointed types f p.local ms (cell st p.local) v st)) whole
+
+  port_same : (p : Port) → IsPortReady types f (holdings_of st) p → doing.port s types f p st ≡ so_far.port s types f p st
+  port_same (Writes r) ready = refl
+  port_same (Takes r) ready = refl
+  port_same (WritesView l) ready =
+      let v = view_cell st.cells l.local ready.1 in
+      ap (λ o. doing.on_view s st.world.content o (λ text. Next (doing.with_output text st))) (whole_cell types f l st ready.0 ∙ v.1)
+      ∙ ap (λ o. so_far.on_view o (λ c. Next (doing.with_output (doing.characters_in s.texts c) st))) (sym v.1)
+
+  pub does_same : (i : Step) → IsPlain i → IsStepReady types fs f (holdings_of st) i → doing.does s types f i st ≡ so_far.does s types f i st
+  does_same (Live x form) plain ready = live_same s types f (slice_get f.locals x) form x st ready.1
+  does_same (End xs) plain ready = ends_same types f xs st sorted
+  does_same (Eval r op) plain ready = refl
+  does_same (Load r o) plain ready = place_same types f outer st h first o (λ w n i object. Next (put_cell r (Number (number_in_word (word_at object i w))) st)) _ ready.1
+  does_same (Save o r) plain ready = saved_same (cell st r)
+    where
+      saved_same : (v : Option Cell) → on_number v (λ z. on_found (doing.resolve types f o st) (λ n i object. Next (doing.saved z n i (operand_word types f o st) object st)))
+          ≡ on_number v (λ z. on_found (so_far.resolve o st) (λ n i object. Next (so_far.saved z n i object st)))
+      saved_same None = refl
+      saved_same (Some Empty) = refl
+      saved_same (Some (Named n)) = refl
+      saved_same (Some (Number z)) = place_same types f outer st h first o (λ w n i object. Next (doing.saved z n i w object st)) (λ c. Strays) ready.1
+      saved_same (Some (Points p)) = refl
+  does_same (Aim p x) plain ready = aim_same p (sort_of types f p.local) x ready.0 ready.1
+  does_same (Repoint p q) plain (inl ready) = repoint_same p q ready.0.0 ready.1.0
+  does_same (Repoint p q) plain (inr ready) = repoint_same p q ready.0.0 ready.1.0
+  does_same (Ports p) plain ready = port_same p ready
+  does_same (Call target g xs) plain ready = absurd plain
+  does_same (Copy to from) plain ready = absurd ready
+  does_same (Move to y) plain ready = absurd ready
+  does_same (Element p b which) plain ready = absurd ready
+  does_same (Cursor p b end) plain ready = absurd ready
+  does_same (Advance p q r direction) plain ready = absurd ready
+  does_same (Cut p q r count) plain ready = absurd ready
+  does_same (Size r b) plain ready = absurd ready
+  does_same (Same r a b equal) plain ready = absurd ready
+  does_same (Changes o c) plain ready = absurd ready
+  does_same (Make u made) plain ready = absurd ready
+
+-- ---- tests
+
+pub test_same : (types : Types) (f : Function) (t : Test) (n : ℕ) (st : State) → IsTestReady (holdings_of st) t → meaning.test_at types f t n st ≡ so_far.test_at t n st
+test_same types f (NonZero r) n st ready = refl
+test_same types f (NotNull p) n st ready =
+    let v = pointer_cell st.cells p.local ready.1 in
+    ap (λ o. pointer_test o n st) (ap (λ ms. tested types f p ms (cell st p.local) st.world.content) ready.0 ∙ ap (λ o. whole_tested o st.world.content) v.1 ∙ sym v.1)
