@@ -31,8 +31,8 @@ module _ (locations points elements : ℕ) (place : Place) where
   few_points : points ≤ 1024 → behind ≡ passes elements 2048 Elements place
   few_points few = ap (λ (o : Option LimitFault). first_of o (passes elements 2048 Elements place)) (not_passed points 1024 Points place few)
 
-  pub over_points : locations ≤ 256 → 1024 < points → first_passed locations points elements place ≡ Some (limit Points place)
-  over_points few many = few_locations few ∙ ap (λ (o : Option LimitFault). first_of o (passes elements 2048 Elements place)) (passed points 1024 Points place many)
+  pub over_points : locations ≤ 256 → (points ≤ 1024 → ⊥) → first_passed locations points elements place ≡ Some (limit Points place)
+  over_points few many = few_locations few ∙ ap (λ (o : Option LimitFault). first_of o (passes elements 2048 Elements place)) (passed points 1024 Points place (more points 1024 many))
 
   pub over_elements : locations ≤ 256 → points ≤ 1024 → (elements ≤ 2048 → ⊥) → first_passed locations points elements place ≡ Some (limit Elements place)
   over_elements few little many = few_locations few ∙ few_points little ∙ passed elements 2048 Elements place (more elements 2048 many)

@@ -3,10 +3,12 @@
 
 mod branches;
 mod declarations;
+mod dropping;
 mod ends;
 mod fault;
 mod functions;
 mod limits;
+mod points;
 mod programs;
 mod simples;
 mod statements;

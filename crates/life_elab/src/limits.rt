@@ -4,8 +4,9 @@ ghost use Rattle.life_core.specs.Function.{function_of};
 ghost use Rattle.life_elab.specs.Over as spec;
 ghost use Rattle.life_typed.specs.Programs.{program_view};
 
+use crate::points::has_few_points;
 use life_core::CoreFn;
-use life_pset::{POINT_LIMIT, count_points, has_few_elements, has_few_locations};
+use life_pset::{has_few_elements, has_few_locations};
 use life_tree::{LimitFault, LimitName};
 use life_typed::Typed;
 use life_types::{NoMemory, Place, TypeTable};
@@ -14,8 +15,8 @@ use std::alloc::Global;
 /// How many functions a program may have.
 const FUNCTION_LIMIT: usize = 1024;
 
-// The first limit of its own that a function passes. What is listed for a later one is short where an
-// earlier one isn't passed.
+// The first limit of its own that a function passes. What is listed for a later one is short, and goes
+// into nothing deep, where an earlier one isn't passed.
 #[tactic(auto, using(crate::proofs::LimitCounts::over_locations, crate::proofs::LimitCounts::over_points, crate::proofs::LimitCounts::over_elements, crate::proofs::LimitCounts::over_none))]
 fn over_function(
     alloc: Global,
@@ -27,7 +28,7 @@ fn over_function(
     if !has_few_locations(function, types) {
         return Ok(Some(limit(LimitName::Locations, function.place)));
     }
-    if count_points(alloc, function)? > POINT_LIMIT {
+    if !has_few_points(function) {
         return Ok(Some(limit(LimitName::Points, function.place)));
     }
     if !has_few_elements(alloc, function, types)? {

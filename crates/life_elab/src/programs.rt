@@ -6,6 +6,7 @@ ghost use Rattle.life_built.specs.Built.{is_built};
 ghost use Rattle.life_elab.specs.Programs as spec;
 ghost use Rattle.life_typed.specs.Programs.{program_view, struct_view, text_view};
 
+use crate::dropping::drop_functions;
 use crate::fault::ElabFault;
 use crate::functions::function;
 use crate::limits::over;
@@ -94,8 +95,17 @@ pub fn elaborate(alloc: Global, typed: &Typed) -> Result<CoreProgram, ElabFault>
     ensures { Elaborates (program_view typed.now) result }
 {
     let (functions, types) = functions(alloc, typed)?;
-    if let Some(fault) = over(alloc, typed, &types, &functions)? {
-        return Err(ElabFault::Limit(fault));
+    // Where one passes a limit, or isn't asked for want of memory, some may nest deep.
+    match over(alloc, typed, &types, &functions) {
+        Ok(None) => {}
+        Ok(Some(fault)) => {
+            drop_functions(alloc, functions);
+            return Err(ElabFault::Limit(fault));
+        }
+        Err(_) => {
+            drop_functions(alloc, functions);
+            return Err(ElabFault::NoMemory);
+        }
     }
     Ok(CoreProgram {
         names: Names {

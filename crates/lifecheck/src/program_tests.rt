@@ -224,3 +224,39 @@ fn limits_of_functions(rt: HostRuntime) -> Result<(), Fail> {
     }
     Ok(())
 }
+
+// So many pieces between two texts.
+fn repeated(alloc: Global, [head, piece, tail]: [&str; 3], count: usize) -> Result<Vec<u8>, Fail> {
+    let mut text = head.as_bytes().to_vec(alloc)?;
+    for _ in 0..count {
+        text.extend_from_slice(piece.as_bytes())?;
+    }
+    text.extend_from_slice(tail.as_bytes())?;
+    Ok(text)
+}
+
+// Chains that nest in the core as deep as they are long, each with the limit that is passed.
+const CHAINS: &[([&str; 3], usize, &str)] = &[
+    (
+        ["int main() { int a = 1; if (a);", "else if(a);", " }"],
+        60_000,
+        "1:5: limit: points\n",
+    ),
+    (
+        ["int main() { int a = 1; if (a", "&&a", "); }"],
+        200_000,
+        "1:5: limit: points\n",
+    ),
+];
+
+#[test]
+fn chains_past_the_limit(rt: HostRuntime) -> Result<(), Fail> {
+    let alloc = rt.alloc();
+    for (pieces, count, told) in CHAINS {
+        let text = repeated(alloc, *pieces, *count)?;
+        let (status, _, err) = checked(alloc, &text)?;
+        assert_eq!(rt; status, Status::Limit, "{told}");
+        assert_eq!(rt; err.as_slice(), told.as_bytes(), "{told}");
+    }
+    Ok(())
+}
