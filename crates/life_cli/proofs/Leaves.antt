@@ -4,24 +4,28 @@ use Rattle.std.specs.Prelude.{codes, option_map}
 use Rattle.std.proofs.KnownBytes.{Appends-nil}
 use Rattle.std.proofs.lemmas.Result.{IfOk-weaker}
 use Rattle.life_base.specs.Edges.{Directory}
+use Rattle.life_check.specs.CheckedText.{ComesOnlyTo, ComesTo, Faulty, Listed}
+use Rattle.life_check.specs.Findings.{Finds}
+use Rattle.life_check.specs.declared.fault.CheckFault.{CheckFault}
+use Rattle.life_check.specs.declared.fault.CheckFault.TheVariants as check
 use Rattle.life_core.specs.Function.{Program}
 use Rattle.life_rules.specs.declared.diag.Diag.{Diag}
+use Rattle.life_types.specs.Places.{position_text}
 use Rattle.life_cli.proofs.Fronts.{gains_nothing}
-use Rattle.life_cli.proofs.Questions.{the_answer, to_examined}
-use Rattle.life_cli.proofs.Served.{ending_serves}
-use Rattle.life_cli.proofs.Statuses.{faultless_fits, fits_as}
-use Rattle.life_cli.proofs.Working.{are_asked, fetched_on, on_as, refusal_on, serves_on}
+use Rattle.life_cli.proofs.Questions.{the_answer, to_finding}
+use Rattle.life_cli.proofs.Working.{fetched_on, on_as, refusal_on}
 use Rattle.life_cli.specs.Answer.{refusal}
-use Rattle.life_cli.specs.CheckedFile.{ExaminesFile}
-use Rattle.life_cli.specs.Findings.{Checked, ComesTo, Examined, Refused, ending_answer}
+use Rattle.life_cli.specs.CheckedFile.{IsLine, fault_line, lex_fault_text, limit_text}
 use Rattle.life_cli.specs.Ends.{IsReady, Port, Tells, Works, WorksOn}
 use Rattle.life_cli.specs.FileText.{Absent, Fetches, Holds, TooLong, file_text}
+use Rattle.life_cli.specs.IllFormed.{ill_text}
 use Rattle.life_cli.specs.Question.{IsAnswer, NoJob, OfFile, OfProgram, Question, asked, program_asked, text_asked}
+use Rattle.life_cli.specs.Refusals.{TellsFault}
 use Rattle.life_cli.specs.Status.{IsFaultless, IsOfJob, IsSettled}
 use Rattle.life_cli.specs.Words.{AsksUnchecked, IsUnchecked, Job}
 use Rattle.life_cli.specs.declared.fetch.Fetched.TheVariants as fetched
 use Rattle.life_cli.specs.declared.status.Status.{Status}
-use Rattle.life_cli.specs.declared.status.Status.TheVariants.{Fault, Limit, NoFile, Usage}
+use Rattle.life_cli.specs.declared.status.Status.TheVariants.{Fault, Ill, Limit, NoFile, Syntax, Usage}
 use Rattle.life_cli.specs.declared.stop.Ending.{Ending}
 use Rattle.life_cli.specs.declared.stop.Stop.{Stop}
 use Rattle.life_cli.specs.declared.stop.Stop.TheVariants as stop
@@ -87,28 +91,31 @@ module _ (job : Job) (held : Option Directory) (MayFault : Type 0) (reads reads'
 -- ---- what the bytes come to
 
 module _ (job : Job) (bytes : List ℕ) (held : Option Directory) (MayFault : Type 0) (reads reads' : ℕ) (out : Port) where
-  pub refused_file : (ending : Ending) → ExaminesFile bytes (Refused (ending_answer ending)) × IsFaultless ending.status → reads' ≡ reads
-      → WorksOn (text_asked job (Holds bytes) held) MayFault reads reads' out out (Ok ending)
+  told_file : (fault : CheckFault) (status : Status) (text : List ℕ) → fault_line fault ≡ Some (status, text) → IsFaultless status → ComesTo bytes (Faulty fault) → reads' ≡ reads
+      → (result : Result Ending Stop) → Tells status text result → WorksOn (text_asked job (Holds bytes) held) MayFault reads reads' out out result
   unfolding text_asked
-  refused_file ending is quiet =
-      serves_on (option_map (λ d. OfFile job d (Holds bytes)) held) MayFault (λ a. a ≡ ending_answer ending)
-      (are_asked held (λ d. OfFile job d (Holds bytes)) (λ a. a ≡ ending_answer ending)
-      (λ d a same. record { examined = Refused (ending_answer ending); file = is.0; answered = same })
-      (λ d a answers. to_examined d job.command bytes (Refused (ending_answer ending)) a is.0 answers))
-      (λ a same. fits_as MayFault a (ending_answer ending) same (faultless_fits MayFault ending.status is.1)) reads reads' quiet out out (Ok ending) (ending_serves ending out)
+  told_file fault status text line faultless is quiet result tells =
+      refusal_on held (λ d. OfFile job d (Holds bytes)) MayFault status text
+      (λ d a same. record { finding = Faulty fault; file = is; answered = subst (λ l. IsLine l a) (sym line) same })
+      (λ d a answers. subst (λ l. IsLine l a) line (to_finding d job.command bytes (Faulty fault) a is answers))
+      faultless reads reads' quiet out result tells
 
-  pub checked_file : (p : Program) (ds : List Diag) → ExaminesFile bytes (Checked p ds) → (out' : Port) (result : Result Ending Stop)
+  -- a fault of the text, or memory was wanted before it was known what the text comes to
+  pub faulty_file : (fault : CheckFault) (result : Result Ending Stop) → Finds (ComesOnlyTo bytes) (Err fault) → reads' ≡ reads → TellsFault fault result
+      → WorksOn (text_asked job (Holds bytes) held) MayFault reads reads' out out result
+  faulty_file (check.Lex lexical) result found quiet tells = told_file (check.Lex lexical) Syntax (lex_fault_text lexical) refl tt found.is quiet result tells
+  faulty_file (check.Syntax at place) result found quiet tells = told_file (check.Syntax at place) Syntax (position_text place ++ codes ": syntax") refl tt found.is quiet result tells
+  faulty_file (check.Ill kind place) result found quiet tells = told_file (check.Ill kind place) Ill (ill_text kind place) refl tt found.is quiet result tells
+  faulty_file (check.Limit passed) result found quiet tells = told_file (check.Limit passed) Limit (limit_text passed.name passed.place) refl tt found.is quiet result tells
+  faulty_file check.NoMemory result found quiet tells =
+      subst (λ r. WorksOn (text_asked job (Holds bytes) held) MayFault reads reads' out out r) (sym tells)
+      (record { works = record { read_faults = quiet; out_faults = refl; front = gains_nothing (text_asked job (Holds bytes) held) out.taken }; status = tt; fault = tt })
+
+  pub checked_file : (p : Program) (ds : List Diag) → ComesTo bytes (Listed p ds) → (out' : Port) (result : Result Ending Stop)
       → WorksOn (program_asked job.command p ds held) MayFault reads reads' out out' result → WorksOn (text_asked job (Holds bytes) held) MayFault reads reads' out out' result
   unfolding text_asked program_asked
   checked_file p ds is out' result on =
       on_as held (λ d. OfProgram job.command d p ds) (λ d. OfFile job d (Holds bytes))
-      (λ d a answers. record { examined = Checked p ds; file = is; answered = answers })
-      (λ d a answers. to_examined d job.command bytes (Checked p ds) a is answers)
+      (λ d a answers. record { finding = Listed p ds; file = is; answered = answers })
+      (λ d a answers. to_finding d job.command bytes (Listed p ds) a is answers)
       MayFault MayFault (λ may. may) reads reads' out out' result on
-
--- memory was wanted before it was known what the bytes come to
-pub unexamined_on : (asked : Option Question) (MayFault : Type 0) (P : Examined → Type 0) (reads : ℕ) (out : Port) (reason : Stop) → ComesTo P (Err reason) → WorksOn asked MayFault reads reads out out (Err reason)
-unexamined_on asked MayFault P reads out stop.NoMemory h =
-    record { works = record { read_faults = refl; out_faults = refl; front = gains_nothing asked out.taken }; status = tt; fault = tt }
-unexamined_on asked MayFault P reads out stop.ReadFault h = absurd h
-unexamined_on asked MayFault P reads out stop.WriteFault h = absurd h

@@ -1,8 +1,6 @@
 pub mod Admitted
-pub mod CheckedFile
 pub mod Endings
 pub mod Entries
-pub mod Examining
 pub mod Fetching
 pub mod FewSteps
 pub mod Fronts
@@ -11,7 +9,6 @@ pub mod Inputs
 pub mod Leaves
 pub mod Machines
 pub mod Numbers
-pub mod PassedLimits
 pub mod Programs
 pub mod Questions
 pub mod Served

@@ -17,7 +17,7 @@ use Rattle.life_cli.proofs.Admitted.{admitted}
 use Rattle.life_cli.proofs.Fronts.{whole_front}
 use Rattle.life_cli.proofs.Served.{text_serves}
 use Rattle.life_cli.specs.Answer.{Answer, line}
-use Rattle.life_cli.specs.WholeProgram.{IsWholeProgram}
+use Rattle.life_check.specs.WholeProgram.{IsWholeProgram}
 use Rattle.life_cli.specs.Ends.{Port, Serves, ServesFront, Tells}
 use Rattle.life_cli.specs.Entry.{Absent, Entry, IsEntry, NotValue}
 use Rattle.life_cli.specs.Runs.{IsEnd, Ran, RanFrom, RanUnless, ended_as, entry_text, fault_end, run_with, steps_end, trap_end, value_end, with_output}

@@ -3,13 +3,13 @@ use Rattle.std.proofs.Common.{◌≡◌, ℕ, ℤ, Bool, true, false, List, [], 
 use Rattle.std.specs.Prelude.{nat_lt, length}
 use Rattle.std.proofs.lemmas.Option.{IfSome_then}
 use Rattle.life_base.specs.Edges.{Directory}
+use Rattle.life_check.proofs.OneFinding.{one_finding}
+use Rattle.life_check.specs.CheckedText.{ComesTo, Faulty, Finding, Listed}
 use Rattle.life_core.specs.Function.{Function, Program}
 use Rattle.life_rules.specs.declared.diag.Diag.{Diag}
-use Rattle.life_cli.proofs.CheckedFile.{one_examined}
 use Rattle.life_cli.specs.Answer.{Answer}
-use Rattle.life_cli.specs.CheckedFile.{ExaminesFile}
-use Rattle.life_cli.specs.Findings.{Checked, Examined, Refused}
-use Rattle.life_cli.specs.Concluding.{AnswersExamined, AnswersFile, Concludes, RanDiagnosed, RanJob}
+use Rattle.life_cli.specs.CheckedFile.{IsLine, fault_line}
+use Rattle.life_cli.specs.Concluding.{AnswersFile, AnswersFinding, Concludes, RanDiagnosed, RanJob}
 use Rattle.life_cli.specs.Entry.{Absent as NoEntry, Begins, Entry, NotValue, entry_of}
 use Rattle.life_cli.specs.FileText.{Absent, FileText, Holds, TooLong}
 use Rattle.life_cli.specs.InputFile.{Numbers, input_of}
@@ -41,6 +41,10 @@ same_run options name p (Ok input) a b x y = same_from options name p input (ent
 
 -- ---- programs and files
 
+same_line : (line : Option (Status × List ℕ)) (a b : Answer) → IsLine line a → IsLine line b → a ≡ b
+same_line None a b x y = absurd x
+same_line (Some told) a b x y = x ∙ sym y
+
 module _ (directory : Directory) where
   same_job : (run : RunJob) (p : Program) (a b : Answer) → RanJob run directory p a → RanJob run directory p b → a ≡ b
   same_job run p a b x y = same_run run.options run.function p (input_of run.input directory) a b x y
@@ -54,16 +58,16 @@ module _ (directory : Directory) where
   same_conclusion (Run run) p [] a b x y = same_job run p a b x y
   same_conclusion (Run run) p (d ∷ ds) a b x y = same_diagnosed run.options.unchecked run p (d ∷ ds) a b x y
 
-  same_examined : (command : Command) (e : Examined) (a b : Answer) → AnswersExamined command directory e a → AnswersExamined command directory e b → a ≡ b
-  same_examined command (Refused refused) a b x y = x ∙ sym y
-  same_examined command (Checked p ds) a b x y = same_conclusion command p ds a b x.concluded y.concluded
+  same_finding : (command : Command) (f : Finding) (a b : Answer) → AnswersFinding command directory f a → AnswersFinding command directory f b → a ≡ b
+  same_finding command (Faulty fault) a b x y = same_line (fault_line fault) a b x y
+  same_finding command (Listed p ds) a b x y = same_conclusion command p ds a b x.concluded y.concluded
 
-  -- an answer to a file is one to what the file comes to
-  pub to_examined : (command : Command) (bytes : List ℕ) (e : Examined) (a : Answer) → ExaminesFile bytes e → AnswersFile command directory bytes a → AnswersExamined command directory e a
-  to_examined command bytes e a file is = subst (λ x. AnswersExamined command directory x a) (one_examined bytes is.examined e is.file file) is.answered
+  -- an answer to a file is one to what its text comes to
+  pub to_finding : (command : Command) (bytes : List ℕ) (f : Finding) (a : Answer) → ComesTo bytes f → AnswersFile command directory bytes a → AnswersFinding command directory f a
+  to_finding command bytes f a file is = subst (λ x. AnswersFinding command directory x a) (one_finding bytes is.finding f is.file file) is.answered
 
   same_file : (command : Command) (bytes : List ℕ) (a b : Answer) → AnswersFile command directory bytes a → AnswersFile command directory bytes b → a ≡ b
-  same_file command bytes a b x y = same_examined command x.examined a b x.answered (to_examined command bytes x.examined b x.file y)
+  same_file command bytes a b x y = same_finding command x.finding a b x.answered (to_finding command bytes x.finding b x.file y)
 
   same_text : (job : Job) (text : FileText) (a b : Answer) → AnswersText job directory text a → AnswersText job directory text b → a ≡ b
   same_text job Absent a b x y = x ∙ sym y

@@ -5,7 +5,6 @@ use Rattle.life_base.specs.Edges.{AppendsFront}
 use Rattle.life_core.specs.Function.{Program}
 use Rattle.life_rules.specs.declared.diag.Diag.{Diag}
 use Rattle.life_cli.specs.Answer.{Answer, answer_in}
-use Rattle.life_cli.specs.Findings.{ending_answer}
 use Rattle.life_cli.specs.Concluding.{reported}
 use Rattle.life_cli.specs.Ends.{HandsOut, Port, Reports, Serves, ServesFront}
 use Rattle.life_cli.specs.declared.reply.Reply.{Reply}
@@ -39,10 +38,6 @@ text_serves P status text out (Ok ending) is reports = record {
 text_serves P status text out (Err stop.NoMemory) is reports = wants_memory P out
 text_serves P status text out (Err stop.ReadFault) is reports = absurd reports
 text_serves P status text out (Err stop.WriteFault) is reports = absurd reports
-
--- .. also where it is at hand
-pub ending_serves : (ending : Ending) (out : Port) → Serves (λ a. a ≡ ending_answer ending) out out (Ok ending)
-ending_serves ending out = record { out_faults = refl; answer = ending_answer ending; is_such = refl; ready = record { status_is = refl; on_out = Appends-nil out.taken; on_err = refl } }
 
 -- a reply that was handed out is the only such answer
 pub reply_serves : (P : Answer → Type 0) (reply : Reply) (out out' : Port) (result : Result Ending Stop) → P (answer_in reply) → ((a : Answer) → P a → a ≡ answer_in reply) → HandsOut reply out out' result → Serves P out out' result

@@ -1,13 +1,13 @@
 -- The answer of a command to a program and what is diagnosed in it.
 use Rattle.std.specs.Prelude.{◌≡◌, ℕ, Bool, true, false, List, [], ◌∷◌}
 use Rattle.life_base.specs.Edges.{Directory}
+use Rattle.life_check.specs.CheckedText.{ComesTo, Faulty, Finding, Listed}
 use Rattle.life_core.specs.Function.{Program}
 use Rattle.life_report.specs.Reports.{report_text}
 use Rattle.life_rules.specs.declared.diag.Diag.{Diag}
 use Rattle.life_store.specs.NoFault.{NoFault}
 use Rattle.life_cli.specs.Answer.{Answer}
-use Rattle.life_cli.specs.CheckedFile.{ExaminesFile}
-use Rattle.life_cli.specs.Findings.{Checked, Examined, Refused}
+use Rattle.life_cli.specs.CheckedFile.{IsLine, fault_line}
 use Rattle.life_cli.specs.InputFile.{input_of}
 use Rattle.life_cli.specs.Runs.{RanWith}
 use Rattle.life_cli.specs.Words.{Check, Command, Run, RunJob}
@@ -47,12 +47,13 @@ pub record AnswersProgram (command : Command) (directory : Directory) (p : Progr
   pub safe : ds ≡ [] → NoFault p
   pub concluded : Concludes command directory p ds answer
 
-abbrev pub AnswersExamined : Command → Directory → Examined → Answer → Type 0
-AnswersExamined command directory (Refused refused) answer = answer ≡ refused
-AnswersExamined command directory (Checked p ds) answer = AnswersProgram command directory p ds answer
+-- .. and to what the check of a text finds
+abbrev pub AnswersFinding : Command → Directory → Finding → Answer → Type 0
+AnswersFinding command directory (Faulty fault) answer = IsLine (fault_line fault) answer
+AnswersFinding command directory (Listed p ds) answer = AnswersProgram command directory p ds answer
 
 -- the answer is the command's to a file of these bytes
 pub record AnswersFile (command : Command) (directory : Directory) (bytes : List ℕ) (answer : Answer) : Type 0 where
-  pub examined : Examined
-  pub file : ExaminesFile bytes examined
-  pub answered : AnswersExamined command directory examined answer
+  pub finding : Finding
+  pub file : ComesTo bytes finding
+  pub answered : AnswersFinding command directory finding answer

@@ -4,7 +4,6 @@ pub mod Concluding
 pub mod Ends
 pub mod Entry
 pub mod FileText
-pub mod Findings
 pub mod IllFormed
 pub mod InputFile
 pub mod Question
@@ -13,5 +12,4 @@ pub mod Runs
 pub mod Status
 pub mod Stops
 pub mod Told
-pub mod WholeProgram
 pub mod Words

@@ -2,10 +2,8 @@
 #![tactic(auto)]
 
 mod command;
-mod core_check;
+mod counted;
 mod entry;
-mod examine;
-mod examined;
 mod execute;
 mod fetch;
 mod input;

@@ -5,7 +5,7 @@ ghost use Rattle.life_report.specs.Reports.{report_text, HaveFunctions};
 ghost use Rattle.life_rules.specs.Listing.{AreProgramDiagnostics};
 ghost use Rattle.life_store.specs.NoFault.{NoFault};
 ghost use Rattle.life_cli.specs.Answer.{answer_in};
-ghost use Rattle.life_cli.specs.WholeProgram.{IsWholeProgram};
+ghost use Rattle.life_check.specs.WholeProgram.{IsWholeProgram};
 ghost use Rattle.life_cli.specs.Concluding.{reported, verdict};
 ghost use Rattle.life_cli.specs.Ends.{Reports, Serves, WorksOn};
 ghost use Rattle.life_cli.specs.Question.{program_asked};
@@ -21,42 +21,11 @@ use life_base::{Files, Sink};
 use life_core::CoreProgram;
 use life_report::text_report;
 use life_rules::Diag;
-use life_sound::accept;
 use life_types::NoMemory;
 use std::alloc::Global;
 
-/// Serves a program: it is accepted, or what is diagnosed decides.
-pub fn serve_program<F: Files, O: Sink>(
-    alloc: Global,
-    command: Command,
-    program: CoreProgram,
-    found: Vec<Diag>,
-    files: &mut F,
-    out: &mut O,
-) -> Result<Ending, Stop>
-    requires whole { IsWholeProgram (program_of program) }
-    requires listed { AreProgramDiagnostics (program_of program) found.items }
-    requires few { HasFewSteps (command_seen command) }
-    ensures { WorksOn (program_asked (command_seen command.entry) (program_of program) found.items (F.held files.old))
-        (IsUnchecked (command_seen command.entry)) (F.faults files.old) (F.faults files.new)
-        (record { taken = O.taken out.old; faults = O.faults out.old })
-        (record { taken = O.taken out.new; faults = O.faults out.new }) result }
-{
-    match accept(program, found) {
-        Ok(accepted) => serve_accepted(alloc, command, accepted.program(), files, out),
-        Err(rejected) => serve_rejected(
-            alloc,
-            command,
-            &rejected.program,
-            &rejected.diagnostics,
-            files,
-            out,
-        ),
-    }
-}
-
-// Serves a program of which nothing is diagnosed.
-fn serve_accepted<F: Files, O: Sink>(
+/// Serves a program of which nothing is diagnosed.
+pub fn serve_accepted<F: Files, O: Sink>(
     alloc: Global,
     command: Command,
     program: &CoreProgram,
@@ -78,8 +47,8 @@ fn serve_accepted<F: Files, O: Sink>(
     }
 }
 
-// Serves a program with diagnostics.
-fn serve_rejected<F: Files, O: Sink>(
+/// Serves a program with diagnostics.
+pub fn serve_rejected<F: Files, O: Sink>(
     alloc: Global,
     command: Command,
     program: &CoreProgram,

@@ -4,32 +4,33 @@ ghost use Rattle.life_types.specs.Places.{position_text};
 ghost use Rattle.life_cli.specs.CheckedFile.{lex_fault_name, lex_fault_text, limit_name, limit_text};
 ghost use Rattle.life_cli.specs.Ends.{Tells};
 ghost use Rattle.life_cli.specs.IllFormed.{ill_name, ill_text};
-ghost use Rattle.life_cli.specs.Refusals.{TellsFault, TellsIll};
+ghost use Rattle.life_cli.specs.Refusals.{TellsFault};
 ghost use Rattle.life_cli.specs.declared.status.Status.TheVariants.{Ill, Limit, Syntax};
 
 use crate::Status;
 use crate::refusal::tell;
 use crate::stop::{Ending, Stop};
+use life_check::CheckFault;
 use life_lex::{LexFault, LexFaultKind};
-use life_parse::ParseFault;
+use life_names::IllKind;
 use life_tree::LimitName;
 use life_types::Place;
-use life_typing::{IllFault, IllKind};
 use std::alloc::Global;
 
-/// The line for a file that has no tree.
-pub fn refuse_tree(alloc: Global, fault: ParseFault) -> Result<Ending, Stop>
+/// The line for a text that has no program that is checked.
+pub fn refuse_text(alloc: Global, fault: CheckFault) -> Result<Ending, Stop>
     ensures { TellsFault fault result }
 {
     match fault {
-        ParseFault::Lex(fault) => refuse_lexical(alloc, fault),
-        ParseFault::Refused { place, .. } => refuse_syntax(alloc, place),
-        ParseFault::Limit(fault) => refuse_limit(alloc, fault.name, fault.place),
-        ParseFault::NoMemory => Err(Stop::NoMemory),
+        CheckFault::Lex(fault) => refuse_lexical(alloc, fault),
+        CheckFault::Syntax { place, .. } => refuse_syntax(alloc, place),
+        CheckFault::Ill { kind, place } => refuse_ill(alloc, kind, place),
+        CheckFault::Limit(fault) => refuse_limit(alloc, fault.name, fault.place),
+        CheckFault::NoMemory => Err(Stop::NoMemory),
     }
 }
 
-/// The line for a token at which no program goes on.
+// The line for a token at which no program goes on.
 fn refuse_syntax(alloc: Global, place: Place) -> Result<Ending, Stop>
     ensures { Tells Syntax (position_text place ++ codes ": syntax") result }
 {
@@ -39,8 +40,8 @@ fn refuse_syntax(alloc: Global, place: Place) -> Result<Ending, Stop>
     tell(alloc, Status::Syntax, text.as_str())
 }
 
-/// The line for a limit that is passed.
-pub fn refuse_limit(alloc: Global, name: LimitName, place: Option<Place>) -> Result<Ending, Stop>
+// The line for a limit that is passed.
+fn refuse_limit(alloc: Global, name: LimitName, place: Option<Place>) -> Result<Ending, Stop>
     ensures { Tells Limit (limit_text name place) result }
 {
     let name = limit_name(name);
@@ -58,17 +59,7 @@ pub fn refuse_limit(alloc: Global, name: LimitName, place: Option<Place>) -> Res
     }
 }
 
-/// The line for a tree that has no types.
-pub fn refuse_types(alloc: Global, fault: IllFault) -> Result<Ending, Stop>
-    ensures { TellsIll fault result }
-{
-    match fault {
-        IllFault::Ill { kind, place } => refuse_ill(alloc, kind, place),
-        IllFault::NoMemory => Err(Stop::NoMemory),
-    }
-}
-
-/// The line for a rule that is broken.
+// The line for a rule that is broken.
 fn refuse_ill(alloc: Global, kind: IllKind, place: Place) -> Result<Ending, Stop>
     ensures { Tells Ill (ill_text kind place) result }
 {
@@ -114,7 +105,7 @@ fn limit_name(name: LimitName) -> &'static str
     }
 }
 
-/// The line for a file with a lexical fault.
+// The line for a text with a lexical fault.
 fn refuse_lexical(alloc: Global, fault: LexFault) -> Result<Ending, Stop>
     ensures { Tells Syntax (lex_fault_text fault) result }
 {

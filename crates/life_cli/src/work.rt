@@ -7,15 +7,16 @@ ghost use Rattle.life_cli.specs.Words.{command_seen, job_of, job_seen, AsksUnche
 ghost use Rattle.life_cli.specs.declared.status.Status.TheVariants.{Fault, Usage};
 
 use crate::Status;
-use crate::examine::examine;
-use crate::examined::Examined;
+use crate::counted::checked;
 use crate::fetch::{Fetched, fetch};
 use crate::job::Job;
 use crate::refusal::{refuse_name, tell};
-use crate::serve::serve_program;
+use crate::serve::{serve_accepted, serve_rejected};
+use crate::source_refusal::refuse_text;
 use crate::stop::{Ending, Stop};
 use crate::words::read_words;
 use life_base::{Files, Sink};
+use life_check::Checked;
 use std::alloc::Global;
 
 /// Does what the words ask for. Nothing is written to err yet.
@@ -64,7 +65,7 @@ fn serve_job<F: Files, O: Sink>(
     }
 }
 
-// Serves a file of these bytes.
+// Serves a file of these bytes: its program is accepted or has diagnostics, or it has none that is checked.
 fn serve_bytes<F: Files, O: Sink>(
     alloc: Global,
     job: Job,
@@ -79,16 +80,16 @@ fn serve_bytes<F: Files, O: Sink>(
         (record { taken = O.taken out.old; faults = O.faults out.old })
         (record { taken = O.taken out.new; faults = O.faults out.new }) result }
 {
-    match examine(alloc, bytes) {
-        Ok(Examined::Refused(ending)) => Ok(ending),
-        Ok(Examined::Checked(program, found)) => serve_program(
-            alloc,
-            job.command,
-            program,
-            found,
-            files,
-            out,
-        ),
-        Err(stop) => Err(stop),
+    match checked(alloc, bytes) {
+        Ok(Checked::Accepted(accepted)) => {
+            serve_accepted(alloc, job.command, accepted.program(), files, out)
+        }
+        Ok(
+            Checked::Refused {
+                program,
+                diagnostics,
+            },
+        ) => serve_rejected(alloc, job.command, &program, &diagnostics, files, out),
+        Err(fault) => refuse_text(alloc, fault),
     }
 }

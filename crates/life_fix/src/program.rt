@@ -1,5 +1,5 @@
 // The diagnostics of whole programs.
-ghost use Rattle.std.specs.Prelude.{◌≡◌, ◌<◌, ◌↔◌, Contains, IfOk, OnOk, map};
+ghost use Rattle.std.specs.Prelude.{◌↔◌, Contains, IfOk, OnOk, map};
 ghost use Rattle.life_core.specs.Function.{function_of, program_of};
 ghost use Rattle.life_fix.specs.Candidates.{candidate_seen};
 ghost use Rattle.life_fix.specs.Programs.{AddsDiagnosed, IsProgramWithinLimits};
@@ -18,13 +18,17 @@ use life_pset::SetRows;
 use life_rules::{Diag, function_names};
 use life_types::{NameId, NoMemory, TypeTable};
 use std::alloc::Global;
-use std::marker::Brand;
-use std::sync::ledger::{Blank, Ledger};
+use std::sync::ledger::Ledger;
 
 /// The diagnostics of a program: those of its functions, each by its own body, the types and the names
 /// alone. They stand in the order of the lines that they print, each line once, by the least diagnostic
-/// that prints it in the order of `Diag`. The only error is the want of memory.
-pub fn program_diagnostics(alloc: Global, program: &CoreProgram) -> Result<Vec<Diag>, NoMemory>
+/// that prints it in the order of `Diag`. Each function is solved with this counter. The only error is the
+/// want of memory.
+pub fn program_diagnostics<L: Ledger>(
+    alloc: Global,
+    program: &CoreProgram,
+    steps: &mut Steps<L>,
+) -> Result<Vec<Diag>, NoMemory>
     requires { IsProgramWithinLimits (program_of program.now) }
     ensures { IfOk result (λ all. AreProgramDiagnostics (program_of program.now) all.items) }
 {
@@ -39,6 +43,7 @@ pub fn program_diagnostics(alloc: Global, program: &CoreProgram) -> Result<Vec<D
             &program.types,
             &program.names,
             &functions,
+            steps,
             &mut candidates,
         )?;
     }
@@ -46,38 +51,35 @@ pub fn program_diagnostics(alloc: Global, program: &CoreProgram) -> Result<Vec<D
 }
 
 // Adds the diagnostics of one function, with their lines.
-fn push_diagnosed(
+fn push_diagnosed<L: Ledger>(
     alloc: Global,
     id: FnId,
     f: &CoreFn,
     types: &TypeTable,
     names: &Names,
     functions: &[NameId],
+    steps: &mut Steps<L>,
     out: &mut Vec<Candidate>,
 ) -> Result<(), NoMemory>
     requires { IsWithinLimits types.now (function_of f.now) }
     ensures { OnOk result (AddsDiagnosed (naming_of names.now functions.now) types.now id.0 (function_of f.now)
         (map candidate_seen out.old.items) (map candidate_seen out.new.items)) }
 {
-    let found = function_found::<Brand>(alloc, id, f, types, Blank::new(1))?;
+    let found = function_found(alloc, id, f, types, steps)?;
     push_candidates(alloc, names, functions, f, types, &found, out)
 }
 
-// All that is wrong in one function, with a counter of its own for the solver.
+// All that is wrong in one function.
 fn function_found<L: Ledger>(
     alloc: Global,
     id: FnId,
     f: &CoreFn,
     types: &TypeTable,
-    blank: Blank,
+    steps: &mut Steps<L>,
 ) -> Result<Vec<Diag>, NoMemory>
-    requires limits { IsWithinLimits types.now (function_of f.now) }
-    requires name { blank.name ≡ L.name }
-    requires parts { blank.parts ≡ L.parts }
-    requires some { 0 < blank.parts }
+    requires { IsWithinLimits types.now (function_of f.now) }
     ensures { IfOk result (λ all. (d : Diag) → Contains all.items d ↔ IsDiagnosed types.now id.0 (function_of f.now) d) }
 {
-    let mut steps = Steps::<L>::new(blank);
-    let solution = solve::<SetRows, L>(alloc, f, types, &mut steps)?;
+    let solution = solve::<SetRows, L>(alloc, f, types, steps)?;
     found(alloc, f, id, types, &solution)
 }

@@ -23,6 +23,8 @@ fn words_of(rt: &HostRuntime) -> io::Result<Vec<String>> {
 #[cfg(test)]
 mod asked;
 #[cfg(test)]
+mod check_tests;
+#[cfg(test)]
 mod ill_tests;
 #[cfg(test)]
 mod input_tests;

@@ -20,12 +20,12 @@ at fs items k f same lt is =
     ∙ ap (option_map function_of) (slice_get-get_or items k f lt ∙ ap Some (sym is))
 
 pub push_diagnosed-requires : goal.push_diagnosed-requires
-push_diagnosed-requires c =
+push_diagnosed-requires g c =
     c.requires.each c.loop-index.index (function_of c.f-item.result)
     (at c.args.program.now.functions.items c.deref-f-items.result.now c.loop-index.index c.f-item.result c.deref-f-items.ensures.value c.loop-index-test.true c.f-item.is)
 
 pub loop-index-preserved : goal.loop-index-preserved
-loop-index-preserved c =
+loop-index-preserved g c =
     let names = c.deref-in-loop-index.ensures.value ∙ c.in_ok-functions.ensures ∙ ap (λ (fs : List CoreFn). map function_name (map function_of fs)) c.deref.ensures.value in
     let adds = subst (λ (ns : List NameId). AddsDiagnosed (naming_of c.args.program.now.names ns) c.args.program.now.types c.loop-index.index (function_of c.f-item.result)
     (map candidate_seen c.loop-index.candidates.items) (map candidate_seen c.push_diagnosed.new.out.items)) names c.in_ok-push_diagnosed.ensures in
@@ -34,7 +34,7 @@ loop-index-preserved c =
     adds c.loop-index.invariant
 
 pub returns : goal.returns
-returns c =
+returns g c =
     let p = program_of c.args.program.now in
     let count : length p.functions ≤ c.loop-index.index =
     omega (arith, length-map c.args.program.now.functions.items function_of, c.loop-index-test.false, ap (λ (fs : List CoreFn). length fs) c.deref-f-items.ensures.value) in

@@ -9,7 +9,7 @@ use Rattle.life_fix.specs.Programs.{AddsDiagnosed}
 use Rattle.life_fix.proofs.program.push_diagnosed.Goals as goal
 
 pub returns : goal.returns
-returns c =
+returns g c =
     let all = subst (λ (ds : List Diag). (d : Diag) → Contains ds d ↔ IsDiagnosed c.args.types.now c.args.id.0 (function_of c.args.f.now) d)
     (sym c.deref.ensures.value) c.in_ok-found.ensures in
     IfOk-weaker c.push_candidates.result _

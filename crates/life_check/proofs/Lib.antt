@@ -1,0 +1,3 @@
+pub mod Checking
+pub mod OneFinding
+pub mod PassedLimits

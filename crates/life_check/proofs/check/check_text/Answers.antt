@@ -1,0 +1,11 @@
+use Rattle.std.proofs.lemmas.Result.{err_from_is_err_and}
+use Rattle.life_check.proofs.Checking.{tree_finds, unparsed_finds}
+use Rattle.life_check.proofs.check.check_text.Goals as goal
+
+pub returns-in_err-tree : goal.returns-in_err-tree
+returns-in_err-tree g c =
+    let e = err_from_is_err_and c.from_residual.result c.from_residual.ensures.1 in
+    rw (e.1, e.2) (unparsed_finds c.args.bytes.now c.in_err-tree.field-0.0 c.in_err-tree.ensures.ends c.in_err-tree.ensures.only)
+
+pub returns : goal.returns
+returns g c = tree_finds c.args.bytes.now c.in_ok-tree.tree c.check_tree.result c.in_ok-tree.ensures.ends c.check_tree.ensures

@@ -1,0 +1,12 @@
+use Rattle.std.proofs.lemmas.Result.{err_from_is_err_and}
+use Rattle.life_typed.specs.Programs.{program_view}
+use Rattle.life_check.proofs.Checking.{typed_finds, untyped_finds}
+use Rattle.life_check.proofs.check.check_tree.Goals as goal
+
+pub returns-in_err-typed : goal.returns-in_err-typed
+returns-in_err-typed g c =
+    let e = err_from_is_err_and c.from_residual.result c.from_residual.ensures.1 in
+    rw (e.1, e.2) (untyped_finds c.args.tree.now c.in_err-typed.field-0.0 c.in_err-typed.ensures)
+
+pub returns : goal.returns
+returns g c = typed_finds c.args.tree.now (program_view c.in_ok-typed.typed) c.check_typed.result c.in_ok-typed.ensures c.check_typed.ensures

@@ -1,0 +1,80 @@
+-- What the text of a file comes to.
+use Rattle.std.specs.Prelude.{◌≡◌, ◌≢◌, ◌⊎◌, ℕ, Bool, true, false, List, Option, None, Some, Result, Ok, Err}
+use Rattle.life_built.specs.Built.{is_built}
+use Rattle.life_core.specs.Function.{Program}
+use Rattle.life_elab.specs.Over.{over}
+use Rattle.life_elab.specs.Programs.{core_program}
+use Rattle.life_names.specs.Checked.{Ill as Broken}
+use Rattle.life_parse.specs.Ends.{IsOnlyFault, Ends as Parses}
+use Rattle.life_parse.specs.declared.fault.ParseFault.{ParseFault}
+use Rattle.life_parse.specs.declared.fault.ParseFault.TheVariants as parsing
+use Rattle.life_rules.specs.Listing.{AreProgramDiagnostics}
+use Rattle.life_rules.specs.declared.diag.Diag.{Diag}
+use Rattle.life_tree.specs.declared.limit.LimitFault.{LimitFault}
+use Rattle.life_tree.specs.declared.program.Program.{Program as Parsed}
+use Rattle.life_typed.specs.Programs.{ProgramForm}
+use Rattle.life_typing.specs.Resolves.{resolved}
+use Rattle.life_check.specs.Faults.{tree_fault, unsupported}
+use Rattle.life_check.specs.WholeProgram.{IsServed}
+use Rattle.life_check.specs.declared.fault.CheckFault.{CheckFault}
+use Rattle.life_check.specs.declared.fault.CheckFault.TheVariants.{Ill, Limit}
+
+-- a fault, or the text's program and what is diagnosed in it
+pub data Finding : Type 0 where
+  Faulty : CheckFault → Finding
+  Listed : Program → List Diag → Finding
+
+-- the program with its list of diagnostics
+pub record IsListed (p : Program) (finding : Finding) : Type 0 where
+  pub diagnostics : List Diag
+  pub listed : AreProgramDiagnostics p diagnostics
+  pub is : finding ≡ Listed p diagnostics
+
+-- a core program that passes no limit: its diagnostics, where it is one that is served
+abbrev pub CoreComesTo : Program → Finding → Type 0
+CoreComesTo core finding = (IsServed core × IsListed core finding) ⊎ ((IsServed core → ⊥) × (finding ≡ Faulty unsupported))
+
+-- .. and the first limit that is passed, where there is one
+abbrev pub LimitedComesTo : Option LimitFault → Program → Finding → Type 0
+LimitedComesTo None core finding = CoreComesTo core finding
+LimitedComesTo (Some fault) core finding = finding ≡ Faulty (Limit fault)
+
+-- the core program of a typed one that is built
+abbrev pub BuiltComesTo : Bool → ProgramForm → Finding → Type 0
+BuiltComesTo true typed finding = LimitedComesTo (over typed (core_program typed)) (core_program typed) finding
+BuiltComesTo false typed finding = finding ≡ Faulty unsupported
+
+abbrev pub TypedComesTo : ProgramForm → Finding → Type 0
+TypedComesTo typed finding = BuiltComesTo (is_built typed) typed finding
+
+-- the typed program of a tree that has types; else it is the first rule that the tree breaks
+abbrev pub ResolvedComesTo : Result ProgramForm Broken → Finding → Type 0
+ResolvedComesTo (Ok typed) finding = TypedComesTo typed finding
+ResolvedComesTo (Err e) finding = finding ≡ Faulty (Ill e.kind e.place)
+
+-- .. of the text's only tree
+pub record TreeComesTo (bytes : List ℕ) (finding : Finding) : Type 0 where
+  pub tree : Parsed
+  pub parsed : Parses bytes (Ok tree)
+  pub is : ResolvedComesTo (resolved tree) finding
+
+-- the one reason for which the text has no tree
+pub record HasNoTreeFor (bytes : List ℕ) (reason : ParseFault) (finding : Finding) : Type 0 where
+  pub parsed : Parses bytes (Err reason)
+  pub only : IsOnlyFault bytes reason
+  pub told : reason ≢ parsing.NoMemory
+  pub is : finding ≡ Faulty (tree_fault reason)
+
+abbrev pub ParsingComesTo : List ℕ → Option ParseFault → Finding → Type 0
+ParsingComesTo bytes None finding = TreeComesTo bytes finding
+ParsingComesTo bytes (Some reason) finding = HasNoTreeFor bytes reason finding
+
+-- a text of these bytes comes to this, by its tree or by why it has none
+pub record ComesTo (bytes : List ℕ) (finding : Finding) : Type 0 where
+  pub reason : Option ParseFault
+  pub is : ParsingComesTo bytes reason finding
+
+-- .. and to nothing else
+pub record ComesOnlyTo (bytes : List ℕ) (finding : Finding) : Type 0 where
+  pub is : ComesTo bytes finding
+  pub only : (other : Finding) → ComesTo bytes other → other ≡ finding

@@ -1,0 +1,4 @@
+pub mod CheckedText
+pub mod Faults
+pub mod Findings
+pub mod WholeProgram
