@@ -1,10 +1,10 @@
 #!/usr/bin/env python3
-"""Times `lifecheck check` on generated files, beside `clang++ -fsyntax-only` on the same files in the same run.
+"""Times `lifecheck check` on generated files, beside `clang++ -fsyntax-only` and `cppcheck` on the same files in the same run.
 
 usage: bench/check.py [LIFECHECK]     (default: crates/lifecheck/out/lifecheck, which `rt run` and `rt ci` leave)
 
-For each file: the least time of several runs of each program, in milliseconds, and their ratio. Only the ratio
-carries over to another machine. clang++ stops at its first error, and is left out where it isn't installed.
+For each file: the least time of several runs of each program, in milliseconds, and how many times as long lifecheck
+takes. Only these ratios carry over to another machine. clang++ stops at its first error. What isn't installed is left out.
 """
 import os
 import shutil
@@ -103,6 +103,19 @@ def functions_file():
     return "\n".join(lines).encode() + b"\n"
 
 
+def moving_file():
+    """60 pointers in a loop, each of which takes what the next one pointed to: the sets grow for sixty turns."""
+    lines = ["int main() {"]
+    lines += [f"  int x{n} = {n};" for n in range(60)]
+    lines += [f"  int* p{n} = &x{n};" for n in range(60)]
+    lines += ["  while (x0 < 10) {"]
+    lines += [f"    p{n} = p{n + 1};" for n in range(59)]
+    lines += [f"    if (x0 == {n}) {{ return {n}; }}" for n in range(14)]
+    lines += [f"    *p{n} = x{n};" for n in range(60)]
+    lines += ["  }", "  return 0;", "}"]
+    return "\n".join(lines).encode() + b"\n"
+
+
 FILES = [
     ("200 small functions", functions_file),
     ("one comment, 1 MiB", comment_file),
@@ -111,13 +124,21 @@ FILES = [
     ("empty blocks, 1 MiB", blocks_file),
     ("250 variables, 1,000 points", limits_file),
     ("250 diagnostics", faults_file),
+    ("60 pointers that move on", moving_file),
+]
+
+# What is timed beside lifecheck, with the words before the file.
+OTHERS = [
+    ("clang++", ["-std=c++17", "-fsyntax-only", "-ferror-limit=1"]),
+    ("cppcheck", ["--quiet", "--std=c++17"]),
 ]
 
 
 def main():
     program = program_to_time()
-    clang = shutil.which("clang++")
-    print(f"{'file':30} {'bytes':>9} {'status':>6} {'lifecheck':>12} {'clang++':>12} {'ratio':>7}")
+    others = [[path, *words] for name, words in OTHERS if (path := shutil.which(name))]
+    heads = "".join(f" {os.path.basename(words[0]):>12} {'ratio':>7}" for words in others)
+    print(f"{'file':30} {'bytes':>9} {'status':>6} {'lifecheck':>12}{heads}")
     with tempfile.TemporaryDirectory() as folder:
         for name, make in FILES:
             path = os.path.join(folder, "file.cpp")
@@ -125,9 +146,9 @@ def main():
             with open(path, "wb") as handle:
                 handle.write(text)
             ours, status = least_time([program, "check", path], RUNS)
-            row = f"{name:30} {len(text):9} {status:6} {ours * 1000:9.1f} ms"
-            if clang:
-                theirs, _ = least_time([clang, "-std=c++17", "-fsyntax-only", "-ferror-limit=1", path], RUNS)
+            row = f"{name:30} {len(text):9} {status!s:>6} {ours * 1000:9.1f} ms"
+            for words in others:
+                theirs, _ = least_time(words + [path], RUNS)
                 row += f" {theirs * 1000:9.1f} ms {ours / theirs:7.2f}"
             print(row)
 

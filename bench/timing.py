@@ -6,8 +6,9 @@ import time
 
 HERE = os.path.dirname(os.path.abspath(__file__))
 DEFAULT = os.path.join(HERE, "..", "crates", "lifecheck", "out", "lifecheck")
-# A program that takes longer than this, in seconds, is run once.
+# A program that takes longer than this, in seconds, is run once, and stopped after the second time.
 SLOW = 2
+LONGEST = 60
 
 
 def program_to_time():
@@ -16,11 +17,14 @@ def program_to_time():
 
 
 def least_time(words, runs):
-    """The least time of so many runs, in seconds, and the status of the last."""
+    """The least time of so many runs, in seconds, and the status of the last; `LONGEST` and none for a run that was stopped."""
     best = None
     for _ in range(runs):
         begin = time.perf_counter()
-        done = subprocess.run(words, stdout=subprocess.DEVNULL, stderr=subprocess.DEVNULL)
+        try:
+            done = subprocess.run(words, stdout=subprocess.DEVNULL, stderr=subprocess.DEVNULL, timeout=LONGEST)
+        except subprocess.TimeoutExpired:
+            return LONGEST, None
         taken = time.perf_counter() - begin
         best = taken if best is None else min(best, taken)
         if taken > SLOW:
