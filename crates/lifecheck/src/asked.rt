@@ -4,8 +4,8 @@ use life_cli::{Status, run_command};
 use std::alloc::Global;
 use std::test::Fail;
 
-/// A call with this number is never reached.
-pub(crate) const NEVER: u64 = 99;
+/// A call with this number is never reached: the largest file is read by fewer.
+pub(crate) const NEVER: u64 = 1_000;
 
 /// The words of a line.
 pub(crate) fn words(alloc: Global, line: &str) -> Result<Vec<String>, Fail> {

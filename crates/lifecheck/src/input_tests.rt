@@ -149,11 +149,11 @@ fn doubled(alloc: Global, text: &[u8], times: usize) -> Result<Vec<u8>, Fail> {
 fn inputs_at_their_limits(rt: HostRuntime) -> Result<(), Fail> {
     let alloc = rt.alloc();
     let mut input = doubled(alloc, b" ", 20)?;
-    let (ended, _, err) = run(alloc, "--input in", FOUR, &input, NEVER * 99)?;
+    let (ended, _, err) = run(alloc, "--input in", FOUR, &input, NEVER)?;
     assert_eq!(rt; ended, Status::Done);
     assert_eq!(rt; err.as_slice(), b"value 4\n".as_slice());
     input.push(b' ')?;
-    let (ended, _, err) = run(alloc, "--input in", FOUR, &input, NEVER * 99)?;
+    let (ended, _, err) = run(alloc, "--input in", FOUR, &input, NEVER)?;
     assert_eq!(rt; ended, Status::Limit);
     assert_eq!(rt; err.as_slice(), b"limit: input\n".as_slice());
 
