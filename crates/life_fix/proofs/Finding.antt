@@ -1,5 +1,5 @@
 -- What is wrong at the points of a function, collected from the rows of a solution.
-use Rattle.std.proofs.Common.{◌≡◌, ◌⊎◌, ◌↔◌, ℕ, zero, suc, ◌+◌, ◌<◌, ◌≤◌, refl, ap, sym, ◌∙◌, inl, inr, Bool, false, true≢false, arith, subst, List, [], ◌∷◌, ◌++◌, length, get_or, map, option_map, Option, Some, None, Contains, IsTrue, slice_get, add-one}
+use Rattle.std.proofs.Common.{◌≡◌, ◌⊎◌, ◌↔◌, ℕ, zero, suc, ◌+◌, ◌<◌, ◌≤◌, refl, ap, sym, ◌∙◌, inl, inr, Bool, false, arith, subst, List, [], ◌∷◌, ◌++◌, length, map, option_map, Option, Some, None, Contains, slice_get, add-one}
 use Rattle.std.specs.List.{flat_map}
 use Rattle.std.proofs.lemmas.Bool.{cases_eq, cases_lt}
 use Rattle.std.proofs.lemmas.List.{append-nil, length-map}
@@ -11,17 +11,20 @@ use Rattle.life_core.specs.Linked.{Linked, code_of, numbered, points_of, spot_of
 use Rattle.life_core.specs.Node.{spot_seen}
 use Rattle.life_core.specs.Operands.{Base, Name, Operand, Source, Through}
 use Rattle.life_core.specs.Operands as named
-use Rattle.life_core.specs.Step.{Step, Copy, Aim, Cursor, Size, Changes}
+use Rattle.life_core.specs.Step.{Step, Copy, Aim, Cursor, Size, Changes, Call}
 use Rattle.life_core.specs.Step as step
 use Rattle.life_core.specs.Tree.{Node, Action, Question, Return, Stop, Spot}
 use Rattle.life_types.specs.declared.place.Place.{Place}
 use Rattle.life_core.specs.declared.node.SpotRef.{SpotRef}
 use Rattle.life_core.specs.declared.stmt.Point.{Point}
+use Rattle.life_contract.specs.Signatures.{Signature}
 use Rattle.life_pset.proofs.Members.{none_in_empty}
 use Rattle.life_pset.specs.Table.{Table, IsOf, Names, table_of}
 use Rattle.life_pset.specs.declared.element.Fact.{Fact}
 use Rattle.life_rules.proofs.Giving.{at_head, cond_none, in_tail, flat_map_empty, flat_map_from, flat_map_into, one_premise, two_premises, AllIn}
+use Rattle.life_rules.proofs.Calls.{broken_by_two_none}
 use Rattle.life_rules.specs.Along.{base_tells_first, is_target_of, node_tells_first, source_tells_first, tells_first}
+use Rattle.life_rules.specs.Arguing.{argument_diags_of_two}
 use Rattle.life_rules.specs.Carrying.{is_location}
 use Rattle.life_rules.specs.Deriving.{Derives, entry, along}
 use Rattle.life_rules.specs.Diagnosing.{diags_at, diags_of_two, moved_target, moved_through, node_diags_of_two, owner_of_base, owner_of_source, owners, IsDiagnosed, Tells}
@@ -43,47 +46,47 @@ same_wrongs same listing = record {
 -- ---- one row
 
 -- all that facts make wrong is what some of them do
-told_of_all : (types : Types) (function : ℕ) (f : Function) (spot : Spot) (facts : List Fact) (d : Diag) → Contains (all_wrong types function f spot facts) d
-    → (premises : List Fact) × (AllIn premises facts × Tells types function f (Some spot) premises d)
-told_of_all types function f spot facts d h =
-    elim (Contains-append_cases (flat_map (diags_at types function f (Some spot)) facts) _ d h) [
+told_of_all : (sigs : List Signature) (types : Types) (function : ℕ) (f : Function) (spot : Spot) (facts : List Fact) (d : Diag) → Contains (all_wrong sigs types function f spot facts) d
+    → (premises : List Fact) × (AllIn premises facts × Tells sigs types function f (Some spot) premises d)
+told_of_all sigs types function f spot facts d h =
+    elim (Contains-append_cases (flat_map (diags_at sigs types function f (Some spot)) facts) _ d h) [
       | inl one ↦
-          let x = flat_map_from (diags_at types function f (Some spot)) facts d one in
+          let x = flat_map_from (diags_at sigs types function f (Some spot)) facts d one in
           (x.0 ∷ [], (one_premise facts x.0 x.1.0, x.1.1))
       | inr two ↦
-          let x = flat_map_from (λ a. flat_map (diags_of_two types function f (Some spot) a) facts) facts d two in
-          let y = flat_map_from (diags_of_two types function f (Some spot) x.0) facts d x.1.1 in
+          let x = flat_map_from (λ a. flat_map (diags_of_two sigs types function f (Some spot) a) facts) facts d two in
+          let y = flat_map_from (diags_of_two sigs types function f (Some spot) x.0) facts d x.1.1 in
           (x.0 ∷ y.0 ∷ [], (two_premises facts x.0 y.0 x.1.0 y.1.0, y.1.1))
     ]
 
-all_of_told : (types : Types) (function : ℕ) (f : Function) (spot : Spot) (facts premises : List Fact) (d : Diag) → AllIn premises facts → Tells types function f (Some spot) premises d
-    → Contains (all_wrong types function f spot facts) d
-all_of_told types function f spot facts [] d within h = absurd h
-all_of_told types function f spot facts (a ∷ []) d within h =
-    Contains-append_left (flat_map (diags_at types function f (Some spot)) facts) _ d
-    (flat_map_into (diags_at types function f (Some spot)) facts a d (within a (at_head a [])) h)
-all_of_told types function f spot facts (a ∷ b ∷ []) d within h =
-    Contains-append_right (flat_map (diags_at types function f (Some spot)) facts) _ d
-    (flat_map_into (λ x. flat_map (diags_of_two types function f (Some spot) x) facts) facts a d (within a (at_head a (b ∷ [])))
-    (flat_map_into (diags_of_two types function f (Some spot) a) facts b d (within b (in_tail a (b ∷ []) b (at_head b []))) h))
-all_of_told types function f spot facts (a ∷ b ∷ c ∷ more) d within h = absurd h
+all_of_told : (sigs : List Signature) (types : Types) (function : ℕ) (f : Function) (spot : Spot) (facts premises : List Fact) (d : Diag) → AllIn premises facts → Tells sigs types function f (Some spot) premises d
+    → Contains (all_wrong sigs types function f spot facts) d
+all_of_told sigs types function f spot facts [] d within h = absurd h
+all_of_told sigs types function f spot facts (a ∷ []) d within h =
+    Contains-append_left (flat_map (diags_at sigs types function f (Some spot)) facts) _ d
+    (flat_map_into (diags_at sigs types function f (Some spot)) facts a d (within a (at_head a [])) h)
+all_of_told sigs types function f spot facts (a ∷ b ∷ []) d within h =
+    Contains-append_right (flat_map (diags_at sigs types function f (Some spot)) facts) _ d
+    (flat_map_into (λ x. flat_map (diags_of_two sigs types function f (Some spot) x) facts) facts a d (within a (at_head a (b ∷ [])))
+    (flat_map_into (diags_of_two sigs types function f (Some spot) a) facts b d (within b (in_tail a (b ∷ []) b (at_head b []))) h))
+all_of_told sigs types function f spot facts (a ∷ b ∷ c ∷ more) d within h = absurd h
 
-pub wrong_in_facts : (types : Types) (function : ℕ) (f : Function) (t : Table) (has : ℕ → ℕ → Bool) (spot : Spot) (facts : List Fact) (old new : List Diag) → ((x : Fact) → Contains facts x ↔ Holds t has x)
-    → new ≡ old ++ all_wrong types function f spot facts → (d : Diag) → Contains new d ↔ (Contains old d ⊎ IsWrongBy types function f t has spot d)
-wrong_in_facts types function f t has spot facts old new held is d =
-    let all = all_wrong types function f spot facts in (
+pub wrong_in_facts : (sigs : List Signature) (types : Types) (function : ℕ) (f : Function) (t : Table) (has : ℕ → ℕ → Bool) (spot : Spot) (facts : List Fact) (old new : List Diag) → ((x : Fact) → Contains facts x ↔ Holds t has x)
+    → new ≡ old ++ all_wrong sigs types function f spot facts → (d : Diag) → Contains new d ↔ (Contains old d ⊎ IsWrongBy sigs types function f t has spot d)
+wrong_in_facts sigs types function f t has spot facts old new held is d =
+    let all = all_wrong sigs types function f spot facts in (
       λ h.
           elim (Contains-append_cases old all d (subst (λ (ds : List Diag). Contains ds d) is h)) [
             | inl was ↦ inl was
             | inr wrong ↦
-                let told = told_of_all types function f spot facts d wrong in
+                let told = told_of_all sigs types function f spot facts d wrong in
                 inr (told.0, ((λ x k. (held x).0 (told.1.0 x k)), told.1.1))
           ],
       λ h.
           subst (λ (ds : List Diag). Contains ds d) (sym is)
           (elim h [
             | inl was ↦ Contains-append_left old all d was
-            | inr told ↦ Contains-append_right old all d (all_of_told types function f spot facts told.0 d (λ x k. (held x).1 (told.1.0 x k)) told.1.1)
+            | inr told ↦ Contains-append_right old all d (all_of_told sigs types function f spot facts told.0 d (λ x k. (held x).1 (told.1.0 x k)) told.1.1)
           ]),
     )
 
@@ -98,7 +101,7 @@ through_none : (types : Types) (function : ℕ) (f : Function) (place : Place) (
 through_none types function f place a b (Name l) h = refl
 through_none types function f place a b (Through p members) h = cond_none (is_location p a.location) (moved_target types function f place p members a.element b) h
 
-module _ (types : Types) (function : ℕ) (f : Function) (place : Place) (a b : Fact) where
+module _ (sigs : List Signature) (types : Types) (function : ℕ) (f : Function) (place : Place) (a b : Fact) where
   abbrev told : Operand → List Diag
   told = moved_through types function f place a b
 
@@ -119,16 +122,20 @@ module _ (types : Types) (function : ℕ) (f : Function) (place : Place) (a b : 
   step_none (Changes o change) h = one_none told o (through_none types function f place a b o h)
   step_none _ h = refl
 
-  node_none : (n : Node) → node_tells_first n a ≡ false → node_diags_of_two types function f place n a b ≡ []
-  node_none (Action i) h = step_none i h
+  arguments_none : (i : Step) → tells_first i a ≡ false → argument_diags_of_two sigs types function f place i a b ≡ []
+  arguments_none (Call target g xs) h = broken_by_two_none types function f place g.0 (slice_get sigs g.0) xs a b h
+  arguments_none _ h = refl
+
+  node_none : (n : Node) → node_tells_first n a ≡ false → node_diags_of_two sigs types function f place n a b ≡ []
+  node_none (Action i) h = rw (step_none i h) (arguments_none i h)
   node_none (Question t) h = refl
   node_none Return h = refl
   node_none Stop h = refl
 
-pub none_told_of_first : (types : Types) (function : ℕ) (f : Function) (spot : Spot) (a : Fact) (facts : List Fact) (out : List Diag) → node_tells_first spot.node a ≡ false
-    → out ≡ out ++ flat_map (diags_of_two types function f (Some spot) a) facts
-none_told_of_first types function f spot a facts out h =
-    let none = flat_map_empty (diags_of_two types function f (Some spot) a) facts (λ b. node_none types function f spot.place a b spot.node h) in
+pub none_told_of_first : (sigs : List Signature) (types : Types) (function : ℕ) (f : Function) (spot : Spot) (a : Fact) (facts : List Fact) (out : List Diag) → node_tells_first spot.node a ≡ false
+    → out ≡ out ++ flat_map (diags_of_two sigs types function f (Some spot) a) facts
+none_told_of_first sigs types function f spot a facts out h =
+    let none = flat_map_empty (diags_of_two sigs types function f (Some spot) a) facts (λ b. node_none sigs types function f spot.place a b spot.node h) in
     sym (ap (λ (ds : List Diag). out ++ ds) none ∙ append-nil out)
 
 -- ---- the points one by one
@@ -137,37 +144,37 @@ abbrev pub point_at : ℕ → Point
 point_at p = record { 0 = p }
 
 -- derived facts make it wrong at the point
-abbrev IsWrongAt : Types → ℕ → Function → ℕ → Diag → Type 0
-IsWrongAt types function f p d = (facts : List Fact) × (((x : Fact) → Contains facts x → Derives types f (point_at p) x) × Tells types function f (spot_of f (point_at p)) facts d)
+abbrev IsWrongAt : List Signature → Types → ℕ → Function → ℕ → Diag → Type 0
+IsWrongAt sigs types function f p d = (facts : List Fact) × (((x : Fact) → Contains facts x → Derives sigs types f (point_at p) x) × Tells sigs types function f (spot_of f (point_at p)) facts d)
 
 -- .. at one of the points up to this one
-abbrev IsWrongUpTo : Types → ℕ → Function → ℕ → Diag → Type 0
-IsWrongUpTo types function f k d = (p : ℕ) × ((p ≤ k) × IsWrongAt types function f p d)
+abbrev IsWrongUpTo : List Signature → Types → ℕ → Function → ℕ → Diag → Type 0
+IsWrongUpTo sigs types function f k d = (p : ℕ) × ((p ≤ k) × IsWrongAt sigs types function f p d)
 
-abbrev pub AreFoundUpTo : Types → ℕ → Function → ℕ → List Diag → Type 0
-AreFoundUpTo types function f k ds = (d : Diag) → Contains ds d ↔ IsWrongUpTo types function f k d
+abbrev pub AreFoundUpTo : List Signature → Types → ℕ → Function → ℕ → List Diag → Type 0
+AreFoundUpTo sigs types function f k ds = (d : Diag) → Contains ds d ↔ IsWrongUpTo sigs types function f k d
 
 -- where nothing stands, nothing is told
-nothing_told : (types : Types) (function : ℕ) (f : Function) (facts : List Fact) (d : Diag) → Tells types function f None facts d → ⊥
-nothing_told types function f [] d h = h
-nothing_told types function f (a ∷ []) d h = none_in_empty d h
-nothing_told types function f (a ∷ b ∷ []) d h = none_in_empty d h
-nothing_told types function f (a ∷ b ∷ c ∷ more) d h = h
+nothing_told : (sigs : List Signature) (types : Types) (function : ℕ) (f : Function) (facts : List Fact) (d : Diag) → Tells sigs types function f None facts d → ⊥
+nothing_told sigs types function f [] d h = h
+nothing_told sigs types function f (a ∷ []) d h = none_in_empty d h
+nothing_told sigs types function f (a ∷ b ∷ []) d h = none_in_empty d h
+nothing_told sigs types function f (a ∷ b ∷ c ∷ more) d h = h
 
 -- nothing stands at point 0
-pub found_none : (types : Types) (function : ℕ) (f : Function) → AreFoundUpTo types function f 0 []
-found_none types function f d = (
+pub found_none : (sigs : List Signature) (types : Types) (function : ℕ) (f : Function) → AreFoundUpTo sigs types function f 0 []
+found_none sigs types function f d = (
   λ h. absurd (none_in_empty d h),
   λ h. absurd (at_zero h.0 h.1.0 h.1.1),
 )
   where
-    at_zero : (p : ℕ) → p ≤ 0 → IsWrongAt types function f p d → ⊥
-    at_zero zero le at = nothing_told types function f at.0 d at.1.1
+    at_zero : (p : ℕ) → p ≤ 0 → IsWrongAt sigs types function f p d → ⊥
+    at_zero zero le at = nothing_told sigs types function f at.0 d at.1.1
     at_zero (suc p) le at = omega (arith, le)
 
 -- the next point
-found_next : (types : Types) (function : ℕ) (f : Function) (k : ℕ) (old new : List Diag) → ((d : Diag) → Contains new d ↔ (Contains old d ⊎ IsWrongAt types function f (k + 1) d)) → AreFoundUpTo types function f k old → AreFoundUpTo types function f (k + 1) new
-found_next types function f k old new more was d = (
+found_next : (sigs : List Signature) (types : Types) (function : ℕ) (f : Function) (k : ℕ) (old new : List Diag) → ((d : Diag) → Contains new d ↔ (Contains old d ⊎ IsWrongAt sigs types function f (k + 1) d)) → AreFoundUpTo sigs types function f k old → AreFoundUpTo sigs types function f (k + 1) new
+found_next sigs types function f k old new more was d = (
   λ h.
       elim ((more d).0 h) [
         | inl before ↦ let r = (was d).0 before in (r.0, (omega (arith, r.1.0), r.1.1))
@@ -175,7 +182,7 @@ found_next types function f k old new more was d = (
       ],
   λ h.
       elim (cases_eq h.0 (k + 1)) [
-        | inl here ↦ (more d).1 (inr (subst (λ (p : ℕ). IsWrongAt types function f p d) here h.1.1))
+        | inl here ↦ (more d).1 (inr (subst (λ (p : ℕ). IsWrongAt sigs types function f p d) here h.1.1))
         | inr other ↦ (more d).1 (inl ((was d).1 (h.0, (omega (arith, h.1.0, other), h.1.1))))
       ],
 )
@@ -183,7 +190,7 @@ found_next types function f k old new more was d = (
 -- ---- what the rows tell
 
 -- what is derived is one of the function's facts
-of_table : {types : Types} {f : Function} {point : Point} {x : Fact} → Derives types f point x → IsOf (table_of types f) x
+of_table : {sigs : List Signature} {types : Types} {f : Function} {point : Point} {x : Fact} → Derives sigs types f point x → IsOf (table_of types f) x
 of_table (entry of in_entry) = of
 of_table (along edge premises on_edge before carries) = carries.0
 
@@ -197,13 +204,13 @@ names_one t l e x y p q = λ i. record {
     one_value h = cc
 
 -- the row of a point has the facts that are derived there
-row_holds : {R : Type 0} (has : R → ℕ → ℕ → Bool) (location_limit element_limit : R → ℕ) (types : Types) (f : Function) (solution : Solved R) → IsSolution has location_limit element_limit types f solution
-    → (point : Point) (row : R) → row_of solution.rows point ≡ Some row → (x : Fact) → Holds solution.table (has row) x ↔ Derives types f point x
-row_holds has location_limit element_limit types f solution solves point row at x = (
+row_holds : {R : Type 0} (has : R → ℕ → ℕ → Bool) (location_limit element_limit : R → ℕ) (sigs : List Signature) (types : Types) (f : Function) (solution : Solved R) → IsSolution has location_limit element_limit sigs types f solution
+    → (point : Point) (row : R) → row_of solution.rows point ≡ Some row → (x : Fact) → Holds solution.table (has row) x ↔ Derives sigs types f point x
+row_holds has location_limit element_limit sigs types f solution solves point row at x = (
   λ h.
       let holds : Holds (table_of types f) (has row) x = subst (λ (t : Table). Holds t (has row) x) solves.table h in
       let y = (solves.pairs point row at holds.0 holds.1.0).0 holds.1.1.1 in
-      subst (λ (z : Fact). Derives types f point z) (names_one (table_of types f) holds.0 holds.1.0 y.0 x y.1.0 holds.1.1.0) y.1.1,
+      subst (λ (z : Fact). Derives sigs types f point z) (names_one (table_of types f) holds.0 holds.1.0 y.0 x y.1.0 holds.1.1.0) y.1.1,
   λ derives.
       let of = of_table derives in
       subst (λ (t : Table). Holds t (has row) x) (sym solves.table) (of.0, (of.1.0, (of.1.1, (solves.pairs point row at of.0 of.1.0).1 (x, (of.1.1, derives))))),
@@ -214,12 +221,12 @@ there [] k lt = absurd (omega (arith, lt))
 there (x ∷ xs) zero lt = (x, refl)
 there (x ∷ xs) (suc k) lt = there xs k (omega (arith, lt))
 
-wrong_at : {R : Type 0} (has : R → ℕ → ℕ → Bool) (location_limit element_limit : R → ℕ) (types : Types) (function : ℕ) (f : Function) (solution : Solved R) → IsSolution has location_limit element_limit types f solution
-    → (point : Point) (row : R) (spot : Spot) → row_of solution.rows point ≡ Some row → spot_of f point ≡ Some spot → (d : Diag) → IsWrongBy types function f solution.table (has row) spot d ↔ IsWrongAt types function f point.0 d
-wrong_at has location_limit element_limit types function f solution solves point row spot row_is spot_is d =
-    let holds = row_holds has location_limit element_limit types f solution solves point row row_is in (
-      λ w. (w.0, ((λ x k. (holds x).0 (w.1.0 x k)), subst (λ (o : Option Spot). Tells types function f o w.0 d) (sym spot_is) w.1.1)),
-      λ w. (w.0, ((λ x k. (holds x).1 (w.1.0 x k)), subst (λ (o : Option Spot). Tells types function f o w.0 d) spot_is w.1.1)),
+wrong_at : {R : Type 0} (has : R → ℕ → ℕ → Bool) (location_limit element_limit : R → ℕ) (sigs : List Signature) (types : Types) (function : ℕ) (f : Function) (solution : Solved R) → IsSolution has location_limit element_limit sigs types f solution
+    → (point : Point) (row : R) (spot : Spot) → row_of solution.rows point ≡ Some row → spot_of f point ≡ Some spot → (d : Diag) → IsWrongBy sigs types function f solution.table (has row) spot d ↔ IsWrongAt sigs types function f point.0 d
+wrong_at has location_limit element_limit sigs types function f solution solves point row spot row_is spot_is d =
+    let holds = row_holds has location_limit element_limit sigs types f solution solves point row row_is in (
+      λ w. (w.0, ((λ x k. (holds x).0 (w.1.0 x k)), subst (λ (o : Option Spot). Tells sigs types function f o w.0 d) (sym spot_is) w.1.1)),
+      λ w. (w.0, ((λ x k. (holds x).1 (w.1.0 x k)), subst (λ (o : Option Spot). Tells sigs types function f o w.0 d) spot_is w.1.1)),
     )
 
 -- what stands at the point after k points
@@ -228,28 +235,28 @@ spot_after f refs k s same at =
     sym (slice_get-map spot_of_linked (code_of f) k) ∙ ap (λ (ss : List Spot). slice_get ss k) (sym same) ∙ slice_get-map spot_seen refs k ∙ ap (option_map spot_seen) at
 
 -- the point after k points, with its row
-pub found_more : {R : Type 0} (has : R → ℕ → ℕ → Bool) (location_limit element_limit : R → ℕ) (types : Types) (function : ℕ) (f : Function) (solution : Solved R) (refs : List SpotRef) (k : ℕ) (s : SpotRef) (row : Option R) (old new : List Diag)
-    → IsSolution has location_limit element_limit types f solution → map spot_seen refs ≡ map spot_of_linked (code_of f) → length refs ≡ points_of f → slice_get refs k ≡ Some s → row ≡ row_of solution.rows (point_at (k + 1))
-    → ((d : Diag) → Contains new d ↔ (Contains old d ⊎ IsWrongIn types function f solution.table has (spot_seen s) row d)) → AreFoundUpTo types function f k old → AreFoundUpTo types function f (k + 1) new
-found_more {R = R} has location_limit element_limit types function f solution refs k s row old new solves same count at row_is more was =
+pub found_more : {R : Type 0} (has : R → ℕ → ℕ → Bool) (location_limit element_limit : R → ℕ) (sigs : List Signature) (types : Types) (function : ℕ) (f : Function) (solution : Solved R) (refs : List SpotRef) (k : ℕ) (s : SpotRef) (row : Option R) (old new : List Diag)
+    → IsSolution has location_limit element_limit sigs types f solution → map spot_seen refs ≡ map spot_of_linked (code_of f) → length refs ≡ points_of f → slice_get refs k ≡ Some s → row ≡ row_of solution.rows (point_at (k + 1))
+    → ((d : Diag) → Contains new d ↔ (Contains old d ⊎ IsWrongIn sigs types function f solution.table has (spot_seen s) row d)) → AreFoundUpTo sigs types function f k old → AreFoundUpTo sigs types function f (k + 1) new
+found_more {R = R} has location_limit element_limit sigs types function f solution refs k s row old new solves same count at row_is more was =
     let r = there solution.rows k (omega (arith, slice_get_within refs k s at, count, solves.count)) in
     let is : row ≡ Some r.0 = row_is ∙ ap (numbered_row solution.rows) (add-one k) ∙ r.1 in
     let point = point_at (suc k) in
-    let wrong = wrong_at has location_limit element_limit types function f solution solves point r.0 (spot_seen s) r.1 (spot_after f refs k s same at) in
-    let step : (d : Diag) → Contains new d ↔ (Contains old d ⊎ IsWrongAt types function f (k + 1) d) =
+    let wrong = wrong_at has location_limit element_limit sigs types function f solution solves point r.0 (spot_seen s) r.1 (spot_after f refs k s same at) in
+    let step : (d : Diag) → Contains new d ↔ (Contains old d ⊎ IsWrongAt sigs types function f (k + 1) d) =
     λ d. (
       λ h.
           elim ((more d).0 h) [
             | inl before ↦ inl before
-            | inr new ↦ inr (subst (λ (p : ℕ). IsWrongAt types function f p d) (sym (add-one k)) ((wrong d).0 (subst (λ (o : Option R). IsWrongIn types function f solution.table has (spot_seen s) o d) is new)))
+            | inr new ↦ inr (subst (λ (p : ℕ). IsWrongAt sigs types function f p d) (sym (add-one k)) ((wrong d).0 (subst (λ (o : Option R). IsWrongIn sigs types function f solution.table has (spot_seen s) o d) is new)))
           ],
       λ h.
           (more d).1 (elim h [
             | inl before ↦ inl before
-            | inr at_next ↦ inr (subst (λ (o : Option R). IsWrongIn types function f solution.table has (spot_seen s) o d) (sym is) ((wrong d).1 (subst (λ (p : ℕ). IsWrongAt types function f p d) (add-one k) at_next)))
+            | inr at_next ↦ inr (subst (λ (o : Option R). IsWrongIn sigs types function f solution.table has (spot_seen s) o d) (sym is) ((wrong d).1 (subst (λ (p : ℕ). IsWrongAt sigs types function f p d) (add-one k) at_next)))
           ]),
     ) in
-    found_next types function f k old new step was
+    found_next sigs types function f k old new step was
 
 -- no point stands behind the last
 none_behind : (code : List Linked) (p : ℕ) → length code < p → option_map spot_of_linked (numbered code p) ≡ None
@@ -257,16 +264,16 @@ none_behind code zero lt = absurd (omega (arith, lt))
 none_behind code (suc n) lt = ap (option_map spot_of_linked) (slice_get_past code n (omega (arith, lt)))
 
 -- at all points
-pub found_all : (types : Types) (function : ℕ) (f : Function) (refs : List SpotRef) (k : ℕ) (ds : List Diag) → map spot_seen refs ≡ map spot_of_linked (code_of f) → length refs ≤ k → AreFoundUpTo types function f k ds
-    → (d : Diag) → Contains ds d ↔ IsDiagnosed types function f d
-found_all types function f refs k ds same past found d = (
+pub found_all : (sigs : List Signature) (types : Types) (function : ℕ) (f : Function) (refs : List SpotRef) (k : ℕ) (ds : List Diag) → map spot_seen refs ≡ map spot_of_linked (code_of f) → length refs ≤ k → AreFoundUpTo sigs types function f k ds
+    → (d : Diag) → Contains ds d ↔ IsDiagnosed sigs types function f d
+found_all sigs types function f refs k ds same past found d = (
   λ h. let w = (found d).0 h in (point_at w.0, w.1.1),
   λ w.
       elim (cases_lt k w.0.0) [
         | inl behind ↦
             let long : length (code_of f) ≡ length refs = sym (length-map (code_of f) spot_of_linked) ∙ ap length (sym same) ∙ length-map refs spot_seen in
             let none : spot_of f w.0 ≡ None = none_behind (code_of f) w.0.0 (omega (arith, long, past, behind)) in
-            absurd (nothing_told types function f w.1.0 d (subst (λ (s : Option Spot). Tells types function f s w.1.0 d) none w.1.1.1))
+            absurd (nothing_told sigs types function f w.1.0 d (subst (λ (s : Option Spot). Tells sigs types function f s w.1.0 d) none w.1.1.1))
         | inr within ↦ (found d).1 (w.0.0, (within, w.1))
       ],
 )

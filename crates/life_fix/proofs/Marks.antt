@@ -7,6 +7,7 @@ use Rattle.life_types.specs.Types.{Types}
 use Rattle.life_core.specs.Function.{Function}
 use Rattle.life_core.specs.Linked.{edges_of}
 use Rattle.life_core.specs.declared.stmt.Edge.{Edge}
+use Rattle.life_contract.specs.Signatures.{Signature}
 use Rattle.life_pset.specs.Pairs.{HasNew}
 use Rattle.life_pset.specs.Table.{Table, table_of}
 use Rattle.life_rules.specs.FactSets.{Includes}
@@ -64,11 +65,11 @@ marked_false (x ∷ es) p (d ∷ ds) (suc j) e at h = marked_false es p ds j e a
 set_false : (ds : List Bool) (k j : ℕ) → slice_get (slice_set ds k false) j ≡ Some false → (j ≡ k) ⊎ (slice_get ds j ≡ Some false)
 set_false ds k j h = elim (same_or_not j k) [ inl is ↦ inl is | inr other ↦ inr (sym (get_set_other ds k j false other) ∙ h) ]
 
-pub runs_include : (types : Types) (f : Function) (edge : Edge) (old new : ℕ → ℕ → ℕ → Bool) → RunsEdge types f edge old new → (p : ℕ) → Includes (old p) (new p)
-runs_include types f edge old new runs p l e h = (runs p l e).1 (inl h)
+pub runs_include : (sigs : List Signature) (types : Types) (f : Function) (edge : Edge) (old new : ℕ → ℕ → ℕ → Bool) → RunsEdge sigs types f edge old new → (p : ℕ) → Includes (old p) (new p)
+runs_include sigs types f edge old new runs p l e h = (runs p l e).1 (inl h)
 
-other_same : (types : Types) (f : Function) (edge : Edge) (old new : ℕ → ℕ → ℕ → Bool) → RunsEdge types f edge old new → (p : ℕ) → p ≢ edge.to.0 → Includes (new p) (old p)
-other_same types f edge old new runs p d l e h = elim ((runs p l e).0 h) [ inl was ↦ was | inr c ↦ absurd (d c.0) ]
+other_same : (sigs : List Signature) (types : Types) (f : Function) (edge : Edge) (old new : ℕ → ℕ → ℕ → Bool) → RunsEdge sigs types f edge old new → (p : ℕ) → p ≢ edge.to.0 → Includes (new p) (old p)
+other_same sigs types f edge old new runs p d l e h = elim ((runs p l e).0 h) [ inl was ↦ was | inr c ↦ absurd (d c.0) ]
 
 known : (b : Bool) → (b ≡ true) ⊎ (b ≡ false)
 known true = inl refl
@@ -77,56 +78,56 @@ known false = inr refl
 none_gained : (old new : ℕ → ℕ → Bool) → (HasNew old new → ⊥) → Includes new old
 none_gained old new not_new l e h = elim (known (old l e)) [ inl t ↦ t | inr f ↦ absurd (not_new (l, (e, (f, h)))) ]
 
-flags_step : (types : Types) (f : Function) (edge : Edge) (old new : ℕ → ℕ → ℕ → Bool) (dirty : List Bool) (k : ℕ) (gained : Bool) → RunsEdge types f edge old new → IsTrue gained ↔ HasNew (old edge.to.0) (new edge.to.0)
+flags_step : (sigs : List Signature) (types : Types) (f : Function) (edge : Edge) (old new : ℕ → ℕ → ℕ → Bool) (dirty : List Bool) (k : ℕ) (gained : Bool) → RunsEdge sigs types f edge old new → IsTrue gained ↔ HasNew (old edge.to.0) (new edge.to.0)
     → (j : ℕ) (e : Edge) → slice_get (edges_of f) j ≡ Some e → slice_get (flags_after (edges_of f) k edge.to.0 gained dirty) j ≡ Some false
     → Includes (new e.from.0) (old e.from.0) × ((j ≡ k) ⊎ (slice_get dirty j ≡ Some false))
-flags_step types f edge old new dirty k true runs tells j e at h =
+flags_step sigs types f edge old new dirty k true runs tells j e at h =
     let r = marked_false (edges_of f) edge.to.0 (slice_set dirty k false) j e at h in
-    (other_same types f edge old new runs e.from.0 r.0, set_false dirty k j r.1)
-flags_step types f edge old new dirty k false runs tells j e at h =
+    (other_same sigs types f edge old new runs e.from.0 r.0, set_false dirty k j r.1)
+flags_step sigs types f edge old new dirty k false runs tells j e at h =
     (same, set_false dirty k j h)
   where
     same : Includes (new e.from.0) (old e.from.0)
     same = elim (same_or_not e.from.0 edge.to.0) [
       | inl is ↦ subst (λ (p : ℕ). Includes (new p) (old p)) (sym is) (none_gained (old edge.to.0) (new edge.to.0) (λ n. false_true (tells.1 n)))
-      | inr other ↦ other_same types f edge old new runs e.from.0 other
+      | inr other ↦ other_same sigs types f edge old new runs e.from.0 other
     ]
 
-pub partial_visit : (types : Types) (f : Function) (edge : Edge) (old new : ℕ → ℕ → ℕ → Bool) (dirty : List Bool) (k : ℕ) (gained : Bool) → IsPartial types f (edges_of f) dirty old → slice_get (edges_of f) k ≡ Some edge
-    → RunsEdge types f edge old new → IsTrue gained ↔ HasNew (old edge.to.0) (new edge.to.0) → IsPartial types f (edges_of f) (flags_after (edges_of f) k edge.to.0 gained dirty) new
-partial_visit types f edge old new dirty k gained partial at runs tells =
-    partial_step types f dirty (flags_after (edges_of f) k edge.to.0 gained dirty) old new k edge partial at runs (flags_step types f edge old new dirty k gained runs tells)
+pub partial_visit : (sigs : List Signature) (types : Types) (f : Function) (edge : Edge) (old new : ℕ → ℕ → ℕ → Bool) (dirty : List Bool) (k : ℕ) (gained : Bool) → IsPartial sigs types f (edges_of f) dirty old → slice_get (edges_of f) k ≡ Some edge
+    → RunsEdge sigs types f edge old new → IsTrue gained ↔ HasNew (old edge.to.0) (new edge.to.0) → IsPartial sigs types f (edges_of f) (flags_after (edges_of f) k edge.to.0 gained dirty) new
+partial_visit sigs types f edge old new dirty k gained partial at runs tells =
+    partial_step sigs types f dirty (flags_after (edges_of f) k edge.to.0 gained dirty) old new k edge partial at runs (flags_step sigs types f edge old new dirty k gained runs tells)
 
-sizes_up : (types : Types) (f : Function) (edge : Edge) (old new : ℕ → ℕ → ℕ → Bool) → RunsEdge types f edge old new → (p : ℕ) → sizes (table_of types f) old p ≤ sizes (table_of types f) new p
-sizes_up types f edge old new runs p = size_mono (old p) (new p) (length (table_of types f).locations) (length (table_of types f).elements) (runs_include types f edge old new runs p)
+sizes_up : (sigs : List Signature) (types : Types) (f : Function) (edge : Edge) (old new : ℕ → ℕ → ℕ → Bool) → RunsEdge sigs types f edge old new → (p : ℕ) → sizes (table_of types f) old p ≤ sizes (table_of types f) new p
+sizes_up sigs types f edge old new runs p = size_mono (old p) (new p) (length (table_of types f).locations) (length (table_of types f).elements) (runs_include sigs types f edge old new runs p)
 
-size_gained : (types : Types) (f : Function) (edge : Edge) (old new : ℕ → ℕ → ℕ → Bool) → RunsEdge types f edge old new → HasNew (old edge.to.0) (new edge.to.0) → sizes (table_of types f) old edge.to.0 + 1 ≤ sizes (table_of types f) new edge.to.0
-size_gained types f edge old new runs n =
+size_gained : (sigs : List Signature) (types : Types) (f : Function) (edge : Edge) (old new : ℕ → ℕ → ℕ → Bool) → RunsEdge sigs types f edge old new → HasNew (old edge.to.0) (new edge.to.0) → sizes (table_of types f) old edge.to.0 + 1 ≤ sizes (table_of types f) new edge.to.0
+size_gained sigs types f edge old new runs n =
     elim ((runs edge.to.0 n.0 n.1.0).0 n.1.1.1) [
       | inl was ↦ absurd (false_true (sym n.1.1.0 ∙ was))
       | inr c ↦
-          size_more (old edge.to.0) (new edge.to.0) (length (table_of types f).locations) (length (table_of types f).elements) n.0 n.1.0 (runs_include types f edge old new runs edge.to.0)
+          size_more (old edge.to.0) (new edge.to.0) (length (table_of types f).locations) (length (table_of types f).elements) n.0 n.1.0 (runs_include sigs types f edge old new runs edge.to.0)
           (slice_get_within (table_of types f).locations n.0 c.1.0.location c.1.1.0.0) (slice_get_within (table_of types f).elements n.1.0 c.1.0.element c.1.1.0.1) n.1.1.0 n.1.1.1
     ]
 
-falls_after : (types : Types) (f : Function) (edge : Edge) (old new : ℕ → ℕ → ℕ → Bool) (es : List Edge) (dirty : List Bool) (k : ℕ) (gained : Bool) → slice_get es k ≡ Some edge → slice_get dirty k ≡ Some true
-    → RunsEdge types f edge old new → IsTrue gained ↔ HasNew (old edge.to.0) (new edge.to.0) → left_of (table_of types f) es (flags_after es k edge.to.0 gained dirty) new + 1 ≤ left_of (table_of types f) es dirty old
-falls_after types f edge old new es dirty k true at is runs tells =
+falls_after : (sigs : List Signature) (types : Types) (f : Function) (edge : Edge) (old new : ℕ → ℕ → ℕ → Bool) (es : List Edge) (dirty : List Bool) (k : ℕ) (gained : Bool) → slice_get es k ≡ Some edge → slice_get dirty k ≡ Some true
+    → RunsEdge sigs types f edge old new → IsTrue gained ↔ HasNew (old edge.to.0) (new edge.to.0) → left_of (table_of types f) es (flags_after es k edge.to.0 gained dirty) new + 1 ≤ left_of (table_of types f) es dirty old
+falls_after sigs types f edge old new es dirty k true at is runs tells =
     let most = most_pairs (table_of types f) in
     let cleared = left_cleared most (sizes (table_of types f) old) es dirty k edge at is in
-    let gain = left_gained most (sizes (table_of types f) old) (sizes (table_of types f) new) edge.to.0 es (slice_set dirty k false) (sizes_up types f edge old new runs) (size_gained types f edge old new runs (tells.0 refl)) (size_most (new edge.to.0) (length (table_of types f).locations) (length (table_of types f).elements)) in
+    let gain = left_gained most (sizes (table_of types f) old) (sizes (table_of types f) new) edge.to.0 es (slice_set dirty k false) (sizes_up sigs types f edge old new runs) (size_gained sigs types f edge old new runs (tells.0 refl)) (size_most (new edge.to.0) (length (table_of types f).locations) (length (table_of types f).elements)) in
     omega (arith, cleared, gain)
-falls_after types f edge old new es dirty k false at is runs tells =
+falls_after sigs types f edge old new es dirty k false at is runs tells =
     let most = most_pairs (table_of types f) in
     let cleared = left_cleared most (sizes (table_of types f) old) es dirty k edge at is in
-    let same = left_mono most (sizes (table_of types f) old) (sizes (table_of types f) new) es (slice_set dirty k false) (sizes_up types f edge old new runs) in
+    let same = left_mono most (sizes (table_of types f) old) (sizes (table_of types f) new) es (slice_set dirty k false) (sizes_up sigs types f edge old new runs) in
     omega (arith, cleared, same)
 
-pub falls_visit : (types : Types) (f : Function) (edge : Edge) (old new : ℕ → ℕ → ℕ → Bool) (es : List Edge) (dirty dirty' : List Bool) (k : ℕ) (gained : Bool) → slice_get es k ≡ Some edge → slice_get dirty k ≡ Some true
-    → RunsEdge types f edge old new → IsTrue gained ↔ HasNew (old edge.to.0) (new edge.to.0) → dirty' ≡ flags_after es k edge.to.0 gained dirty → left_of (table_of types f) es dirty' new + 1 ≤ left_of (table_of types f) es dirty old
-falls_visit types f edge old new es dirty dirty' k gained at is runs tells flags =
+pub falls_visit : (sigs : List Signature) (types : Types) (f : Function) (edge : Edge) (old new : ℕ → ℕ → ℕ → Bool) (es : List Edge) (dirty dirty' : List Bool) (k : ℕ) (gained : Bool) → slice_get es k ≡ Some edge → slice_get dirty k ≡ Some true
+    → RunsEdge sigs types f edge old new → IsTrue gained ↔ HasNew (old edge.to.0) (new edge.to.0) → dirty' ≡ flags_after es k edge.to.0 gained dirty → left_of (table_of types f) es dirty' new + 1 ≤ left_of (table_of types f) es dirty old
+falls_visit sigs types f edge old new es dirty dirty' k gained at is runs tells flags =
     let t = table_of types f in
-    subst (λ (ds : List Bool). left_of t es ds new + 1 ≤ left_of t es dirty old) (sym flags) (falls_after types f edge old new es dirty k gained at is runs tells)
+    subst (λ (ds : List Bool). left_of t es ds new + 1 ≤ left_of t es dirty old) (sym flags) (falls_after sigs types f edge old new es dirty k gained at is runs tells)
 
 pub room_left : (t : Table) (es : List Edge) (dirty : List Bool) (pairs : ℕ → ℕ → ℕ → Bool) (k : ℕ) (edge : Edge) → slice_get es k ≡ Some edge → slice_get dirty k ≡ Some true → 1 ≤ left_of t es dirty pairs
 room_left t es dirty pairs k edge at is = omega (arith, left_cleared (most_pairs t) (sizes t pairs) es dirty k edge at is)
@@ -144,9 +145,9 @@ mark_else es p ds now i d inv h is =
     let step = mark_step es p ds i d h in
     inv ∙ sym (ap (λ (k : ℕ). marked (take k es) p ds) e ∙ step ∙ ap (λ (c : Bool). cond c (slice_set (marked (take i es) p ds) i true) (marked (take i es) p ds)) is)
 
-pub visit_partial : (types : Types) (f : Function) (es : List Edge) → es ≡ edges_of f → (edge : Edge) (old new : ℕ → ℕ → ℕ → Bool) (dirty dirty' : List Bool) (k : ℕ) (gained : Bool) → IsPartial types f es dirty old → slice_get es k ≡ Some edge
-    → RunsEdge types f edge old new → IsTrue gained ↔ HasNew (old edge.to.0) (new edge.to.0) → dirty' ≡ flags_after es k edge.to.0 gained dirty → IsPartial types f es dirty' new
-visit_partial types f es is edge old new dirty dirty' k gained partial at runs tells flags =
-    let P : List Edge → Type 0 = λ es. IsPartial types f es dirty old → slice_get es k ≡ Some edge → IsPartial types f es (flags_after es k edge.to.0 gained dirty) new in
-    subst (λ (ds : List Bool). IsPartial types f es ds new) (sym flags)
-    (subst P (sym is) (λ p a. partial_visit types f edge old new dirty k gained p a runs tells) partial at)
+pub visit_partial : (sigs : List Signature) (types : Types) (f : Function) (es : List Edge) → es ≡ edges_of f → (edge : Edge) (old new : ℕ → ℕ → ℕ → Bool) (dirty dirty' : List Bool) (k : ℕ) (gained : Bool) → IsPartial sigs types f es dirty old → slice_get es k ≡ Some edge
+    → RunsEdge sigs types f edge old new → IsTrue gained ↔ HasNew (old edge.to.0) (new edge.to.0) → dirty' ≡ flags_after es k edge.to.0 gained dirty → IsPartial sigs types f es dirty' new
+visit_partial sigs types f es is edge old new dirty dirty' k gained partial at runs tells flags =
+    let P : List Edge → Type 0 = λ es. IsPartial sigs types f es dirty old → slice_get es k ≡ Some edge → IsPartial sigs types f es (flags_after es k edge.to.0 gained dirty) new in
+    subst (λ (ds : List Bool). IsPartial sigs types f es ds new) (sym flags)
+    (subst P (sym is) (λ p a. partial_visit sigs types f edge old new dirty k gained p a runs tells) partial at)

@@ -5,6 +5,7 @@ use Rattle.std.specs.Prelude.{◌↔◌, IsTrue, slice_get, slice_set}
 use Rattle.life_types.specs.Types.{Types}
 use Rattle.life_core.specs.Function.{Function}
 use Rattle.life_core.specs.declared.stmt.Edge.{Edge}
+use Rattle.life_contract.specs.Signatures.{Signature}
 use Rattle.life_pset.specs.Pairs.{HasNew}
 use Rattle.life_rules.specs.FactSets.{CarriesPair, Gains}
 use Rattle.life_fix.specs.Solution.{numbered_row}
@@ -95,13 +96,13 @@ module _ {R : Type 0} (has : R → ℕ → ℕ → Bool) (rows : List R) (i : �
       subst (λ (q : ℕ). IsTrue r ↔ HasNew (pairs_at has rows q) (pairs_at has (slice_set rows i new) q)) e now
 
 -- what the row of an edge's second point gains from the row of its first is a run of the edge
-pub runs_at : {R : Type 0} (has : R → ℕ → ℕ → Bool) (types : Types) (f : Function) (edge : Edge) (rows : List R) (j i : ℕ) (from row new : R)
+pub runs_at : {R : Type 0} (has : R → ℕ → ℕ → Bool) (sigs : List Signature) (types : Types) (f : Function) (edge : Edge) (rows : List R) (j i : ℕ) (from row new : R)
     → slice_get rows j ≡ Some from → slice_get rows i ≡ Some row → j + 1 ≡ edge.from.0 → i + 1 ≡ edge.to.0
-    → Gains (has row) (has new) (CarriesPair types f edge (has from)) → RunsEdge types f edge (pairs_at has rows) (pairs_at has (slice_set rows i new))
-runs_at has types f edge rows j i from row new at_from at from_is to_is gains =
+    → Gains (has row) (has new) (CarriesPair sigs types f edge (has from)) → RunsEdge sigs types f edge (pairs_at has rows) (pairs_at has (slice_set rows i new))
+runs_at has sigs types f edge rows j i from row new at_from at from_is to_is gains =
     let same = pairs_of_row has rows edge.from.0 j from from_is at_from in
-    gains_at has rows i row new at edge.to.0 to_is (CarriesPair types f edge (pairs_at has rows edge.from.0))
-    (subst (λ (s : ℕ → ℕ → Bool). Gains (has row) (has new) (CarriesPair types f edge s)) (sym same) gains)
+    gains_at has rows i row new at edge.to.0 to_is (CarriesPair sigs types f edge (pairs_at has rows edge.from.0))
+    (subst (λ (s : ℕ → ℕ → Bool). Gains (has row) (has new) (CarriesPair sigs types f edge s)) (sym same) gains)
 
 -- one more row without pairs
 none_push : {R : Type 0} (has : R → ℕ → ℕ → Bool) (rows : List R) (row : R) → ((k l e : ℕ) → pairs_in has (slice_get rows k) l e ≡ false) → ((l e : ℕ) → has row l e ≡ false) → (k l e : ℕ) → pairs_in has (slice_get (rows ++ row ∷ []) k) l e ≡ false

@@ -5,6 +5,7 @@ use Rattle.std.proofs.lemmas.List.{map-append}
 use Rattle.std.proofs.lemmas.List.Elements.{Contains-append_cases, Contains-append_left, Contains-append_right}
 use Rattle.std.proofs.lemmas.Option.{slice_get_within}
 use Rattle.life_core.specs.Function.{Function, Program}
+use Rattle.life_contract.specs.Signatures.{signatures_of}
 use Rattle.life_pset.proofs.Members.{none_in_empty}
 use Rattle.life_rules.proofs.OneFunction.{map_same, own_function}
 use Rattle.life_rules.specs.Diagnosing.{IsDiagnosed}
@@ -17,7 +18,7 @@ use Rattle.life_fix.specs.Programs.{AddsDiagnosed}
 
 -- it is diagnosed in one of the first k functions
 abbrev pub IsDiagnosedUpTo : Program → ℕ → Diag → Type 0
-IsDiagnosedUpTo p k d = (i : ℕ) × ((i < k) × ((f : Function) × ((slice_get p.functions i ≡ Some f) × IsDiagnosed p.types i f d)))
+IsDiagnosedUpTo p k d = (i : ℕ) × ((i < k) × ((f : Function) × ((slice_get p.functions i ≡ Some f) × IsDiagnosed (signatures_of p.functions) p.types i f d)))
 
 -- these lines are those of what is diagnosed there
 pub record AreFoundIn (IsFound : Diag → Type 0) (p : Program) (lines : List Lined) : Type 0 where
@@ -51,7 +52,7 @@ found_in_next p k f before after at adds was = record {
   where
     same_line : (d : Diag) → Contains adds.found d → lined (line_of (naming_in p) p.types f) d ≡ lined (program_line p) d
     same_line d h =
-        let own : d.function ≡ k = own_function p.types k f d ((adds.all d).0 h) in
+        let own : d.function ≡ k = own_function (signatures_of p.functions) p.types k f d ((adds.all d).0 h) in
         sym (ap (λ (o : Option Function). lined (line_in p o) d) (ap (slice_get p.functions) own ∙ at))
 
     forth : (d : Diag) → Contains (was.found ++ adds.found) d → IsDiagnosedUpTo p (k + 1) d
@@ -66,7 +67,7 @@ found_in_next p k f before after at adds was = record {
         elim (cases_eq h.0 k) [
           | inl here ↦
               let same : h.1.1.0 ≡ f = one_of (sym h.1.1.1.0 ∙ ap (slice_get p.functions) here ∙ at) in
-              let mine : IsDiagnosed p.types k f d = subst (λ (g : Function). IsDiagnosed p.types k g d) same (subst (λ (i : ℕ). IsDiagnosed p.types i h.1.1.0 d) here h.1.1.1.1) in
+              let mine : IsDiagnosed (signatures_of p.functions) p.types k f d = subst (λ (g : Function). IsDiagnosed (signatures_of p.functions) p.types k g d) same (subst (λ (i : ℕ). IsDiagnosed (signatures_of p.functions) p.types i h.1.1.0 d) here h.1.1.1.1) in
               Contains-append_right was.found adds.found d ((adds.all d).1 mine)
           | inr other ↦ Contains-append_left was.found adds.found d ((was.all d).1 (h.0, (omega (arith, h.1.0, other), h.1.1)))
         ]
@@ -78,8 +79,8 @@ found_in_all p k lines past was = record {
   all = λ d. (
     λ h.
         let r = (was.all d).0 h in
-        let own : d.function ≡ r.0 = own_function p.types r.0 r.1.1.0 d r.1.1.1.1 in
-        (r.1.1.0, (ap (slice_get p.functions) own ∙ r.1.1.1.0, subst (λ (i : ℕ). IsDiagnosed p.types i r.1.1.0 d) (sym own) r.1.1.1.1)),
+        let own : d.function ≡ r.0 = own_function (signatures_of p.functions) p.types r.0 r.1.1.0 d r.1.1.1.1 in
+        (r.1.1.0, (ap (slice_get p.functions) own ∙ r.1.1.1.0, subst (λ (i : ℕ). IsDiagnosed (signatures_of p.functions) p.types i r.1.1.0 d) (sym own) r.1.1.1.1)),
     λ h. (was.all d).1 (d.function, (omega (arith, past, slice_get_within p.functions d.function h.0 h.1.0), h)),
   );
   are = was.are;

@@ -5,6 +5,7 @@ use Rattle.life_types.specs.Types.{Types}
 use Rattle.life_core.specs.Function.{Function}
 use Rattle.life_core.specs.Linked.{points_of}
 use Rattle.life_core.specs.declared.stmt.Edge.{Edge}
+use Rattle.life_contract.specs.Signatures.{Signature}
 use Rattle.life_pset.specs.Table.{Table, table_of}
 use Rattle.life_pset.specs.declared.element.Fact.{Fact}
 use Rattle.life_rules.specs.Deriving.{entry, entry_facts}
@@ -21,35 +22,35 @@ none_false zero k h = cc
 none_false (suc n) zero h = let t : true ≡ false = cc in false_true (sym t)
 none_false (suc n) (suc k) h = none_false n k h
 
-first_state : (types : Types) (f : Function) (edges : List Edge) (n : ℕ) (none pairs : ℕ → ℕ → ℕ → Bool) → ((p l e : ℕ) → none p l e ≡ false)
-    → StartsAs (table_of types f) (entry_facts types f) (points_of f) none pairs → IsPartial types f edges (replicate n true) pairs
-first_state types f edges n none pairs empty starts = record {
+first_state : (sigs : List Signature) (types : Types) (f : Function) (edges : List Edge) (n : ℕ) (none pairs : ℕ → ℕ → ℕ → Bool) → ((p l e : ℕ) → none p l e ≡ false)
+    → StartsAs (table_of types f) (entry_facts types f) (points_of f) none pairs → IsPartial sigs types f edges (replicate n true) pairs
+first_state sigs types f edges n none pairs empty starts = record {
   sound = λ p l e h.
       elim ((starts p l e).0 h) [
         | inl was ↦ absurd (false_true (sym (empty p l e) ∙ was))
         | inr c ↦
             let x = c.1.1.0 in
             let names = c.1.1.1.0 in
-            subst (λ (q : ℕ). IsDerivedPair types f (point_at q) l e) (sym c.0) (x, (names, entry (l, (e, names)) c.1.1.1.1))
+            subst (λ (q : ℕ). IsDerivedPair sigs types f (point_at q) l e) (sym c.0) (x, (names, entry (l, (e, names)) c.1.1.1.1))
       ];
   starts = λ some l e pair. (starts 1 l e).1 (inr (refl, (some, pair)));
   settled = λ k edge at flag. absurd (none_false n k flag);
 }
 
 -- .. where its parts come by other names
-pub first_rows : {R : Type 0} (has : R → ℕ → ℕ → Bool) (types : Types) (f : Function) (edges : List Edge) (n : ℕ) (t : Table) (dirty : List Bool) (facts : List Fact) (rows old new now : List R)
+pub first_rows : {R : Type 0} (has : R → ℕ → ℕ → Bool) (sigs : List Signature) (types : Types) (f : Function) (edges : List Edge) (n : ℕ) (t : Table) (dirty : List Bool) (facts : List Fact) (rows old new now : List R)
     → t ≡ table_of types f → dirty ≡ replicate n true → facts ≡ entry_facts types f → old ≡ rows → length rows ≡ points_of f → now ≡ new
     → ((p l e : ℕ) → pairs_at has rows p l e ≡ false) → StartsAs t facts (length old) (pairs_at has old) (pairs_at has new)
-    → IsPartial types f edges dirty (pairs_at has now)
-first_rows {R = R} has types f edges n t dirty facts rows old new now table flags is was count after none starts =
+    → IsPartial sigs types f edges dirty (pairs_at has now)
+first_rows {R = R} has sigs types f edges n t dirty facts rows old new now table flags is was count after none starts =
     let new_pairs = pairs_at has new in
     let a = subst (λ (u : Table). StartsAs u facts (length old) (pairs_at has old) new_pairs) table starts in
     let b = subst (λ (xs : List Fact). StartsAs (table_of types f) xs (length old) (pairs_at has old) new_pairs) is a in
     let c = subst (λ (rs : List R). StartsAs (table_of types f) (entry_facts types f) (length rs) (pairs_at has rs) new_pairs) was b in
     let d = subst (λ (m : ℕ). StartsAs (table_of types f) (entry_facts types f) m (pairs_at has rows) new_pairs) count c in
-    let e = first_state types f edges n (pairs_at has rows) new_pairs none d in
-    let h = subst (λ (rs : List R). IsPartial types f edges (replicate n true) (pairs_at has rs)) (sym after) e in
-    subst (λ (ds : List Bool). IsPartial types f edges ds (pairs_at has now)) (sym flags) h
+    let e = first_state sigs types f edges n (pairs_at has rows) new_pairs none d in
+    let h = subst (λ (rs : List R). IsPartial sigs types f edges (replicate n true) (pairs_at has rs)) (sym after) e in
+    subst (λ (ds : List Bool). IsPartial sigs types f edges ds (pairs_at has now)) (sym flags) h
 
 -- the row of the first point gains the facts
 pub starts_at : {R : Type 0} (has : R → ℕ → ℕ → Bool) (t : Table) (facts : List Fact) (rows : List R) (row new : R) → slice_get rows 0 ≡ Some row → 1 ≤ length rows → Gains (has row) (has new) (IsPairOf t facts)

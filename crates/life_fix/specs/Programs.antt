@@ -17,5 +17,5 @@ pub record IsProgramWithinLimits (p : Program) : Type 0 where
 -- the diagnostics of a function, with their lines, stand behind what was there
 pub record AddsDiagnosed (names : Naming) (types : Types) (function : ℕ) (f : Function) (before after : List Lined) : Type 0 where
   pub found : List Diag
-  pub all : (d : Diag) → Contains found d ↔ IsDiagnosed types function f d
+  pub all : (d : Diag) → Contains found d ↔ IsDiagnosed names.sigs types function f d
   pub behind : after ≡ before ++ map (lined (line_of names types f)) found

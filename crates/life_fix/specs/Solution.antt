@@ -4,6 +4,7 @@ use Rattle.life_types.specs.Types.{Types}
 use Rattle.life_core.specs.Function.{Function}
 use Rattle.life_core.specs.Linked.{points_of}
 use Rattle.life_core.specs.declared.stmt.Point.{Point}
+use Rattle.life_contract.specs.Signatures.{Signature}
 use Rattle.life_pset.specs.Table.{Table, Names, table_of}
 use Rattle.life_pset.specs.declared.element.Fact.{Fact}
 use Rattle.life_rules.specs.Deriving.{Derives}
@@ -22,17 +23,17 @@ abbrev pub row_of : {R : Type 0} → List R → Point → Option R
 row_of rows point = numbered_row rows point.0
 
 -- the pair stands for a fact that is derived at the point
-abbrev pub IsDerivedPair : Types → Function → Point → ℕ → ℕ → Type 0
-IsDerivedPair types f point l e = (x : Fact) × (Names (table_of types f) l e x × Derives types f point x)
+abbrev pub IsDerivedPair : List Signature → Types → Function → Point → ℕ → ℕ → Type 0
+IsDerivedPair sigs types f point l e = (x : Fact) × (Names (table_of types f) l e x × Derives sigs types f point x)
 
 -- every row was made for so many
 abbrev pub AllLimited : {R : Type 0} → (R → ℕ) → ℕ → List R → Type 0
 AllLimited limit n rows = All (λ row. limit row ≡ n) rows
 
 -- the function's table, and for each of its points a row with exactly the pairs that are derived there
-pub record IsSolution {R : Type 0} (has : R → ℕ → ℕ → Bool) (location_limit element_limit : R → ℕ) (types : Types) (f : Function) (solution : Solved R) : Type 0 where
+pub record IsSolution {R : Type 0} (has : R → ℕ → ℕ → Bool) (location_limit element_limit : R → ℕ) (sigs : List Signature) (types : Types) (f : Function) (solution : Solved R) : Type 0 where
   pub table : solution.table ≡ table_of types f
   pub count : length solution.rows ≡ points_of f
-  pub pairs : (point : Point) (row : R) → row_of solution.rows point ≡ Some row → (l e : ℕ) → IsTrue (has row l e) ↔ IsDerivedPair types f point l e
+  pub pairs : (point : Point) (row : R) → row_of solution.rows point ≡ Some row → (l e : ℕ) → IsTrue (has row l e) ↔ IsDerivedPair sigs types f point l e
   pub locations : AllLimited location_limit (length solution.table.locations) solution.rows
   pub elements : AllLimited element_limit (length solution.table.elements) solution.rows

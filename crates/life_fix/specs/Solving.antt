@@ -6,6 +6,7 @@ use Rattle.life_core.specs.Linked.{code_of, edges_of, points_of, spot_of_linked,
 use Rattle.life_core.specs.Node.{spot_seen}
 use Rattle.life_core.specs.declared.stmt.Edge.{Edge}
 use Rattle.life_core.specs.declared.stmt.Point.{Point}
+use Rattle.life_contract.specs.Signatures.{Signature}
 use Rattle.life_pset.specs.Elements.{IsWithinLimits}
 use Rattle.life_pset.specs.Table.{Table, table_of}
 use Rattle.life_pset.specs.declared.element.Fact.{Fact}
@@ -38,8 +39,8 @@ abbrev pub point_at : ℕ → Point
 point_at p = record { 0 = p }
 
 -- at each point, a pair is there exactly where it is derived there
-abbrev pub IsSolved : Types → Function → (ℕ → ℕ → ℕ → Bool) → Type 0
-IsSolved types f pairs = (p l e : ℕ) → 1 ≤ p → p ≤ points_of f → IsTrue (pairs p l e) ↔ IsDerivedPair types f (point_at p) l e
+abbrev pub IsSolved : List Signature → Types → Function → (ℕ → ℕ → ℕ → Bool) → Type 0
+IsSolved sigs types f pairs = (p l e : ℕ) → 1 ≤ p → p ≤ points_of f → IsTrue (pairs p l e) ↔ IsDerivedPair sigs types f (point_at p) l e
 
 -- the pairs after are the pairs before and, at one point, these
 abbrev pub GainsAt : ℕ → (before after : ℕ → ℕ → ℕ → Bool) → (ℕ → ℕ → Type 0) → Type 0
@@ -50,18 +51,18 @@ abbrev pub StartsAs : Table → List Fact → (points : ℕ) → (before after :
 StartsAs t facts points before after = GainsAt 1 before after (λ l e. (1 ≤ points) × IsPairOf t facts l e)
 
 -- the edge was run: its second point gained what it carries
-abbrev pub RunsEdge : Types → Function → Edge → (before after : ℕ → ℕ → ℕ → Bool) → Type 0
-RunsEdge types f edge before after = GainsAt edge.to.0 before after (CarriesPair types f edge (before edge.from.0))
+abbrev pub RunsEdge : List Signature → Types → Function → Edge → (before after : ℕ → ℕ → ℕ → Bool) → Type 0
+RunsEdge sigs types f edge before after = GainsAt edge.to.0 before after (CarriesPair sigs types f edge (before edge.from.0))
 
 -- what is carried along the edge is there
-abbrev pub IsSettled : Types → Function → Edge → (ℕ → ℕ → ℕ → Bool) → Type 0
-IsSettled types f edge pairs = (l e : ℕ) → CarriesPair types f edge (pairs edge.from.0) l e → IsTrue (pairs edge.to.0 l e)
+abbrev pub IsSettled : List Signature → Types → Function → Edge → (ℕ → ℕ → ℕ → Bool) → Type 0
+IsSettled sigs types f edge pairs = (l e : ℕ) → CarriesPair sigs types f edge (pairs edge.from.0) l e → IsTrue (pairs edge.to.0 l e)
 
 -- on the way only derived facts are there, the entry's facts are, and each edge is settled or dirty
-pub record IsPartial (types : Types) (f : Function) (edges : List Edge) (dirty : List Bool) (pairs : ℕ → ℕ → ℕ → Bool) : Type 0 where
-  pub sound : (p l e : ℕ) → IsTrue (pairs p l e) → IsDerivedPair types f (point_at p) l e
+pub record IsPartial (sigs : List Signature) (types : Types) (f : Function) (edges : List Edge) (dirty : List Bool) (pairs : ℕ → ℕ → ℕ → Bool) : Type 0 where
+  pub sound : (p l e : ℕ) → IsTrue (pairs p l e) → IsDerivedPair sigs types f (point_at p) l e
   pub starts : 1 ≤ points_of f → (l e : ℕ) → IsPairOf (table_of types f) (entry_facts types f) l e → IsTrue (pairs 1 l e)
-  pub settled : (k : ℕ) (edge : Edge) → slice_get edges k ≡ Some edge → slice_get dirty k ≡ Some false → IsSettled types f edge pairs
+  pub settled : (k : ℕ) (edge : Edge) → slice_get edges k ≡ Some edge → slice_get dirty k ≡ Some false → IsSettled sigs types f edge pairs
 
 -- ---- flags of edges
 

@@ -15,34 +15,35 @@ ghost use Rattle.life_fix.specs.Solution.{IsSolution};
 
 use crate::listing::{listed, push_candidates};
 use crate::solution::Solution;
+use life_contract::Signatures;
 use life_core::{CoreFn, FnId, Names, Point, SpotRef, spots};
 use life_pset::{ElementTable, Fact, Rows};
 use life_rules::{Diag, facts_in, push_diags, push_diags_of_two, tells_first};
-use life_types::{NameId, NoMemory, TypeTable};
+use life_types::{NoMemory, TypeTable};
 use std::alloc::Global;
 
 /// The diagnostics of the function with this number: what its derived facts make wrong at its points.
 /// They stand in the order of the lines that they print, which is by line, column, kind, bytes of the
 /// name and bytes of the reason. Each line stands once, by the least diagnostic that prints it in the
-/// order of `Diag`. `functions` are the names of the program's functions, by their numbers. The only error
+/// order of `Diag`. `sigs` are the signatures of the program's functions, by their numbers. The only error
 /// is the want of memory.
 pub fn diagnostics<R: Rows>(
     alloc: Global,
     f: &CoreFn,
     id: FnId,
+    sigs: &Signatures,
     types: &TypeTable,
     names: &Names,
-    functions: &[NameId],
     sol: &Solution<R>,
 ) -> Result<Vec<Diag>, NoMemory>
     requires limits { IsWithinLimits types.now (function_of f.now) }
-    requires solution { IsSolution R.has R.location_limit R.element_limit types.now (function_of f.now) sol.now }
+    requires solution { IsSolution R.has R.location_limit R.element_limit sigs.now types.now (function_of f.now) sol.now }
     ensures { IfOk result
-        (λ all. AreDiagnostics (naming_of names.now functions.now) types.now id.0 (function_of f.now) all.items) }
+        (λ all. AreDiagnostics (naming_of names.now sigs.now) types.now id.0 (function_of f.now) all.items) }
 {
-    let found = found(alloc, f, id, types, sol)?;
+    let found = found(alloc, f, id, sigs, types, sol)?;
     let mut candidates = Vec::new(alloc);
-    push_candidates(alloc, names, functions, f, types, &found, &mut candidates)?;
+    push_candidates(alloc, names, f, sigs, types, &found, &mut candidates)?;
     listed(alloc, candidates)
 }
 
@@ -51,13 +52,14 @@ pub(crate) fn found<R: Rows>(
     alloc: Global,
     f: &CoreFn,
     id: FnId,
+    sigs: &Signatures,
     types: &TypeTable,
     sol: &Solution<R>,
 ) -> Result<Vec<Diag>, NoMemory>
     requires limits { IsWithinLimits types.now (function_of f.now) }
-    requires solution { IsSolution R.has R.location_limit R.element_limit types.now (function_of f.now) sol.now }
+    requires solution { IsSolution R.has R.location_limit R.element_limit sigs.now types.now (function_of f.now) sol.now }
     ensures { IfOk result
-        (λ all. (d : Diag) → Contains all.items d ↔ IsDiagnosed types.now id.0 (function_of f.now) d) }
+        (λ all. (d : Diag) → Contains all.items d ↔ IsDiagnosed sigs.now types.now id.0 (function_of f.now) d) }
 {
     let spots = spots(alloc, f)?;
     let table = sol.table();
@@ -66,6 +68,7 @@ pub(crate) fn found<R: Rows>(
         let point = Point(index as u32 + 1);
         push_row(
             alloc,
+            sigs,
             types,
             id.0,
             f,
@@ -81,6 +84,7 @@ pub(crate) fn found<R: Rows>(
 // Adds what the facts of a row make wrong at its point.
 fn push_row<R: Rows>(
     alloc: Global,
+    sigs: &Signatures,
     types: &TypeTable,
     function: u32,
     f: &CoreFn,
@@ -90,17 +94,18 @@ fn push_row<R: Rows>(
     out: &mut Vec<Diag>,
 ) -> Result<(), NoMemory>
     ensures { OnOk result ((d : Diag) → Contains out.new.items d
-        ↔ (Contains out.old.items d ⊎ IsWrongIn types.now function (function_of f.now) table.now R.has (spot_seen spot.entry) (option_copied row.entry) d)) }
+        ↔ (Contains out.old.items d ⊎ IsWrongIn sigs.now types.now function (function_of f.now) table.now R.has (spot_seen spot.entry) (option_copied row.entry) d)) }
 {
     match row {
         None => {}
-        Some(row) => push_wrong_by(alloc, types, function, f, spot, table, row, out)?,
+        Some(row) => push_wrong_by(alloc, sigs, types, function, f, spot, table, row, out)?,
     }
     Ok(())
 }
 
 fn push_wrong_by<R: Rows>(
     alloc: Global,
+    sigs: &Signatures,
     types: &TypeTable,
     function: u32,
     f: &CoreFn,
@@ -110,16 +115,18 @@ fn push_wrong_by<R: Rows>(
     out: &mut Vec<Diag>,
 ) -> Result<(), NoMemory>
     ensures { OnOk result ((d : Diag) → Contains out.new.items d
-        ↔ (Contains out.old.items d ⊎ IsWrongBy types.now function (function_of f.now) table.now (R.has row.now) (spot_seen spot.entry) d)) }
+        ↔ (Contains out.old.items d ⊎ IsWrongBy sigs.now types.now function (function_of f.now) table.now (R.has row.now) (spot_seen spot.entry) d)) }
 {
     let facts = facts_in(alloc, table, row)?;
-    push_all_wrong(types, function, f, spot, &facts, out)?;
+    push_all_wrong(alloc, sigs, types, function, f, spot, &facts, out)?;
     Ok(())
 }
 
 // Adds what each fact makes wrong, and each two.
 #[tactic(auto, using(std::proofs::Common::append_assoc))]
 fn push_all_wrong(
+    alloc: Global,
+    sigs: &Signatures,
     types: &TypeTable,
     function: u32,
     f: &CoreFn,
@@ -128,13 +135,15 @@ fn push_all_wrong(
     out: &mut Vec<Diag>,
 ) -> Result<(), NoMemory>
     ensures { OnOk result
-        (out.new.items ≡ out.old.items ++ all_wrong types.now function (function_of f.now) (spot_seen spot.entry) facts.now) }
+        (out.new.items ≡ out.old.items ++ all_wrong sigs.now types.now function (function_of f.now) (spot_seen spot.entry) facts.now) }
 {
-    push_facts(types, function, f, spot, facts, out)?;
-    push_pairs(types, function, f, spot, facts, out)
+    push_facts(alloc, sigs, types, function, f, spot, facts, out)?;
+    push_pairs(alloc, sigs, types, function, f, spot, facts, out)
 }
 
 fn push_facts(
+    alloc: Global,
+    sigs: &Signatures,
     types: &TypeTable,
     function: u32,
     f: &CoreFn,
@@ -143,15 +152,17 @@ fn push_facts(
     out: &mut Vec<Diag>,
 ) -> Result<(), NoMemory>
     ensures { OnOk result
-        (out.new.items ≡ out.old.items ++ flat_map (diags_at types.now function (function_of f.now) (Some (spot_seen spot.entry))) facts.now) }
+        (out.new.items ≡ out.old.items ++ flat_map (diags_at sigs.now types.now function (function_of f.now) (Some (spot_seen spot.entry))) facts.now) }
 {
     for fact in facts {
-        push_diags(types, function, f, spot, fact, out)?;
+        push_diags(alloc, sigs, types, function, f, spot, fact, out)?;
     }
     Ok(())
 }
 
 fn push_pairs(
+    alloc: Global,
+    sigs: &Signatures,
     types: &TypeTable,
     function: u32,
     f: &CoreFn,
@@ -160,11 +171,13 @@ fn push_pairs(
     out: &mut Vec<Diag>,
 ) -> Result<(), NoMemory>
     ensures { OnOk result
-        (out.new.items ≡ out.old.items ++ flat_map (λ first. flat_map (diags_of_two types.now function (function_of f.now) (Some (spot_seen spot.entry)) first) facts.now) facts.now) }
+        (out.new.items ≡ out.old.items ++ flat_map (λ first. flat_map (diags_of_two sigs.now types.now function (function_of f.now) (Some (spot_seen spot.entry)) first) facts.now) facts.now) }
 {
     for first in facts {
         push_seconds(
+            alloc,
             tells_first(spot, first),
+            sigs,
             types,
             function,
             f,
@@ -179,7 +192,9 @@ fn push_pairs(
 
 // Adds what the first fact and each other make wrong, if they may.
 fn push_seconds(
+    alloc: Global,
     tells: bool,
+    sigs: &Signatures,
     types: &TypeTable,
     function: u32,
     f: &CoreFn,
@@ -190,13 +205,13 @@ fn push_seconds(
 ) -> Result<(), NoMemory>
     requires { tells ≡ node_tells_first (spot_seen spot).node first.now }
     ensures { OnOk result
-        (out.new.items ≡ out.old.items ++ flat_map (diags_of_two types.now function (function_of f.now) (Some (spot_seen spot.entry)) first.now) facts.now) }
+        (out.new.items ≡ out.old.items ++ flat_map (diags_of_two sigs.now types.now function (function_of f.now) (Some (spot_seen spot.entry)) first.now) facts.now) }
 {
     if !tells {
         return Ok(());
     }
     for second in facts {
-        push_diags_of_two(types, function, f, spot, first, second, out)?;
+        push_diags_of_two(alloc, sigs, types, function, f, spot, first, second, out)?;
     }
     Ok(())
 }

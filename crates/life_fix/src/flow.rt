@@ -7,6 +7,7 @@ ghost use Rattle.life_fix.specs.Solution.{AllLimited};
 ghost use Rattle.life_fix.specs.Solving.{pairs_at, IsFlow, RunsEdge};
 
 use life_base::Steps;
+use life_contract::Signatures;
 use life_core::{CoreFn, Edge, Point, SpotRef};
 use life_pset::{ElementTable, Rows};
 use life_rules::{add_facts, given_facts, spot_in};
@@ -18,6 +19,7 @@ use std::sync::ledger::Ledger;
 #[derive(Clone, Copy)]
 pub struct Flow<'a> {
     pub f: &'a CoreFn,
+    pub sigs: &'a Signatures,
     pub types: &'a TypeTable,
     pub table: &'a ElementTable,
     pub edges: &'a [Edge],
@@ -39,7 +41,7 @@ pub fn run_edge<R: Rows, L: Ledger>(
     requires locations { AllLimited R.location_limit (length flow.now.table.now.locations) rows.old }
     requires elements { AllLimited R.element_limit (length flow.now.table.now.elements) rows.old }
     ensures runs { OnOk result
-        (RunsEdge flow.now.types.now (function_of flow.now.f.now) edge (pairs_at R.has rows.old) (pairs_at R.has rows.new)) }
+        (RunsEdge flow.now.sigs.now flow.now.types.now (function_of flow.now.f.now) edge (pairs_at R.has rows.old) (pairs_at R.has rows.new)) }
     ensures gained { IfOk result
         (λ gained. IsTrue gained ↔ HasNew (pairs_at R.has rows.old edge.to.0) (pairs_at R.has rows.new edge.to.0)) }
     ensures tick { steps.new ≡ steps.old + 1 }
@@ -49,7 +51,9 @@ pub fn run_edge<R: Rows, L: Ledger>(
     steps.tick();
     let spot = spot_in(flow.spots, edge.from);
     let from = &rows[row_index(edge.from)];
-    let facts = given_facts(alloc, flow.f, flow.types, flow.table, edge, spot, from)?;
+    let facts = given_facts(
+        alloc, flow.f, flow.sigs, flow.types, flow.table, edge, spot, from,
+    )?;
     let gained = add_facts(flow.table, &facts, &mut rows[row_index(edge.to)])?;
     Ok(gained)
 }

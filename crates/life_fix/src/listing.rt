@@ -8,9 +8,10 @@ ghost use Rattle.life_rules.specs.Texts.{naming_of};
 ghost use Rattle.life_rules.specs.declared.diag.Diag.{Diag};
 ghost use Rattle.life_fix.specs.Candidates.{candidate_seen, diag_part, is_same_line, line_seen, lined, KeepsLines, Sorts};
 
+use life_contract::Signatures;
 use life_core::{CoreFn, Names};
 use life_rules::{Diag, DiagKind, texts_of};
-use life_types::{NameId, NoMemory, TypeTable};
+use life_types::{NoMemory, TypeTable};
 use std::alloc::Global;
 
 /// The line that a diagnostic prints. The order of the fields is the order of lines.
@@ -34,17 +35,17 @@ pub(crate) struct Candidate {
 pub(crate) fn push_candidates(
     alloc: Global,
     names: &Names,
-    functions: &[NameId],
     f: &CoreFn,
+    sigs: &Signatures,
     types: &TypeTable,
     found: &[Diag],
     out: &mut Vec<Candidate>,
 ) -> Result<(), NoMemory>
     ensures { OnOk result (map candidate_seen out.new.items ≡ map candidate_seen out.old.items
-        ++ map (lined (line_of (naming_of names.now functions.now) types.now (function_of f.now))) found.now) }
+        ++ map (lined (line_of (naming_of names.now sigs.now) types.now (function_of f.now))) found.now) }
 {
     for diag in found {
-        let line = line_of(alloc, names, functions, f, types, diag)?;
+        let line = line_of(alloc, names, f, sigs, types, diag)?;
         out.push(Candidate { line, diag: *diag })?;
     }
     Ok(())
@@ -64,15 +65,15 @@ pub(crate) fn listed(alloc: Global, candidates: Vec<Candidate>) -> Result<Vec<Di
 fn line_of(
     alloc: Global,
     names: &Names,
-    functions: &[NameId],
     f: &CoreFn,
+    sigs: &Signatures,
     types: &TypeTable,
     d: &Diag,
 ) -> Result<PrintedLine, NoMemory>
     ensures { IfOk result (λ line.
-        line_seen line ≡ line_of (naming_of names.now functions.now) types.now (function_of f.now) d.now) }
+        line_seen line ≡ line_of (naming_of names.now sigs.now) types.now (function_of f.now) d.now) }
 {
-    let text = texts_of(alloc, names, functions, f, types, d)?;
+    let text = texts_of(alloc, names, f, sigs, types, d)?;
     Ok(PrintedLine {
         line: d.place.line,
         column: d.place.column,

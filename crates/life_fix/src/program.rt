@@ -13,17 +13,18 @@ use crate::diagnosis::found;
 use crate::listing::{Candidate, listed, push_candidates};
 use crate::solver::solve;
 use life_base::Steps;
+use life_contract::Signatures;
 use life_core::{CoreFn, CoreProgram, FnId, Names};
 use life_pset::SetRows;
-use life_rules::{Diag, function_names};
-use life_types::{NameId, NoMemory, TypeTable};
+use life_rules::Diag;
+use life_types::{NoMemory, TypeTable};
 use std::alloc::Global;
 use std::sync::ledger::Ledger;
 
-/// The diagnostics of a program: those of its functions, each by its own body, the types and the names
-/// alone. They stand in the order of the lines that they print, each line once, by the least diagnostic
-/// that prints it in the order of `Diag`. Each function is solved with this counter. The only error is the
-/// want of memory.
+/// The diagnostics of a program: those of its functions, each by its own body, the signatures, the types
+/// and the names alone. They stand in the order of the lines that they print, each line once, by the
+/// least diagnostic that prints it in the order of `Diag`. Each transfer takes one step. The only error
+/// is the want of memory.
 pub fn program_diagnostics<L: Ledger>(
     alloc: Global,
     program: &CoreProgram,
@@ -32,7 +33,7 @@ pub fn program_diagnostics<L: Ledger>(
     requires { IsProgramWithinLimits (program_of program.now) }
     ensures { IfOk result (λ all. AreProgramDiagnostics (program_of program.now) all.items) }
 {
-    let functions = function_names(alloc, &program.functions)?;
+    let sigs = Signatures::of(alloc, program)?;
     let mut candidates = Vec::new(alloc);
     for (index, f) in program.functions.iter().enumerate() {
         let id = FnId(index as u32);
@@ -40,9 +41,9 @@ pub fn program_diagnostics<L: Ledger>(
             alloc,
             id,
             f,
+            &sigs,
             &program.types,
             &program.names,
-            &functions,
             steps,
             &mut candidates,
         )?;
@@ -55,18 +56,18 @@ fn push_diagnosed<L: Ledger>(
     alloc: Global,
     id: FnId,
     f: &CoreFn,
+    sigs: &Signatures,
     types: &TypeTable,
     names: &Names,
-    functions: &[NameId],
     steps: &mut Steps<L>,
     out: &mut Vec<Candidate>,
 ) -> Result<(), NoMemory>
     requires { IsWithinLimits types.now (function_of f.now) }
-    ensures { OnOk result (AddsDiagnosed (naming_of names.now functions.now) types.now id.0 (function_of f.now)
+    ensures { OnOk result (AddsDiagnosed (naming_of names.now sigs.now) types.now id.0 (function_of f.now)
         (map candidate_seen out.old.items) (map candidate_seen out.new.items)) }
 {
-    let found = function_found(alloc, id, f, types, steps)?;
-    push_candidates(alloc, names, functions, f, types, &found, out)
+    let found = function_found(alloc, id, f, sigs, types, steps)?;
+    push_candidates(alloc, names, f, sigs, types, &found, out)
 }
 
 // All that is wrong in one function.
@@ -74,12 +75,13 @@ fn function_found<L: Ledger>(
     alloc: Global,
     id: FnId,
     f: &CoreFn,
+    sigs: &Signatures,
     types: &TypeTable,
     steps: &mut Steps<L>,
 ) -> Result<Vec<Diag>, NoMemory>
     requires { IsWithinLimits types.now (function_of f.now) }
-    ensures { IfOk result (λ all. (d : Diag) → Contains all.items d ↔ IsDiagnosed types.now id.0 (function_of f.now) d) }
+    ensures { IfOk result (λ all. (d : Diag) → Contains all.items d ↔ IsDiagnosed sigs.now types.now id.0 (function_of f.now) d) }
 {
-    let solution = solve::<SetRows, L>(alloc, f, types, steps)?;
-    found(alloc, f, id, types, &solution)
+    let solution = solve::<SetRows, L>(alloc, f, sigs, types, steps)?;
+    found(alloc, f, id, sigs, types, &solution)
 }

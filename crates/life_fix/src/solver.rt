@@ -11,6 +11,7 @@ use crate::flow::Flow;
 use crate::solution::Solution;
 use crate::worklist::run_all;
 use life_base::Steps;
+use life_contract::Signatures;
 use life_core::CoreFn;
 use life_pset::{ElementTable, Fact, Rows};
 use life_rules::{add_facts, entry_facts};
@@ -22,16 +23,17 @@ use std::sync::ledger::Ledger;
 pub fn solve<R: Rows, L: Ledger>(
     alloc: Global,
     f: &CoreFn,
+    sigs: &Signatures,
     types: &TypeTable,
     steps: &mut Steps<L>,
 ) -> Result<Solution<R>, NoMemory>
     requires { IsWithinLimits types.now (function_of f.now) }
     ensures solution { IfOk result
-        (λ solution. IsSolution R.has R.location_limit R.element_limit types.now (function_of f.now) solution) }
+        (λ solution. IsSolution R.has R.location_limit R.element_limit sigs.now types.now (function_of f.now) solution) }
     ensures ticks { steps.new ≤ steps.old + most_steps types.now (function_of f.now) }
 {
     let table = ElementTable::of(alloc, f, types)?;
-    let rows = solved_rows(alloc, f, types, &table, steps)?;
+    let rows = solved_rows(alloc, f, sigs, types, &table, steps)?;
     Ok(Solution::new(table, rows))
 }
 
@@ -39,6 +41,7 @@ pub fn solve<R: Rows, L: Ledger>(
 fn solved_rows<R: Rows, L: Ledger>(
     alloc: Global,
     f: &CoreFn,
+    sigs: &Signatures,
     types: &TypeTable,
     table: &ElementTable,
     steps: &mut Steps<L>,
@@ -46,7 +49,7 @@ fn solved_rows<R: Rows, L: Ledger>(
     requires limits { IsWithinLimits types.now (function_of f.now) }
     requires table { table.now ≡ table_of types.now (function_of f.now) }
     ensures count { IfOk result (λ rows. length rows.items ≡ points_of (function_of f.now)) }
-    ensures solved { IfOk result (λ rows. IsSolved types.now (function_of f.now) (pairs_at R.has rows.items)) }
+    ensures solved { IfOk result (λ rows. IsSolved sigs.now types.now (function_of f.now) (pairs_at R.has rows.items)) }
     ensures ticks { steps.new ≤ steps.old + most_steps types.now (function_of f.now) }
     ensures locations { IfOk result (λ rows. AllLimited R.location_limit (length table.now.locations) rows.items) }
     ensures elements { IfOk result (λ rows. AllLimited R.element_limit (length table.now.elements) rows.items) }
@@ -55,6 +58,7 @@ fn solved_rows<R: Rows, L: Ledger>(
     let spots = life_core::spots(alloc, f)?;
     let flow = Flow {
         f,
+        sigs,
         types,
         table,
         edges: &edges,

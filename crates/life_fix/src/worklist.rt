@@ -27,8 +27,8 @@ pub fn run_all<R: Rows, L: Ledger>(
     requires flags { length dirty.old ≡ length flow.now.edges.now }
     requires locations { AllLimited R.location_limit (length flow.now.table.now.locations) rows.old }
     requires elements { AllLimited R.element_limit (length flow.now.table.now.elements) rows.old }
-    requires partial { IsPartial flow.now.types.now (function_of flow.now.f.now) flow.now.edges.now dirty.old (pairs_at R.has rows.old) }
-    ensures solved { OnOk result (IsSolved flow.now.types.now (function_of flow.now.f.now) (pairs_at R.has rows.new)) }
+    requires partial { IsPartial flow.now.sigs.now flow.now.types.now (function_of flow.now.f.now) flow.now.edges.now dirty.old (pairs_at R.has rows.old) }
+    ensures solved { OnOk result (IsSolved flow.now.sigs.now flow.now.types.now (function_of flow.now.f.now) (pairs_at R.has rows.new)) }
     ensures ticks { steps.new ≤ steps.old + most_steps flow.now.types.now (function_of flow.now.f.now) }
     ensures locations { OnOk result (AllLimited R.location_limit (length flow.now.table.now.locations) rows.new) }
     ensures elements { OnOk result (AllLimited R.element_limit (length flow.now.table.now.elements) rows.new) }
@@ -57,9 +57,9 @@ fn visit<R: Rows, L: Ledger>(
     requires dirty { slice_get dirty.old k ≡ Some true }
     requires locations { AllLimited R.location_limit (length flow.now.table.now.locations) rows.old }
     requires elements { AllLimited R.element_limit (length flow.now.table.now.elements) rows.old }
-    requires partial { IsPartial flow.now.types.now (function_of flow.now.f.now) flow.now.edges.now dirty.old (pairs_at R.has rows.old) }
+    requires partial { IsPartial flow.now.sigs.now flow.now.types.now (function_of flow.now.f.now) flow.now.edges.now dirty.old (pairs_at R.has rows.old) }
     ensures partial { OnOk result
-        (IsPartial flow.now.types.now (function_of flow.now.f.now) flow.now.edges.now dirty.new (pairs_at R.has rows.new)) }
+        (IsPartial flow.now.sigs.now flow.now.types.now (function_of flow.now.f.now) flow.now.edges.now dirty.new (pairs_at R.has rows.new)) }
     ensures room { 1 ≤ left_of (table_of flow.now.types.now (function_of flow.now.f.now)) flow.now.edges.now dirty.old (pairs_at R.has rows.old) }
     ensures falls { OnOk result
         (left_of (table_of flow.now.types.now (function_of flow.now.f.now)) flow.now.edges.now dirty.new (pairs_at R.has rows.new) + 1

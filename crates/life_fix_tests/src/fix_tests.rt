@@ -1,20 +1,13 @@
 // The diagnostics of one function, worked out by hand.
-ghost use Rattle.std.specs.Prelude.{◌≡◌, ◌<◌};
-ghost use Rattle.life_core.specs.Function.{function_of};
-ghost use Rattle.life_pset.specs.Elements.{IsWithinLimits};
-
-use life_base::Steps;
+use crate::solving::{AT_HAND, at, local, no_signatures, tells};
 use life_core::{
-    Condition, CoreFn, FnId, Form, Instr, Local, LocalKind, Location, Names, Operand, Promise,
-    Source, Stmt, Test,
+    Condition, CoreFn, Form, Instr, LocalKind, Location, Names, Operand, Promise, Source, Stmt,
+    Test,
 };
-use life_fix::{diagnostics, solve};
-use life_pset::{AbsPlace, BitRows, Cause, CauseKind, Rows, SetRows, is_within_limits};
+use life_pset::{AbsPlace, Cause, CauseKind, is_within_limits};
 use life_rules::{Diag, DiagKind, Why};
 use life_types::{NameId, NoMemory, Place, Ty, TyId, TypeTable};
 use std::alloc::Global;
-use std::marker::Brand;
-use std::sync::ledger::{Blank, Ledger};
 use std::test::Fail;
 
 const POINTER: u32 = 0;
@@ -24,21 +17,6 @@ const FIRST: u32 = 1;
 const SECOND: u32 = 2;
 
 const REGISTER: u32 = 3;
-
-fn at(line: u32, column: u32) -> Place {
-    Place { line, column }
-}
-
-fn local(name: Option<NameId>, ty: TyId, kind: LocalKind) -> Local {
-    Local {
-        name,
-        ty,
-        kind,
-        place: at(1, 1),
-        nonnull: false,
-        keeps: false,
-    }
-}
 
 fn live(place: Place, local: u32) -> Stmt {
     Stmt::Do(
@@ -128,51 +106,13 @@ fn misusing(alloc: Global, void: TyId, int: TyId, pointer: TyId) -> Result<CoreF
     })
 }
 
-fn diagnosed<R: Rows, L: Ledger>(
-    alloc: Global,
-    f: &CoreFn,
-    types: &TypeTable,
-    names: &Names,
-    blank: Blank,
-) -> Result<Vec<Diag>, NoMemory>
-    requires limits { IsWithinLimits types.now (function_of f.now) }
-    requires name { blank.name ≡ L.name }
-    requires parts { blank.parts ≡ L.parts }
-    requires some { 0 < blank.parts }
-{
-    let mut steps = Steps::<L>::new(blank);
-    let sol = solve::<R, L>(alloc, f, types, &mut steps)?;
-    diagnostics(alloc, f, FnId(7), types, names, &[], &sol)
-}
-
-fn diagnosed_by_sets(
-    alloc: Global,
-    f: &CoreFn,
-    types: &TypeTable,
-    names: &Names,
-) -> Result<Vec<Diag>, NoMemory>
-    requires { IsWithinLimits types.now (function_of f.now) }
-{
-    diagnosed::<SetRows, Brand>(alloc, f, types, names, Blank::new(1))
-}
-
-fn diagnosed_by_bits(
-    alloc: Global,
-    f: &CoreFn,
-    types: &TypeTable,
-    names: &Names,
-) -> Result<Vec<Diag>, NoMemory>
-    requires { IsWithinLimits types.now (function_of f.now) }
-{
-    diagnosed::<BitRows, Brand>(alloc, f, types, names, Blank::new(1))
-}
-
 fn misuse(place: Place, kind: DiagKind, why: Why) -> Diag {
     Diag {
-        function: 7,
+        function: AT_HAND,
         place,
         kind,
         name: AbsPlace::of_local(POINTER),
+        called: None,
         why,
     }
 }
@@ -199,6 +139,7 @@ fn lists_each_line_once(rt: HostRuntime) -> Result<(), Fail> {
     };
     assert!(rt; is_within_limits(rt.alloc(), &f, &types)?);
 
+    let sigs = no_signatures(rt.alloc())?;
     let want = [
         misuse(
             at(2, 4),
@@ -212,9 +153,6 @@ fn lists_each_line_once(rt: HostRuntime) -> Result<(), Fail> {
         ),
         misuse(at(9, 2), DiagKind::NullUse, Why::Null),
     ];
-    let by_sets = diagnosed_by_sets(rt.alloc(), &f, &types, &names)?;
-    assert_eq!(rt; by_sets.as_slice(), want.as_slice());
-    let by_bits = diagnosed_by_bits(rt.alloc(), &f, &types, &names)?;
-    assert_eq!(rt; by_bits.as_slice(), want.as_slice());
+    tells(&rt, rt.alloc(), &f, &sigs, &types, &names, &want)?;
     Ok(())
 }

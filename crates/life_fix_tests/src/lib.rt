@@ -3,4 +3,12 @@
 #![tactic(auto)]
 
 #[cfg(test)]
+mod call_tests;
+#[cfg(test)]
 mod fix_tests;
+#[cfg(test)]
+mod owner_tests;
+#[cfg(test)]
+mod solving;
+#[cfg(test)]
+mod text_tests;

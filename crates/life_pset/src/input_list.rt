@@ -164,8 +164,8 @@ pub fn push_input_places(
     Ok(())
 }
 
-// Adds the places of this type, which may be one that the table doesn't have.
-fn push_places_if(
+/// Adds the places of this type at a place, which may be one that the table doesn't have.
+pub fn push_places_if(
     types: &TypeTable,
     id: Option<TyId>,
     at: AbsPlace,

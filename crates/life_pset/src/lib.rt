@@ -22,17 +22,17 @@ pub use cause::{called, changed, changed_in, ended, moved, owner_changed, uninit
 pub use counts::{has_few_elements, has_few_locations};
 pub use element::{AbsPlace, Cause, CauseKind, Element, Fact, OWNED_STEP, Root};
 pub use element_list::elements;
-pub use input_list::{InputPointer, inputs, push_local_inputs};
+pub use input_list::{InputPointer, inputs, push_local_inputs, push_places_if};
 pub use limits::{
     ELEMENT_LIMIT, LOCATION_LIMIT, POINT_LIMIT, STEP_LIMIT, count_points, has_short_places,
     is_within_limits,
 };
-pub use location_list::{locations, push_local_locations};
+pub use location_list::{locations, push_local_locations, push_locations_in};
 pub use rows::Rows;
 pub use set_rows::SetRows;
 pub use shape::{
     holds_owner_if, is_pointer, is_raw, is_unique, is_variable, is_variable_place, local_type,
-    location_type, member_type, members_at, members_type, operand_type, place_type, shape_type,
-    steps_type, target_of, target_type, ty_at, ty_if,
+    location_type, member_of, member_type, members_at, members_type, operand_type, place_type,
+    shape_type, steps_type, target_of, target_type, ty_at, ty_if,
 };
 pub use table::ElementTable;

@@ -38,7 +38,8 @@ pub fn push_local_locations(
     push_locations_in(types, local.kind, id, AbsPlace::of_local(number), all)
 }
 
-fn push_locations_in(
+/// Adds those of an object or a register of this type at a place.
+pub fn push_locations_in(
     types: &TypeTable,
     kind: LocalKind,
     id: TyId,

@@ -133,7 +133,8 @@ pub fn target_type(types: &TypeTable, id: Option<TyId>) -> Option<TyId>
     target_of(ty_if(types, id))
 }
 
-fn member_of(types: &TypeTable, ty: Ty, member: usize) -> Option<TyId>
+/// The member with this number of a type, counted from 0, if it is a struct that has one.
+pub fn member_of(types: &TypeTable, ty: Ty, member: usize) -> Option<TyId>
     ensures { result ≡ member_of types.now ty member }
 {
     match ty {
@@ -142,7 +143,7 @@ fn member_of(types: &TypeTable, ty: Ty, member: usize) -> Option<TyId>
     }
 }
 
-/// The member with this number of a type, counted from 0, if it is a struct that has one.
+/// .. by the number of the struct's type.
 pub fn member_type(types: &TypeTable, id: Option<TyId>, member: usize) -> Option<TyId>
     ensures { result ≡ member_type types.now id member }
 {

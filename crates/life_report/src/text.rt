@@ -1,14 +1,16 @@
 // The report as lines of text.
-ghost use Rattle.std.specs.Prelude.{◌≡◌, ◌<◌, ◌++◌, length, map, IfOk, OnOk};
+ghost use Rattle.std.specs.Prelude.{◌≡◌, ◌<◌, ◌++◌, length, IfOk, OnOk};
 ghost use Rattle.std.specs.List.{flat_map};
+ghost use Rattle.life_contract.specs.Signatures.{signatures_of};
 ghost use Rattle.life_core.specs.Function.{function_of, program_of};
 ghost use Rattle.life_rules.specs.Lines.{printed};
-ghost use Rattle.life_rules.specs.Texts.{function_name, naming_of};
+ghost use Rattle.life_rules.specs.Texts.{naming_of};
 ghost use Rattle.life_report.specs.Reports.{accepted_text, diagnosed_text, line_text, report_text, HaveFunctions};
 
+use life_contract::Signatures;
 use life_core::{CoreFn, CoreProgram, Names};
-use life_rules::{Diag, function_names, kind_name, texts_of};
-use life_types::{NameId, NoMemory, TypeTable};
+use life_rules::{Diag, kind_name, texts_of};
+use life_types::{NoMemory, TypeTable};
 use std::alloc::Global;
 
 /// The report as text. Without diagnostics it is the line `accepted, functions: N`, N being the
@@ -24,8 +26,8 @@ pub fn text_report(alloc: Global, p: &CoreProgram, d: &[Diag]) -> Result<Vec<u8>
     if d.is_empty() {
         push_accepted(alloc, p.functions.len(), &mut text)?;
     } else {
-        let functions = function_names(alloc, &p.functions)?;
-        push_lines(alloc, p, &functions, d, &mut text)?;
+        let sigs = Signatures::of(alloc, p)?;
+        push_lines(alloc, p, &sigs, d, &mut text)?;
         push_diagnosed(alloc, d.len(), &mut text)?;
     }
     Ok(text)
@@ -47,21 +49,21 @@ fn push_diagnosed(alloc: Global, diagnostics: usize, out: &mut Vec<u8>) -> Resul
     Ok(())
 }
 
-// `functions` are the names of the program's functions.
+// `sigs` are the signatures of the program's functions.
 fn push_lines(
     alloc: Global,
     p: &CoreProgram,
-    functions: &[NameId],
+    sigs: &Signatures,
     d: &[Diag],
     out: &mut Vec<u8>,
 ) -> Result<(), NoMemory>
     requires about { HaveFunctions (program_of p.now) d.now }
-    requires names { functions.now ≡ map function_name (program_of p.now).functions }
+    requires names { sigs.now ≡ signatures_of (program_of p.now).functions }
     ensures { OnOk result
         (out.new.items ≡ out.old.items ++ flat_map (line_text (program_of p.now)) d.now) }
 {
     for diag in d {
-        push_line(alloc, p, functions, diag, out)?;
+        push_line(alloc, p, sigs, diag, out)?;
     }
     Ok(())
 }
@@ -69,33 +71,33 @@ fn push_lines(
 fn push_line(
     alloc: Global,
     p: &CoreProgram,
-    functions: &[NameId],
+    sigs: &Signatures,
     d: &Diag,
     out: &mut Vec<u8>,
 ) -> Result<(), NoMemory>
     requires about { d.now.function < length p.now.functions.items }
-    requires names { functions.now ≡ map function_name (program_of p.now).functions }
+    requires names { sigs.now ≡ signatures_of (program_of p.now).functions }
     ensures { OnOk result (out.new.items ≡ out.old.items ++ line_text (program_of p.now) d.now) }
 {
     let f = &p.functions[d.function as usize];
-    push_printed(alloc, &p.names, functions, f, &p.types, d, out)
+    push_printed(alloc, &p.names, f, sigs, &p.types, d, out)
 }
 
 // The line of a diagnostic of the function.
 fn push_printed(
     alloc: Global,
     names: &Names,
-    functions: &[NameId],
     f: &CoreFn,
+    sigs: &Signatures,
     types: &TypeTable,
     d: &Diag,
     out: &mut Vec<u8>,
 ) -> Result<(), NoMemory>
     ensures { OnOk result
         (out.new.items
-        ≡ out.old.items ++ printed (naming_of names.now functions.now) types.now (function_of f.now) d.now) }
+        ≡ out.old.items ++ printed (naming_of names.now sigs.now) types.now (function_of f.now) d.now) }
 {
-    let text = texts_of(alloc, names, functions, f, types, d)?;
+    let text = texts_of(alloc, names, f, sigs, types, d)?;
     let line = d.place.line;
     let column = d.place.column;
     let kind = kind_name(d.kind);

@@ -13,6 +13,7 @@ use Rattle.life_pset.specs.Table.{Table, Names, table_of}
 use Rattle.life_pset.specs.declared.element.AbsPlace.{AbsPlace}
 use Rattle.life_pset.specs.declared.element.Element.{Element}
 use Rattle.life_pset.specs.declared.element.Fact.{Fact}
+use Rattle.life_contract.specs.Signatures.{Signature}
 use Rattle.life_rules.specs.Carrying.{fact_at}
 use Rattle.life_rules.specs.FactSets.{Holds, IsPairOf, GivesFrom, CarriesPair, Gains, GainsSome, Includes, named_fact, pair_facts}
 use Rattle.life_rules.specs.Along.{all_along}
@@ -44,10 +45,10 @@ holds_iff t pairs has each x = (
 
 -- ---- what an edge gives from a set
 
-pub gives_iff : (t : Table) (types : Types) (f : Function) (edge : Edge) (from : ℕ → ℕ → Bool) (facts all : List Fact) → ((x : Fact) → Contains facts x ↔ Holds t from x)
-    → all ≡ all_along types f edge facts → (x : Fact) → Contains all x ↔ GivesFrom t types f edge from x
-gives_iff t types f edge from facts all held is x =
-    let given = given_iff types f edge facts x in (
+pub gives_iff : (t : Table) (sigs : List Signature) (types : Types) (f : Function) (edge : Edge) (from : ℕ → ℕ → Bool) (facts all : List Fact) → ((x : Fact) → Contains facts x ↔ Holds t from x)
+    → all ≡ all_along sigs types f edge facts → (x : Fact) → Contains all x ↔ GivesFrom t sigs types f edge from x
+gives_iff t sigs types f edge from facts all held is x =
+    let given = given_iff sigs types f edge facts x in (
       λ h.
           let g = given.0 (subst (λ (xs : List Fact). Contains xs x) is h) in
           (g.0, ((λ y k. (held y).0 (g.1.0 y k)), g.1.1)),
@@ -55,9 +56,9 @@ gives_iff t types f edge from facts all held is x =
     )
 
 -- the pairs of what an edge gives are what it carries
-pub carries_iff : (types : Types) (f : Function) (edge : Edge) (from : ℕ → ℕ → Bool) (all : List Fact) → ((x : Fact) → Contains all x ↔ GivesFrom (table_of types f) types f edge from x)
-    → (l e : ℕ) → IsPairOf (table_of types f) all l e ↔ CarriesPair types f edge from l e
-carries_iff types f edge from all given l e = (
+pub carries_iff : (sigs : List Signature) (types : Types) (f : Function) (edge : Edge) (from : ℕ → ℕ → Bool) (all : List Fact) → ((x : Fact) → Contains all x ↔ GivesFrom (table_of types f) sigs types f edge from x)
+    → (l e : ℕ) → IsPairOf (table_of types f) all l e ↔ CarriesPair sigs types f edge from l e
+carries_iff sigs types f edge from all given l e = (
   λ p.
       let g = (given p.0).0 p.1.1 in
       (p.0, (p.1.0, (g.0, (g.1.0, ((l, (e, p.1.0)), g.1.1))))),
@@ -65,12 +66,12 @@ carries_iff types f edge from all given l e = (
 )
 
 -- .. also where the table and the list come by other names
-pub pairs_carried : (t : Table) (types : Types) (f : Function) (edge : Edge) (from : ℕ → ℕ → Bool) (all got : List Fact) → t ≡ table_of types f → got ≡ all
-    → ((x : Fact) → Contains all x ↔ GivesFrom t types f edge from x) → (l e : ℕ) → IsPairOf t got l e ↔ CarriesPair types f edge from l e
-pairs_carried t types f edge from all got is same =
-    let P : Table → Type 0 = λ t. ((x : Fact) → Contains all x ↔ GivesFrom t types f edge from x) → (l e : ℕ) → IsPairOf t got l e ↔ CarriesPair types f edge from l e in
+pub pairs_carried : (t : Table) (sigs : List Signature) (types : Types) (f : Function) (edge : Edge) (from : ℕ → ℕ → Bool) (all got : List Fact) → t ≡ table_of types f → got ≡ all
+    → ((x : Fact) → Contains all x ↔ GivesFrom t sigs types f edge from x) → (l e : ℕ) → IsPairOf t got l e ↔ CarriesPair sigs types f edge from l e
+pairs_carried t sigs types f edge from all got is same =
+    let P : Table → Type 0 = λ t. ((x : Fact) → Contains all x ↔ GivesFrom t sigs types f edge from x) → (l e : ℕ) → IsPairOf t got l e ↔ CarriesPair sigs types f edge from l e in
     subst P (sym is) (λ given l e.
-    subst (λ (xs : List Fact). IsPairOf (table_of types f) xs l e ↔ CarriesPair types f edge from l e) (sym same) (carries_iff types f edge from all given l e))
+    subst (λ (xs : List Fact). IsPairOf (table_of types f) xs l e ↔ CarriesPair sigs types f edge from l e) (sym same) (carries_iff sigs types f edge from all given l e))
 
 -- what is added may be said in other words
 pub gains_same : (a b : ℕ → ℕ → Bool) (p q : ℕ → ℕ → Type 0) → ((l e : ℕ) → p l e ↔ q l e) → Gains a b p → Gains a b q

@@ -1,5 +1,6 @@
 -- A list of diagnostics is unique: what is wrong decides which they are, and their lines in which order.
-use Rattle.std.proofs.Common.{◌≡◌, ℕ, ◌<◌, suc, refl, ap, sym, ◌∙◌, inl, inr, true, arith, subst, List, [], ◌∷◌, length, get_or, map, Contains, nat_eq, rules}
+use Rattle.std.proofs.Common.{◌≡◌, ℕ, ◌<◌, suc, refl, ap, sym, ◌∙◌, inl, inr, true, true≢false, arith, subst, List, [], ◌∷◌, Option, Some, None, length, get_or, map, Contains, nat_eq, rules}
+use Rattle.std.specs.Option.{option_eq}
 use Rattle.std.specs.Cmp.{IsTotalOrder}
 use Rattle.std.specs.List.Sorted.{IsStrictlySortedBy}
 use Rattle.std.specs.Ordering.{is_eq, is_le, ordering_reverse}
@@ -117,19 +118,27 @@ kind_exact x y h = search rules
 why_exact : (x y : Why) → why_eq.eq x y ≡ true → x ≡ y
 why_exact x y h = search (rules, cause_exact, exact_element)
 
+called_exact : (x y : Option ℕ) → option_eq nat_eq x y ≡ true → x ≡ y
+called_exact None None h = refl
+called_exact None (Some n) h = absurd (true≢false (sym h))
+called_exact (Some m) None h = absurd (true≢false (sym h))
+called_exact (Some m) (Some n) h = ap Some (eqb-true m n h)
+
 -- diagnostics that `==` tells apart by none of their fields are equal
 pub diag_exact : (x y : Diag) → diag_eq.eq x y ≡ true → x ≡ y
 diag_exact x y h =
     let a = and_parts (nat_eq x.function y.function) _ h in
     let b = and_parts (place_eq.eq x.place y.place) _ a.1 in
     let c = and_parts (kind_eq.eq x.kind y.kind) _ b.1 in
-    let d = and_parts (abs_place_eq.eq x.name y.name) (why_eq.eq x.why y.why) c.1 in
+    let d = and_parts (abs_place_eq.eq x.name y.name) _ c.1 in
+    let e = and_parts (option_eq nat_eq x.called y.called) (why_eq.eq x.why y.why) d.1 in
     λ i. record {
       function = eqb-true x.function y.function a.0 i;
       place = place_exact x.place y.place b.0 i;
       kind = kind_exact x.kind y.kind c.0 i;
       name = abs_place_exact x.name y.name d.0 i;
-      why = why_exact x.why y.why d.1 i;
+      called = called_exact x.called y.called e.0 i;
+      why = why_exact x.why y.why e.1 i;
     }
 
 both_le : (a : Ordering) → is_le a ≡ true → is_le (ordering_reverse a) ≡ true → is_eq a ≡ true

@@ -10,7 +10,7 @@ use Rattle.life_types.specs.declared.ty.Ty.TheVariants as ty
 use Rattle.life_types.specs.declared.ty.TyId.{TyId}
 use Rattle.life_core.specs.Function.{Function}
 use Rattle.life_core.specs.Linked.{spot_of}
-use Rattle.life_core.specs.Step.{Step, Live, End, Eval, Load, Save, Copy, Move, Aim, Repoint, Advance, Cut, Size, Same, Cursor, Changes, Make, Call, Ports, Change, Erase, Test}
+use Rattle.life_core.specs.Step.{Step, Live, End, Copy, Move, Aim, Repoint, Advance, Cut, Cursor, Changes, Make, Call, Change, Erase, Test}
 use Rattle.life_core.specs.Step as step
 use Rattle.life_core.specs.Tree.{Node, Action, Question, Return, Stop, Spot}
 use Rattle.life_core.specs.declared.instr.Form.{Form}
@@ -22,9 +22,8 @@ use Rattle.life_core.specs.Operands as named
 use Rattle.life_core.specs.declared.program.Local.{Local}
 use Rattle.life_core.specs.declared.stmt.Edge.{Edge}
 use Rattle.life_pset.specs.Elements.{local_place, local_locations, uninitialised, causes_of_end, changed, moved, owner_changed}
-use Rattle.life_pset.specs.Places.{members_place, owned_place, path, is_within, under}
+use Rattle.life_pset.specs.Places.{members_place, path, is_within}
 use Rattle.life_pset.specs.Shapes.{is_pointer, is_unique, is_variable_place, location_type, members_type, operand_type, place_type, tree_if, ty_if}
-use Rattle.life_pset.specs.contracts.element.AbsPlacePartialEq.TheImpl.{ghosts as compared}
 use Rattle.life_pset.specs.declared.element.AbsPlace.{AbsPlace}
 use Rattle.life_pset.specs.declared.element.Cause.{Cause}
 use Rattle.life_pset.specs.declared.element.Element.{Element}
@@ -34,115 +33,10 @@ use Rattle.life_pset.specs.declared.element.Root.{Root}
 use Rattle.life_pset.specs.declared.element.Root.TheVariants as root
 use Rattle.life_rules.specs.declared.kill.Kill.{Kill}
 use Rattle.life_rules.specs.declared.kill.KillPair.{KillPair}
-
-abbrev pub fact_at : AbsPlace → Element → Fact
-fact_at l e = record { location = l; element = e }
-
--- the element, if there is one, as that of a location
-abbrev pub facts_at : AbsPlace → Option Element → List Fact
-facts_at l None = []
-facts_at l (Some e) = fact_at l e ∷ []
-
--- the fact, if this holds, and else nothing
-abbrev pub given_if : Bool → Fact → List Fact
-given_if here fact = cond here (fact ∷ []) []
-
--- the fact, unless this holds
-abbrev pub unless : Bool → Fact → List Fact
-unless gone fact = cond gone [] (fact ∷ [])
-
--- .. if this holds
-abbrev pub facts_if : Bool → AbsPlace → Option Element → List Fact
-facts_if here l e = cond here (facts_at l e) []
-
--- ---- locations and elements
-
--- the place is the local or lies in it
-abbrev pub is_root : ℕ → Root → Bool
-is_root x (root.Local y) = nat_eq x y
-is_root x (root.Input parameter member) = false
-
-abbrev pub is_rooted : ℕ → AbsPlace → Bool
-is_rooted x place = is_root x place.root
-
-abbrev pub is_rooted_among : List ℕ → AbsPlace → Bool
-is_rooted_among xs place = list_any (λ x. is_rooted x place) xs
-
--- the place that a location names
-abbrev pub located : Location → AbsPlace
-located l = members_place (local_place l.local) l.members
-
-abbrev pub is_location : Location → AbsPlace → Bool
-is_location p l = compared.eq l (located p)
-
--- it points to one of these locals
-abbrev pub points_among : List ℕ → Element → Bool
-points_among xs element.Null = false
-points_among xs (element.Invalid c) = false
-points_among xs (element.Moved c) = false
-points_among xs element.Own = false
-points_among xs element.Static = false
-points_among xs (element.At place) = is_rooted_among xs place
-
--- it points to what the owner at a place owns, or a part of it
-abbrev pub points_under : AbsPlace → Element → Bool
-points_under a element.Null = false
-points_under a (element.Invalid c) = false
-points_under a (element.Moved c) = false
-points_under a element.Own = false
-points_under a element.Static = false
-points_under a (element.At b) = under a b
-
--- what a pointer can't be where it isn't null
-abbrev pub is_null : Element → Bool
-is_null element.Null = true
-is_null (element.Invalid c) = false
-is_null (element.Moved c) = true
-is_null element.Own = false
-is_null element.Static = false
-is_null (element.At place) = false
-
--- .. and where it is null
-abbrev pub is_held : Element → Bool
-is_held element.Null = false
-is_held (element.Invalid c) = false
-is_held (element.Moved c) = false
-is_held element.Own = true
-is_held element.Static = true
-is_held (element.At place) = true
-
--- a place itself, or what the owner there owns
-abbrev pub part_of : (owned : Bool) → AbsPlace → AbsPlace
-part_of true a = owned_place a
-part_of false a = a
-
--- what is reached through a pointer: the part of a target, and static and invalid as they are
-abbrev pub reached : (owned : Bool) → (members : List ℕ) → Element → Option Element
-reached owned members element.Null = None
-reached owned members (element.Invalid c) = Some (element.Invalid c)
-reached owned members (element.Moved c) = None
-reached owned members element.Own = None
-reached owned members element.Static = Some element.Static
-reached owned members (element.At a) = Some (element.At (part_of owned (members_place a members)))
-
--- .. the targets alone
-abbrev pub position_in : (members : List ℕ) → Element → Option Element
-position_in members (element.At a) = Some (element.At (owned_place (members_place a members)))
-position_in members _ = None
-
--- what a unique_ptr gives to a pointer: what it owns, or null
-abbrev pub gotten : AbsPlace → Element → Option Element
-gotten u element.Null = Some element.Null
-gotten u (element.Moved c) = Some element.Null
-gotten u element.Own = Some (element.At (owned_place u))
-gotten u _ = None
-
--- .. and to another unique_ptr
-abbrev pub given_over : Element → Option Element
-given_over element.Null = Some element.Null
-given_over (element.Moved c) = Some element.Null
-given_over element.Own = Some element.Own
-given_over _ = None
+pub use Rattle.life_contract.specs.Located.{located, is_location, is_root, is_rooted}
+pub use Rattle.life_rules.specs.Matching.{fact_at, facts_at, given_if, unless, facts_if, is_rooted_among, points_among, points_under, is_null, is_held, part_of, reached, position_in, gotten, given_over}
+use Rattle.life_contract.specs.Signatures.{Signature}
+use Rattle.life_rules.specs.Calling.{is_in_target, called_none, called_one, called_two}
 
 -- ---- Kill by name: what points under a place that is changed becomes invalid, with the cause
 
@@ -209,6 +103,7 @@ writes (step.Element p b which) location = is_location p location
 writes (Cursor p b end) location = is_location p location
 writes (Changes o change) location = is_erased_into change location
 writes (Make u what) location = is_location u location
+writes (Call target g xs) location = is_in_target target location
 writes _ location = false
 
 -- whether an instruction drops a fact: what is written or ended loses its old set, and what is killed becomes invalid
@@ -225,6 +120,7 @@ drops types f place (step.Element p b which) fact = is_location p fact.location
 drops types f place (Cursor p b end) fact = is_location p fact.location
 drops types f place (Changes o change) fact = is_erased_into change fact.location || is_killed (kills types f place (Changes o change)) fact.element
 drops types f place (Make u what) fact = is_location u fact.location || is_killed (kills types f place (Make u what)) fact.element
+drops types f place (Call target g xs) fact = is_in_target target fact.location
 drops types f place _ fact = false
 
 -- ---- facts that come from none
@@ -298,16 +194,17 @@ made_element made.Zero = element.Own
 made_element (made.Of x) = element.Own
 
 -- what an instruction makes of no fact
-abbrev pub from_none : Types → Function → Place → Step → List Fact
-from_none types f place (Live x form) = flat_map (born_facts types f place x form) (locations_of_local types f x)
-from_none types f place (Copy to from) = whole_facts types f to
-from_none types f place (Move to y) = fact_at (local_place y) (element.Moved (moved place y)) ∷ whole_facts types f to
-from_none types f place (Aim p s) = facts_at (located p) (named_target s)
-from_none types f place (step.Element p b which) = facts_at (located p) (named_element b)
-from_none types f place (Cursor p b end) = facts_at (located p) (named_element b)
-from_none types f place (Changes o change) = named_position o change
-from_none types f place (Make u what) = fact_at (located u) (made_element what) ∷ []
-from_none types f place _ = []
+abbrev pub from_none : List Signature → Types → Function → Place → Step → List Fact
+from_none sigs types f place (Live x form) = flat_map (born_facts types f place x form) (locations_of_local types f x)
+from_none sigs types f place (Copy to from) = whole_facts types f to
+from_none sigs types f place (Move to y) = fact_at (local_place y) (element.Moved (moved place y)) ∷ whole_facts types f to
+from_none sigs types f place (Aim p s) = facts_at (located p) (named_target s)
+from_none sigs types f place (step.Element p b which) = facts_at (located p) (named_element b)
+from_none sigs types f place (Cursor p b end) = facts_at (located p) (named_element b)
+from_none sigs types f place (Changes o change) = named_position o change
+from_none sigs types f place (Make u what) = fact_at (located u) (made_element what) ∷ []
+from_none sigs types f place (Call target g xs) = called_none types (slice_get sigs g.0) target
+from_none sigs types f place _ = []
 
 -- ---- facts that come from one
 
@@ -383,23 +280,24 @@ position_facts o (Erase at into) fact = position_from into o fact
 position_facts o _ fact = []
 
 -- what an instruction makes of one fact, beside keeping it
-abbrev pub makes : Types → Function → Place → Step → Fact → List Fact
-makes types f place (End xs) fact = ended_facts f place xs fact
-makes types f place (Copy to from) fact = killed_facts types f place (Copy to from) fact ++ copied_facts types f (kills types f place (Copy to from)) to from fact
-makes types f place (Move to y) fact = killed_facts types f place (Move to y) fact ++ moved_facts types f to y fact
-makes types f place (Aim p s) fact = aimed_from p s fact
-makes types f place (Repoint p q) fact = taken p q fact
-makes types f place (Advance p q r direction) fact = taken p q fact
-makes types f place (Cut p q r count) fact = taken p q fact
-makes types f place (step.Element p b which) fact = element_from p b fact
-makes types f place (Cursor p b end) fact = element_from p b fact
-makes types f place (Changes o change) fact = killed_facts types f place (Changes o change) fact ++ position_facts o change fact
-makes types f place (Make u what) fact = killed_facts types f place (Make u what) fact
-makes types f place _ fact = []
+abbrev pub makes : List Signature → Types → Function → Place → Step → Fact → List Fact
+makes sigs types f place (End xs) fact = ended_facts f place xs fact
+makes sigs types f place (Copy to from) fact = killed_facts types f place (Copy to from) fact ++ copied_facts types f (kills types f place (Copy to from)) to from fact
+makes sigs types f place (Move to y) fact = killed_facts types f place (Move to y) fact ++ moved_facts types f to y fact
+makes sigs types f place (Aim p s) fact = aimed_from p s fact
+makes sigs types f place (Repoint p q) fact = taken p q fact
+makes sigs types f place (Advance p q r direction) fact = taken p q fact
+makes sigs types f place (Cut p q r count) fact = taken p q fact
+makes sigs types f place (step.Element p b which) fact = element_from p b fact
+makes sigs types f place (Cursor p b end) fact = element_from p b fact
+makes sigs types f place (Changes o change) fact = killed_facts types f place (Changes o change) fact ++ position_facts o change fact
+makes sigs types f place (Make u what) fact = killed_facts types f place (Make u what) fact
+makes sigs types f place (Call target g xs) fact = called_one types (slice_get sigs g.0) xs target fact
+makes sigs types f place _ fact = []
 
 -- what comes of one fact: itself, unless it is dropped, and what is made of it
-abbrev pub from_one : Types → Function → Place → Step → Fact → List Fact
-from_one types f place i fact = unless (drops types f place i fact) fact ++ makes types f place i fact
+abbrev pub from_one : List Signature → Types → Function → Place → Step → Fact → List Fact
+from_one sigs types f place i fact = unless (drops types f place i fact) fact ++ makes sigs types f place i fact
 
 -- ---- facts that come from two
 
@@ -414,11 +312,12 @@ killed_through place i (named.Name l) a b = []
 killed_through place i (named.Through p members) a b = cond (is_location p a.location) (killed_under place i members a.element b) []
 
 -- what comes of a target of the pointer through which an instruction changes an owner, and of a victim
-abbrev pub from_two : Types → Function → Place → Step → Fact → Fact → List Fact
-from_two types f place (Copy to from) a b = if holds_owner (tree_if types (operand_type types f to)) then killed_through place (Copy to from) to a b else []
-from_two types f place (Move to y) a b = killed_through place (Move to y) to a b
-from_two types f place (Changes o change) a b = killed_through place (Changes o change) o a b
-from_two types f place _ a b = []
+abbrev pub from_two : List Signature → Types → Function → Place → Step → Fact → Fact → List Fact
+from_two sigs types f place (Copy to from) a b = if holds_owner (tree_if types (operand_type types f to)) then killed_through place (Copy to from) to a b else []
+from_two sigs types f place (Move to y) a b = killed_through place (Move to y) to a b
+from_two sigs types f place (Changes o change) a b = killed_through place (Changes o change) o a b
+from_two sigs types f place (Call target g xs) a b = called_two types place g.0 (slice_get sigs g.0) xs target a b
+from_two sigs types f place _ a b = []
 
 -- ---- the tests
 
@@ -430,39 +329,39 @@ stops_at (step.NotNull p) (Some holds) fact = is_location p fact.location && con
 
 -- ---- the points and the edges
 
-abbrev pub node_none : Types → Function → Place → Node → List Fact
-node_none types f place (Action i) = from_none types f place i
-node_none types f place (Question t) = []
-node_none types f place Return = []
-node_none types f place Stop = []
+abbrev pub node_none : List Signature → Types → Function → Place → Node → List Fact
+node_none sigs types f place (Action i) = from_none sigs types f place i
+node_none sigs types f place (Question t) = []
+node_none sigs types f place Return = []
+node_none sigs types f place Stop = []
 
-abbrev pub node_one : Types → Function → Place → Option Bool → Node → Fact → List Fact
-node_one types f place branch (Action i) fact = from_one types f place i fact
-node_one types f place branch (Question t) fact = unless (stops_at t branch fact) fact
-node_one types f place branch Return fact = fact ∷ []
-node_one types f place branch Stop fact = fact ∷ []
+abbrev pub node_one : List Signature → Types → Function → Place → Option Bool → Node → Fact → List Fact
+node_one sigs types f place branch (Action i) fact = from_one sigs types f place i fact
+node_one sigs types f place branch (Question t) fact = unless (stops_at t branch fact) fact
+node_one sigs types f place branch Return fact = fact ∷ []
+node_one sigs types f place branch Stop fact = fact ∷ []
 
-abbrev pub node_two : Types → Function → Place → Node → Fact → Fact → List Fact
-node_two types f place (Action i) a b = from_two types f place i a b
-node_two types f place (Question t) a b = []
-node_two types f place Return a b = []
-node_two types f place Stop a b = []
+abbrev pub node_two : List Signature → Types → Function → Place → Node → Fact → Fact → List Fact
+node_two sigs types f place (Action i) a b = from_two sigs types f place i a b
+node_two sigs types f place (Question t) a b = []
+node_two sigs types f place Return a b = []
+node_two sigs types f place Stop a b = []
 
-abbrev pub none_at : Types → Function → Option Spot → List Fact
-none_at types f None = []
-none_at types f (Some s) = node_none types f s.place s.node
+abbrev pub none_at : List Signature → Types → Function → Option Spot → List Fact
+none_at sigs types f None = []
+none_at sigs types f (Some s) = node_none sigs types f s.place s.node
 
-abbrev pub one_at : Types → Function → Option Bool → Option Spot → Fact → List Fact
-one_at types f branch None fact = []
-one_at types f branch (Some s) fact = node_one types f s.place branch s.node fact
+abbrev pub one_at : List Signature → Types → Function → Option Bool → Option Spot → Fact → List Fact
+one_at sigs types f branch None fact = []
+one_at sigs types f branch (Some s) fact = node_one sigs types f s.place branch s.node fact
 
-abbrev pub two_at : Types → Function → Option Spot → Fact → Fact → List Fact
-two_at types f None a b = []
-two_at types f (Some s) a b = node_two types f s.place s.node a b
+abbrev pub two_at : List Signature → Types → Function → Option Spot → Fact → Fact → List Fact
+two_at sigs types f None a b = []
+two_at sigs types f (Some s) a b = node_two sigs types f s.place s.node a b
 
 -- the edge gives the fact from these, which hold before its first point
-abbrev pub Gives : Types → Function → Edge → List Fact → Fact → Type 0
-Gives types f edge [] x = Contains (none_at types f (spot_of f edge.from)) x
-Gives types f edge (a ∷ []) x = Contains (one_at types f edge.branch (spot_of f edge.from) a) x
-Gives types f edge (a ∷ b ∷ []) x = Contains (two_at types f (spot_of f edge.from) a b) x
-Gives types f edge (a ∷ b ∷ c ∷ more) x = ⊥
+abbrev pub Gives : List Signature → Types → Function → Edge → List Fact → Fact → Type 0
+Gives sigs types f edge [] x = Contains (none_at sigs types f (spot_of f edge.from)) x
+Gives sigs types f edge (a ∷ []) x = Contains (one_at sigs types f edge.branch (spot_of f edge.from) a) x
+Gives sigs types f edge (a ∷ b ∷ []) x = Contains (two_at sigs types f (spot_of f edge.from) a b) x
+Gives sigs types f edge (a ∷ b ∷ c ∷ more) x = ⊥

@@ -17,17 +17,18 @@ use Rattle.life_pset.specs.Places.{members_place}
 use Rattle.life_pset.specs.Shapes.{is_variable_place}
 use Rattle.life_pset.specs.contracts.element.AbsPlacePartialEq.TheImpl.{ghosts as compared}
 use Rattle.life_pset.specs.declared.element.AbsPlace.{AbsPlace}
-use Rattle.life_pset.specs.declared.element.Cause.{Cause}
 use Rattle.life_pset.specs.declared.element.Element.{Element}
 use Rattle.life_pset.specs.declared.element.Element.TheVariants as element
 use Rattle.life_pset.specs.declared.element.Fact.{Fact}
-use Rattle.life_rules.specs.Carrying.{is_location, is_rooted, located}
+use Rattle.life_rules.specs.Carrying.{is_location, located}
 use Rattle.life_rules.specs.Deriving.{Derives}
-use Rattle.life_rules.specs.Texts.{is_result}
+use Rattle.life_contract.specs.Signatures.{Signature}
+use Rattle.life_rules.specs.Arguing.{argument_diags, argument_diags_of_two}
+use Rattle.life_rules.specs.Keeping.{keeping_diags}
+pub use Rattle.life_rules.specs.Returning.{dangling_result, return_diags}
+pub use Rattle.life_rules.specs.Telling.{told}
 use Rattle.life_rules.specs.declared.diag.Diag.{Diag}
-use Rattle.life_rules.specs.declared.diag.DiagKind.{DiagKind}
-use Rattle.life_rules.specs.declared.diag.DiagKind.TheVariants.{NullUse, DanglingUse, MovedUse, ReturnDangling}
-use Rattle.life_rules.specs.declared.diag.Why.{Why}
+use Rattle.life_rules.specs.declared.diag.DiagKind.TheVariants.{NullUse, DanglingUse, MovedUse}
 use Rattle.life_rules.specs.declared.diag.Why.TheVariants as why
 
 -- ---- what an instruction uses
@@ -126,9 +127,6 @@ owners _ = []
 
 -- ---- what one fact makes wrong
 
-abbrev pub told : ℕ → Place → DiagKind → AbsPlace → Why → List Diag
-told function place kind l why = record { function = function; place = place; kind = kind; name = l; why = why } ∷ []
-
 -- going through a pointer that may be this: neither through null nor through what is invalid
 abbrev pub misused : ℕ → Place → AbsPlace → Element → List Diag
 misused function place l element.Null = told function place NullUse l why.Null
@@ -169,29 +167,26 @@ abbrev pub moved_as : Types → ℕ → Function → Place → Fact → Operand 
 moved_as types function f place fact (Name l) = cond (is_location l fact.location && is_variable_place types f fact.location) (moved_use function place fact.location fact.element) []
 moved_as types function f place fact (Through p members) = []
 
-abbrev pub step_diags : Types → ℕ → Function → Place → Step → Fact → List Diag
-step_diags types function f place i fact =
+-- what is wrong with what an instruction uses
+abbrev pub use_diags : Types → ℕ → Function → Place → Step → Fact → List Diag
+use_diags types function f place i fact =
     flat_map (misused_as function place fact) (uses i)
     ++ (flat_map (misread_as function place fact) (reads i)
     ++ (flat_map (misopened_as function place fact) (opens i) ++ flat_map (moved_as types function f place fact) (owners i)))
 
--- a result that is invalid, or has such a member
-abbrev pub dangling_result : ℕ → Place → AbsPlace → Element → List Diag
-dangling_result function place l (element.Invalid c) = told function place ReturnDangling l (why.Cause c)
-dangling_result function place l _ = []
+-- .. with the arguments that it hands over, and with what it changes
+abbrev pub step_diags : List Signature → Types → ℕ → Function → Place → Step → Fact → List Diag
+step_diags sigs types function f place i fact = use_diags types function f place i fact ++ (argument_diags sigs types function place i fact ++ keeping_diags sigs types function f place i fact)
 
-abbrev pub return_diags : Types → ℕ → Function → Place → Fact → List Diag
-return_diags types function f place fact = cond (is_result types f f.parameters && is_rooted f.parameters fact.location) (dangling_result function place fact.location fact.element) []
+abbrev pub node_diags : List Signature → Types → ℕ → Function → Place → Node → Fact → List Diag
+node_diags sigs types function f place (Action i) fact = step_diags sigs types function f place i fact
+node_diags sigs types function f place (Question t) fact = []
+node_diags sigs types function f place Return fact = return_diags types function f place fact
+node_diags sigs types function f place Stop fact = []
 
-abbrev pub node_diags : Types → ℕ → Function → Place → Node → Fact → List Diag
-node_diags types function f place (Action i) fact = step_diags types function f place i fact
-node_diags types function f place (Question t) fact = []
-node_diags types function f place Return fact = return_diags types function f place fact
-node_diags types function f place Stop fact = []
-
-abbrev pub diags_at : Types → ℕ → Function → Option Spot → Fact → List Diag
-diags_at types function f None fact = []
-diags_at types function f (Some s) fact = node_diags types function f s.place s.node fact
+abbrev pub diags_at : List Signature → Types → ℕ → Function → Option Spot → Fact → List Diag
+diags_at sigs types function f None fact = []
+diags_at sigs types function f (Some s) fact = node_diags sigs types function f s.place s.node fact
 
 -- ---- what two facts make wrong
 
@@ -205,26 +200,29 @@ abbrev pub moved_through : Types → ℕ → Function → Place → (target owne
 moved_through types function f place a b (Name l) = []
 moved_through types function f place a b (Through p members) = cond (is_location p a.location) (moved_target types function f place p members a.element b) []
 
-abbrev pub node_diags_of_two : Types → ℕ → Function → Place → Node → Fact → Fact → List Diag
-node_diags_of_two types function f place (Action i) a b = flat_map (moved_through types function f place a b) (owners i)
-node_diags_of_two types function f place (Question t) a b = []
-node_diags_of_two types function f place Return a b = []
-node_diags_of_two types function f place Stop a b = []
+abbrev pub step_diags_of_two : List Signature → Types → ℕ → Function → Place → Step → Fact → Fact → List Diag
+step_diags_of_two sigs types function f place i a b = flat_map (moved_through types function f place a b) (owners i) ++ argument_diags_of_two sigs types function f place i a b
 
-abbrev pub diags_of_two : Types → ℕ → Function → Option Spot → Fact → Fact → List Diag
-diags_of_two types function f None a b = []
-diags_of_two types function f (Some s) a b = node_diags_of_two types function f s.place s.node a b
+abbrev pub node_diags_of_two : List Signature → Types → ℕ → Function → Place → Node → Fact → Fact → List Diag
+node_diags_of_two sigs types function f place (Action i) a b = step_diags_of_two sigs types function f place i a b
+node_diags_of_two sigs types function f place (Question t) a b = []
+node_diags_of_two sigs types function f place Return a b = []
+node_diags_of_two sigs types function f place Stop a b = []
+
+abbrev pub diags_of_two : List Signature → Types → ℕ → Function → Option Spot → Fact → Fact → List Diag
+diags_of_two sigs types function f None a b = []
+diags_of_two sigs types function f (Some s) a b = node_diags_of_two sigs types function f s.place s.node a b
 
 -- ---- what is wrong
 
 -- these facts, which hold before the point, make it wrong
-abbrev pub Tells : Types → ℕ → Function → Option Spot → List Fact → Diag → Type 0
-Tells types function f spot [] d = ⊥
-Tells types function f spot (a ∷ []) d = Contains (diags_at types function f spot a) d
-Tells types function f spot (a ∷ b ∷ []) d = Contains (diags_of_two types function f spot a b) d
-Tells types function f spot (a ∷ b ∷ c ∷ more) d = ⊥
+abbrev pub Tells : List Signature → Types → ℕ → Function → Option Spot → List Fact → Diag → Type 0
+Tells sigs types function f spot [] d = ⊥
+Tells sigs types function f spot (a ∷ []) d = Contains (diags_at sigs types function f spot a) d
+Tells sigs types function f spot (a ∷ b ∷ []) d = Contains (diags_of_two sigs types function f spot a b) d
+Tells sigs types function f spot (a ∷ b ∷ c ∷ more) d = ⊥
 
 -- derived facts make it wrong at some point of the function with this number
-abbrev pub IsDiagnosed : Types → ℕ → Function → Diag → Type 0
-IsDiagnosed types function f d =
-    (point : Point) × ((facts : List Fact) × (((x : Fact) → Contains facts x → Derives types f point x) × Tells types function f (spot_of f point) facts d))
+abbrev pub IsDiagnosed : List Signature → Types → ℕ → Function → Diag → Type 0
+IsDiagnosed sigs types function f d =
+    (point : Point) × ((facts : List Fact) × (((x : Fact) → Contains facts x → Derives sigs types f point x) × Tells sigs types function f (spot_of f point) facts d))

@@ -7,6 +7,7 @@ use Rattle.life_pset.specs.Table.{Table, Names, table_of}
 use Rattle.life_pset.specs.declared.element.AbsPlace.{AbsPlace}
 use Rattle.life_pset.specs.declared.element.Element.{Element}
 use Rattle.life_pset.specs.declared.element.Fact.{Fact}
+use Rattle.life_contract.specs.Signatures.{Signature}
 use Rattle.life_rules.specs.Carrying.{Gives, fact_at}
 use Rattle.life_rules.specs.Deriving.{Carries}
 
@@ -19,15 +20,15 @@ abbrev pub IsPairOf : Table → List Fact → ℕ → ℕ → Type 0
 IsPairOf t facts l e = (x : Fact) × (Names t l e x × Contains facts x)
 
 -- the edge gives the fact from facts of a set
-abbrev pub GivesFrom : Table → Types → Function → Edge → (ℕ → ℕ → Bool) → Fact → Type 0
-GivesFrom t types f edge has x =
-    (premises : List Fact) × (((y : Fact) → Contains premises y → Holds t has y) × Gives types f edge premises x)
+abbrev pub GivesFrom : Table → List Signature → Types → Function → Edge → (ℕ → ℕ → Bool) → Fact → Type 0
+GivesFrom t sigs types f edge has x =
+    (premises : List Fact) × (((y : Fact) → Contains premises y → Holds t has y) × Gives sigs types f edge premises x)
 
 -- the pair stands for a fact that the edge carries from facts of a set
-abbrev pub CarriesPair : Types → Function → Edge → (ℕ → ℕ → Bool) → ℕ → ℕ → Type 0
-CarriesPair types f edge has l e =
+abbrev pub CarriesPair : List Signature → Types → Function → Edge → (ℕ → ℕ → Bool) → ℕ → ℕ → Type 0
+CarriesPair sigs types f edge has l e =
     (x : Fact) × (Names (table_of types f) l e x
-    × ((premises : List Fact) × (((y : Fact) → Contains premises y → Holds (table_of types f) has y) × Carries types f edge premises x)))
+    × ((premises : List Fact) × (((y : Fact) → Contains premises y → Holds (table_of types f) has y) × Carries sigs types f edge premises x)))
 
 -- the set after is the set before and these pairs
 abbrev pub Gains : (before after : ℕ → ℕ → Bool) → (ℕ → ℕ → Type 0) → Type 0

@@ -1,8 +1,14 @@
 pub mod Along
+pub mod Arguing
+pub mod Calling
 pub mod Carrying
 pub mod Deriving
 pub mod Diagnosing
 pub mod FactSets
+pub mod Keeping
 pub mod Lines
 pub mod Listing
+pub mod Matching
+pub mod Returning
+pub mod Telling
 pub mod Texts

@@ -6,7 +6,7 @@ use Rattle.std.specs.declared.cmp.Ordering.{Ordering}
 use Rattle.life_types.specs.Places.{position_text}
 use Rattle.life_types.specs.Types.{Types}
 use Rattle.life_core.specs.Function.{Function}
-use Rattle.life_rules.specs.Texts.{Naming, place_text, why_text}
+use Rattle.life_rules.specs.Texts.{Naming, diag_name, why_text}
 use Rattle.life_rules.specs.declared.diag.Diag.{Diag}
 use Rattle.life_rules.specs.declared.diag.DiagKind.{DiagKind}
 use Rattle.life_rules.specs.declared.diag.DiagKind.TheVariants.{NullUse, DanglingUse, MovedUse, ArgNull, ArgDangling, ArgOverlap, ReturnDangling, ReturnWidens, KeepsBroken}
@@ -46,7 +46,7 @@ line_of names types f d = record {
   line = d.place.line;
   column = d.place.column;
   kind = kind_number d.kind;
-  name = place_text names types f d.name;
+  name = diag_name names types f d.called d.name;
   why = why_text names types f d.why;
 }
 
@@ -60,4 +60,4 @@ line_cmp x y =
 -- what the line prints: place, kind, name and reason, parted by a colon and a space
 abbrev pub printed : Naming → Types → Function → Diag → List ℕ
 printed names types f d =
-    position_text d.place ++ codes ": " ++ kind_text d.kind ++ codes ": " ++ place_text names types f d.name ++ codes ": " ++ why_text names types f d.why ++ codes "\n"
+    position_text d.place ++ codes ": " ++ kind_text d.kind ++ codes ": " ++ diag_name names types f d.called d.name ++ codes ": " ++ why_text names types f d.why ++ codes "\n"

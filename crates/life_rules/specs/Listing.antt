@@ -4,6 +4,7 @@ use Rattle.std.specs.List.Sorted.{IsStrictlySortedBy}
 use Rattle.std.specs.Ordering.{is_le}
 use Rattle.life_types.specs.Types.{Types}
 use Rattle.life_core.specs.Function.{Function, Program}
+use Rattle.life_contract.specs.Signatures.{signatures_of}
 use Rattle.life_rules.specs.Diagnosing.{IsDiagnosed}
 use Rattle.life_rules.specs.Lines.{Line, kind_number, line_of, line_cmp}
 use Rattle.life_rules.specs.Texts.{Naming, naming_in}
@@ -23,13 +24,13 @@ pub record IsListing (IsWrong : Diag → Type 0) (line : Diag → Line) (ds : Li
 
 -- the diagnostics of the function with this number
 abbrev pub AreDiagnostics : Naming → Types → ℕ → Function → List Diag → Type 0
-AreDiagnostics names types function f ds = IsListing (IsDiagnosed types function f) (line_of names types f) ds
+AreDiagnostics names types function f ds = IsListing (IsDiagnosed names.sigs types function f) (line_of names types f) ds
 
 -- ---- the diagnostics of a whole program
 
 -- the diagnostic is one of the function that it names
 abbrev pub IsProgramDiagnosed : Program → Diag → Type 0
-IsProgramDiagnosed p d = (f : Function) × ((slice_get p.functions d.function ≡ Some f) × IsDiagnosed p.types d.function f d)
+IsProgramDiagnosed p d = (f : Function) × ((slice_get p.functions d.function ≡ Some f) × IsDiagnosed (signatures_of p.functions) p.types d.function f d)
 
 -- its line in that function
 abbrev pub line_in : Program → Option Function → Diag → Line

@@ -5,7 +5,6 @@ use Rattle.life_types.specs.Types.{Types}
 use Rattle.life_types.specs.declared.ty.NameId.{NameId}
 use Rattle.life_types.specs.declared.ty.Ty.{Ty}
 use Rattle.life_types.specs.declared.ty.Ty.TheVariants as ty
-use Rattle.life_types.specs.declared.ty.TyId.{TyId}
 use Rattle.life_core.specs.Function.{Function, Program, member_name, member_names, name_bytes}
 use Rattle.life_core.specs.declared.program.Local.{Local}
 use Rattle.life_core.specs.declared.program.LocalKind.{LocalKind}
@@ -13,7 +12,7 @@ use Rattle.life_core.specs.declared.program.LocalKind.TheVariants as local_kind
 use Rattle.life_core.specs.declared.program.Names.{Names}
 use Rattle.life_pset.specs.Elements.{Input, local_inputs}
 use Rattle.life_pset.specs.Places.{owned_step, path}
-use Rattle.life_pset.specs.Shapes.{local_type, member_type, target_type, ty_if}
+use Rattle.life_pset.specs.Shapes.{local_type, ty_if, ty_of}
 use Rattle.life_pset.specs.declared.element.AbsPlace.{AbsPlace}
 use Rattle.life_pset.specs.declared.element.Cause.{Cause}
 use Rattle.life_pset.specs.declared.element.CauseKind.{CauseKind}
@@ -22,26 +21,27 @@ use Rattle.life_pset.specs.declared.element.Element.{Element}
 use Rattle.life_pset.specs.declared.element.Element.TheVariants as element
 use Rattle.life_pset.specs.declared.element.Root.{Root}
 use Rattle.life_pset.specs.declared.element.Root.TheVariants as root
+use Rattle.life_contract.specs.Inputs.{parameter_in}
+use Rattle.life_contract.specs.Positions.{pointee, step_type}
+use Rattle.life_contract.specs.Signatures.{Signature, signatures_of}
+use Rattle.life_contract.specs.declared.param.Param.{Param}
 use Rattle.life_rules.specs.declared.diag.Why.{Why}
 use Rattle.life_rules.specs.declared.diag.Why.TheVariants as why
 
 -- ---- names
 
--- the texts of a program's names, the names of each struct's members, and those of the functions, by their numbers
+-- the texts of a program's names, the names of each struct's members, and the signatures of its functions
 pub record Naming : Type 0 where
   pub texts : List (List ℕ)
   pub members : List (List NameId)
-  pub functions : List NameId
+  pub sigs : List Signature
 
-abbrev pub naming_of : Names → List NameId → Naming
-naming_of names functions = record { texts = map name_bytes names.texts.items; members = map member_names names.members.items; functions = functions }
-
-abbrev pub function_name : Function → NameId
-function_name f = f.name
+abbrev pub naming_of : Names → List Signature → Naming
+naming_of names sigs = record { texts = map name_bytes names.texts.items; members = map member_names names.members.items; sigs = sigs }
 
 -- .. of a program
 abbrev pub naming_in : Program → Naming
-naming_in p = record { texts = p.names; members = p.members; functions = map function_name p.functions }
+naming_in p = record { texts = p.names; members = p.members; sigs = signatures_of p.functions }
 
 abbrev pub or_nothing : Option (List ℕ) → List ℕ
 or_nothing None = []
@@ -84,15 +84,6 @@ local_text names types f x = named_local names (is_result types f x) (slice_get 
 
 -- ---- the steps of a place
 
--- what a step leads to; the characters of a string have no parts
-abbrev pub owned_type : Ty → Option TyId
-owned_type (ty.Vector item) = Some item
-owned_type (ty.Unique target) = Some target
-owned_type _ = None
-
-abbrev pub step_type : Types → Option TyId → ℕ → Option TyId
-step_type types id step = if nat_eq step owned_step then owned_type (ty_if types id) else member_type types id step
-
 -- a member prints as a dot and its name, an owned step as a mark
 abbrev pub member_text : Naming → Ty → ℕ → List ℕ
 member_text names (ty.Struct number) m = codes "." ++ name_if names (member_name names.members number m)
@@ -101,15 +92,15 @@ member_text names _ m = []
 abbrev pub step_text : Naming → Ty → ℕ → List ℕ
 step_text names t step = if nat_eq step owned_step then codes "'" else member_text names t step
 
-abbrev pub steps_text : Naming → Types → Option TyId → List ℕ → List ℕ
-steps_text names types id [] = []
-steps_text names types id (s ∷ ss) = step_text names (ty_if types id) s ++ steps_text names types (step_type types id s) ss
+abbrev pub steps_text : Naming → Types → Ty → List ℕ → List ℕ
+steps_text names types t [] = []
+steps_text names types t (s ∷ ss) = step_text names t s ++ steps_text names types (step_type types t s) ss
 
 -- ---- places
 
 -- a part of a local
 abbrev pub part_text : Naming → Types → Function → ℕ → List ℕ → List ℕ
-part_text names types f x steps = local_text names types f x ++ steps_text names types (local_type types f x) steps
+part_text names types f x steps = local_text names types f x ++ steps_text names types (ty_if types (local_type types f x)) steps
 
 -- the pointer with this number among those of a parameter
 abbrev pub inputs_at : Types → (parameters x : ℕ) → Option Local → List Input
@@ -128,9 +119,9 @@ abbrev pub input_text : Naming → Types → Function → ℕ → Option Input �
 input_text names types f q None = codes "in(" ++ local_text names types f q ++ codes ")"
 input_text names types f q (Some i) = codes "in(" ++ part_text names types f q (path i.pointer) ++ codes ")"
 
-abbrev pub behind_type : Types → Option Input → Option TyId
-behind_type types None = None
-behind_type types (Some i) = target_type types i.ty
+abbrev pub behind_type : Types → Option Input → Ty
+behind_type types None = ty.Void
+behind_type types (Some i) = pointee types (ty_if types i.ty)
 
 abbrev pub rooted_text : Naming → Types → Function → Root → List ℕ → List ℕ
 rooted_text names types f (root.Local x) steps = part_text names types f x steps
@@ -141,10 +132,30 @@ rooted_text names types f (root.Input q member) steps =
 abbrev pub place_text : Naming → Types → Function → AbsPlace → List ℕ
 place_text names types f place = rooted_text names types f place.root (path place)
 
--- ---- causes, elements and reasons
+-- ---- called functions
+
+abbrev pub called_text : Naming → Option Signature → List ℕ
+called_text names None = []
+called_text names (Some sig) = name_text names sig.name
 
 abbrev pub function_text : Naming → ℕ → List ℕ
-function_text names g = name_if names (slice_get names.functions g)
+function_text names g = called_text names (slice_get names.sigs g)
+
+-- a location of a parameter
+abbrev pub parameter_text : Naming → Types → Option Param → List ℕ → List ℕ
+parameter_text names types None steps = []
+parameter_text names types (Some p) steps = name_if names p.name ++ steps_text names types (ty_of types p.ty) steps
+
+abbrev pub parameter_at : Option Signature → Root → Option Param
+parameter_at None r = None
+parameter_at (Some sig) r = slice_get sig.parameters (parameter_in r)
+
+-- what a diagnostic names: a location of the function, or of a parameter of the called one
+abbrev pub diag_name : Naming → Types → Function → Option ℕ → AbsPlace → List ℕ
+diag_name names types f None l = place_text names types f l
+diag_name names types f (Some g) l = parameter_text names types (parameter_at (slice_get names.sigs g) l.root) (path l)
+
+-- ---- causes, elements and reasons
 
 -- what became of the variable, or what was done
 abbrev pub cause_subject : Naming → Types → Function → ℕ → CauseKind → List ℕ

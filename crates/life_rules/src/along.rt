@@ -11,6 +11,7 @@ use crate::none::push_from_none;
 use crate::one::push_from_one;
 use crate::push::push_unless;
 use crate::two::{push_from_two, takes_first};
+use life_contract::Signatures;
 use life_core::{CoreFn, NodeRef, SpotRef};
 use life_pset::Fact;
 use life_types::{NoMemory, TypeTable};
@@ -21,6 +22,7 @@ use std::alloc::Global;
 #[tactic(auto, using(std::proofs::Common::append_assoc))]
 pub fn push_all(
     alloc: Global,
+    sigs: &Signatures,
     types: &TypeTable,
     f: &CoreFn,
     branch: Option<bool>,
@@ -29,27 +31,30 @@ pub fn push_all(
     out: &mut Vec<Fact>,
 ) -> Result<(), NoMemory>
     ensures { OnOk result
-        (out.new.items ≡ out.old.items ++ all_at types.now (function_of f.now) branch (option_map spot_seen spot.entry) facts.now) }
+        (out.new.items ≡ out.old.items ++ all_at sigs.now types.now (function_of f.now) branch (option_map spot_seen spot.entry) facts.now) }
 {
-    push_none(alloc, types, f, spot, out)?;
-    push_ones(types, f, branch, spot, facts, out)?;
-    push_twos(types, f, spot, facts, out)
+    push_none(alloc, sigs, types, f, spot, out)?;
+    push_ones(alloc, sigs, types, f, branch, spot, facts, out)?;
+    push_twos(alloc, sigs, types, f, spot, facts, out)
 }
 
 fn push_none(
     alloc: Global,
+    sigs: &Signatures,
     types: &TypeTable,
     f: &CoreFn,
     spot: Option<SpotRef>,
     out: &mut Vec<Fact>,
 ) -> Result<(), NoMemory>
     ensures { OnOk result
-        (out.new.items ≡ out.old.items ++ none_at types.now (function_of f.now) (option_map spot_seen spot.entry)) }
+        (out.new.items ≡ out.old.items ++ none_at sigs.now types.now (function_of f.now) (option_map spot_seen spot.entry)) }
 {
     match spot {
         None => {}
         Some(spot) => match spot.node {
-            NodeRef::Action(instr) => push_from_none(alloc, types, f, spot.place, instr, out)?,
+            NodeRef::Action(instr) => push_from_none(
+                alloc, sigs, types, f, spot.place, instr, out,
+            )?,
             NodeRef::Question(_) => {}
             NodeRef::Return => {}
             NodeRef::Stop => {}
@@ -59,6 +64,8 @@ fn push_none(
 }
 
 fn push_ones(
+    alloc: Global,
+    sigs: &Signatures,
     types: &TypeTable,
     f: &CoreFn,
     branch: Option<bool>,
@@ -67,15 +74,17 @@ fn push_ones(
     out: &mut Vec<Fact>,
 ) -> Result<(), NoMemory>
     ensures { OnOk result
-        (out.new.items ≡ out.old.items ++ flat_map (one_at types.now (function_of f.now) branch (option_map spot_seen spot.entry)) facts.now) }
+        (out.new.items ≡ out.old.items ++ flat_map (one_at sigs.now types.now (function_of f.now) branch (option_map spot_seen spot.entry)) facts.now) }
 {
     for fact in facts {
-        push_one(types, f, branch, spot, *fact, out)?;
+        push_one(alloc, sigs, types, f, branch, spot, *fact, out)?;
     }
     Ok(())
 }
 
 fn push_one(
+    alloc: Global,
+    sigs: &Signatures,
     types: &TypeTable,
     f: &CoreFn,
     branch: Option<bool>,
@@ -84,12 +93,14 @@ fn push_one(
     out: &mut Vec<Fact>,
 ) -> Result<(), NoMemory>
     ensures { OnOk result
-        (out.new.items ≡ out.old.items ++ one_at types.now (function_of f.now) branch (option_map spot_seen spot.entry) fact) }
+        (out.new.items ≡ out.old.items ++ one_at sigs.now types.now (function_of f.now) branch (option_map spot_seen spot.entry) fact) }
 {
     match spot {
         None => {}
         Some(spot) => match spot.node {
-            NodeRef::Action(instr) => push_from_one(types, f, spot.place, instr, fact, out)?,
+            NodeRef::Action(instr) => push_from_one(
+                alloc, sigs, types, f, spot.place, instr, fact, out,
+            )?,
             NodeRef::Question(test) => push_unless(stops_at(test, branch, fact), fact, out)?,
             NodeRef::Return => out.push(fact)?,
             NodeRef::Stop => out.push(fact)?,
@@ -113,6 +124,8 @@ fn takes_first_at(spot: Option<SpotRef>, fact: &Fact) -> bool
 }
 
 fn push_twos(
+    alloc: Global,
+    sigs: &Signatures,
     types: &TypeTable,
     f: &CoreFn,
     spot: Option<SpotRef>,
@@ -120,11 +133,13 @@ fn push_twos(
     out: &mut Vec<Fact>,
 ) -> Result<(), NoMemory>
     ensures { OnOk result
-        (out.new.items ≡ out.old.items ++ flat_map (λ first. flat_map (two_at types.now (function_of f.now) (option_map spot_seen spot.entry) first) facts.now) facts.now) }
+        (out.new.items ≡ out.old.items ++ flat_map (λ first. flat_map (two_at sigs.now types.now (function_of f.now) (option_map spot_seen spot.entry) first) facts.now) facts.now) }
 {
     for first in facts {
         push_seconds(
             takes_first_at(spot, first),
+            alloc,
+            sigs,
             types,
             f,
             spot,
@@ -139,6 +154,8 @@ fn push_twos(
 // Adds what comes of the first fact and each other, if something does.
 fn push_seconds(
     takes: bool,
+    alloc: Global,
+    sigs: &Signatures,
     types: &TypeTable,
     f: &CoreFn,
     spot: Option<SpotRef>,
@@ -148,18 +165,20 @@ fn push_seconds(
 ) -> Result<(), NoMemory>
     requires { takes ≡ spot_takes_first (option_map spot_seen spot) first }
     ensures { OnOk result
-        (out.new.items ≡ out.old.items ++ flat_map (two_at types.now (function_of f.now) (option_map spot_seen spot.entry) first) facts.now) }
+        (out.new.items ≡ out.old.items ++ flat_map (two_at sigs.now types.now (function_of f.now) (option_map spot_seen spot.entry) first) facts.now) }
 {
     if !takes {
         return Ok(());
     }
     for second in facts {
-        push_two(types, f, spot, first, *second, out)?;
+        push_two(alloc, sigs, types, f, spot, first, *second, out)?;
     }
     Ok(())
 }
 
 fn push_two(
+    alloc: Global,
+    sigs: &Signatures,
     types: &TypeTable,
     f: &CoreFn,
     spot: Option<SpotRef>,
@@ -168,13 +187,13 @@ fn push_two(
     out: &mut Vec<Fact>,
 ) -> Result<(), NoMemory>
     ensures { OnOk result
-        (out.new.items ≡ out.old.items ++ two_at types.now (function_of f.now) (option_map spot_seen spot.entry) first second) }
+        (out.new.items ≡ out.old.items ++ two_at sigs.now types.now (function_of f.now) (option_map spot_seen spot.entry) first second) }
 {
     match spot {
         None => {}
         Some(spot) => match spot.node {
             NodeRef::Action(instr) => push_from_two(
-                types, f, spot.place, instr, first, second, out,
+                alloc, sigs, types, f, spot.place, instr, first, second, out,
             )?,
             NodeRef::Question(_) => {}
             NodeRef::Return => {}

@@ -39,13 +39,16 @@ pub enum Why {
 }
 
 /// A diagnostic: in which function, at which place in the file, what is wrong, with which location,
-/// and why.
+/// and why. What is wrong with an argument is told of the location of the parameter.
 #[derive(Clone, Copy, Debug, PartialEq, Eq, PartialOrd, Ord, Hash)]
 pub struct Diag {
     pub function: u32,
     pub place: Place,
     pub kind: DiagKind,
     pub name: AbsPlace,
+    /// The called function, where `name` is a location of its parameter; None where it is one of the
+    /// function's.
+    pub called: Option<u32>,
     pub why: Why,
 }
 

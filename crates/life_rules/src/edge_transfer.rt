@@ -13,6 +13,7 @@ use crate::along::push_all;
 use crate::row_facts::{add_facts, facts_in};
 use crate::spot::spot_in;
 use life_base::Steps;
+use life_contract::Signatures;
 use life_core::{CoreFn, Edge, SpotRef};
 use life_pset::{ElementTable, Fact, Rows};
 use life_types::{NoMemory, TypeTable};
@@ -24,6 +25,7 @@ use std::sync::ledger::Ledger;
 pub fn given_facts<R: Rows>(
     alloc: Global,
     f: &CoreFn,
+    sigs: &Signatures,
     types: &TypeTable,
     table: &ElementTable,
     edge: Edge,
@@ -32,11 +34,11 @@ pub fn given_facts<R: Rows>(
 ) -> Result<Vec<Fact>, NoMemory>
     requires { option_map spot_seen spot ≡ spot_of (function_of f.now) edge.from }
     ensures { IfOk result
-        (λ all. (x : Fact) → Contains all.items x ↔ GivesFrom table.now types.now (function_of f.now) edge (R.has from.now) x) }
+        (λ all. (x : Fact) → Contains all.items x ↔ GivesFrom table.now sigs.now types.now (function_of f.now) edge (R.has from.now) x) }
 {
     let facts = facts_in(alloc, table, from)?;
     let mut all = Vec::new(alloc);
-    push_all(alloc, types, f, edge.branch, spot, &facts, &mut all)?;
+    push_all(alloc, sigs, types, f, edge.branch, spot, &facts, &mut all)?;
     Ok(all)
 }
 
@@ -45,6 +47,7 @@ pub fn given_facts<R: Rows>(
 pub fn transfer<R: Rows, L: Ledger>(
     alloc: Global,
     f: &CoreFn,
+    sigs: &Signatures,
     types: &TypeTable,
     table: &ElementTable,
     edge: Edge,
@@ -57,9 +60,9 @@ pub fn transfer<R: Rows, L: Ledger>(
     requires locations { R.location_limit into.old ≡ length table.now.locations }
     requires elements { R.element_limit into.old ≡ length table.now.elements }
     ensures carried { OnOk result
-        (Gains (R.has into.old) (R.has into.new) (CarriesPair types.now (function_of f.now) edge (R.has from.now))) }
+        (Gains (R.has into.old) (R.has into.new) (CarriesPair sigs.now types.now (function_of f.now) edge (R.has from.now))) }
     ensures gained { IfOk result (λ gained. IsTrue gained ↔ HasNew (R.has into.old) (R.has into.new)) }
-    ensures between { GainsSome (R.has into.old) (R.has into.new) (CarriesPair types.now (function_of f.now) edge (R.has from.now)) }
+    ensures between { GainsSome (R.has into.old) (R.has into.new) (CarriesPair sigs.now types.now (function_of f.now) edge (R.has from.now)) }
     ensures tick { steps.new ≡ steps.old + 1 }
     ensures locations { R.location_limit into.new ≡ R.location_limit into.old }
     ensures elements { R.element_limit into.new ≡ R.element_limit into.old }
@@ -67,7 +70,7 @@ pub fn transfer<R: Rows, L: Ledger>(
     steps.tick();
     let spots = life_core::spots(alloc, f)?;
     let spot = spot_in(&spots, edge.from);
-    let all = given_facts(alloc, f, types, table, edge, spot, from)?;
+    let all = given_facts(alloc, f, sigs, types, table, edge, spot, from)?;
     let gained = add_facts(table, &all, into)?;
     Ok(gained)
 }

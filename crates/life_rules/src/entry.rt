@@ -9,10 +9,11 @@ ghost use Rattle.life_rules.specs.Carrying.{fact_at};
 ghost use Rattle.life_rules.specs.Deriving.{entry_facts, input_facts, owner_elements, owner_facts, parameter_facts};
 
 use crate::push::push_if;
+use life_contract::may_be_null;
 use life_core::{CoreFn, Local};
 use life_pset::{
-    AbsPlace, Element, Fact, InputPointer, is_raw, push_local_inputs, push_local_locations,
-    shape_type, steps_type, ty_if,
+    AbsPlace, Element, Fact, InputPointer, push_local_inputs, push_local_locations, shape_type,
+    steps_type, ty_if,
 };
 use life_types::{NoMemory, Ty, TyId, TypeTable};
 use std::alloc::Global;
@@ -103,7 +104,7 @@ fn push_input_facts(
         element: Element::At(AbsPlace::of_root(input.root)),
     })?;
     push_if(
-        is_raw(ty_if(types, input.ty)) && !nonnull,
+        may_be_null(types, nonnull, input),
         Fact {
             location: input.pointer,
             element: Element::Null,

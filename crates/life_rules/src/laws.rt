@@ -1,7 +1,21 @@
-// What holds of the diagnostics of all programs.
-ghost use Rattle.std.specs.Prelude.{◌≡◌, List, [], ◌∷◌};
+// What holds of the diagnostics of all programs, and of calls that hand over values alone.
+ghost use Rattle.std.specs.Prelude.{◌≡◌, ℕ, List, [], ◌∷◌, Option, slice_get, true};
+ghost use Rattle.life_types.specs.Types.{Types};
+ghost use Rattle.life_types.specs.declared.place.Place.{Place};
 ghost use Rattle.life_core.specs.Function.{Function, Program};
+ghost use Rattle.life_core.specs.Operands.{Argument, Location};
+ghost use Rattle.life_core.specs.Step.{Call};
+ghost use Rattle.life_core.specs.declared.program.FnId.{FnId};
+ghost use Rattle.life_pset.specs.declared.element.AbsPlace.{AbsPlace};
+ghost use Rattle.life_pset.specs.declared.element.Element.{Element};
+ghost use Rattle.life_pset.specs.declared.element.Fact.{Fact};
+ghost use Rattle.life_contract.specs.Signatures.{Signature};
+ghost use Rattle.life_contract.specs.ValueSignatures.{AreValueSignatures, is_value_signature};
+ghost use Rattle.life_rules.specs.Arguing.{argument_diags, argument_diags_of_two};
+ghost use Rattle.life_rules.specs.Calling.{called_none, called_one, called_two};
+ghost use Rattle.life_rules.specs.Keeping.{keeping_diags};
 ghost use Rattle.life_rules.specs.Listing.{AreDiagnostics, AreProgramDiagnostics};
+ghost use Rattle.life_rules.specs.Returning.{widened_result};
 ghost use Rattle.life_rules.specs.Texts.{naming_in};
 ghost use Rattle.life_rules.specs.declared.diag.Diag.{Diag};
 
@@ -9,4 +23,30 @@ ghost use Rattle.life_rules.specs.declared.diag.Diag.{Diag};
 pub fn one_function_is_the_program()
     ensures { (p : Program) (f : Function) (ds : List Diag) → p.functions ≡ f ∷ []
         → AreDiagnostics (naming_in p) p.types 0 f ds → AreProgramDiagnostics p ds }
+{}
+
+/// Where functions take and give values alone, nothing comes of their calls.
+pub fn value_calls_make_nothing()
+    ensures none { (types : Types) (sigs : List Signature) → AreValueSignatures types sigs → (target : Option Location) (g : FnId)
+        → called_none types (slice_get sigs g.0) target ≡ [] }
+    ensures one { (types : Types) (sigs : List Signature) → AreValueSignatures types sigs → (target : Option Location) (g : FnId) (xs : List Argument) (fact : Fact)
+        → called_one types (slice_get sigs g.0) xs target fact ≡ [] }
+    ensures two { (types : Types) (sigs : List Signature) → AreValueSignatures types sigs
+        → (place : Place) (target : Option Location) (g : FnId) (xs : List Argument) (a b : Fact)
+        → called_two types place g.0 (slice_get sigs g.0) xs target a b ≡ [] }
+{}
+
+/// .. and nothing is wrong with these calls, or wider in a result than is promised.
+pub fn value_calls_are_right()
+    ensures one { (types : Types) (sigs : List Signature) → AreValueSignatures types sigs
+        → (function : ℕ) (place : Place) (target : Option Location) (g : FnId) (xs : List Argument) (fact : Fact)
+        → argument_diags sigs types function place (Call target g xs) fact ≡ [] }
+    ensures kept { (types : Types) (sigs : List Signature) → AreValueSignatures types sigs
+        → (function : ℕ) (f : Function) (place : Place) (target : Option Location) (g : FnId) (xs : List Argument) (fact : Fact)
+        → keeping_diags sigs types function f place (Call target g xs) fact ≡ [] }
+    ensures two { (types : Types) (sigs : List Signature) → AreValueSignatures types sigs
+        → (function : ℕ) (f : Function) (place : Place) (target : Option Location) (g : FnId) (xs : List Argument) (a b : Fact)
+        → argument_diags_of_two sigs types function f place (Call target g xs) a b ≡ [] }
+    ensures result { (types : Types) (sig : Signature) → is_value_signature types sig ≡ true
+        → (function : ℕ) (place : Place) (l : AbsPlace) (e : Element) → widened_result types sig function place l e ≡ [] }
 {}

@@ -2,19 +2,23 @@
 #![tactic(auto)]
 
 mod along;
+mod arguing;
 mod branch;
+mod calling;
 mod diag;
 mod edge_transfer;
 mod entry;
+mod keeping;
 mod kill;
 mod laws;
 mod matching;
-mod names;
 mod none;
 mod one;
 mod push;
+mod returning;
 mod row_facts;
 mod spot;
+mod telling;
 mod texts;
 mod two;
 mod writes;
@@ -24,8 +28,7 @@ mod wrong_two;
 pub use diag::{Diag, DiagKind, DiagText, Why};
 pub use edge_transfer::{given_facts, transfer};
 pub use entry::entry_facts;
-pub use laws::one_function_is_the_program;
-pub use names::function_names;
+pub use laws::{one_function_is_the_program, value_calls_are_right, value_calls_make_nothing};
 pub use row_facts::{add_facts, facts_in};
 pub use spot::spot_in;
 pub use texts::{element_text, kind_name, place_text, texts_of};

@@ -1,40 +1,9 @@
 // Which facts a rule speaks of, and what it makes of their elements.
 ghost use Rattle.std.specs.Prelude.{◌≡◌};
-ghost use Rattle.life_core.specs.Operands.{location_of};
-ghost use Rattle.life_rules.specs.Carrying.{given_over, gotten, is_held, is_location, is_null, is_root, is_rooted, is_rooted_among, located, part_of, points_among, points_under, position_in, reached};
+ghost use Rattle.life_rules.specs.Matching.{given_over, gotten, is_held, is_null, is_rooted_among, part_of, points_among, points_under, position_in, reached};
 
-use life_core::Location;
-use life_pset::{AbsPlace, Element, Root, under};
-
-/// The place that a location names.
-pub fn located(location: &Location) -> AbsPlace
-    ensures { result ≡ located (location_of location.now) }
-{
-    AbsPlace::of_local(location.local).members(&location.members)
-}
-
-/// Whether the place is that of the location.
-pub fn is_location(location: &Location, place: &AbsPlace) -> bool
-    ensures { result ≡ is_location (location_of location.now) place.now }
-{
-    *place == located(location)
-}
-
-/// Whether the place is the local with this number, or lies in it.
-pub fn is_rooted(local: u32, place: &AbsPlace) -> bool
-    ensures { result ≡ is_rooted local place.now }
-{
-    is_root(local, &place.root)
-}
-
-fn is_root(local: u32, root: &Root) -> bool
-    ensures { result ≡ is_root local root.now }
-{
-    match root {
-        Root::Local(number) => local == *number,
-        Root::Input { .. } => false,
-    }
-}
+pub use life_contract::{is_location, is_rooted, located};
+use life_pset::{AbsPlace, Element, under};
 
 /// Whether the place is one of these locals, or lies in one.
 pub fn is_rooted_among(locals: &[u32], place: &AbsPlace) -> bool

@@ -8,8 +8,10 @@ ghost use Rattle.life_core.specs.Step.{change_of, step_of};
 ghost use Rattle.life_pset.specs.Elements.{local_place, moved};
 ghost use Rattle.life_rules.specs.Carrying.{born, born_facts, born_raw, fact_at, from_none, locations_at, locations_of_local, made_element, named_element, named_in, named_position, named_target, own_type, whole_facts};
 
+use crate::calling::push_called_none;
 use crate::matching::{located, part_of};
 use crate::push::{push_at, push_if};
+use life_contract::Signatures;
 use life_core::{Base, Change, CoreFn, Form, Instr, Local, Made, Operand, Source};
 use life_pset::{
     AbsPlace, Element, Fact, is_variable_place, moved, push_local_locations, steps_type, ty_if,
@@ -20,9 +22,11 @@ use std::alloc::Global;
 
 /// Adds what an instruction at a place makes of no fact: what comes to life has no value yet, null, or
 /// a buffer (ISO/IEC 14882:2017 [dcl.init] leaves a pointer indeterminate), what is moved from says so,
-/// and a pointer that is aimed by name points there.
+/// a pointer that is aimed by name points there, and the result of a call is what its function promises
+/// that is no place.
 pub fn push_from_none(
     alloc: Global,
+    sigs: &Signatures,
     types: &TypeTable,
     f: &CoreFn,
     place: Place,
@@ -30,7 +34,7 @@ pub fn push_from_none(
     out: &mut Vec<Fact>,
 ) -> Result<(), NoMemory>
     ensures { OnOk result
-        (out.new.items ≡ out.old.items ++ from_none types.now (function_of f.now) place (step_of instr.now)) }
+        (out.new.items ≡ out.old.items ++ from_none sigs.now types.now (function_of f.now) place (step_of instr.now)) }
 {
     match instr {
         Instr::Live { local, form } => {
@@ -53,6 +57,11 @@ pub fn push_from_none(
             location: located(owner),
             element: made_element(*made),
         })?,
+        Instr::Call {
+            target,
+            function,
+            ..
+        } => push_called_none(alloc, types, sigs.get(*function), target, out)?,
         _ => {}
     }
     Ok(())

@@ -7,23 +7,28 @@ ghost use Rattle.life_core.specs.Step.{change_of, step_of};
 ghost use Rattle.life_pset.specs.Elements.{causes_of_end, end_causes, end_if};
 ghost use Rattle.life_rules.specs.Carrying.{aimed_from, copied_facts, copied_from, copied_location, element_from, ended_element, ended_facts, ended_root, from_one, invalid_facts, killed_facts, kills, makes, moved_facts, position_facts, position_from, reached_from, taken};
 
+use crate::calling::push_called_one;
 use crate::kill::{KillPair, kills, push_after_kill, push_killed};
 use crate::matching::{
     given_over, gotten, is_location, is_rooted_among, located, position_in, reached,
 };
 use crate::push::{push_at_if, push_if, push_unless};
 use crate::writes::{drops, is_whole, writes};
+use life_contract::Signatures;
 use life_core::{Base, Change, CoreFn, Instr, Local, LocalKind, Location, Operand, Source};
 use life_pset::{
     AbsPlace, Cause, Element, Fact, Root, ended, is_pointer, is_unique, is_within, location_type,
     place_type, rest_of, ty_if,
 };
 use life_types::{NoMemory, Place, TypeTable};
+use std::alloc::Global;
 
 /// Adds what an instruction at a place makes of one fact: the fact itself, unless the instruction
 /// drops it, and what the instruction makes of it.
 #[tactic(auto, using(std::proofs::Common::append_assoc))]
 pub fn push_from_one(
+    alloc: Global,
+    sigs: &Signatures,
     types: &TypeTable,
     f: &CoreFn,
     place: Place,
@@ -32,14 +37,16 @@ pub fn push_from_one(
     out: &mut Vec<Fact>,
 ) -> Result<(), NoMemory>
     ensures { OnOk result
-        (out.new.items ≡ out.old.items ++ from_one types.now (function_of f.now) place (step_of instr.now) fact) }
+        (out.new.items ≡ out.old.items ++ from_one sigs.now types.now (function_of f.now) place (step_of instr.now) fact) }
 {
     push_unless(drops(types, f, place, instr, fact), fact, out)?;
-    push_made(types, f, place, instr, fact, out)
+    push_made(alloc, sigs, types, f, place, instr, fact, out)
 }
 
 // Adds what an instruction makes of a fact, beside keeping it.
 fn push_made(
+    alloc: Global,
+    sigs: &Signatures,
     types: &TypeTable,
     f: &CoreFn,
     place: Place,
@@ -48,7 +55,7 @@ fn push_made(
     out: &mut Vec<Fact>,
 ) -> Result<(), NoMemory>
     ensures { OnOk result
-        (out.new.items ≡ out.old.items ++ makes types.now (function_of f.now) place (step_of instr.now) fact) }
+        (out.new.items ≡ out.old.items ++ makes sigs.now types.now (function_of f.now) place (step_of instr.now) fact) }
 {
     match instr {
         Instr::End { locals } => push_ended(f, place, locals, fact, out),
@@ -65,6 +72,19 @@ fn push_made(
             change,
         } => push_change(types, f, place, instr, operand, change, fact, out),
         Instr::Make { .. } => push_killed_facts(types, f, place, instr, fact, out),
+        Instr::Call {
+            target,
+            function,
+            arguments,
+        } => push_called_one(
+            alloc,
+            types,
+            sigs.get(*function),
+            arguments,
+            target,
+            fact,
+            out,
+        ),
         _ => Ok(()),
     }
 }

@@ -1,19 +1,20 @@
 // The texts of places, of elements and of reasons.
 ghost use Rattle.std.specs.Option.{option_copied};
-ghost use Rattle.std.specs.Prelude.{◌≡◌, ◌++◌, map, option_map, IfOk, OnOk};
+ghost use Rattle.std.specs.Prelude.{◌≡◌, ◌++◌, map, option_map, IfOk, OnOk, Some};
 ghost use Rattle.life_core.specs.Function.{function_of, member_name, member_names};
 ghost use Rattle.life_types.specs.Places.{position_text};
 ghost use Rattle.life_pset.specs.Inputs.{input_seen};
 ghost use Rattle.life_rules.specs.Lines.{kind_text};
-ghost use Rattle.life_rules.specs.Texts.{behind_type, cause_subject, cause_text, element_text, function_text, input_number, input_of, input_text, inputs_at, is_result, local_text, member_text, name_if, name_text, named, nameless, naming_of, owned_type, part_text, place_text, points_text, step_text, step_type, steps_text, why_text};
+ghost use Rattle.life_rules.specs.Texts.{behind_type, called_text, cause_subject, cause_text, diag_name, element_text, function_text, input_number, input_of, input_text, inputs_at, is_result, local_text, member_text, name_if, name_text, named, nameless, naming_of, parameter_at, parameter_text, part_text, place_text, points_text, step_text, steps_text, why_text};
 
 use crate::diag::{Diag, DiagKind, DiagText, Why};
-use life_core::{CoreFn, Local, LocalKind, Names};
+use life_contract::{Param, Signature, Signatures, parameter_in, pointee, step_type};
+use life_core::{CoreFn, FnId, Local, LocalKind, Names};
 use life_pset::{
-    AbsPlace, Cause, CauseKind, Element, InputPointer, OWNED_STEP, Root, local_type, member_type,
-    push_local_inputs, target_type, ty_if,
+    AbsPlace, Cause, CauseKind, Element, InputPointer, OWNED_STEP, Root, local_type,
+    push_local_inputs, ty_at, ty_if,
 };
-use life_types::{NameId, NoMemory, Place, Ty, TyId, TypeTable};
+use life_types::{NameId, NoMemory, Place, Ty, TypeTable};
 use std::alloc::Global;
 
 /// The name of a kind of diagnostic, as reports print it.
@@ -37,21 +38,21 @@ pub fn kind_name(kind: DiagKind) -> &'static str
 /// name for each member, and a `'` for each step from an owner to what it owns. The local that holds a
 /// function's result prints as `result`, the hidden range or iterator of a loop over a range as `range`,
 /// any other without a name as `temporary`, and what the caller passed for a parameter P as `in(P)`, for
-/// a member `in(P.m)`. A local that the function doesn't have has an empty text. `functions` are the
-/// names of the program's functions, by their numbers. The only error is the want of memory.
+/// a member `in(P.m)`. A local that the function doesn't have has an empty text. `sigs` are the
+/// signatures of the program's functions. The only error is the want of memory.
 pub fn place_text(
     alloc: Global,
     names: &Names,
-    functions: &[NameId],
     f: &CoreFn,
+    sigs: &Signatures,
     types: &TypeTable,
     place: &AbsPlace,
 ) -> Result<Vec<u8>, NoMemory>
     ensures { IfOk result (λ text.
-        text.items ≡ place_text (naming_of names.now functions.now) types.now (function_of f.now) place.now) }
+        text.items ≡ place_text (naming_of names.now sigs.now) types.now (function_of f.now) place.now) }
 {
     let mut text = Vec::new(alloc);
-    push_place(alloc, names, functions, f, types, place, &mut text)?;
+    push_place(alloc, names, f, sigs, types, place, &mut text)?;
     Ok(text)
 }
 
@@ -59,38 +60,41 @@ pub fn place_text(
 pub fn element_text(
     alloc: Global,
     names: &Names,
-    functions: &[NameId],
     f: &CoreFn,
+    sigs: &Signatures,
     types: &TypeTable,
     element: &Element,
 ) -> Result<Vec<u8>, NoMemory>
     ensures { IfOk result (λ text.
-        text.items ≡ element_text (naming_of names.now functions.now) types.now (function_of f.now) element.now) }
+        text.items ≡ element_text (naming_of names.now sigs.now) types.now (function_of f.now) element.now) }
 {
     let mut text = Vec::new(alloc);
-    push_element(alloc, names, functions, f, types, *element, &mut text)?;
+    push_element(alloc, names, f, sigs, types, *element, &mut text)?;
     Ok(text)
 }
 
-/// What a diagnostic of a function is printed with: the text of its location, and the reason: that it
+/// What a diagnostic of a function is printed with: the text of its location, or of that of the called
+/// function's parameter, which is the parameter's name with a dot and a name for each member, and the
+/// reason: that it
 /// may be null, what made the pointer invalid or the owner moved from, and where, with which parameter
 /// another one overlaps, or what a result may point to. The only error is the want of memory.
 pub fn texts_of(
     alloc: Global,
     names: &Names,
-    functions: &[NameId],
     f: &CoreFn,
+    sigs: &Signatures,
     types: &TypeTable,
     d: &Diag,
 ) -> Result<DiagText, NoMemory>
     ensures name { IfOk result (λ text.
-        text.name.items ≡ place_text (naming_of names.now functions.now) types.now (function_of f.now) d.now.name) }
+        text.name.items ≡ diag_name (naming_of names.now sigs.now) types.now (function_of f.now) d.now.called d.now.name) }
     ensures why { IfOk result (λ text.
-        text.why.items ≡ why_text (naming_of names.now functions.now) types.now (function_of f.now) d.now.why) }
+        text.why.items ≡ why_text (naming_of names.now sigs.now) types.now (function_of f.now) d.now.why) }
 {
-    let name = place_text(alloc, names, functions, f, types, &d.name)?;
+    let mut name = Vec::new(alloc);
+    push_diag_name(alloc, names, f, sigs, types, d.called, &d.name, &mut name)?;
     let mut why = Vec::new(alloc);
-    push_why(alloc, names, functions, f, types, d.why, &mut why)?;
+    push_why(alloc, names, f, sigs, types, d.why, &mut why)?;
     Ok(DiagText { name, why })
 }
 
@@ -109,12 +113,12 @@ fn push_position(alloc: Global, place: Place, out: &mut Vec<u8>) -> Result<(), N
 
 fn push_name(
     names: &Names,
-    functions: &[NameId],
+    sigs: &Signatures,
     name: NameId,
     out: &mut Vec<u8>,
 ) -> Result<(), NoMemory>
     ensures { OnOk result
-        (out.new.items ≡ out.old.items ++ name_text (naming_of names.now functions.now) name) }
+        (out.new.items ≡ out.old.items ++ name_text (naming_of names.now sigs.now) name) }
 {
     if let Some(text) = names.texts.get(name.0 as usize) {
         out.extend_from_slice(text)?;
@@ -124,16 +128,16 @@ fn push_name(
 
 fn push_name_if(
     names: &Names,
-    functions: &[NameId],
+    sigs: &Signatures,
     name: Option<NameId>,
     out: &mut Vec<u8>,
 ) -> Result<(), NoMemory>
     ensures { OnOk result
-        (out.new.items ≡ out.old.items ++ name_if (naming_of names.now functions.now) name) }
+        (out.new.items ≡ out.old.items ++ name_if (naming_of names.now sigs.now) name) }
 {
     match name {
         None => Ok(()),
-        Some(id) => push_name(names, functions, id, out),
+        Some(id) => push_name(names, sigs, id, out),
     }
 }
 
@@ -159,38 +163,38 @@ fn push_nameless(is_result: bool, kind: LocalKind, out: &mut Vec<u8>) -> Result<
 
 fn push_named(
     names: &Names,
-    functions: &[NameId],
+    sigs: &Signatures,
     is_result: bool,
     kind: LocalKind,
     name: Option<NameId>,
     out: &mut Vec<u8>,
 ) -> Result<(), NoMemory>
     ensures { OnOk result
-        (out.new.items ≡ out.old.items ++ named (naming_of names.now functions.now) is_result kind name) }
+        (out.new.items ≡ out.old.items ++ named (naming_of names.now sigs.now) is_result kind name) }
 {
     match name {
         None => push_nameless(is_result, kind, out),
-        Some(name) => push_name(names, functions, name, out),
+        Some(name) => push_name(names, sigs, name, out),
     }
 }
 
 fn push_local(
     names: &Names,
-    functions: &[NameId],
     f: &CoreFn,
+    sigs: &Signatures,
     types: &TypeTable,
     local: u32,
     out: &mut Vec<u8>,
 ) -> Result<(), NoMemory>
     ensures { OnOk result
         (out.new.items
-        ≡ out.old.items ++ local_text (naming_of names.now functions.now) types.now (function_of f.now) local) }
+        ≡ out.old.items ++ local_text (naming_of names.now sigs.now) types.now (function_of f.now) local) }
 {
     match f.locals.get(local as usize) {
         None => Ok(()),
         Some(found) => push_named(
             names,
-            functions,
+            sigs,
             is_result(f, types, local),
             found.kind,
             found.name,
@@ -200,27 +204,6 @@ fn push_local(
 }
 
 // ---- steps
-
-// The type that an owner owns; the characters of a string have no type in the table.
-fn owned_type(ty: Ty) -> Option<TyId>
-    ensures { result ≡ owned_type ty }
-{
-    match ty {
-        Ty::Vector(item) => Some(item),
-        Ty::Unique(target) => Some(target),
-        _ => None,
-    }
-}
-
-fn step_type(types: &TypeTable, id: Option<TyId>, step: u8) -> Option<TyId>
-    ensures { result ≡ step_type types.now id step }
-{
-    if step == OWNED_STEP {
-        owned_type(ty_if(types, id))
-    } else {
-        member_type(types, id, step as usize)
-    }
-}
 
 // The name of a member, by the numbers of the struct and the member.
 fn member_name(names: &Names, number: u32, member: usize) -> Option<NameId>
@@ -234,18 +217,18 @@ fn member_name(names: &Names, number: u32, member: usize) -> Option<NameId>
 
 fn push_member(
     names: &Names,
-    functions: &[NameId],
+    sigs: &Signatures,
     ty: Ty,
     member: usize,
     out: &mut Vec<u8>,
 ) -> Result<(), NoMemory>
     ensures { OnOk result
-        (out.new.items ≡ out.old.items ++ member_text (naming_of names.now functions.now) ty member) }
+        (out.new.items ≡ out.old.items ++ member_text (naming_of names.now sigs.now) ty member) }
 {
     match ty {
         Ty::Struct(number) => {
             out.extend_from_slice(b".")?;
-            push_name_if(names, functions, member_name(names, number, member), out)?;
+            push_name_if(names, sigs, member_name(names, number, member), out)?;
         }
         _ => {}
     }
@@ -254,36 +237,36 @@ fn push_member(
 
 fn push_step(
     names: &Names,
-    functions: &[NameId],
+    sigs: &Signatures,
     ty: Ty,
     step: u8,
     out: &mut Vec<u8>,
 ) -> Result<(), NoMemory>
     ensures { OnOk result
-        (out.new.items ≡ out.old.items ++ step_text (naming_of names.now functions.now) ty step) }
+        (out.new.items ≡ out.old.items ++ step_text (naming_of names.now sigs.now) ty step) }
 {
     if step == OWNED_STEP {
         out.extend_from_slice(b"'")?;
         Ok(())
     } else {
-        push_member(names, functions, ty, step as usize, out)
+        push_member(names, sigs, ty, step as usize, out)
     }
 }
 
 fn push_steps(
     names: &Names,
-    functions: &[NameId],
+    sigs: &Signatures,
     types: &TypeTable,
-    id: Option<TyId>,
+    ty: Ty,
     steps: &[u8],
     out: &mut Vec<u8>,
 ) -> Result<(), NoMemory>
     ensures { OnOk result
-        (out.new.items ≡ out.old.items ++ steps_text (naming_of names.now functions.now) types.now id steps.now) }
+        (out.new.items ≡ out.old.items ++ steps_text (naming_of names.now sigs.now) types.now ty steps.now) }
 {
-    let mut here = id;
+    let mut here = ty;
     for step in steps {
-        push_step(names, functions, ty_if(types, here), *step, out)?;
+        push_step(names, sigs, here, *step, out)?;
         here = step_type(types, here, *step);
     }
     Ok(())
@@ -294,8 +277,8 @@ fn push_steps(
 #[tactic(auto, using(std::proofs::Common::append_assoc))]
 fn push_part(
     names: &Names,
-    functions: &[NameId],
     f: &CoreFn,
+    sigs: &Signatures,
     types: &TypeTable,
     local: u32,
     steps: &[u8],
@@ -303,21 +286,21 @@ fn push_part(
 ) -> Result<(), NoMemory>
     ensures { OnOk result
         (out.new.items
-        ≡ out.old.items ++ part_text (naming_of names.now functions.now) types.now (function_of f.now) local steps.now) }
+        ≡ out.old.items ++ part_text (naming_of names.now sigs.now) types.now (function_of f.now) local steps.now) }
 {
-    push_local(names, functions, f, types, local, out)?;
+    push_local(names, f, sigs, types, local, out)?;
     push_steps(
         names,
-        functions,
+        sigs,
         types,
-        local_type(types, f, local),
+        ty_if(types, local_type(types, f, local)),
         steps,
         out,
     )
 }
 
-// The pointer for which a caller passed what this root stands for.
-fn input_of(
+/// The pointer for which a caller passed what this root stands for.
+pub(crate) fn input_of(
     alloc: Global,
     f: &CoreFn,
     types: &TypeTable,
@@ -367,8 +350,8 @@ fn input_number(member: Option<u8>) -> usize
 
 fn push_input(
     names: &Names,
-    functions: &[NameId],
     f: &CoreFn,
+    sigs: &Signatures,
     types: &TypeTable,
     parameter: u32,
     input: Option<InputPointer>,
@@ -376,61 +359,44 @@ fn push_input(
 ) -> Result<(), NoMemory>
     ensures { OnOk result
         (out.new.items
-        ≡ out.old.items ++ input_text (naming_of names.now functions.now) types.now (function_of f.now) parameter (option_map input_seen input)) }
+        ≡ out.old.items ++ input_text (naming_of names.now sigs.now) types.now (function_of f.now) parameter (option_map input_seen input)) }
 {
     out.extend_from_slice(b"in(")?;
     match input {
-        None => push_local(names, functions, f, types, parameter, out)?,
-        Some(input) => push_part(
-            names,
-            functions,
-            f,
-            types,
-            parameter,
-            input.pointer.path(),
-            out,
-        )?,
+        None => push_local(names, f, sigs, types, parameter, out)?,
+        Some(input) => push_part(names, f, sigs, types, parameter, input.pointer.path(), out)?,
     }
     out.extend_from_slice(b")")?;
     Ok(())
 }
 
-fn behind_type(types: &TypeTable, input: Option<InputPointer>) -> Option<TyId>
+fn behind_type(types: &TypeTable, input: Option<InputPointer>) -> Ty
     ensures { result ≡ behind_type types.now (option_map input_seen input) }
 {
     match input {
-        None => None,
-        Some(input) => target_type(types, input.ty),
+        None => Ty::Void,
+        Some(input) => pointee(types, ty_if(types, input.ty)),
     }
 }
 
 fn push_place(
     alloc: Global,
     names: &Names,
-    functions: &[NameId],
     f: &CoreFn,
+    sigs: &Signatures,
     types: &TypeTable,
     place: &AbsPlace,
     out: &mut Vec<u8>,
 ) -> Result<(), NoMemory>
     ensures { OnOk result
         (out.new.items
-        ≡ out.old.items ++ place_text (naming_of names.now functions.now) types.now (function_of f.now) place.now) }
+        ≡ out.old.items ++ place_text (naming_of names.now sigs.now) types.now (function_of f.now) place.now) }
 {
     match place.root {
-        Root::Local(local) => push_part(names, functions, f, types, local, place.path(), out),
+        Root::Local(local) => push_part(names, f, sigs, types, local, place.path(), out),
         Root::Input { parameter, member } => {
             let input = input_of(alloc, f, types, parameter, member)?;
-            push_behind(
-                names,
-                functions,
-                f,
-                types,
-                parameter,
-                input,
-                place.path(),
-                out,
-            )
+            push_behind(names, f, sigs, types, parameter, input, place.path(), out)
         }
     }
 }
@@ -438,8 +404,8 @@ fn push_place(
 #[tactic(auto, using(std::proofs::Common::append_assoc))]
 fn push_behind(
     names: &Names,
-    functions: &[NameId],
     f: &CoreFn,
+    sigs: &Signatures,
     types: &TypeTable,
     parameter: u32,
     input: Option<InputPointer>,
@@ -448,44 +414,122 @@ fn push_behind(
 ) -> Result<(), NoMemory>
     ensures { OnOk result
         (out.new.items
-        ≡ out.old.items ++ (input_text (naming_of names.now functions.now) types.now (function_of f.now) parameter (option_map input_seen input) ++ steps_text (naming_of names.now functions.now) types.now (behind_type types.now (option_map input_seen input)) steps.now)) }
+        ≡ out.old.items ++ (input_text (naming_of names.now sigs.now) types.now (function_of f.now) parameter (option_map input_seen input) ++ steps_text (naming_of names.now sigs.now) types.now (behind_type types.now (option_map input_seen input)) steps.now)) }
 {
-    push_input(names, functions, f, types, parameter, input, out)?;
-    push_steps(
-        names,
-        functions,
-        types,
-        behind_type(types, input),
-        steps,
-        out,
-    )
+    push_input(names, f, sigs, types, parameter, input, out)?;
+    push_steps(names, sigs, types, behind_type(types, input), steps, out)
 }
 
-// ---- causes, elements and reasons
+// ---- called functions
+
+fn push_called(
+    names: &Names,
+    sigs: &Signatures,
+    sig: Option<&Signature>,
+    out: &mut Vec<u8>,
+) -> Result<(), NoMemory>
+    ensures { OnOk result
+        (out.new.items ≡ out.old.items ++ called_text (naming_of names.now sigs.now) (option_copied sig.entry)) }
+{
+    match sig {
+        None => Ok(()),
+        Some(sig) => push_name(names, sigs, sig.name, out),
+    }
+}
 
 fn push_function(
     names: &Names,
-    functions: &[NameId],
+    sigs: &Signatures,
     number: u32,
     out: &mut Vec<u8>,
 ) -> Result<(), NoMemory>
     ensures { OnOk result
-        (out.new.items ≡ out.old.items ++ function_text (naming_of names.now functions.now) number) }
+        (out.new.items ≡ out.old.items ++ function_text (naming_of names.now sigs.now) number) }
 {
-    push_name_if(
-        names,
-        functions,
-        functions.get(number as usize).copied(),
-        out,
-    )
+    push_called(names, sigs, sigs.get(FnId(number)), out)
 }
+
+// Adds the text of a location of a parameter.
+fn push_parameter(
+    names: &Names,
+    sigs: &Signatures,
+    types: &TypeTable,
+    parameter: Option<&Param>,
+    steps: &[u8],
+    out: &mut Vec<u8>,
+) -> Result<(), NoMemory>
+    ensures { OnOk result
+        (out.new.items
+        ≡ out.old.items ++ parameter_text (naming_of names.now sigs.now) types.now (option_copied parameter.entry) steps.now) }
+{
+    match parameter {
+        None => Ok(()),
+        Some(parameter) => push_parameter_part(names, sigs, types, *parameter, steps, out),
+    }
+}
+
+#[tactic(auto, using(std::proofs::Common::append_assoc))]
+fn push_parameter_part(
+    names: &Names,
+    sigs: &Signatures,
+    types: &TypeTable,
+    parameter: Param,
+    steps: &[u8],
+    out: &mut Vec<u8>,
+) -> Result<(), NoMemory>
+    ensures { OnOk result
+        (out.new.items
+        ≡ out.old.items ++ parameter_text (naming_of names.now sigs.now) types.now (Some parameter) steps.now) }
+{
+    push_name_if(names, sigs, parameter.name, out)?;
+    push_steps(names, sigs, types, ty_at(types, parameter.ty), steps, out)
+}
+
+fn parameter_at(sig: Option<&Signature>, root: Root) -> Option<&Param>
+    ensures { option_copied result ≡ parameter_at (option_copied sig.entry) root }
+{
+    match sig {
+        None => None,
+        Some(sig) => sig.parameters.get(parameter_in(root) as usize),
+    }
+}
+
+// Adds what a diagnostic names: a location of the function, or of a parameter of the called one.
+fn push_diag_name(
+    alloc: Global,
+    names: &Names,
+    f: &CoreFn,
+    sigs: &Signatures,
+    types: &TypeTable,
+    called: Option<u32>,
+    location: &AbsPlace,
+    out: &mut Vec<u8>,
+) -> Result<(), NoMemory>
+    ensures { OnOk result
+        (out.new.items
+        ≡ out.old.items ++ diag_name (naming_of names.now sigs.now) types.now (function_of f.now) called location.now) }
+{
+    match called {
+        None => push_place(alloc, names, f, sigs, types, location, out),
+        Some(number) => push_parameter(
+            names,
+            sigs,
+            types,
+            parameter_at(sigs.get(FnId(number)), location.root),
+            location.path(),
+            out,
+        ),
+    }
+}
+
+// ---- causes, elements and reasons
 
 // What became of the pointer or of the variable, or what was done.
 #[tactic(auto, using(std::proofs::Common::append_assoc))]
 fn push_subject(
     names: &Names,
-    functions: &[NameId],
     f: &CoreFn,
+    sigs: &Signatures,
     types: &TypeTable,
     root: u32,
     kind: CauseKind,
@@ -493,30 +537,30 @@ fn push_subject(
 ) -> Result<(), NoMemory>
     ensures { OnOk result
         (out.new.items
-        ≡ out.old.items ++ cause_subject (naming_of names.now functions.now) types.now (function_of f.now) root kind) }
+        ≡ out.old.items ++ cause_subject (naming_of names.now sigs.now) types.now (function_of f.now) root kind) }
 {
     match kind {
         CauseKind::Uninitialised => {
-            push_local(names, functions, f, types, root, out)?;
+            push_local(names, f, sigs, types, root, out)?;
             out.extend_from_slice(b" uninitialised at ")?;
         }
         CauseKind::Ended => {
-            push_local(names, functions, f, types, root, out)?;
+            push_local(names, f, sigs, types, root, out)?;
             out.extend_from_slice(b" ended at ")?;
         }
         CauseKind::TemporaryEnded => out.extend_from_slice(b"temporary ended at ")?,
         CauseKind::Changed => {
-            push_local(names, functions, f, types, root, out)?;
+            push_local(names, f, sigs, types, root, out)?;
             out.extend_from_slice(b" changed at ")?;
         }
         CauseKind::OwnerChanged => out.extend_from_slice(b"owner changed at ")?,
         CauseKind::Moved => {
-            push_local(names, functions, f, types, root, out)?;
+            push_local(names, f, sigs, types, root, out)?;
             out.extend_from_slice(b" moved at ")?;
         }
         CauseKind::Called => {
             out.extend_from_slice(b"call of ")?;
-            push_function(names, functions, root, out)?;
+            push_function(names, sigs, root, out)?;
             out.extend_from_slice(b" at ")?;
         }
     }
@@ -527,17 +571,17 @@ fn push_subject(
 fn push_cause(
     alloc: Global,
     names: &Names,
-    functions: &[NameId],
     f: &CoreFn,
+    sigs: &Signatures,
     types: &TypeTable,
     cause: Cause,
     out: &mut Vec<u8>,
 ) -> Result<(), NoMemory>
     ensures { OnOk result
         (out.new.items
-        ≡ out.old.items ++ cause_text (naming_of names.now functions.now) types.now (function_of f.now) cause) }
+        ≡ out.old.items ++ cause_text (naming_of names.now sigs.now) types.now (function_of f.now) cause) }
 {
-    push_subject(names, functions, f, types, cause.root, cause.kind, out)?;
+    push_subject(names, f, sigs, types, cause.root, cause.kind, out)?;
     push_position(alloc, cause.place, out)
 }
 
@@ -545,31 +589,31 @@ fn push_cause(
 fn push_element(
     alloc: Global,
     names: &Names,
-    functions: &[NameId],
     f: &CoreFn,
+    sigs: &Signatures,
     types: &TypeTable,
     element: Element,
     out: &mut Vec<u8>,
 ) -> Result<(), NoMemory>
     ensures { OnOk result
         (out.new.items
-        ≡ out.old.items ++ element_text (naming_of names.now functions.now) types.now (function_of f.now) element) }
+        ≡ out.old.items ++ element_text (naming_of names.now sigs.now) types.now (function_of f.now) element) }
 {
     match element {
         Element::Null => out.extend_from_slice(b"null")?,
         Element::Invalid(cause) => {
             out.extend_from_slice(b"invalid(")?;
-            push_cause(alloc, names, functions, f, types, cause, out)?;
+            push_cause(alloc, names, f, sigs, types, cause, out)?;
             out.extend_from_slice(b")")?;
         }
         Element::Moved(cause) => {
             out.extend_from_slice(b"moved(")?;
-            push_cause(alloc, names, functions, f, types, cause, out)?;
+            push_cause(alloc, names, f, sigs, types, cause, out)?;
             out.extend_from_slice(b")")?;
         }
         Element::Own => out.extend_from_slice(b"own")?,
         Element::Static => out.extend_from_slice(b"static")?,
-        Element::At(place) => push_place(alloc, names, functions, f, types, &place, out)?,
+        Element::At(place) => push_place(alloc, names, f, sigs, types, &place, out)?,
     }
     Ok(())
 }
@@ -579,15 +623,15 @@ fn push_element(
 fn push_points(
     alloc: Global,
     names: &Names,
-    functions: &[NameId],
     f: &CoreFn,
+    sigs: &Signatures,
     types: &TypeTable,
     element: Element,
     out: &mut Vec<u8>,
 ) -> Result<(), NoMemory>
     ensures { OnOk result
         (out.new.items
-        ≡ out.old.items ++ points_text (naming_of names.now functions.now) types.now (function_of f.now) element) }
+        ≡ out.old.items ++ points_text (naming_of names.now sigs.now) types.now (function_of f.now) element) }
 {
     match element {
         Element::Null => {
@@ -596,7 +640,7 @@ fn push_points(
         }
         _ => {
             out.extend_from_slice(b"may point to ")?;
-            push_element(alloc, names, functions, f, types, element, out)
+            push_element(alloc, names, f, sigs, types, element, out)
         }
     }
 }
@@ -605,24 +649,24 @@ fn push_points(
 fn push_why(
     alloc: Global,
     names: &Names,
-    functions: &[NameId],
     f: &CoreFn,
+    sigs: &Signatures,
     types: &TypeTable,
     why: Why,
     out: &mut Vec<u8>,
 ) -> Result<(), NoMemory>
     ensures { OnOk result
         (out.new.items
-        ≡ out.old.items ++ why_text (naming_of names.now functions.now) types.now (function_of f.now) why) }
+        ≡ out.old.items ++ why_text (naming_of names.now sigs.now) types.now (function_of f.now) why) }
 {
     match why {
         Why::Null => out.extend_from_slice(b"may be null")?,
-        Why::Cause(cause) => push_cause(alloc, names, functions, f, types, cause, out)?,
+        Why::Cause(cause) => push_cause(alloc, names, f, sigs, types, cause, out)?,
         Why::Overlap(name) => {
             out.extend_from_slice(b"overlaps ")?;
-            push_name(names, functions, name, out)?;
+            push_name(names, sigs, name, out)?;
         }
-        Why::Points(element) => push_points(alloc, names, functions, f, types, element, out)?,
+        Why::Points(element) => push_points(alloc, names, f, sigs, types, element, out)?,
     }
     Ok(())
 }

@@ -7,12 +7,15 @@ ghost use Rattle.life_core.specs.Step.{step_of};
 ghost use Rattle.life_rules.specs.Along.{is_target_of, takes_first};
 ghost use Rattle.life_rules.specs.Carrying.{from_two, killed_through, killed_under};
 
+use crate::calling::push_called_two;
 use crate::matching::{is_location, points_under};
 use crate::push::push_if;
 use crate::writes::writes;
+use life_contract::{Signatures, is_in_arguments};
 use life_core::{CoreFn, Instr, Operand};
 use life_pset::{Element, Fact, holds_owner_if, operand_type, owner_changed};
 use life_types::{NoMemory, Place, TypeTable};
+use std::alloc::Global;
 
 /// Whether the fact is about the pointer through which an operand names something.
 pub fn is_target_of(operand: &Operand, fact: &Fact) -> bool
@@ -24,8 +27,8 @@ pub fn is_target_of(operand: &Operand, fact: &Fact) -> bool
     }
 }
 
-/// Whether the instruction makes something of the fact and another one: it changes something through
-/// the pointer that the fact is about.
+/// Whether the instruction may make something of the fact and another one: it changes something through
+/// the pointer that the fact is about, or hands it over.
 pub fn takes_first(instr: &Instr, fact: &Fact) -> bool
     ensures { result ≡ takes_first (step_of instr.now) fact.now }
 {
@@ -33,6 +36,7 @@ pub fn takes_first(instr: &Instr, fact: &Fact) -> bool
         Instr::Copy { to, .. } => is_target_of(to, fact),
         Instr::Move { to, .. } => is_target_of(to, fact),
         Instr::Change { place, .. } => is_target_of(place, fact),
+        Instr::Call { arguments, .. } => is_in_arguments(arguments, &fact.location),
         _ => false,
     }
 }
@@ -40,6 +44,8 @@ pub fn takes_first(instr: &Instr, fact: &Fact) -> bool
 /// Adds what an instruction at a place makes of two facts: what points under an owner that may be
 /// changed through a pointer may be invalid.
 pub fn push_from_two(
+    alloc: Global,
+    sigs: &Signatures,
     types: &TypeTable,
     f: &CoreFn,
     place: Place,
@@ -49,7 +55,7 @@ pub fn push_from_two(
     out: &mut Vec<Fact>,
 ) -> Result<(), NoMemory>
     ensures { OnOk result
-        (out.new.items ≡ out.old.items ++ from_two types.now (function_of f.now) place (step_of instr.now) target victim) }
+        (out.new.items ≡ out.old.items ++ from_two sigs.now types.now (function_of f.now) place (step_of instr.now) target victim) }
 {
     match instr {
         Instr::Copy { to, .. } => {
@@ -60,6 +66,22 @@ pub fn push_from_two(
         Instr::Move { to, .. } => push_killed_through(place, instr, to, target, victim, out)?,
         Instr::Change { place: operand, .. } => push_killed_through(
             place, instr, operand, target, victim, out,
+        )?,
+        Instr::Call {
+            target: into,
+            function,
+            arguments,
+        } => push_called_two(
+            alloc,
+            types,
+            place,
+            *function,
+            sigs.get(*function),
+            arguments,
+            into,
+            target,
+            victim,
+            out,
         )?,
         _ => {}
     }

@@ -5,6 +5,7 @@ ghost use Rattle.life_core.specs.Operands.{operand_of, whole};
 ghost use Rattle.life_core.specs.Step.{change_of, step_of};
 ghost use Rattle.life_rules.specs.Carrying.{drops, is_erased_into, is_in_named, is_killed, is_location, is_named, kills, writes};
 
+use crate::calling::is_in_target;
 use crate::kill::{is_killed, kills};
 use crate::matching::{is_location, is_rooted, is_rooted_among, located, points_among};
 use life_core::{Change, CoreFn, Instr, Operand};
@@ -57,6 +58,7 @@ pub fn writes(instr: &Instr, location: &AbsPlace) -> bool
         Instr::Cursor { pointer, .. } => is_location(pointer, location),
         Instr::Change { change, .. } => is_erased_into(change, location),
         Instr::Make { owner, .. } => is_location(owner, location),
+        Instr::Call { target, .. } => is_in_target(target, location),
         _ => false,
     }
 }
@@ -99,6 +101,7 @@ pub fn drops(types: &TypeTable, f: &CoreFn, place: Place, instr: &Instr, fact: F
             is_location(owner, &fact.location)
                 || is_killed(kills(types, f, place, instr), &fact.element)
         }
+        Instr::Call { target, .. } => is_in_target(target, &fact.location),
         _ => false,
     }
 }

@@ -5,25 +5,33 @@ ghost use Rattle.life_core.specs.Function.{function_of};
 ghost use Rattle.life_core.specs.Node.{spot_seen};
 ghost use Rattle.life_core.specs.Operands.{base_of, characters_of, location_of, operand_of, source_of, whole, Name};
 ghost use Rattle.life_core.specs.Step.{change_of, port_of, step_of};
-ghost use Rattle.life_rules.specs.Diagnosing.{dangling_result, diags_at, misopened, misopened_as, misread, misread_as, misused, misused_as, moved_as, moved_use, opened_by_base, opened_if, opened_in, opens, owner_of_base, owner_of_source, owners, read_by_base, read_by_change, read_by_characters, read_by_port, reads, return_diags, step_diags, told, used_by_base, used_by_source, used_in, uses};
+ghost use Rattle.life_rules.specs.Diagnosing.{diags_at, misopened, misopened_as, misread, misread_as, misused, misused_as, moved_as, moved_use, opened_by_base, opened_if, opened_in, opens, owner_of_base, owner_of_source, owners, read_by_base, read_by_change, read_by_characters, read_by_port, reads, step_diags, use_diags, used_by_base, used_by_source, used_in, uses};
 
+use crate::arguing::push_argument_diags;
 use crate::diag::{Diag, DiagKind, Why};
-use crate::matching::{is_location, is_rooted};
-use crate::texts::is_result;
+use crate::keeping::push_keeping_diags;
+use crate::matching::is_location;
+use crate::returning::push_return_diags;
+use crate::telling::push_told;
 use crate::writes::is_whole;
+use life_contract::Signatures;
 use life_core::{
     Base, Change, Characters, CoreFn, Instr, Location, NodeRef, Operand, Port, Source, SpotRef,
     Which,
 };
 use life_pset::{AbsPlace, Element, Fact, is_variable_place};
 use life_types::{NoMemory, Place, TypeTable};
+use std::alloc::Global;
 
 /// Adds what one fact makes wrong at a point before which it holds, in the function with this number,
 /// in the manner of WG21 P1179R1: nothing may go through a pointer that may be null or invalid, use a
 /// view, a span or an iterator that may be invalid, take what a `std::unique_ptr` owns that may be
-/// null, or use a vector or a string that may be moved from; and no result may be invalid. The only
-/// error is the want of memory.
+/// null, or use a vector or a string that may be moved from; no argument may be invalid, or null where
+/// the parameter doesn't admit it; no owner may change that a parameter keeps; and no result may be
+/// invalid, or what its function doesn't promise. The only error is the want of memory.
 pub fn push_diags(
+    alloc: Global,
+    sigs: &Signatures,
     types: &TypeTable,
     function: u32,
     f: &CoreFn,
@@ -32,18 +40,22 @@ pub fn push_diags(
     out: &mut Vec<Diag>,
 ) -> Result<(), NoMemory>
     ensures { OnOk result
-        (out.new.items ≡ out.old.items ++ diags_at types.now function (function_of f.now) (Some (spot_seen spot.entry)) fact.now) }
+        (out.new.items ≡ out.old.items ++ diags_at sigs.now types.now function (function_of f.now) (Some (spot_seen spot.entry)) fact.now) }
 {
     match spot.node {
-        NodeRef::Action(instr) => push_step_diags(types, function, f, spot.place, instr, fact, out),
+        NodeRef::Action(instr) => push_step_diags(
+            alloc, sigs, types, function, f, spot.place, instr, fact, out,
+        ),
         NodeRef::Question(_) => Ok(()),
-        NodeRef::Return => push_return_diags(types, function, f, spot.place, fact, out),
+        NodeRef::Return => push_return_diags(alloc, types, function, f, spot.place, fact, out),
         NodeRef::Stop => Ok(()),
     }
 }
 
 #[tactic(auto, using(std::proofs::Common::append_assoc))]
 fn push_step_diags(
+    alloc: Global,
+    sigs: &Signatures,
     types: &TypeTable,
     function: u32,
     f: &CoreFn,
@@ -53,7 +65,26 @@ fn push_step_diags(
     out: &mut Vec<Diag>,
 ) -> Result<(), NoMemory>
     ensures { OnOk result
-        (out.new.items ≡ out.old.items ++ step_diags types.now function (function_of f.now) place (step_of instr.now) fact.now) }
+        (out.new.items ≡ out.old.items ++ step_diags sigs.now types.now function (function_of f.now) place (step_of instr.now) fact.now) }
+{
+    push_use_diags(types, function, f, place, instr, fact, out)?;
+    push_argument_diags(alloc, sigs, types, function, place, instr, fact, out)?;
+    push_keeping_diags(alloc, sigs, types, function, f, place, instr, fact, out)
+}
+
+// Adds what is wrong with what an instruction uses.
+#[tactic(auto, using(std::proofs::Common::append_assoc))]
+fn push_use_diags(
+    types: &TypeTable,
+    function: u32,
+    f: &CoreFn,
+    place: Place,
+    instr: &Instr,
+    fact: &Fact,
+    out: &mut Vec<Diag>,
+) -> Result<(), NoMemory>
+    ensures { OnOk result
+        (out.new.items ≡ out.old.items ++ use_diags types.now function (function_of f.now) place (step_of instr.now) fact.now) }
 {
     push_misuses(function, place, instr, fact, out)?;
     push_misreads(function, place, instr, fact, out)?;
@@ -197,26 +228,6 @@ fn push_misused(
         Element::Static => {}
         Element::At(_) => {}
     }
-    Ok(())
-}
-
-fn push_told(
-    function: u32,
-    place: Place,
-    kind: DiagKind,
-    name: AbsPlace,
-    why: Why,
-    out: &mut Vec<Diag>,
-) -> Result<(), NoMemory>
-    ensures { OnOk result (out.new.items ≡ out.old.items ++ told function place kind name why) }
-{
-    out.push(Diag {
-        function,
-        place,
-        kind,
-        name,
-        why,
-    })?;
     Ok(())
 }
 
@@ -614,48 +625,6 @@ pub(crate) fn push_moved_use(
             place,
             DiagKind::MovedUse,
             name,
-            Why::Cause(cause),
-            out,
-        )?,
-        _ => {}
-    }
-    Ok(())
-}
-
-// ---- results
-
-fn push_return_diags(
-    types: &TypeTable,
-    function: u32,
-    f: &CoreFn,
-    place: Place,
-    fact: &Fact,
-    out: &mut Vec<Diag>,
-) -> Result<(), NoMemory>
-    ensures { OnOk result
-        (out.new.items ≡ out.old.items ++ return_diags types.now function (function_of f.now) place fact.now) }
-{
-    if is_result(f, types, f.parameters) && is_rooted(f.parameters, &fact.location) {
-        push_dangling_result(function, place, fact, out)?;
-    }
-    Ok(())
-}
-
-fn push_dangling_result(
-    function: u32,
-    place: Place,
-    fact: &Fact,
-    out: &mut Vec<Diag>,
-) -> Result<(), NoMemory>
-    ensures { OnOk result
-        (out.new.items ≡ out.old.items ++ dangling_result function place fact.now.location fact.now.element) }
-{
-    match fact.element {
-        Element::Invalid(cause) => push_told(
-            function,
-            place,
-            DiagKind::ReturnDangling,
-            fact.location,
             Why::Cause(cause),
             out,
         )?,

@@ -6,20 +6,26 @@ ghost use Rattle.life_core.specs.Node.{spot_seen};
 ghost use Rattle.life_core.specs.Operands.{base_of, location_of, operand_of, source_of};
 ghost use Rattle.life_core.specs.Step.{step_of};
 ghost use Rattle.life_rules.specs.Along.{base_tells_first, node_tells_first, source_tells_first, tells_first};
-ghost use Rattle.life_rules.specs.Diagnosing.{diags_of_two, moved_target, moved_through, owner_of_base, owner_of_source, owners};
+ghost use Rattle.life_rules.specs.Diagnosing.{diags_of_two, moved_target, moved_through, owner_of_base, owner_of_source, owners, step_diags_of_two};
 
+use crate::arguing::push_argument_diags_of_two;
 use crate::diag::Diag;
 use crate::matching::{is_location, located};
 use crate::two::is_target_of;
 use crate::wrong::push_moved_use;
+use life_contract::{Signatures, is_in_arguments};
 use life_core::{Base, CoreFn, Instr, Location, NodeRef, Operand, Source, SpotRef};
 use life_pset::{Element, Fact, is_variable_place};
 use life_types::{NoMemory, Place, TypeTable};
+use std::alloc::Global;
 
-/// Adds what a target of a pointer and another fact make wrong at a point before which both hold: a
-/// vector or a string that the pointer points to may not be used where it may be moved from. The only
-/// error is the want of memory.
+/// Adds what two facts make wrong at a point before which both hold: a vector or a string that a pointer
+/// points to may not be used, or handed over, where it may be moved from, and two arguments may not
+/// overlap where the callee may change an owner behind one of them. The only error is the want of
+/// memory.
 pub fn push_diags_of_two(
+    alloc: Global,
+    sigs: &Signatures,
     types: &TypeTable,
     function: u32,
     f: &CoreFn,
@@ -29,11 +35,13 @@ pub fn push_diags_of_two(
     out: &mut Vec<Diag>,
 ) -> Result<(), NoMemory>
     ensures { OnOk result
-        (out.new.items ≡ out.old.items ++ diags_of_two types.now function (function_of f.now) (Some (spot_seen spot.entry)) target.now owner.now) }
+        (out.new.items ≡ out.old.items ++ diags_of_two sigs.now types.now function (function_of f.now) (Some (spot_seen spot.entry)) target.now owner.now) }
 {
     match spot.node {
         NodeRef::Action(instr) => {
-            push_step_of_two(types, function, f, spot.place, instr, target, owner, out)
+            push_step_of_two(
+                alloc, sigs, types, function, f, spot.place, instr, target, owner, out,
+            )
         }
         NodeRef::Question(_) => Ok(()),
         NodeRef::Return => Ok(()),
@@ -41,7 +49,29 @@ pub fn push_diags_of_two(
     }
 }
 
+#[tactic(auto, using(std::proofs::Common::append_assoc))]
 fn push_step_of_two(
+    alloc: Global,
+    sigs: &Signatures,
+    types: &TypeTable,
+    function: u32,
+    f: &CoreFn,
+    place: Place,
+    instr: &Instr,
+    target: &Fact,
+    owner: &Fact,
+    out: &mut Vec<Diag>,
+) -> Result<(), NoMemory>
+    ensures { OnOk result
+        (out.new.items ≡ out.old.items ++ step_diags_of_two sigs.now types.now function (function_of f.now) place (step_of instr.now) target.now owner.now) }
+{
+    push_moved_uses_of_two(types, function, f, place, instr, target, owner, out)?;
+    push_argument_diags_of_two(
+        alloc, sigs, types, function, f, place, instr, target, owner, out,
+    )
+}
+
+fn push_moved_uses_of_two(
     types: &TypeTable,
     function: u32,
     f: &CoreFn,
@@ -181,7 +211,7 @@ fn push_moved_target(
 }
 
 /// Whether the fact and another one may make something wrong at a point: it uses an owner through the
-/// pointer that the fact is about.
+/// pointer that the fact is about, or hands that over.
 pub fn tells_first(spot: SpotRef, fact: &Fact) -> bool
     ensures { result ≡ node_tells_first (spot_seen spot.entry).node fact.now }
 {
@@ -203,6 +233,7 @@ fn step_tells_first(instr: &Instr, fact: &Fact) -> bool
         Instr::Cursor { base, .. } => base_tells_first(base, fact),
         Instr::Size { base, .. } => base_tells_first(base, fact),
         Instr::Change { place, .. } => is_target_of(place, fact),
+        Instr::Call { arguments, .. } => is_in_arguments(arguments, &fact.location),
         _ => false,
     }
 }

@@ -18,6 +18,7 @@ use Rattle.life_pset.specs.Shapes.{or_void, ty_if}
 use Rattle.life_pset.specs.declared.element.Element.{Element}
 use Rattle.life_pset.specs.declared.element.Element.TheVariants as element
 use Rattle.life_pset.specs.declared.element.Fact.{Fact}
+use Rattle.life_contract.specs.Signatures.{Signature}
 use Rattle.life_rules.specs.Carrying.{fact_at, facts_at, locations_at, locations_of_local, born, born_raw, born_facts, drops, from_none, own_type}
 use Rattle.life_rules.proofs.Giving.{at_head, flat_map_into}
 use Rattle.life_store.specs.Content.{live_words_of, is_valid_in}
@@ -74,8 +75,8 @@ module _ (S : Fact → Type 0) (st : State) (h : Housed st.world.content st.cell
 
 -- ---- a local comes to life
 
-module _ (types : Types) (fs : List Function) (f : Function) (place : Place) (S S' : Fact → Type 0) (st : State) (h : Housed st.world.content st.cells) (sorted : IsSorted types f (holdings_of st)) (k : Known S st) where
-  pub live_known : (s : Setting) (x : ℕ) (form : Form) → IsStepReady types fs f (holdings_of st) (Live x form) → Closed types f place (Live x form) S S' → IsSafe S' (live_local s types f (slice_get f.locals x) form x st)
+module _ (sigs : List Signature) (types : Types) (fs : List Function) (f : Function) (place : Place) (S S' : Fact → Type 0) (st : State) (h : Housed st.world.content st.cells) (sorted : IsSorted types f (holdings_of st)) (k : Known S st) where
+  pub live_known : (s : Setting) (x : ℕ) (form : Form) → IsStepReady types fs f (holdings_of st) (Live x form) → Closed sigs types f place (Live x form) S S' → IsSafe S' (live_local s types f (slice_get f.locals x) form x st)
   live_known s x form ready cl = go (slice_get f.locals x) refl
     where
       empty : slice_get st.cells x ≡ Some Empty
@@ -83,13 +84,13 @@ module _ (types : Types) (fs : List Function) (f : Function) (place : Place) (S 
 
       born_known : (ty : TyId) → Known S' (put_cell x (Named st.world.content.births) (put_content (with_value_object ty st.world.content) st))
       born_known ty =
-          known_kept types f place S S' (put_cell x (Named st.world.content.births) (put_content (with_value_object ty st.world.content) st)) (Live x form) cl stays (object_known S st h k ty x empty)
+          known_kept sigs types f place S S' (put_cell x (Named st.world.content.births) (put_content (with_value_object ty st.world.content) st)) (Live x form) cl stays (object_known S st h k ty x empty)
         where
           stays : (q : ℕ) (w : Pointer) (e : Element) → slice_get (slice_set st.cells x (Named st.world.content.births)) q ≡ Some (Points w) → drops types f place (Live x form) (fact_at (local_place q) e) ≡ false
           stays q w e at = ne_eqb x q (born_other S st h k ty x empty q w at).0
 
       -- a pointer is born: it is null, or invalid from the start
-      born_there : (l : Local) → slice_get f.locals x ≡ Some l → IsDirect types l.ty → Contains (from_none types f place (Live x form)) (fact_at (local_place x) (born_raw place x form))
+      born_there : (l : Local) → slice_get f.locals x ≡ Some l → IsDirect types l.ty → Contains (from_none sigs types f place (Live x form)) (fact_at (local_place x) (born_raw place x form))
       born_there l is direct =
           flat_map_into (born_facts types f place x form) (locations_of_local types f x) (local_place x) (fact_at (local_place x) (born_raw place x form))
           (subst (λ (o : Option Local). Contains (locations_at types f.parameters x o) (local_place x)) (sym is) (local_location types f.parameters x l direct))
@@ -105,7 +106,7 @@ module _ (types : Types) (fs : List Function) (f : Function) (place : Place) (S 
       born_holds e is sort of =
           let l = pointer_local types f x sort in
           cl.none (fact_at (local_place x) e) (fact_of types f (local_place x) e (pointer_location types f x sort) of)
-          (subst (λ (b : Element). Contains (from_none types f place (Live x form)) (fact_at (local_place x) b)) (sym is) (born_there l.0 l.1.0 l.1.1))
+          (subst (λ (b : Element). Contains (from_none sigs types f place (Live x form)) (fact_at (local_place x) b)) (sym is) (born_there l.0 l.1.0 l.1.1))
 
       born_cover : (form' : Form) → form' ≡ form → sort_of types f x ≡ APointer → Cover S' st.world.content st.cells x (born_pointer form')
       born_cover way.Plain is sort = record {
@@ -138,7 +139,7 @@ module _ (types : Types) (fs : List Function) (f : Function) (place : Place) (S 
           (Next (put_cell x (Named st.world.content.births) (put_content (with_value_object ty st.world.content) st))) (IsSafe S') (λ _. tt) (λ _. born_known ty)
       as_safe ANumber ty e = tt
       as_safe APointer ty e =
-          put_known types f place S S' st sorted k (Live x form) cl x (Points (born_pointer form)) (empty_unnamed S st h k ty x empty) (λ q known ne. ne_eqb x q ne)
+          put_known sigs types f place S S' st sorted k (Live x form) cl x (Points (born_pointer form)) (empty_unnamed S st h k ty x empty) (λ q known ne. ne_eqb x q ne)
           (λ w is raw. subst (Cover S' st.world.content st.cells x) (same w is) (born_cover form refl e))
         where
           same : (w : Pointer) → Points (born_pointer form) ≡ Points w → born_pointer form ≡ w

@@ -16,6 +16,7 @@ use Rattle.life_core.specs.Tree.{Action, Question}
 use Rattle.life_core.specs.declared.exits.Exits.{Exits}
 use Rattle.life_core.specs.declared.program.FnId.{FnId}
 use Rattle.life_pset.specs.declared.element.Fact.{Fact}
+use Rattle.life_contract.specs.Signatures.{Signature}
 use Rattle.life_rules.specs.Diagnosing.{IsDiagnosed}
 use Rattle.life_rules.specs.declared.diag.Diag.{Diag}
 use Rattle.life_store.specs.Calls.{all_handed, lent, target_given}
@@ -60,9 +61,9 @@ SafeCallee types fs call = (k : ℕ) (g : Function) (outer xs : List Cell) (n : 
 
 -- ---- what each point asks of a state, where these cells wait, and what holds where the function is left
 
-pub record Sound (types : Types) (f : Function) (outer : List Cell) (before : Content) (p : ℕ) (st : State) : Type 0 where
+pub record Sound (sigs : List Signature) (types : Types) (f : Function) (outer : List Cell) (before : Content) (p : ℕ) (st : State) : Type 0 where
   pub standing : Standing types f outer p st
-  pub known : Known (FactsAt types f p) st
+  pub known : Known (FactsAt sigs types f p) st
   pub spared : Spared outer before st.world.content
 
 pub record SoundlyLeft (types : Types) (f : Function) (outer : List Cell) (before : Content) (st : State) : Type 0 where
@@ -89,12 +90,12 @@ call_known S outer st w k timely spared = record {
   timely = timely;
 }
 
-module _ (types : Types) (fs : List Function) (f : Function) (outer : List Cell) (before : Content) where
+module _ (sigs : List Signature) (types : Types) (fs : List Function) (f : Function) (outer : List Cell) (before : Content) where
   abbrev Stands : Exits → Answer → Type 0
   Stands = GoodAnswer (Standing types f outer) (Leaving types f outer) IsHeld
 
   abbrev pub IsSound : Exits → Answer → Type 0
-  IsSound = GoodAnswer (Sound types f outer before) (SoundlyLeft types f outer before) IsSafeStop
+  IsSound = GoodAnswer (Sound sigs types f outer before) (SoundlyLeft types f outer before) IsSafeStop
 
   abbrev IsSpared : State → Type 0
   IsSpared st = Spared outer before st.world.content
@@ -102,12 +103,12 @@ module _ (types : Types) (fs : List Function) (f : Function) (outer : List Cell)
   -- the facts to which a branch leads; none leads past the end of the body
   abbrev LeadFacts : Option ℕ → Fact → Type 0
   LeadFacts None x = Unit {0}
-  LeadFacts (Some q) x = FactsAt types f q x
+  LeadFacts (Some q) x = FactsAt sigs types f q x
 
   paid_sound : (place : Place) (w : World) (x : Exits) (e : Effect) (n : ℕ) → Stands x (paid place w e n) → IsSafe (LeadFacts x.next) e → Leads IsSpared e → IsSound x (paid place w e n)
   paid_sound place w x (Next st) n a b d = go x.next a b
     where
-      go : (to : Option ℕ) → InvAt (Standing types f outer) to st → Known (LeadFacts to) st → InvAt (Sound types f outer before) to st
+      go : (to : Option ℕ) → InvAt (Standing types f outer) to st → Known (LeadFacts to) st → InvAt (Sound sigs types f outer before) to st
       go None a b = absurd a
       go (Some q) a b = record { standing = a; known = b; spared = d }
   paid_sound place w x (Traps kind) n a b d = tt
@@ -117,33 +118,33 @@ module _ (types : Types) (fs : List Function) (f : Function) (outer : List Cell)
   -- ---- the tests
 
   verdict_sound : (held failed : Option ℕ) (v : Verdict) → GoodVerdict (Standing types f outer) IsHeld held failed v → IsKnownBy (LeadFacts held) (LeadFacts failed) v → Tells IsSpared v
-      → GoodVerdict (Sound types f outer before) IsSafeStop held failed v
+      → GoodVerdict (Sound sigs types f outer before) IsSafeStop held failed v
   verdict_sound None failed (Holds n st) a b d = absurd a
   verdict_sound (Some q) failed (Holds n st) a b d = record { standing = a; known = b; spared = d }
   verdict_sound held None (Fails n st) a b d = absurd a
   verdict_sound held (Some q) (Fails n st) a b d = record { standing = a; known = b; spared = d }
   verdict_sound held failed (Cut stop w) a b d = absurd b
 
-  lead_held : (t : Test) (b : ℕ) (place : Place) (held failed : Option ℕ) → numbered (code_of f) b ≡ Some (record { spot = spot_at place (Question t); leads = parts held failed }) → Passes t true (FactsAt types f b) (LeadFacts held)
+  lead_held : (t : Test) (b : ℕ) (place : Place) (held failed : Option ℕ) → numbered (code_of f) b ≡ Some (record { spot = spot_at place (Question t); leads = parts held failed }) → Passes t true (FactsAt sigs types f b) (LeadFacts held)
   lead_held t b place None failed here a s stays = tt
-  lead_held t b place (Some q) failed here a s stays = held_passes types f t b q place failed here a s stays
+  lead_held t b place (Some q) failed here a s stays = held_passes sigs types f t b q place failed here a s stays
 
-  lead_failed : (t : Test) (b : ℕ) (place : Place) (held failed : Option ℕ) → numbered (code_of f) b ≡ Some (record { spot = spot_at place (Question t); leads = parts held failed }) → Passes t false (FactsAt types f b) (LeadFacts failed)
+  lead_failed : (t : Test) (b : ℕ) (place : Place) (held failed : Option ℕ) → numbered (code_of f) b ≡ Some (record { spot = spot_at place (Question t); leads = parts held failed }) → Passes t false (FactsAt sigs types f b) (LeadFacts failed)
   lead_failed t b place held None here a s stays = tt
-  lead_failed t b place held (Some q) here a s stays = failed_passes types f t b q place held here a s stays
+  lead_failed t b place held (Some q) here a s stays = failed_passes sigs types f t b q place held here a s stays
 
   -- ---- the instructions
 
   -- the facts to which an instruction leads
-  closed_to : (i : Step) (b : ℕ) (place : Place) (to : Option ℕ) → numbered (code_of f) b ≡ Some (record { spot = spot_at place (Action i); leads = goes to }) → IsSome to → Closed types f place i (FactsAt types f b) (LeadFacts to)
+  closed_to : (i : Step) (b : ℕ) (place : Place) (to : Option ℕ) → numbered (code_of f) b ≡ Some (record { spot = spot_at place (Action i); leads = goes to }) → IsSome to → Closed sigs types f place i (FactsAt sigs types f b) (LeadFacts to)
   closed_to i b place None here some = absurd (false≢true some)
-  closed_to i b place (Some q) here some = closed_at types f i b q place here
+  closed_to i b place (Some q) here some = closed_at sigs types f i b q place here
 
   module _ (number : ℕ) (s : Setting) (call : Callee) (callee : GoodCallee types fs call) (safe : SafeCallee types fs call) where
     -- what came back goes to the target
     back_sound : (S : Fact → Type 0) (place : Place) (x : Exits) (id : FnId) (g : Function) (target : Option Location) (xs : List Argument) (st : State) (r : Called)
         → IsSorted types f (holdings_of st) → Known S st → IsSpared st → AreArgumentsReady (holdings_of st) (parameter_sorts types g) xs → IsTargetReady types f (holdings_of st) (result_sort types g) target → gives_pointer types f target ≡ false
-        → Closed types f place (Call target id xs) S (LeadFacts x.next) → GoodCalled types g (outer ++ st.cells) r → SafeCalled (outer ++ st.cells) st.world.content r
+        → Closed sigs types f place (Call target id xs) S (LeadFacts x.next) → GoodCalled types g (outer ++ st.cells) r → SafeCalled (outer ++ st.cells) st.world.content r
         → Stands x (came_back s types f place target xs st r) → IsSound x (came_back s types f place target xs st r)
     back_sound S place x id g target xs st (Back n w values) sorted k spared given ready none cl good kind a =
         let known = call_known S outer st w k kind.0 kind.1 in
@@ -151,8 +152,8 @@ module _ (types : Types) (fs : List Function) (f : Function) (outer : List Cell)
         let same = taken_ready s types f (parameter_sorts types g) target xs values st w given in
         subst (λ e. IsSound x (paid place w e n)) (sym same)
         (paid_sound place w x (target_given s types f target values (with_world w st)) n (subst (λ e. Stands x (paid place w e n)) same a)
-        (target_safe types f place (Call target id xs) S (LeadFacts x.next) cl (λ fact. refl) s (with_world w st) (behind_housed w.content outer st.cells good.0) sorted known
-        (result_sort types g) target values none ready good.1)
+        (target_safe sigs types f place id xs S (LeadFacts x.next) s (with_world w st) (behind_housed w.content outer st.cells good.0) sorted known
+        (result_sort types g) target values cl none ready good.1)
         (leads_on (IsFresh outer before s types f) IsSpared (λ st' fresh. fresh.0) (target_given s types f target values (with_world w st))
         (target_fresh outer before s types f (holdings_of st) w.content (result_sort types g) target values (with_world w st) ready good.1 (still, kind.0))))
     back_sound S place x id g target xs st (Barred trap) sorted k spared given ready none cl good kind a = tt
@@ -160,7 +161,7 @@ module _ (types : Types) (fs : List Function) (f : Function) (outer : List Cell)
 
     call_sound : (S : Fact → Type 0) (place : Place) (x : Exits) (id : FnId) (o : Option Function) (target : Option Location) (xs : List Argument) (n : ℕ) (st : State) → slice_get fs id.0 ≡ o
         → Housed st.world.content (outer ++ st.cells) → IsSorted types f (holdings_of st) → Known S st → IsSpared st → IsCallReady types f (holdings_of st) o target xs
-        → takes_pointer types o ≡ false → gives_pointer types f target ≡ false → Closed types f place (Call target id xs) S (LeadFacts x.next)
+        → takes_pointer types o ≡ false → gives_pointer types f target ≡ false → Closed sigs types f place (Call target id xs) S (LeadFacts x.next)
         → Stands x (came_back s types f place target xs st (call_with call id.0 (all_handed types f st xs) n (lent types f xs st).world)) → IsSound x (came_back s types f place target xs st (call_with call id.0 (all_handed types f st xs) n (lent types f xs st).world))
     call_sound S place x id None target xs n st is h sorted k spared ready takes gives cl a = absurd ready
     call_sound S place x id (Some g) target xs n st is h sorted k spared ready takes gives cl a =
@@ -176,7 +177,7 @@ module _ (types : Types) (fs : List Function) (f : Function) (outer : List Cell)
         (subst (λ (u : State). Stands x (came_back s types f place target xs st (call_with call id.0 (all_handed types f st xs) n u.world))) same a))))
 
     act_sound : (S : Fact → Type 0) (place : Place) (i : Step) (x : Exits) (n : ℕ) (st : State) → Housed st.world.content (outer ++ st.cells) → IsSorted types f (holdings_of st) → Known S st → IsSpared st
-        → IsStepReady types fs f (holdings_of st) i → Clean number place i S → Closed types f place i S (LeadFacts x.next) → is_by_value types fs f i ≡ true
+        → IsStepReady types fs f (holdings_of st) i → Clean number place i S → Closed sigs types f place i S (LeadFacts x.next) → is_by_value types fs f i ≡ true
         → Stands x (act s types f call place i n st) → IsSound x (act s types f call place i n st)
     act_sound S place (Call target g xs) x n st h sorted k spared ready clean cl by_value a =
         let none = neither (takes_pointer types (slice_get fs g.0)) (gives_pointer types f target) by_value in
@@ -184,18 +185,18 @@ module _ (types : Types) (fs : List Function) (f : Function) (outer : List Cell)
     act_sound S place i x n st h sorted k spared ready clean cl by_value a =
         let own = behind_housed st.world.content outer st.cells h in
         paid_sound place st.world x (does s types f i st) n a
-        (step_safe number types fs f place S (LeadFacts x.next) st own sorted k s i tt ready clean cl)
+        (step_safe number sigs types fs f place S (LeadFacts x.next) st own sorted k s i tt ready clean cl)
         (step_spares outer before number types fs f place S st sorted h own k spared s i tt ready clean)
 
     -- ---- a proper function of which nothing is diagnosed keeps to this
 
-    pub sound_keeps : IsProper types fs f → ((d : Diag) → IsDiagnosed types number f d → ⊥) → calls_in_by_value types fs f ≡ true
-        → Keeps s types f call (Sound types f outer before) (SoundlyLeft types f outer before) IsSafeStop
+    pub sound_keeps : IsProper types fs f → ((d : Diag) → IsDiagnosed sigs types number f d → ⊥) → calls_in_by_value types fs f ≡ true
+        → Keeps s types f call (Sound sigs types f outer before) (SoundlyLeft types f outer before) IsSafeStop
     sound_keeps proper none by_value = record {
       acts = acts;
       asks = λ b place t held failed here m st inv.
           verdict_sound held failed (test_at types f t m st) (mine.asks b place t held failed here m st inv.standing)
-          (test_known types f t (FactsAt types f b) (LeadFacts held) (LeadFacts failed) m st (proper.ready b (holdings_of st) _ inv.standing.reached here)
+          (test_known types f t (FactsAt sigs types f b) (LeadFacts held) (LeadFacts failed) m st (proper.ready b (holdings_of st) _ inv.standing.reached here)
           (lead_held t b place held failed here) (lead_failed t b place held failed here) inv.known)
           (test_tells IsSpared m st inv.spared types f t);
       returns = λ b place here st inv. record { leaving = mine.returns b place here st inv.standing; timely = inv.known.timely; spared = inv.spared };
@@ -207,11 +208,11 @@ module _ (types : Types) (fs : List Function) (f : Function) (outer : List Cell)
         mine = proper_keeps types f outer fs s call callee proper
 
         acts : (b : ℕ) (place : Place) (i : Step) (x : Exits) → numbered (code_of f) b ≡ Some (record { spot = spot_at place (Action i); leads = goes x.next })
-            → (n : ℕ) (st : State) → Sound types f outer before b st → IsSound x (act s types f call place i n st)
+            → (n : ℕ) (st : State) → Sound sigs types f outer before b st → IsSound x (act s types f call place i n st)
         acts b place i x here n st inv =
             let l : Linked = record { spot = spot_at place (Action i); leads = goes x.next } in
-            act_sound (FactsAt types f b) place i x n st inv.standing.housed (reached_sorted types fs f proper inv.standing.reached) inv.known inv.spared
-            (proper.ready b (holdings_of st) l inv.standing.reached here) (clean_at types f number none i b place (goes x.next) here)
+            act_sound (FactsAt sigs types f b) place i x n st inv.standing.housed (reached_sorted types fs f proper inv.standing.reached) inv.known inv.spared
+            (proper.ready b (holdings_of st) l inv.standing.reached here) (clean_at sigs types f number none i b place (goes x.next) here)
             (closed_to i b place x.next here (proper.leads_on b (holdings_of st) l inv.standing.reached here).0)
             (all_numbered (λ (m : Linked). node_by_value types fs f m.spot.node) (code_of f) b l by_value here)
             (mine.acts b place i x here n st inv.standing)

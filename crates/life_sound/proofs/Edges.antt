@@ -13,9 +13,10 @@ use Rattle.life_core.specs.declared.stmt.Edge.{Edge}
 use Rattle.life_core.specs.declared.stmt.Point.{Point}
 use Rattle.life_pset.specs.Table.{IsOf, table_of}
 use Rattle.life_pset.specs.declared.element.Fact.{Fact}
+use Rattle.life_contract.specs.Signatures.{Signature}
 use Rattle.life_rules.specs.Carrying.{unless, none_at, one_at, two_at}
 use Rattle.life_rules.specs.Deriving.{Derives, entry, along}
-use Rattle.life_rules.specs.Diagnosing.{diags_at, misused_as, uses, IsDiagnosed}
+use Rattle.life_rules.specs.Diagnosing.{diags_at, misused_as, use_diags, uses, IsDiagnosed}
 use Rattle.life_rules.specs.declared.diag.Diag.{Diag}
 use Rattle.life_rules.proofs.Giving.{none_in_empty, at_head, cons_cases}
 use Rattle.life_store.proofs.CellLemmas.{none_some, some_same}
@@ -47,12 +48,12 @@ second_edge b q held = Contains-append_right (edge_to b held (Some true)) (edge_
 
 -- ---- what is derived at a point
 
-abbrev pub FactsAt : Types → Function → ℕ → Fact → Type 0
-FactsAt types f b x = Derives types f (record { 0 = b }) x
+abbrev pub FactsAt : List Signature → Types → Function → ℕ → Fact → Type 0
+FactsAt sigs types f b x = Derives sigs types f (record { 0 = b }) x
 
-derived_of : (types : Types) (f : Function) {p : Point} {x : Fact} → Derives types f p x → IsOf (table_of types f) x
-derived_of types f (entry of held) = of
-derived_of types f (along e premises among held carries) = carries.0
+derived_of : (sigs : List Signature) (types : Types) (f : Function) {p : Point} {x : Fact} → Derives sigs types f p x → IsOf (table_of types f) x
+derived_of sigs types f (entry of held) = of
+derived_of sigs types f (along e premises among held carries) = carries.0
 
 one_held : (S : Fact → Type 0) (a : Fact) → S a → (y : Fact) → Contains (a ∷ []) y → S y
 one_held S a s y h = ⊎_elim (λ e. subst S e s) (λ none. absurd (none_in_empty y none)) (cons_cases a [] y h)
@@ -60,43 +61,43 @@ one_held S a s y h = ⊎_elim (λ e. subst S e s) (λ none. absurd (none_in_empt
 two_held : (S : Fact → Type 0) (a b : Fact) → S a → S b → (y : Fact) → Contains (a ∷ b ∷ []) y → S y
 two_held S a b s t y h = ⊎_elim (λ e. subst S e s) (λ more. one_held S b t y more) (cons_cases a (b ∷ []) y h)
 
-module _ (types : Types) (f : Function) where
+module _ (sigs : List Signature) (types : Types) (f : Function) where
   spot_is : (b : ℕ) (l : Linked) → numbered (code_of f) b ≡ Some l → spot_of f (record { 0 = b }) ≡ Some l.spot
   spot_is b l here = ap (option_map spot_of_linked) here
 
   -- an instruction's point and the point to which it leads
-  pub closed_at : (i : Step) (b q : ℕ) (place : Place) → numbered (code_of f) b ≡ Some (record { spot = spot_at place (Action i); leads = goes (Some q) }) → Closed types f place i (FactsAt types f b) (FactsAt types f q)
+  pub closed_at : (i : Step) (b q : ℕ) (place : Place) → numbered (code_of f) b ≡ Some (record { spot = spot_at place (Action i); leads = goes (Some q) }) → Closed sigs types f place i (FactsAt sigs types f b) (FactsAt sigs types f q)
   closed_at i b q place here =
       let l : Linked = record { spot = spot_at place (Action i); leads = goes (Some q) } in
       let e = edge b q None in
       let among = edge_at f b l e here (at_head e []) in
       let is = spot_is b l here in
       record {
-        of = λ x s. derived_of types f s;
+        of = λ x s. derived_of sigs types f s;
         causes = λ e h. point_causes f b l e here h;
-        none = λ x of h. along e [] among (λ y k. absurd (none_in_empty y k)) (of, subst (λ o. Contains (none_at types f o) x) (sym is) h);
-        one = λ a x s of h. along e (a ∷ []) among (one_held (FactsAt types f b) a s) (of, subst (λ o. Contains (one_at types f None o a) x) (sym is) h);
-        two = λ a c x s t of h. along e (a ∷ c ∷ []) among (two_held (FactsAt types f b) a c s t) (of, subst (λ o. Contains (two_at types f o a c) x) (sym is) h);
+        none = λ x of h. along e [] among (λ y k. absurd (none_in_empty y k)) (of, subst (λ o. Contains (none_at sigs types f o) x) (sym is) h);
+        one = λ a x s of h. along e (a ∷ []) among (one_held (FactsAt sigs types f b) a s) (of, subst (λ o. Contains (one_at sigs types f None o a) x) (sym is) h);
+        two = λ a c x s t of h. along e (a ∷ c ∷ []) among (two_held (FactsAt sigs types f b) a c s t) (of, subst (λ o. Contains (two_at sigs types f o a c) x) (sym is) h);
       }
 
   -- a test's point, and the point to which a branch leads
   passes : (t : Test) (b q : ℕ) (place : Place) (branch : Bool) (leads : List Lead) → numbered (code_of f) b ≡ Some (record { spot = spot_at place (Question t); leads = leads }) → Contains (edges_out b leads) (edge b q (Some branch))
-      → Passes t branch (FactsAt types f b) (FactsAt types f q)
+      → Passes t branch (FactsAt sigs types f b) (FactsAt sigs types f q)
   passes t b q place branch leads here out a s stays =
       let l : Linked = record { spot = spot_at place (Question t); leads = leads } in
       let e = edge b q (Some branch) in
-      along e (a ∷ []) (edge_at f b l e here out) (one_held (FactsAt types f b) a s)
-      (derived_of types f s, subst (λ o. Contains (one_at types f (Some branch) o a) a) (sym (spot_is b l here)) (subst (λ g. Contains (unless g a) a) (sym stays) (at_head a [])))
+      along e (a ∷ []) (edge_at f b l e here out) (one_held (FactsAt sigs types f b) a s)
+      (derived_of sigs types f s, subst (λ o. Contains (one_at sigs types f (Some branch) o a) a) (sym (spot_is b l here)) (subst (λ g. Contains (unless g a) a) (sym stays) (at_head a [])))
 
-  pub held_passes : (t : Test) (b q : ℕ) (place : Place) (failed : Option ℕ) → numbered (code_of f) b ≡ Some (record { spot = spot_at place (Question t); leads = parts (Some q) failed }) → Passes t true (FactsAt types f b) (FactsAt types f q)
+  pub held_passes : (t : Test) (b q : ℕ) (place : Place) (failed : Option ℕ) → numbered (code_of f) b ≡ Some (record { spot = spot_at place (Question t); leads = parts (Some q) failed }) → Passes t true (FactsAt sigs types f b) (FactsAt sigs types f q)
   held_passes t b q place failed here = passes t b q place true (parts (Some q) failed) here (first_edge b q failed)
 
-  pub failed_passes : (t : Test) (b q : ℕ) (place : Place) (held : Option ℕ) → numbered (code_of f) b ≡ Some (record { spot = spot_at place (Question t); leads = parts held (Some q) }) → Passes t false (FactsAt types f b) (FactsAt types f q)
+  pub failed_passes : (t : Test) (b q : ℕ) (place : Place) (held : Option ℕ) → numbered (code_of f) b ≡ Some (record { spot = spot_at place (Question t); leads = parts held (Some q) }) → Passes t false (FactsAt sigs types f b) (FactsAt sigs types f q)
   failed_passes t b q place held here = passes t b q place false (parts held (Some q)) here (second_edge b q held)
 
   -- where nothing is diagnosed, nothing is wrong at an instruction
-  pub clean_at : (n : ℕ) → ((d : Diag) → IsDiagnosed types n f d → ⊥) → (i : Step) (b : ℕ) (place : Place) (leads : List Lead) → numbered (code_of f) b ≡ Some (record { spot = spot_at place (Action i); leads = leads }) → Clean n place i (FactsAt types f b)
+  pub clean_at : (n : ℕ) → ((d : Diag) → IsDiagnosed sigs types n f d → ⊥) → (i : Step) (b : ℕ) (place : Place) (leads : List Lead) → numbered (code_of f) b ≡ Some (record { spot = spot_at place (Action i); leads = leads }) → Clean n place i (FactsAt sigs types f b)
   clean_at n none i b place leads here x s d h =
       let l : Linked = record { spot = spot_at place (Action i); leads = leads } in
-      let told = Contains-append_left (flat_map (misused_as n place x) (uses i)) _ d h in
-      none d (record { 0 = b }, (x ∷ [], (one_held (FactsAt types f b) x s, subst (λ o. Contains (diags_at types n f o x) d) (sym (spot_is b l here)) told)))
+      let told = Contains-append_left (use_diags types n f place i x) _ d (Contains-append_left (flat_map (misused_as n place x) (uses i)) _ d h) in
+      none d (record { 0 = b }, (x ∷ [], (one_held (FactsAt sigs types f b) x s, subst (λ o. Contains (diags_at sigs types n f o x) d) (sym (spot_is b l here)) told)))

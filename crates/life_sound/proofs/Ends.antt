@@ -14,6 +14,7 @@ use Rattle.life_pset.specs.declared.element.Element.{Element}
 use Rattle.life_pset.specs.declared.element.Element.TheVariants as element
 use Rattle.life_pset.specs.declared.element.Fact.{Fact}
 use Rattle.life_pset.proofs.Numbers.{is_of_iff}
+use Rattle.life_contract.specs.Signatures.{Signature}
 use Rattle.life_rules.specs.Carrying.{fact_at, points_among, drops, invalid_facts, ended_element}
 use Rattle.life_rules.proofs.Giving.{at_head, flat_map_into}
 use Rattle.life_store.specs.Content.{is_settled, is_valid_in}
@@ -26,7 +27,7 @@ use Rattle.life_sound.proofs.Facts.{object_local, caused_element, fact_of, Close
 use Rattle.life_store.proofs.Sorts.{IsSorted, named_sort}
 use Rattle.life_sound.proofs.Writing.{IsSafe}
 
-module _ (types : Types) (f : Function) (place : Place) (xs : List ℕ) (S S' : Fact → Type 0) (st st' : State) (sorted : IsSorted types f (holdings_of st)) (k : Known S st) (cl : Closed types f place (End xs) S S') (after : AfterEnds xs st st') where
+module _ (sigs : List Signature) (types : Types) (f : Function) (place : Place) (xs : List ℕ) (S S' : Fact → Type 0) (st st' : State) (sorted : IsSorted types f (holdings_of st)) (k : Known S st) (cl : Closed sigs types f place (End xs) S S') (after : AfterEnds xs st st') where
   stays : (q : ℕ) (e : Element) → list_any (λ z. nat_eq z q) xs ≡ false → points_among xs e ≡ false → drops types f place (End xs) (fact_at (local_place q) e) ≡ false
   stays q e out none = ap (λ b. b || points_among xs e) out ∙ none
 
@@ -42,7 +43,7 @@ module _ (types : Types) (f : Function) (place : Place) (xs : List ℕ) (S S' : 
       let of = fact_of types f (local_place q) (element.Invalid c) location (caused_element types f (element.Invalid c)
       (cl.causes (element.Invalid c) (flat_map_into (end_elements f place) xs y (element.Invalid c) (among xs y inside) (map_into element.Invalid (causes_of_end f place y) c causes)))) in (
         c,
-        made types f place (End xs) S S' cl (fact_at (local_place q) (element.At (local_place y))) (fact_at (local_place q) (element.Invalid c)) s of
+        made sigs types f place (End xs) S S' cl (fact_at (local_place q) (element.At (local_place y))) (fact_at (local_place q) (element.Invalid c)) s of
             (subst (λ b. Contains (cond b [] (ended_element f place xs (local_place q) (element.At (local_place y)))) (fact_at (local_place q) (element.Invalid c))) (sym out)
             (subst (λ b. Contains (cond b (invalid_facts (local_place q) (causes_of_end f place y)) []) (fact_at (local_place q) (element.Invalid c))) (sym inside)
             (map_into (λ d. fact_at (local_place q) (element.Invalid d)) (causes_of_end f place y) c causes))),
@@ -54,16 +55,16 @@ module _ (types : Types) (f : Function) (place : Place) (xs : List ℕ) (S S' : 
   pointed q t out y named valid s false e =
       let still = after.named y t.object e named in record {
         known = element.At (local_place y);
-        holds = kept types f place (End xs) S S' cl _ s (stays q (element.At (local_place y)) out e);
+        holds = kept sigs types f place (End xs) S S' cl _ s (stays q (element.At (local_place y)) out e);
         covers = record { local = y; place_is = refl; named = still.0; valid = ap (is_valid_in t.index 1 t.moment) still.1 ∙ valid };
       }
 
   cover : (q : ℕ) (v : Pointer) (e : Element) → list_any (λ z. nat_eq z q) xs ≡ false → S (fact_at (local_place q) e) → Covers st.world.content st.cells e v → Cover S' st'.world.content st'.cells q v
-  cover q Null element.Null out s cov = record { known = element.Null; holds = kept types f place (End xs) S S' cl _ s (stays q element.Null out refl); covers = tt }
+  cover q Null element.Null out s cov = record { known = element.Null; holds = kept sigs types f place (End xs) S S' cl _ s (stays q element.Null out refl); covers = tt }
   cover q Wild element.Null out s cov = absurd cov
   cover q (To t) element.Null out s cov = absurd cov
   cover q (Static c) element.Null out s cov = absurd cov
-  cover q v (element.Invalid c) out s cov = record { known = element.Invalid c; holds = kept types f place (End xs) S S' cl _ s (stays q (element.Invalid c) out refl); covers = tt }
+  cover q v (element.Invalid c) out s cov = record { known = element.Invalid c; holds = kept sigs types f place (End xs) S S' cl _ s (stays q (element.Invalid c) out refl); covers = tt }
   cover q v (element.Moved c) out s cov = absurd cov
   cover q v element.Own out s cov = absurd cov
   cover q v element.Static out s cov = absurd cov
@@ -86,8 +87,8 @@ module _ (types : Types) (f : Function) (place : Place) (xs : List ℕ) (S S' : 
     timely = λ m o e i within. subst (λ moment. is_settled o i moment ≡ true) (sym after.clock) (k.timely m o (after.older m o e) i within);
   }
 
-pub end_known : (types : Types) (fs : List Function) (f : Function) (place : Place) (xs : List ℕ) (S S' : Fact → Type 0) (st : State) → Housed st.world.content st.cells → IsSorted types f (holdings_of st) → Known S st
-    → IsStepReady types fs f (holdings_of st) (End xs) → Closed types f place (End xs) S S' → IsSafe S' (end_locals types f xs st)
-end_known types fs f place xs S S' st h sorted k ready cl =
+pub end_known : (sigs : List Signature) (types : Types) (fs : List Function) (f : Function) (place : Place) (xs : List ℕ) (S S' : Fact → Type 0) (st : State) → Housed st.world.content st.cells → IsSorted types f (holdings_of st) → Known S st
+    → IsStepReady types fs f (holdings_of st) (End xs) → Closed sigs types f place (End xs) S S' → IsSafe S' (end_locals types f xs st)
+end_known sigs types fs f place xs S S' st h sorted k ready cl =
     let after = ends_are types f xs st sorted h ready in
-    subst (IsSafe S') (sym after.1.0) (known types f place xs S S' st after.0 sorted k cl after.1.1)
+    subst (IsSafe S') (sym after.1.0) (known sigs types f place xs S S' st after.0 sorted k cl after.1.1)

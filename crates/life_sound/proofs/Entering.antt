@@ -8,6 +8,7 @@ use Rattle.life_core.specs.Function.{Function}
 use Rattle.life_core.specs.Linked.{enter, no_exits}
 use Rattle.life_core.specs.Proper.{Holdings, IsProper, entry_holdings, parameter_sorts}
 use Rattle.life_pset.specs.declared.element.Fact.{Fact}
+use Rattle.life_contract.specs.Signatures.{Signature}
 use Rattle.life_rules.specs.Diagnosing.{IsDiagnosed}
 use Rattle.life_rules.specs.declared.diag.Diag.{Diag}
 use Rattle.life_store.specs.Calls.{parameters_given}
@@ -53,9 +54,9 @@ first_known types f S st is plain timely = record {
   timely = timely;
 }
 
-module _ (s : Setting) (types : Types) (fs : List Function) (f : Function) (number : ℕ) (call : Callee) (outer xs : List Cell) (n : ℕ) (w : World) where
+module _ (s : Setting) (sigs : List Signature) (types : Types) (fs : List Function) (f : Function) (number : ℕ) (call : Callee) (outer xs : List Cell) (n : ℕ) (w : World) where
   -- the frame is dropped, and so are the arguments
-  finish_safe : (a : Answer) → IsSound types fs f (outer ++ xs) w.content no_exits a → SafeCalled outer w.content (finish types f a)
+  finish_safe : (a : Answer) → IsSound sigs types fs f (outer ++ xs) w.content no_exits a → SafeCalled outer w.content (finish types f a)
   finish_safe (Normal m st) g = absurd g
   finish_safe (Broke m st) g = absurd g
   finish_safe (Continued m st) g = absurd g
@@ -72,16 +73,16 @@ module _ (s : Setting) (types : Types) (fs : List Function) (f : Function) (numb
 
   -- a state with what the locals hold at the entry is sound at the first point
   first_sound : (st : State) (to : Option ℕ) → list_any is_pointer (parameter_sorts types f) ≡ false → holdings_of st ≡ entry_holdings types f → IsFresh (outer ++ xs) w.content s types f st
-      → InvAt (Standing types f (outer ++ xs)) to st → InvAt (Sound types f (outer ++ xs) w.content) to st
+      → InvAt (Standing types f (outer ++ xs)) to st → InvAt (Sound sigs types f (outer ++ xs) w.content) to st
   first_sound st None plain is fresh a = a
-  first_sound st (Some p) plain is fresh a = record { standing = a; known = first_known types f (FactsAt types f p) st is plain fresh.1; spared = fresh.0 }
+  first_sound st (Some p) plain is fresh a = record { standing = a; known = first_known types f (FactsAt sigs types f p) st is plain fresh.1; spared = fresh.0 }
 
-  pub entered_safe : GoodCallee types fs call → SafeCallee types fs call → IsProper types fs f → ((d : Diag) → IsDiagnosed types number f d → ⊥) → calls_in_by_value types fs f ≡ true
+  pub entered_safe : GoodCallee types fs call → SafeCallee types fs call → IsProper types fs f → ((d : Diag) → IsDiagnosed sigs types number f d → ⊥) → calls_in_by_value types fs f ≡ true
       → list_any is_pointer (parameter_sorts types f) ≡ false → AreSuited (parameter_sorts types f) xs → Housed w.content (outer ++ xs) → IsTimely w.content → SafeCalled outer w.content (entered s types (Some f) call xs n w)
   entered_safe callee safe proper none by_value plain suited h timely =
       begun_safe (parameters_given s types f 0 xs (frame f w)) (λ st. finish types f (exec s types f call f.body n st)) (entry_gives outer s types f xs w h suited)
       (parameters_fresh (outer ++ xs) w.content s types f xs 0 (frame f w) (suited_values (parameter_sorts types f) xs suited) (all_spared (outer ++ xs) w.content h, timely))
       (λ st is h' fresh. finish_safe (exec s types f call f.body n st)
-      (body_good s types f call (Sound types f (outer ++ xs) w.content) (SoundlyLeft types f (outer ++ xs) w.content) IsSafeStop
-      (sound_keeps types fs f (outer ++ xs) w.content number s call callee safe proper none by_value) proper.statement proper.straight n st
+      (body_good s types f call (Sound sigs types f (outer ++ xs) w.content) (SoundlyLeft types f (outer ++ xs) w.content) IsSafeStop
+      (sound_keeps sigs types fs f (outer ++ xs) w.content number s call callee safe proper none by_value) proper.statement proper.straight n st
       (first_sound st (enter f.body 1 no_exits) plain is fresh (first_stands types f (outer ++ xs) st (enter f.body 1 no_exits) refl proper.begins is h'))))

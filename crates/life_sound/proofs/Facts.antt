@@ -30,6 +30,7 @@ use Rattle.life_pset.specs.declared.element.Element.TheVariants as element
 use Rattle.life_pset.specs.declared.element.Fact.{Fact}
 use Rattle.life_pset.proofs.Numbering.{numbered_contains}
 use Rattle.life_pset.proofs.Numbers.{is_of_iff}
+use Rattle.life_contract.specs.Signatures.{Signature}
 use Rattle.life_rules.specs.Carrying.{fact_at, given_if, unless, drops, makes, from_none, from_one, from_two}
 use Rattle.life_rules.specs.Diagnosing.{uses, misused, misused_as}
 use Rattle.life_rules.specs.declared.diag.Diag.{Diag}
@@ -191,19 +192,19 @@ element_in types f x h = ((is_of_iff types f x).0 h).1
 -- ---- the facts of one point and the next
 
 -- S' has what the instruction at this place gives from facts of S, as far as it is of the function
-pub record Closed (types : Types) (f : Function) (place : Place) (i : Step) (S S' : Fact → Type 0) : Type 0 where
+pub record Closed (sigs : List Signature) (types : Types) (f : Function) (place : Place) (i : Step) (S S' : Fact → Type 0) : Type 0 where
   pub of : (x : Fact) → S x → IsOf (table_of types f) x
   pub causes : (e : Element) → Contains (step_elements f place i) e → Contains (caused_elements f) e
-  pub none : (x : Fact) → IsOf (table_of types f) x → Contains (from_none types f place i) x → S' x
-  pub one : (a x : Fact) → S a → IsOf (table_of types f) x → Contains (from_one types f place i a) x → S' x
-  pub two : (a b x : Fact) → S a → S b → IsOf (table_of types f) x → Contains (from_two types f place i a b) x → S' x
+  pub none : (x : Fact) → IsOf (table_of types f) x → Contains (from_none sigs types f place i) x → S' x
+  pub one : (a x : Fact) → S a → IsOf (table_of types f) x → Contains (from_one sigs types f place i a) x → S' x
+  pub two : (a b x : Fact) → S a → S b → IsOf (table_of types f) x → Contains (from_two sigs types f place i a b) x → S' x
 
-module _ (types : Types) (f : Function) (place : Place) (i : Step) (S S' : Fact → Type 0) (cl : Closed types f place i S S') where
+module _ (sigs : List Signature) (types : Types) (f : Function) (place : Place) (i : Step) (S S' : Fact → Type 0) (cl : Closed sigs types f place i S S') where
   pub kept : (a : Fact) → S a → drops types f place i a ≡ false → S' a
-  kept a s d = cl.one a a s (cl.of a s) (Contains-append_left (unless (drops types f place i a) a) (makes types f place i a) a (subst (λ t. Contains (unless t a) a) (sym d) (at_head a [])))
+  kept a s d = cl.one a a s (cl.of a s) (Contains-append_left (unless (drops types f place i a) a) (makes sigs types f place i a) a (subst (λ t. Contains (unless t a) a) (sym d) (at_head a [])))
 
-  pub made : (a x : Fact) → S a → IsOf (table_of types f) x → Contains (makes types f place i a) x → S' x
-  made a x s of c = cl.one a x s of (Contains-append_right (unless (drops types f place i a) a) (makes types f place i a) x c)
+  pub made : (a x : Fact) → S a → IsOf (table_of types f) x → Contains (makes sigs types f place i a) x → S' x
+  made a x s of c = cl.one a x s of (Contains-append_right (unless (drops types f place i a) a) (makes sigs types f place i a) x c)
 
 pub if_given : (t : Bool) (x : Fact) → t ≡ true → Contains (given_if t x) x
 if_given t x e = subst (λ b. Contains (given_if b x) x) (sym e) (at_head x [])

@@ -1,12 +1,15 @@
--- The places of locals: one is that of a pointer just where they are the same local.
-use Rattle.std.proofs.Common.{◌≡◌, ◌≢◌, ℕ, List, [], Bool, true, false, refl, ap, ◌∙◌}
+-- The places of locals: one is that of a pointer, or lies in the target of a call, just where they are the same local.
+use Rattle.std.proofs.Common.{◌≡◌, ◌≢◌, ℕ, [], Some, Bool, true, false, refl, ap, ◌∙◌}
+use Rattle.std.specs.Prelude.{◌&&◌}
+use Rattle.std.proofs.lemmas.Bool.{ne_eqb}
 use Rattle.life_core.specs.Operands.{Location}
 use Rattle.life_pset.specs.Elements.{local_place}
-use Rattle.life_pset.specs.Places.{members_place}
+use Rattle.life_pset.specs.Places.{is_within, members_place}
 use Rattle.life_pset.specs.contracts.element.AbsPlacePartialEq.TheImpl.{ghosts as compared}
 use Rattle.life_pset.specs.declared.element.AbsPlace.{AbsPlace}
 use Rattle.life_pset.specs.declared.element.Root.TheVariants as root
 use Rattle.life_pset.proofs.Numbers.{exact_place, place_laws}
+use Rattle.life_rules.specs.Calling.{is_in_target}
 use Rattle.life_rules.specs.Carrying.{is_location, located}
 
 -- a location without members is its local
@@ -28,3 +31,6 @@ other_location p none q ne = go (is_location p (local_place q)) refl
     go : (b : Bool) → is_location p (local_place q) ≡ b → is_location p (local_place q) ≡ false
     go true e = absurd (ne (local_same p.local q (exact_place (local_place q) (located p) e ∙ located_whole p none)))
     go false e = e
+
+pub outside_target : (l : Location) → l.members ≡ [] → (q : ℕ) → l.local ≢ q → is_in_target (Some l) (local_place q) ≡ false
+outside_target l none q ne = ap (λ (a : AbsPlace). is_within a (local_place q)) (located_whole l none) ∙ ap (λ b. b && true) (ne_eqb l.local q ne)

@@ -5,6 +5,7 @@ use Rattle.life_types.specs.declared.place.Place.{Place}
 use Rattle.life_core.specs.ByValue.{calls_by_value, calls_in_by_value}
 use Rattle.life_core.specs.Function.{Function, Program}
 use Rattle.life_core.specs.Proper.{IsProperProgram, parameter_sorts}
+use Rattle.life_contract.specs.Signatures.{signatures_of}
 use Rattle.life_rules.specs.Diagnosing.{IsDiagnosed}
 use Rattle.life_rules.specs.Listing.{IsProgramDiagnosed, AreProgramDiagnostics}
 use Rattle.life_rules.specs.declared.diag.Diag.{Diag}
@@ -28,16 +29,16 @@ use Rattle.life_sound.proofs.Entering.{entered_safe}
 -- ---- all calls of a program
 
 module _ (p : Program) (proper : IsProperProgram p) (by_value : calls_by_value p ≡ true) (none : (d : Diag) → IsProgramDiagnosed p d → ⊥) where
-  undiagnosed : (k : ℕ) (f : Function) → slice_get p.functions k ≡ Some f → (d : Diag) → IsDiagnosed p.types k f d → ⊥
+  undiagnosed : (k : ℕ) (f : Function) → slice_get p.functions k ≡ Some f → (d : Diag) → IsDiagnosed (signatures_of p.functions) p.types k f d → ⊥
   undiagnosed k f is d h =
-      let own : d.function ≡ k = own_function p.types k f d h in
-      none d (f, (ap (slice_get p.functions) own ∙ is, subst (λ m. IsDiagnosed p.types m f d) (sym own) h))
+      let own : d.function ≡ k = own_function (signatures_of p.functions) p.types k f d h in
+      none d (f, (ap (slice_get p.functions) own ∙ is, subst (λ m. IsDiagnosed (signatures_of p.functions) p.types m f d) (sym own) h))
 
   calls_safe : (s : Setting) (depth : ℕ) → SafeCallee p.types p.functions (calls s p depth)
   calls_safe s zero k g outer xs n w is plain suited h timely = tt
   calls_safe s (suc depth) k g outer xs n w is plain suited h timely =
       subst (λ o. SafeCalled outer w.content (entered s p.types o (calls s p depth) xs n w)) (sym is)
-      (entered_safe s p.types p.functions g k (calls s p depth) outer xs n w (calls_good s p proper depth) (calls_safe s depth)
+      (entered_safe s (signatures_of p.functions) p.types p.functions g k (calls s p depth) outer xs n w (calls_good s p proper depth) (calls_safe s depth)
       (proper_at p.types p.functions p.functions k g proper is) (undiagnosed k g is) (all_get (calls_in_by_value p.types p.functions) p.functions k g by_value is) plain suited h timely)
 
 -- ---- runs

@@ -7,13 +7,13 @@ use Rattle.life_types.specs.declared.place.Place.{Place}
 use Rattle.life_types.specs.declared.ty.TyId.{TyId}
 use Rattle.life_core.specs.ByValue.{is_pointer, gives_pointer}
 use Rattle.life_core.specs.Function.{Function}
-use Rattle.life_core.specs.Operands.{Location}
+use Rattle.life_core.specs.Operands.{Argument, Location}
 use Rattle.life_core.specs.Proper.{Holding, Blank, AnObject, ANumber, APointer, AView, Holdings, held_by, sort_of, IsTargetReady}
-use Rattle.life_core.specs.Step.{Step}
+use Rattle.life_core.specs.Step.{Call}
+use Rattle.life_core.specs.declared.program.FnId.{FnId}
 use Rattle.life_core.specs.declared.program.Local.{Local}
-use Rattle.life_pset.specs.Elements.{local_place}
 use Rattle.life_pset.specs.declared.element.Fact.{Fact}
-use Rattle.life_rules.specs.Carrying.{fact_at, drops}
+use Rattle.life_contract.specs.Signatures.{Signature}
 use Rattle.life_store.specs.Calls.{born_with, number_given, given_to, given_if, given, parameters_given, first_given, result_given, target_given}
 use Rattle.life_store.specs.Cells.{at, at-set_same}
 use Rattle.life_store.specs.Content.{Content, live_words_of, with_word}
@@ -25,10 +25,11 @@ use Rattle.life_store.proofs.Found.{found_here}
 use Rattle.life_store.proofs.Giving.{Suits, IsFirst, GivesBack}
 use Rattle.life_store.proofs.Handing.{AreSuited}
 use Rattle.life_store.proofs.Housing.{Housed, value_object}
-use Rattle.life_sound.proofs.Births.{object_known}
+use Rattle.life_sound.proofs.Births.{born_other, object_known}
 use Rattle.life_sound.proofs.Covering.{IsTimely, Known, birth_timely, write_timely, saved_known}
 use Rattle.life_sound.proofs.Facts.{Closed}
 use Rattle.life_store.proofs.Sorts.{IsSorted}
+use Rattle.life_sound.proofs.Places.{outside_target}
 use Rattle.life_sound.proofs.Sparing.{Spared, Leads, on_next_leads, born_spared, written_spared, newest_other}
 use Rattle.life_sound.proofs.Writing.{IsSafe, known_kept, number_known, view_known}
 
@@ -142,58 +143,59 @@ suits_object Empty suits = absurd suits
 suits_object (Named n) suits = absurd suits
 suits_object (Points p) suits = absurd suits
 
-module _ (types : Types) (f : Function) (place : Place) (i : Step) (S S' : Fact → Type 0) (cl : Closed types f place i S S') (keeps : (fact : Fact) → drops types f place i fact ≡ false) (s : Setting)
-    (st : State) (h : Housed st.world.content st.cells) (sorted : IsSorted types f (holdings_of st)) (k : Known S st) where
-  object_safe : (ty : TyId) (z : ℤ) (x : ℕ) → slice_get st.cells x ≡ Some Empty → IsSafe S' (born_with s ty z x st)
-  object_safe ty z x empty =
-      let c = st.world.content in
-      let born = put_cell x (Named c.births) (put_content (with_value_object ty c) st) in
-      born_with_cases (IsSafe S') s ty z x st tt
-      (known_kept types f place S S' (saved z c.births 0 0 (value_object ty c.clock) born) i cl (λ q w e is. keeps (fact_at (local_place q) e))
-      (saved_known S born z c.births 0 0 (value_object ty c.clock) (born_there ty c) (object_known S st h k ty x empty)))
+module _ (sigs : List Signature) (types : Types) (f : Function) (place : Place) (id : FnId) (xs : List Argument) (S S' : Fact → Type 0) (s : Setting) (st : State) (h : Housed st.world.content st.cells) (sorted : IsSorted types f (holdings_of st)) (k : Known S st) where
+  -- a whole local is given it: the sets of the other locals stay
+  module _ (l : Location) (whole : l.members ≡ []) (cl : Closed sigs types f place (Call (Some l) id xs) S S') where
+    object_safe : (ty : TyId) (z : ℤ) → slice_get st.cells l.local ≡ Some Empty → IsSafe S' (born_with s ty z l.local st)
+    object_safe ty z empty =
+        let c = st.world.content in
+        let born = put_cell l.local (Named c.births) (put_content (with_value_object ty c) st) in
+        born_with_cases (IsSafe S') s ty z l.local st tt
+        (known_kept sigs types f place S S' (saved z c.births 0 0 (value_object ty c.clock) born) (Call (Some l) id xs) cl (λ q w e is. outside_target l whole q (born_other S st h k ty l.local empty q w is).0)
+        (saved_known S born z c.births 0 0 (value_object ty c.clock) (born_there ty c) (object_known S st h k ty l.local empty)))
 
-  view_safe : (p : Pointer) (x : ℕ) → sort_of types f x ≡ AView → Suits AView (Points p) → IsSafe S' (Next (put_cell x (Points p) st))
-  view_safe (Static c) x is suits = view_known types f place S S' st sorted k i cl x c is (λ q e ne. keeps (fact_at (local_place q) e))
-  view_safe Null x is suits = absurd (clash suits)
-    where
-      clash : APointer ≡ AView → ⊥
-      clash e = cc
-  view_safe Wild x is suits = absurd (clash suits)
-    where
-      clash : APointer ≡ AView → ⊥
-      clash e = cc
-  view_safe (To t) x is suits = absurd (clash suits)
-    where
-      clash : APointer ≡ AView → ⊥
-      clash e = cc
+    view_safe : (p : Pointer) → sort_of types f l.local ≡ AView → Suits AView (Points p) → IsSafe S' (Next (put_cell l.local (Points p) st))
+    view_safe (Static c) is suits = view_known sigs types f place S S' st sorted k (Call (Some l) id xs) cl l.local c is (λ q e ne. outside_target l whole q ne)
+    view_safe Null is suits = absurd (clash suits)
+      where
+        clash : APointer ≡ AView → ⊥
+        clash e = cc
+    view_safe Wild is suits = absurd (clash suits)
+      where
+        clash : APointer ≡ AView → ⊥
+        clash e = cc
+    view_safe (To t) is suits = absurd (clash suits)
+      where
+        clash : APointer ≡ AView → ⊥
+        clash e = cc
 
-  to_safe : (sort : Holding) (ty : TyId) (v : Cell) (x : ℕ) → sort_of types f x ≡ sort → is_pointer sort ≡ false → Suits sort v → (sort ≡ AnObject → slice_get st.cells x ≡ Some Empty)
-      → IsSafe S' (given_to s types sort ty v x st)
-  to_safe AnObject ty (Number z) x is none suits empty = object_safe ty z x (empty refl)
-  to_safe ANumber ty (Number z) x is none suits empty = number_known types f place S S' st sorted k i cl x z is (λ q e. keeps (fact_at (local_place q) e))
-  to_safe AView ty (Points p) x is none suits empty = view_safe p x is suits
-  to_safe APointer ty (Points p) x is none suits empty = absurd (false≢true (sym none))
-  to_safe _ ty _ x is none suits empty = absurd suits
+    to_safe : (sort : Holding) (ty : TyId) (v : Cell) → sort_of types f l.local ≡ sort → is_pointer sort ≡ false → Suits sort v → (sort ≡ AnObject → slice_get st.cells l.local ≡ Some Empty)
+        → IsSafe S' (given_to s types sort ty v l.local st)
+    to_safe AnObject ty (Number z) is none suits empty = object_safe ty z (empty refl)
+    to_safe ANumber ty (Number z) is none suits empty = number_known sigs types f place S S' st sorted k (Call (Some l) id xs) cl l.local z is (λ q e ne. outside_target l whole q ne)
+    to_safe AView ty (Points p) is none suits empty = view_safe p is suits
+    to_safe APointer ty (Points p) is none suits empty = absurd (false≢true (sym none))
+    to_safe _ ty _ is none suits empty = absurd suits
 
-  local_safe : (v : Cell) (x : ℕ) → is_pointer (sort_of types f x) ≡ false → Suits (sort_of types f x) v → (sort_of types f x ≡ AnObject → slice_get st.cells x ≡ Some Empty) → IsSafe S' (given s types f v x st)
-  local_safe v x none suits empty = go (slice_get f.locals x) refl
-    where
-      blank_suits : (u : Cell) → Suits Blank u → ⊥
-      blank_suits u suits = suits
+    local_safe : (v : Cell) → is_pointer (sort_of types f l.local) ≡ false → Suits (sort_of types f l.local) v → (sort_of types f l.local ≡ AnObject → slice_get st.cells l.local ≡ Some Empty) → IsSafe S' (given s types f v l.local st)
+    local_safe v none suits empty = go (slice_get f.locals l.local) refl
+      where
+        blank_suits : (u : Cell) → Suits Blank u → ⊥
+        blank_suits u suits = suits
 
-      go : (l : Option Local) → slice_get f.locals x ≡ l → IsSafe S' (given_if s types f l v x st)
-      go None e = absurd (blank_suits v (subst (λ sort. Suits sort v) (ap (held_by types) e) suits))
-      go (Some l) e = to_safe (sort_of types f x) l.ty v x refl none suits empty
+        go : (o : Option Local) → slice_get f.locals l.local ≡ o → IsSafe S' (given_if s types f o v l.local st)
+        go None e = absurd (blank_suits v (subst (λ sort. Suits sort v) (ap (held_by types) e) suits))
+        go (Some o) e = to_safe (sort_of types f l.local) o.ty v refl none suits empty
 
-  -- a register, or a view
-  plain_safe : (sort : Holding) (l : Location) (v : Cell) → (sort ≡ AnObject → ⊥) → gives_pointer types f (Some l) ≡ false → (l.members ≡ []) × (sort_of types f l.local ≡ sort) → Suits sort v → IsSafe S' (result_given s types f l l.members v st)
-  plain_safe sort l v other none is suits =
-      subst (λ ms. IsSafe S' (result_given s types f l ms v st)) (sym is.0) (local_safe v l.local none (subst (λ k. Suits k v) (sym is.1) suits) (λ e. absurd (other (sym is.1 ∙ e))))
+    -- a register, or a view
+    plain_safe : (sort : Holding) (v : Cell) → (sort ≡ AnObject → ⊥) → gives_pointer types f (Some l) ≡ false → sort_of types f l.local ≡ sort → Suits sort v → IsSafe S' (result_given s types f l l.members v st)
+    plain_safe sort v other none is suits =
+        subst (λ ms. IsSafe S' (result_given s types f l ms v st)) (sym whole) (local_safe v none (subst (λ k. Suits k v) (sym is) suits) (λ e. absurd (other (sym is ∙ e))))
 
-  -- a variable that comes to life
-  living_safe : (l : Location) (v : Cell) → gives_pointer types f (Some l) ≡ false → (l.members ≡ []) × (sort_of types f l.local ≡ AnObject) → slice_get st.cells l.local ≡ Some Empty → Suits ANumber v → IsSafe S' (result_given s types f l l.members v st)
-  living_safe l v none is empty suits =
-      subst (λ ms. IsSafe S' (result_given s types f l ms v st)) (sym is.0) (local_safe v l.local none (subst (λ k. Suits k v) (sym is.1) (suits_object v suits)) (λ e. empty))
+    -- a variable that comes to life
+    living_safe : (v : Cell) → gives_pointer types f (Some l) ≡ false → sort_of types f l.local ≡ AnObject → slice_get st.cells l.local ≡ Some Empty → Suits ANumber v → IsSafe S' (result_given s types f l l.members v st)
+    living_safe v none is empty suits =
+        subst (λ ms. IsSafe S' (result_given s types f l ms v st)) (sym whole) (local_safe v none (subst (λ k. Suits k v) (sym is) (suits_object v suits)) (λ e. empty))
 
   number_object : ANumber ≡ AnObject → ⊥
   number_object e = cc
@@ -201,14 +203,14 @@ module _ (types : Types) (f : Function) (place : Place) (i : Step) (S S' : Fact 
   view_object : AView ≡ AnObject → ⊥
   view_object e = cc
 
-  pub target_safe : (sort : Holding) (target : Option Location) (values : List Cell) → gives_pointer types f target ≡ false → IsTargetReady types f (holdings_of st) sort target
+  pub target_safe : (sort : Holding) (target : Option Location) (values : List Cell) → Closed sigs types f place (Call target id xs) S S' → gives_pointer types f target ≡ false → IsTargetReady types f (holdings_of st) sort target
       → GivesBack st.world.content sort values → IsSafe S' (target_given s types f target values st)
-  target_safe sort None values none ready gives = known_kept types f place S S' st i cl (λ q w e is. keeps (fact_at (local_place q) e)) k
-  target_safe ANumber (Some l) (v ∷ vs) none (inl ready) gives = plain_safe ANumber l v number_object none ready gives.0
-  target_safe ANumber (Some l) (v ∷ vs) none (inr ready) gives = living_safe l v none ready.0 (empty_cell_is st.cells l.local ready.1) gives.0
-  target_safe APointer (Some l) values none ready gives = absurd (false≢true (sym none ∙ ap is_pointer ready.1))
-  target_safe AView (Some l) (v ∷ vs) none ready gives = plain_safe AView l v view_object none ready gives.0
-  target_safe ANumber (Some l) [] none ready gives = absurd gives
-  target_safe AView (Some l) [] none ready gives = absurd gives
-  target_safe Blank (Some l) values none ready gives = absurd ready
-  target_safe AnObject (Some l) values none ready gives = absurd ready
+  target_safe sort None values cl none ready gives = known_kept sigs types f place S S' st (Call None id xs) cl (λ q w e is. refl) k
+  target_safe ANumber (Some l) (v ∷ vs) cl none (inl ready) gives = plain_safe l ready.0 cl ANumber v number_object none ready.1 gives.0
+  target_safe ANumber (Some l) (v ∷ vs) cl none (inr ready) gives = living_safe l ready.0.0 cl v none ready.0.1 (empty_cell_is st.cells l.local ready.1) gives.0
+  target_safe APointer (Some l) values cl none ready gives = absurd (false≢true (sym none ∙ ap is_pointer ready.1))
+  target_safe AView (Some l) (v ∷ vs) cl none ready gives = plain_safe l ready.0 cl AView v view_object none ready.1 gives.0
+  target_safe ANumber (Some l) [] cl none ready gives = absurd gives
+  target_safe AView (Some l) [] cl none ready gives = absurd gives
+  target_safe Blank (Some l) values cl none ready gives = absurd ready
+  target_safe AnObject (Some l) values cl none ready gives = absurd ready

@@ -1,5 +1,5 @@
 -- What is known of a state where one cell is written that names nothing.
-use Rattle.std.proofs.Common.{◌≡◌, ◌≢◌, ℕ, Some, true, false, sym, ap, subst, ◌∙◌, inl, inr, ◌⊎◌}
+use Rattle.std.proofs.Common.{◌≡◌, ◌≢◌, ℕ, List, Some, true, false, sym, ap, subst, ◌∙◌, inl, inr, ◌⊎◌}
 use Rattle.std.specs.Prelude.{ℤ, slice_get, slice_set}
 use Rattle.life_types.specs.Types.{Types}
 use Rattle.life_types.specs.declared.place.Place.{Place}
@@ -9,6 +9,7 @@ use Rattle.life_core.specs.Step.{Step}
 use Rattle.life_pset.specs.Elements.{local_place}
 use Rattle.life_pset.specs.declared.element.Element.{Element}
 use Rattle.life_pset.specs.declared.element.Fact.{Fact}
+use Rattle.life_contract.specs.Signatures.{Signature}
 use Rattle.life_rules.specs.Carrying.{fact_at, drops}
 use Rattle.life_store.specs.Doing.{Effect, Next, Traps, Faults, Strays, put_cell, is_valid}
 use Rattle.life_store.specs.State.{Characters, Target, Pointer, Static, Cell, Named, Number, Points, State, holding_of_pointer, holdings_of}
@@ -35,17 +36,17 @@ object_is_pointer e = cc
 object_is_view : AnObject ≡ AView → ⊥
 object_is_view e = cc
 
-module _ (types : Types) (f : Function) (place : Place) (S S' : Fact → Type 0) where
+module _ (sigs : List Signature) (types : Types) (f : Function) (place : Place) (S S' : Fact → Type 0) where
   -- an instruction that keeps the sets of all pointers keeps what is known of a state
-  pub known_kept : (st : State) (i : Step) → Closed types f place i S S' → ((q : ℕ) (w : Pointer) (e : Element) → slice_get st.cells q ≡ Some (Points w) → drops types f place i (fact_at (local_place q) e) ≡ false)
+  pub known_kept : (st : State) (i : Step) → Closed sigs types f place i S S' → ((q : ℕ) (w : Pointer) (e : Element) → slice_get st.cells q ≡ Some (Points w) → drops types f place i (fact_at (local_place q) e) ≡ false)
       → Known S st → Known S' st
   known_kept st i cl stays k = record {
     covered = λ q w e raw. let c = k.covered q w e raw in
-        record { known = c.known; holds = kept types f place i S S' cl (fact_at (local_place q) c.known) c.holds (stays q w c.known e); covers = c.covers };
+        record { known = c.known; holds = kept sigs types f place i S S' cl (fact_at (local_place q) c.known) c.holds (stays q w c.known e); covers = c.covers };
     timely = k.timely;
   }
 
-module _ (types : Types) (f : Function) (place : Place) (S S' : Fact → Type 0) (st : State) (sorted : IsSorted types f (holdings_of st)) (k : Known S st) where
+module _ (sigs : List Signature) (types : Types) (f : Function) (place : Place) (S S' : Fact → Type 0) (st : State) (sorted : IsSorted types f (holdings_of st)) (k : Known S st) where
   -- what is a number, a pointer or a view by its sort names no object
   unnamed_number : (x m : ℕ) → sort_of types f x ≡ ANumber → slice_get st.cells x ≡ Some (Named m) → ⊥
   unnamed_number x m sort e = object_is_number (sym (named_sort types f st.cells x m sorted e) ∙ sort)
@@ -58,7 +59,7 @@ module _ (types : Types) (f : Function) (place : Place) (S S' : Fact → Type 0)
 
   -- ---- one cell is written that names nothing
 
-  pub put_known : (i : Step) (cl : Closed types f place i S S') (x : ℕ) (v : Cell) → ((m : ℕ) → slice_get st.cells x ≡ Some (Named m) → ⊥)
+  pub put_known : (i : Step) (cl : Closed sigs types f place i S S') (x : ℕ) (v : Cell) → ((m : ℕ) → slice_get st.cells x ≡ Some (Named m) → ⊥)
       → ((q : ℕ) (e : Element) → x ≢ q → drops types f place i (fact_at (local_place q) e) ≡ false) → ((w : Pointer) → v ≡ Points w → IsRaw w → Cover S' st.world.content st.cells x w) → Known S' (put_cell x v st)
   put_known i cl x v unnamed stays cover = record {
     covered = λ q w e raw. covered q w raw (cell_cases st.cells x q v (Points w) e);
@@ -75,11 +76,11 @@ module _ (types : Types) (f : Function) (place : Place) (S S' : Fact → Type 0)
       covered q w raw (inl s) = subst (λ y. Cover S' st.world.content (slice_set st.cells x v) y w) s.0 (written (cover w s.1 raw))
       covered q w raw (inr o) =
           let c = k.covered q w o.1 raw in
-          written record { known = c.known; holds = kept types f place i S S' cl (fact_at (local_place q) c.known) c.holds (stays q c.known o.0); covers = c.covers }
+          written record { known = c.known; holds = kept sigs types f place i S S' cl (fact_at (local_place q) c.known) c.holds (stays q c.known o.0); covers = c.covers }
 
-  -- .. with a number, by an instruction that drops nothing
-  pub number_known : (i : Step) (cl : Closed types f place i S S') (r : ℕ) (z : ℤ) → sort_of types f r ≡ ANumber → ((q : ℕ) (e : Element) → drops types f place i (fact_at (local_place q) e) ≡ false) → Known S' (put_cell r (Number z) st)
-  number_known i cl r z sort stays = put_known i cl r (Number z) (λ m. unnamed_number r m sort) (λ q e ne. stays q e) (λ w e raw. absurd (clash w e))
+  -- .. with a number
+  pub number_known : (i : Step) (cl : Closed sigs types f place i S S') (r : ℕ) (z : ℤ) → sort_of types f r ≡ ANumber → ((q : ℕ) (e : Element) → r ≢ q → drops types f place i (fact_at (local_place q) e) ≡ false) → Known S' (put_cell r (Number z) st)
+  number_known i cl r z sort stays = put_known i cl r (Number z) (λ m. unnamed_number r m sort) stays (λ w e raw. absurd (clash w e))
     where
       clash : (w : Pointer) → Number z ≡ Points w → ⊥
       clash w e = cc
@@ -88,13 +89,13 @@ module _ (types : Types) (f : Function) (place : Place) (S S' : Fact → Type 0)
   same_pointer v w e = cc
 
   -- .. with a raw pointer or a reference, by an instruction that drops its old set
-  pub pointer_known : (i : Step) (cl : Closed types f place i S S') (p : ℕ) (v : Pointer) → sort_of types f p ≡ APointer → ((q : ℕ) (e : Element) → p ≢ q → drops types f place i (fact_at (local_place q) e) ≡ false)
+  pub pointer_known : (i : Step) (cl : Closed sigs types f place i S S') (p : ℕ) (v : Pointer) → sort_of types f p ≡ APointer → ((q : ℕ) (e : Element) → p ≢ q → drops types f place i (fact_at (local_place q) e) ≡ false)
       → Cover S' st.world.content st.cells p v → Known S' (put_cell p (Points v) st)
   pointer_known i cl p v sort stays cover =
       put_known i cl p (Points v) (λ m. unnamed_pointer p m sort) stays (λ w e raw. subst (Cover S' st.world.content st.cells p) (same_pointer v w e) cover)
 
   -- .. with a view
-  pub view_known : (i : Step) (cl : Closed types f place i S S') (p : ℕ) (c : Characters) → sort_of types f p ≡ AView → ((q : ℕ) (e : Element) → p ≢ q → drops types f place i (fact_at (local_place q) e) ≡ false)
+  pub view_known : (i : Step) (cl : Closed sigs types f place i S S') (p : ℕ) (c : Characters) → sort_of types f p ≡ AView → ((q : ℕ) (e : Element) → p ≢ q → drops types f place i (fact_at (local_place q) e) ≡ false)
       → Known S' (put_cell p (Points (Static c)) st)
   view_known i cl p c sort stays =
       put_known i cl p (Points (Static c)) (λ m. unnamed_view p m sort) stays (λ w e raw. absurd (clash (ap holding_of_pointer (same_pointer (Static c) w e) ∙ raw)))

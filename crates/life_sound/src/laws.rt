@@ -8,8 +8,8 @@ ghost use Rattle.life_rules.specs.declared.diag.Diag.{Diag};
 ghost use Rattle.life_store.specs.NoFault.{NoFault};
 
 /// A proper program in which nothing is diagnosed uses nothing null or dangling in any run from an entry
-/// that is admitted, where no raw pointer and no reference goes through a call. What such a call does to
-/// pointers no rule says so far.
+/// that is admitted, where no raw pointer and no reference goes through a call. Of a call through which one
+/// goes it says nothing so far.
 pub fn undiagnosed_programs_are_free_of_faults()
     ensures { (p : Program) → IsProperProgram p → calls_by_value p ≡ true → ((d : Diag) → IsProgramDiagnosed p d → ⊥) → NoFault p }
 {}

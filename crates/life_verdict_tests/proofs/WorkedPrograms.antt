@@ -20,9 +20,9 @@ use Rattle.life_core.specs.declared.stmt.Edge.{Edge}
 use Rattle.life_core.specs.declared.stmt.Point.{Point}
 use Rattle.life_pset.specs.Elements.{local_place, uninitialised}
 use Rattle.life_pset.specs.Shapes.{or_void}
-use Rattle.life_pset.specs.declared.element.AbsPlace.{AbsPlace}
 use Rattle.life_pset.specs.declared.element.Element.TheVariants.{Invalid}
 use Rattle.life_pset.specs.declared.element.Fact.{Fact}
+use Rattle.life_contract.specs.Signatures.{Signature, signatures_of}
 use Rattle.life_rules.specs.Carrying.{fact_at, facts_at, born, born_facts, from_none, from_one, Gives}
 use Rattle.life_rules.specs.Deriving.{Derives, entry, along}
 use Rattle.life_rules.specs.Diagnosing.{diags_at, diags_of_two, IsDiagnosed, Tells}
@@ -149,42 +149,42 @@ no_use_by_value p l is = one_by_value p (worked l no_use) is refl
 
 -- ---- nothing is found of the second
 
-silent : (types : Types) (f : Function) (spot : Option Spot) → ((a : Fact) (d : Diag) → Contains (diags_at types 0 f spot a) d → ⊥) → ((a b : Fact) (d : Diag) → Contains (diags_of_two types 0 f spot a b) d → ⊥)
-    → (facts : List Fact) (d : Diag) → Tells types 0 f spot facts d → ⊥
-silent types f spot one two [] d h = h
-silent types f spot one two (a ∷ []) d h = one a d h
-silent types f spot one two (a ∷ b ∷ []) d h = two a b d h
-silent types f spot one two (a ∷ b ∷ c ∷ more) d h = h
+silent : (sigs : List Signature) (types : Types) (f : Function) (spot : Option Spot) → ((a : Fact) (d : Diag) → Contains (diags_at sigs types 0 f spot a) d → ⊥) → ((a b : Fact) (d : Diag) → Contains (diags_of_two sigs types 0 f spot a b) d → ⊥)
+    → (facts : List Fact) (d : Diag) → Tells sigs types 0 f spot facts d → ⊥
+silent sigs types f spot one two [] d h = h
+silent sigs types f spot one two (a ∷ []) d h = one a d h
+silent sigs types f spot one two (a ∷ b ∷ []) d h = two a b d h
+silent sigs types f spot one two (a ∷ b ∷ c ∷ more) d h = h
 
-no_use_one : (types : Types) (l : Local) (n : ℕ) (x : Fact) (d : Diag) → Contains (diags_at types 0 (worked l no_use) (spot_of (worked l no_use) (record { 0 = n })) x) d → ⊥
-no_use_one types l zero x d h = none_in_empty d h
-no_use_one types l (suc zero) x d h = none_in_empty d h
-no_use_one types l (suc (suc zero)) x d h = none_in_empty d h
-no_use_one types l (suc (suc (suc zero))) x d h = none_in_empty d h
-no_use_one types l (suc (suc (suc (suc n)))) x d h = none_in_empty d h
+no_use_one : (sigs : List Signature) (types : Types) (l : Local) (n : ℕ) (x : Fact) (d : Diag) → Contains (diags_at sigs types 0 (worked l no_use) (spot_of (worked l no_use) (record { 0 = n })) x) d → ⊥
+no_use_one sigs types l zero x d h = none_in_empty d h
+no_use_one sigs types l (suc zero) x d h = none_in_empty d h
+no_use_one sigs types l (suc (suc zero)) x d h = none_in_empty d h
+no_use_one sigs types l (suc (suc (suc zero))) x d h = none_in_empty d h
+no_use_one sigs types l (suc (suc (suc (suc n)))) x d h = none_in_empty d h
 
 -- two facts make nothing wrong, where no owner is used
-none_of_two : (types : Types) (l : Local) (i : Step) → ((a b : Fact) → diags_of_two types 0 (worked l i) (Some (record { node = Action i; place = on_line 3 })) a b ≡ [])
-    → (n : ℕ) (a b : Fact) (d : Diag) → Contains (diags_of_two types 0 (worked l i) (spot_of (worked l i) (record { 0 = n })) a b) d → ⊥
-none_of_two types l i none zero a b d h = none_in_empty d h
-none_of_two types l i none (suc zero) a b d h = none_in_empty d h
-none_of_two types l i none (suc (suc zero)) a b d h = none_in_empty d (subst (λ (ds : List Diag). Contains ds d) (none a b) h)
-none_of_two types l i none (suc (suc (suc zero))) a b d h = none_in_empty d h
-none_of_two types l i none (suc (suc (suc (suc n)))) a b d h = none_in_empty d h
+none_of_two : (sigs : List Signature) (types : Types) (l : Local) (i : Step) → ((a b : Fact) → diags_of_two sigs types 0 (worked l i) (Some (record { node = Action i; place = on_line 3 })) a b ≡ [])
+    → (n : ℕ) (a b : Fact) (d : Diag) → Contains (diags_of_two sigs types 0 (worked l i) (spot_of (worked l i) (record { 0 = n })) a b) d → ⊥
+none_of_two sigs types l i none zero a b d h = none_in_empty d h
+none_of_two sigs types l i none (suc zero) a b d h = none_in_empty d h
+none_of_two sigs types l i none (suc (suc zero)) a b d h = none_in_empty d (subst (λ (ds : List Diag). Contains ds d) (none a b) h)
+none_of_two sigs types l i none (suc (suc (suc zero))) a b d h = none_in_empty d h
+none_of_two sigs types l i none (suc (suc (suc (suc n)))) a b d h = none_in_empty d h
 
-no_use_clean : (types : Types) (l : Local) (d : Diag) → IsDiagnosed types 0 (worked l no_use) d → ⊥
-no_use_clean types l d h =
-    silent types (worked l no_use) (spot_of (worked l no_use) h.0) (no_use_one types l h.0.0) (none_of_two types l no_use (λ a b. refl) h.0.0) h.1.0 d h.1.1.1
+no_use_clean : (sigs : List Signature) (types : Types) (l : Local) (d : Diag) → IsDiagnosed sigs types 0 (worked l no_use) d → ⊥
+no_use_clean sigs types l d h =
+    silent sigs types (worked l no_use) (spot_of (worked l no_use) h.0) (no_use_one sigs types l h.0.0) (none_of_two sigs types l no_use (λ a b. refl) h.0.0) h.1.0 d h.1.1.1
 
 pub no_use_listed : (p : Program) (l : Local) → p.functions ≡ worked l no_use ∷ [] → AreProgramDiagnostics p []
-no_use_listed p l is = one_function p (worked l no_use) [] is (empty_listing (no_use_clean p.types l))
+no_use_listed p l is = one_function p (worked l no_use) [] is (empty_listing (no_use_clean (signatures_of p.functions) p.types l))
 
 -- ---- of the first, what was worked out
 
 abbrev wild : Fact
 wild = fact_at (local_place 0) (Invalid (uninitialised (on_line 2) 0))
 
-module _ (types : Types) (l : Local) (sort : held_by types (Some l) ≡ APointer) where
+module _ (names : Naming) (types : Types) (l : Local) (sort : held_by types (Some l) ≡ APointer) where
   direct : IsDirect types l.ty
   direct = let k = pointer_local types (worked l misuse) 0 sort in subst (λ (m : Local). IsDirect types m.ty) (sym (some_same k.1.0)) k.1.1
 
@@ -194,50 +194,50 @@ module _ (types : Types) (l : Local) (sort : held_by types (Some l) ≡ APointer
   born_wild (type.Reference target constant) h = refl
   born_wild _ h = absurd (false≢true h)
 
-  born_alone : from_none types (worked l misuse) (on_line 2) (Live 0 Plain) ≡ wild ∷ []
+  born_alone : from_none names.sigs types (worked l misuse) (on_line 2) (Live 0 Plain) ≡ wild ∷ []
   born_alone =
       ap (flat_map (born_facts types (worked l misuse) (on_line 2) 0 Plain)) (direct_alone types l.kind (local_place 0) l.ty direct)
       ∙ ap (λ (o : Option Ty). facts_at (local_place 0) (born (on_line 2) 0 Plain (or_void o)) ++ []) direct.1.0
       ∙ born_wild direct.0 direct.1.1
 
   -- what holds at a point is that the pointer has no value
-  by_first : (premises : List Fact) (x : Fact) → ((y : Fact) → Contains premises y → y ≡ wild) → Gives types (worked l misuse) (record { from = record { 0 = 1 }; to = record { 0 = 2 }; branch = None }) premises x → x ≡ wild
+  by_first : (premises : List Fact) (x : Fact) → ((y : Fact) → Contains premises y → y ≡ wild) → Gives names.sigs types (worked l misuse) (record { from = record { 0 = 1 }; to = record { 0 = 2 }; branch = None }) premises x → x ≡ wild
   by_first [] x held g = sym (only_one wild x (subst (λ (xs : List Fact). Contains xs x) born_alone g))
-  by_first (a ∷ []) x held g = absurd (none_in_empty x (subst (λ (b : Fact). Contains (from_one types (worked l misuse) (on_line 2) (Live 0 Plain) b) x) (held a (at_head a [])) g))
+  by_first (a ∷ []) x held g = absurd (none_in_empty x (subst (λ (b : Fact). Contains (from_one names.sigs types (worked l misuse) (on_line 2) (Live 0 Plain) b) x) (held a (at_head a [])) g))
   by_first (a ∷ b ∷ []) x held g = absurd (none_in_empty x g)
   by_first (a ∷ b ∷ c ∷ more) x held g = absurd g
 
-  by_second : (premises : List Fact) (x : Fact) → ((y : Fact) → Contains premises y → y ≡ wild) → Gives types (worked l misuse) (record { from = record { 0 = 2 }; to = record { 0 = 3 }; branch = None }) premises x → x ≡ wild
+  by_second : (premises : List Fact) (x : Fact) → ((y : Fact) → Contains premises y → y ≡ wild) → Gives names.sigs types (worked l misuse) (record { from = record { 0 = 2 }; to = record { 0 = 3 }; branch = None }) premises x → x ≡ wild
   by_second [] x held g = absurd (none_in_empty x g)
-  by_second (a ∷ []) x held g = sym (only_one wild x (subst (λ (b : Fact). Contains (from_one types (worked l misuse) (on_line 3) misuse b) x) (held a (at_head a [])) g))
+  by_second (a ∷ []) x held g = sym (only_one wild x (subst (λ (b : Fact). Contains (from_one names.sigs types (worked l misuse) (on_line 3) misuse b) x) (held a (at_head a [])) g))
   by_second (a ∷ b ∷ []) x held g = absurd (none_in_empty x g)
   by_second (a ∷ b ∷ c ∷ more) x held g = absurd g
 
-  by_edge : (e : Edge) (premises : List Fact) (x : Fact) → Contains (edges_of (worked l misuse)) e → ((y : Fact) → Contains premises y → y ≡ wild) → Gives types (worked l misuse) e premises x → x ≡ wild
+  by_edge : (e : Edge) (premises : List Fact) (x : Fact) → Contains (edges_of (worked l misuse)) e → ((y : Fact) → Contains premises y → y ≡ wild) → Gives names.sigs types (worked l misuse) e premises x → x ≡ wild
   by_edge e premises x among held g =
       ⊎_elim
-      (λ is. by_first premises x held (subst (λ (k : Edge). Gives types (worked l misuse) k premises x) (sym is) g))
-      (λ more. by_second premises x held (subst (λ (k : Edge). Gives types (worked l misuse) k premises x) (sym (only_one _ e more)) g))
+      (λ is. by_first premises x held (subst (λ (k : Edge). Gives names.sigs types (worked l misuse) k premises x) (sym is) g))
+      (λ more. by_second premises x held (subst (λ (k : Edge). Gives names.sigs types (worked l misuse) k premises x) (sym (only_one _ e more)) g))
       (cons_cases (record { from = record { 0 = 1 }; to = record { 0 = 2 }; branch = None }) (record { from = record { 0 = 2 }; to = record { 0 = 3 }; branch = None } ∷ []) e among)
 
-  wild_alone : {p : Point} {x : Fact} → Derives types (worked l misuse) p x → x ≡ wild
+  wild_alone : {p : Point} {x : Fact} → Derives names.sigs types (worked l misuse) p x → x ≡ wild
   wild_alone (entry {x = x} of held) = absurd (none_in_empty x held)
   wild_alone (along e premises {x = x} among held carries) = by_edge e premises x among (λ y h. wild_alone (held y h)) carries.1
 
-  found_alone : (n : ℕ) (d : Diag) → Contains (diags_at types 0 (worked l misuse) (spot_of (worked l misuse) (record { 0 = n })) wild) d → found ≡ d
+  found_alone : (n : ℕ) (d : Diag) → Contains (diags_at names.sigs types 0 (worked l misuse) (spot_of (worked l misuse) (record { 0 = n })) wild) d → found ≡ d
   found_alone zero d h = absurd (none_in_empty d h)
   found_alone (suc zero) d h = absurd (none_in_empty d h)
   found_alone (suc (suc zero)) d h = only_one found d h
   found_alone (suc (suc (suc zero))) d h = absurd (none_in_empty d h)
   found_alone (suc (suc (suc (suc n)))) d h = absurd (none_in_empty d h)
 
-  told_found : (n : ℕ) (facts : List Fact) (d : Diag) → ((x : Fact) → Contains facts x → x ≡ wild) → Tells types 0 (worked l misuse) (spot_of (worked l misuse) (record { 0 = n })) facts d → found ≡ d
+  told_found : (n : ℕ) (facts : List Fact) (d : Diag) → ((x : Fact) → Contains facts x → x ≡ wild) → Tells names.sigs types 0 (worked l misuse) (spot_of (worked l misuse) (record { 0 = n })) facts d → found ≡ d
   told_found n [] d all h = absurd h
-  told_found n (a ∷ []) d all h = found_alone n d (subst (λ (x : Fact). Contains (diags_at types 0 (worked l misuse) (spot_of (worked l misuse) (record { 0 = n })) x) d) (all a (at_head a [])) h)
-  told_found n (a ∷ b ∷ []) d all h = absurd (none_of_two types l misuse (λ x y. refl) n a b d h)
+  told_found n (a ∷ []) d all h = found_alone n d (subst (λ (x : Fact). Contains (diags_at names.sigs types 0 (worked l misuse) (spot_of (worked l misuse) (record { 0 = n })) x) d) (all a (at_head a [])) h)
+  told_found n (a ∷ b ∷ []) d all h = absurd (none_of_two names.sigs types l misuse (λ x y. refl) n a b d h)
   told_found n (a ∷ b ∷ c ∷ more) d all h = absurd h
 
-  wild_derived : Derives types (worked l misuse) (record { 0 = 2 }) wild
+  wild_derived : Derives names.sigs types (worked l misuse) (record { 0 = 2 }) wild
   wild_derived =
       let c = Invalid (uninitialised (on_line 2) 0) in
       let g = worked l misuse in
@@ -248,17 +248,17 @@ module _ (types : Types) (l : Local) (sort : held_by types (Some l) ≡ APointer
         subst (λ (xs : List Fact). Contains xs wild) (sym born_alone) (at_head wild []),
       )
 
-  is_found : (d : Diag) → IsDiagnosed types 0 (worked l misuse) d → found ≡ d
+  is_found : (d : Diag) → IsDiagnosed names.sigs types 0 (worked l misuse) d → found ≡ d
   is_found d h = told_found h.0.0 h.1.0 d (λ x k. wild_alone (h.1.1.0 x k)) h.1.1.1
 
-  misuse_found : (names : Naming) → AreDiagnostics names types 0 (worked l misuse) (found ∷ [])
+  misuse_found : AreDiagnostics names types 0 (worked l misuse) (found ∷ [])
   unfolding IsStrictlySortedBy
-  misuse_found names = record {
+  misuse_found = record {
     sorted = (tt, tt);
-    only = λ d h. subst (IsDiagnosed types 0 (worked l misuse)) (only_one found d h)
-        (record { 0 = 2 }, (wild ∷ [], ((λ x k. subst (Derives types (worked l misuse) (record { 0 = 2 })) (only_one wild x k) wild_derived), at_head found [])));
+    only = λ d h. subst (IsDiagnosed names.sigs types 0 (worked l misuse)) (only_one found d h)
+        (record { 0 = 2 }, (wild ∷ [], ((λ x k. subst (Derives names.sigs types (worked l misuse) (record { 0 = 2 })) (only_one wild x k) wild_derived), at_head found [])));
     each = λ d h. (found, (at_head found [], record { same_line = ap (line_of names types (worked l misuse)) (is_found d h); first = subst (λ (e : Diag). is_le (diag.cmp found e) ≡ true) (is_found d h) refl }));
   }
 
 pub misuse_listed : (p : Program) (l : Local) → p.functions ≡ worked l misuse ∷ [] → held_by p.types (Some l) ≡ APointer → AreProgramDiagnostics p (found ∷ [])
-misuse_listed p l is sort = one_function p (worked l misuse) (found ∷ []) is (misuse_found p.types l sort (naming_in p))
+misuse_listed p l is sort = one_function p (worked l misuse) (found ∷ []) is (misuse_found (naming_in p) p.types l sort)

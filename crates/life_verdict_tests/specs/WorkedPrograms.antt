@@ -1,6 +1,6 @@
 -- Programs with one pointer, worked out by hand: it comes to life without a value, and then one
 -- instruction follows.
-use Rattle.std.specs.Prelude.{ℕ, [], ◌∷◌}
+use Rattle.std.specs.Prelude.{ℕ, [], ◌∷◌, None}
 use Rattle.life_types.specs.declared.place.Place.{Place}
 use Rattle.life_core.specs.Function.{Function, Default}
 use Rattle.life_core.specs.Step.{Step, Live, Aim, Repoint}
@@ -40,4 +40,4 @@ no_use = Repoint (whole 0) (whole 0)
 
 -- what is found of the first
 abbrev pub found : Diag
-found = record { function = 0; place = on_line 3; kind = DanglingUse; name = local_place 0; why = why.Cause (uninitialised (on_line 2) 0) }
+found = record { function = 0; place = on_line 3; kind = DanglingUse; name = local_place 0; called = None; why = why.Cause (uninitialised (on_line 2) 0) }

@@ -68,6 +68,7 @@ fn null_use(function: u32, place: Place) -> Diag
         place,
         kind: DiagKind::NullUse,
         name: AbsPlace::of_local(0),
+        called: None,
         why: Why::Null,
     }
 }
@@ -80,6 +81,7 @@ fn dangling_use(function: u32, place: Place, ended: Place) -> Diag
         place,
         kind: DiagKind::DanglingUse,
         name: AbsPlace::of_local(0),
+        called: None,
         why: Why::Cause(Cause {
             kind: CauseKind::Ended,
             place: ended,

@@ -1,5 +1,8 @@
-// Texts of the locals and of the reasons of one function.
-use life_core::{CoreFn, Local, LocalKind, Names, Promise, Stmt};
+// Texts of the locals and of the reasons of one function, which calls another one.
+ghost use Rattle.std.specs.Prelude.{◌≡◌, length, IfOk};
+
+use life_contract::Signatures;
+use life_core::{CoreFn, CoreProgram, Local, LocalKind, Names, Promise, Stmt};
 use life_pset::{AbsPlace, Cause, CauseKind, Element, Root};
 use life_rules::{Diag, DiagKind, Why, place_text, texts_of};
 use life_types::{NameId, NoMemory, Place, Ty, TyId, TypeTable};
@@ -39,15 +42,15 @@ fn names(alloc: Global) -> Result<Names, NoMemory> {
     })
 }
 
-// A parameter `p`, the result, a temporary and a variable `x1`.
-fn four_locals(alloc: Global) -> Result<CoreFn, NoMemory> {
+// A parameter, the result, a temporary and a variable `x1`.
+fn four_locals(alloc: Global, name: NameId, parameter: NameId) -> Result<CoreFn, NoMemory> {
     let mut locals = Vec::new(alloc);
-    locals.push(local(Some(NameId(0))))?;
+    locals.push(local(Some(parameter)))?;
     locals.push(local(None))?;
     locals.push(local(None))?;
     locals.push(local(Some(NameId(1))))?;
     Ok(CoreFn {
-        name: NameId(0),
+        name,
         place: at(1, 5),
         parameters: 1,
         result: TyId(0),
@@ -57,16 +60,43 @@ fn four_locals(alloc: Global) -> Result<CoreFn, NoMemory> {
     })
 }
 
+// A function with the parameter `p`, and then one that is called `x1`, as its parameter is.
+fn two_functions(alloc: Global) -> Result<CoreProgram, NoMemory>
+    ensures { IfOk result (λ p. length p.functions.items ≡ 2) }
+{
+    let mut types = TypeTable::new(alloc);
+    types.add(Ty::Int)?;
+    let mut functions = Vec::new(alloc);
+    functions.push(four_locals(alloc, NameId(0), NameId(0))?)?;
+    functions.push(four_locals(alloc, NameId(1), NameId(1))?)?;
+    Ok(CoreProgram {
+        names: names(alloc)?,
+        types,
+        texts: Vec::new(alloc),
+        functions,
+    })
+}
+
 fn because(kind: CauseKind, place: Place, root: u32) -> Why {
     Why::Cause(Cause { kind, place, root })
 }
 
+fn diag(kind: DiagKind, called: Option<u32>, why: Why) -> Diag {
+    Diag {
+        function: 0,
+        place: at(9, 9),
+        kind,
+        name: AbsPlace::of_local(0),
+        called,
+        why,
+    }
+}
+
 #[test]
 fn texts_of_a_function(rt: HostRuntime) -> Result<(), Fail> {
-    let names = names(rt.alloc())?;
-    let f = four_locals(rt.alloc())?;
-    let mut types = TypeTable::new(rt.alloc());
-    types.add(Ty::Int)?;
+    let p = two_functions(rt.alloc())?;
+    let sigs = Signatures::of(rt.alloc(), &p)?;
+    let f = &p.functions[0];
 
     let places = [
         (Root::Local(0), "p"),
@@ -83,7 +113,7 @@ fn texts_of_a_function(rt: HostRuntime) -> Result<(), Fail> {
         ),
     ];
     for (root, want) in places {
-        let text = place_text(rt.alloc(), &names, &[], &f, &types, &rooted(root))?;
+        let text = place_text(rt.alloc(), &p.names, f, &sigs, &p.types, &rooted(root))?;
         assert_eq!(rt; text.as_slice(), want.as_bytes());
     }
 
@@ -110,7 +140,7 @@ fn texts_of_a_function(rt: HostRuntime) -> Result<(), Fail> {
             "owner changed at 5:6",
         ),
         (because(CauseKind::Moved, at(7, 8), 3), "x1 moved at 7:8"),
-        (because(CauseKind::Called, at(9, 1), 0), "call of x1 at 9:1"),
+        (because(CauseKind::Called, at(9, 1), 1), "call of x1 at 9:1"),
         (Why::Overlap(NameId(1)), "overlaps x1"),
         (Why::Points(Element::Null), "may be null"),
         (Why::Points(Element::Static), "may point to static"),
@@ -120,16 +150,14 @@ fn texts_of_a_function(rt: HostRuntime) -> Result<(), Fail> {
         ),
     ];
     for (why, want) in reasons {
-        let diag = Diag {
-            function: 0,
-            place: at(9, 9),
-            kind: DiagKind::DanglingUse,
-            name: rooted(Root::Local(0)),
-            why,
-        };
-        let text = texts_of(rt.alloc(), &names, &[NameId(1)], &f, &types, &diag)?;
+        let d = diag(DiagKind::DanglingUse, None, why);
+        let text = texts_of(rt.alloc(), &p.names, f, &sigs, &p.types, &d)?;
         assert_eq!(rt; text.name.as_slice(), b"p".as_slice());
         assert_eq!(rt; text.why.as_slice(), want.as_bytes());
     }
+
+    let handed_over = diag(DiagKind::ArgNull, Some(1), Why::Null);
+    let text = texts_of(rt.alloc(), &p.names, f, &sigs, &p.types, &handed_over)?;
+    assert_eq!(rt; text.name.as_slice(), b"x1".as_slice());
     Ok(())
 }

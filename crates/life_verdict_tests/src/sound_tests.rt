@@ -119,6 +119,7 @@ fn one_use(alloc: Global) -> Result<Vec<Diag>, NoMemory>
         place: line(3),
         kind: DiagKind::DanglingUse,
         name: AbsPlace::of_local(0),
+        called: None,
         why: Why::Cause(Cause {
             kind: CauseKind::Uninitialised,
             place: line(2),

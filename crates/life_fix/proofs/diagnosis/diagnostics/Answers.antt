@@ -12,8 +12,8 @@ use Rattle.life_fix.proofs.diagnosis.diagnostics.Goals as goal
 
 pub returns : goal.returns
 returns g c =
-    let line = line_of (naming_of c.args.names.now c.args.functions.now) c.args.types.now (function_of c.args.f.now) in
-    let same = subst (λ (ds : List Diag). (d : Diag) → Contains ds d ↔ IsDiagnosed c.args.types.now c.args.id.0 (function_of c.args.f.now) d)
+    let line = line_of (naming_of c.args.names.now c.args.sigs.now) c.args.types.now (function_of c.args.f.now) in
+    let same = subst (λ (ds : List Diag). (d : Diag) → Contains ds d ↔ IsDiagnosed c.args.sigs.now c.args.types.now c.args.id.0 (function_of c.args.f.now) d)
     (sym c.deref.ensures.value) c.in_ok-found.ensures in
     let before : map candidate_seen c.push_candidates.new.out.items ≡ map (lined line) c.deref.result.now =
     c.in_ok-push_candidates.ensures ∙ ap (λ (cs : List Candidate). map candidate_seen cs ++ map (lined line) c.deref.result.now) c.new-candidates.ensures.items in

@@ -10,4 +10,4 @@ pub returns : goal.returns
 returns g c =
     let has = g.R.Rows.has c.args.row.now in
     let held = subst (λ (facts : List Fact). (x : Fact) → Contains facts x ↔ Holds c.args.table.now has x) (sym c.deref.ensures.value) c.in_ok-facts.ensures in
-    wrong_in_facts c.args.types.now c.args.function (function_of c.args.f.now) c.args.table.now has (spot_seen c.args.spot) c.deref.result.now c.args.out.now.items c.push_all_wrong.new.out.items held c.in_ok-push_all_wrong.ensures
+    wrong_in_facts c.args.sigs.now c.args.types.now c.args.function (function_of c.args.f.now) c.args.table.now has (spot_seen c.args.spot) c.deref.result.now c.args.out.now.items c.push_all_wrong.new.out.items held c.in_ok-push_all_wrong.ensures

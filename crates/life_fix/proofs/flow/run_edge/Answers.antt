@@ -12,6 +12,7 @@ given_facts-requires g c = c.spot_in-spot.ensures (function_of c.args.flow.now.f
 pub returns-clause-runs : goal.returns-clause-runs
 returns-clause-runs g c =
     let has = g.R.Rows.has in
+    let sigs = c.args.flow.now.sigs.now in
     let types = c.args.flow.now.types.now in
     let f = function_of c.args.flow.now.f.now in
     let table = c.args.flow.now.table.now in
@@ -19,14 +20,14 @@ returns-clause-runs g c =
     let from = get_or rows c.row_index.result c.index-rows-row_index.result in
     let row = get_or rows c.row_index-2.result c.index-rows-row_index-2.result in
     let new = c.add_facts.new.row in
-    let carried = CarriesPair types f c.args.edge (has from) in
+    let carried = CarriesPair sigs types f c.args.edge (has from) in
     let j : c.row_index.result < length rows = omega (arith, c.row_index.ensures, c.requires.join.1) in
     let i : c.row_index-2.result < length rows = omega (arith, c.row_index-2.ensures, c.requires.join.3) in
-    runs_at has types f c.args.edge rows c.row_index.result c.row_index-2.result from row new
+    runs_at has sigs types f c.args.edge rows c.row_index.result c.row_index-2.result from row new
     (slice_get-get_or rows c.row_index.result _ j) (slice_get-get_or rows c.row_index-2.result _ i)
     c.row_index.ensures c.row_index-2.ensures
     (gains_same (has row) (has new) (IsPairOf table c.deref.result.now) carried
-    (pairs_carried table types f c.args.edge (has from) c.in_ok-facts.facts.items c.deref.result.now c.requires.flow.table c.deref.ensures.value c.in_ok-facts.ensures)
+    (pairs_carried table sigs types f c.args.edge (has from) c.in_ok-facts.facts.items c.deref.result.now c.requires.flow.table c.deref.ensures.value c.in_ok-facts.ensures)
     c.in_ok-gained.ensures.added)
 
 pub returns-clause-gained : goal.returns-clause-gained

@@ -7,4 +7,4 @@ use Rattle.life_fix.proofs.listing.push_candidates.Given as goal
 
 -- those so far stand with their lines behind what was there
 abbrev pub invariant-loop-diag : goal.invariant-loop-diag
-invariant-loop-diag l = map candidate_seen l.out.items ≡ map candidate_seen l.fn.out.items ++ map (lined (line_of (naming_of l.names l.functions) l.types (function_of l.f))) (take l.diag-index l.found)
+invariant-loop-diag l = map candidate_seen l.out.items ≡ map candidate_seen l.fn.out.items ++ map (lined (line_of (naming_of l.names l.sigs) l.types (function_of l.f))) (take l.diag-index l.found)

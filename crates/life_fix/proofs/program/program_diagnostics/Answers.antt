@@ -5,8 +5,8 @@ use Rattle.std.proofs.lemmas.Result.{IfOk-weaker}
 use Rattle.std.specs.Prelude.{option_map}
 use Rattle.life_core.specs.Function.{function_of, program_of}
 use Rattle.life_core.specs.declared.program.CoreFn.{CoreFn}
-use Rattle.life_types.specs.declared.ty.NameId.{NameId}
-use Rattle.life_rules.specs.Texts.{function_name, naming_of}
+use Rattle.life_contract.specs.Signatures.{Signature}
+use Rattle.life_rules.specs.Texts.{naming_of}
 use Rattle.life_fix.specs.Candidates.{candidate_seen}
 use Rattle.life_fix.specs.Programs.{AddsDiagnosed}
 use Rattle.life_fix.proofs.Finding.{same_wrongs}
@@ -26,9 +26,8 @@ push_diagnosed-requires g c =
 
 pub loop-index-preserved : goal.loop-index-preserved
 loop-index-preserved g c =
-    let names = c.deref-in-loop-index.ensures.value ∙ c.in_ok-functions.ensures ∙ ap (λ (fs : List CoreFn). map function_name (map function_of fs)) c.deref.ensures.value in
-    let adds = subst (λ (ns : List NameId). AddsDiagnosed (naming_of c.args.program.now.names ns) c.args.program.now.types c.loop-index.index (function_of c.f-item.result)
-    (map candidate_seen c.loop-index.candidates.items) (map candidate_seen c.push_diagnosed.new.out.items)) names c.in_ok-push_diagnosed.ensures in
+    let adds = subst (λ (ss : List Signature). AddsDiagnosed (naming_of c.args.program.now.names ss) c.args.program.now.types c.loop-index.index (function_of c.f-item.result)
+    (map candidate_seen c.loop-index.candidates.items) (map candidate_seen c.push_diagnosed.new.out.items)) c.in_ok-sigs.ensures c.in_ok-push_diagnosed.ensures in
     found_in_next (program_of c.args.program.now) c.loop-index.index (function_of c.f-item.result) (map candidate_seen c.loop-index.candidates.items) (map candidate_seen c.push_diagnosed.new.out.items)
     (at c.args.program.now.functions.items c.deref-f-items.result.now c.loop-index.index c.f-item.result c.deref-f-items.ensures.value c.loop-index-test.true c.f-item.is)
     adds c.loop-index.invariant

@@ -11,7 +11,7 @@ run_all-requires-clause-partial g c =
     let rows = c.in_ok-rows.rows in
     let count : length rows.items ≡ points_of f = omega (arith, c.in_ok-rows.ensures.count, c.len.ensures, c.in_ok-spots.spots.ok.0, c.in_ok-spots.ensures.count) in
     let back = take_at c.start.new.rows _ rows.len (c.start.auto.rows ∙ c.deref_mut.ensures.len) in
-    first_rows g.R.Rows.has c.args.types.now f c.deref.result.now _ c.args.table.now c.deref_mut-3.result.now c.deref-3.result.now rows.items c.deref_mut.result.now c.start.new.rows c.deref_mut-2.result.now
+    first_rows g.R.Rows.has c.args.sigs.now c.args.types.now f c.deref.result.now _ c.args.table.now c.deref_mut-3.result.now c.deref-3.result.now rows.items c.deref_mut.result.now c.start.new.rows c.deref_mut-2.result.now
     c.requires.table (c.deref_mut-3.ensures.value ∙ c.in_ok-dirty.ensures.items_if_clones_equal (λ y h. h)) (c.deref-3.ensures.value ∙ c.in_ok-facts.ensures) c.deref_mut.ensures.value count (c.deref_mut-2.ensures.value ∙ back)
     c.in_ok-rows.ensures.none c.in_ok-start.ensures.starts
 

@@ -20,5 +20,5 @@ returns-clause-ticks g c =
 pub returns-clause-solved : goal.returns-clause-solved
 returns-clause-solved g c =
     let flow = c.args.flow.now in
-    solved_all flow.types.now (function_of flow.f.now) flow.edges.now c.requires.flow.edges c.loop-k.dirty (pairs_at g.R.Rows.has c.loop-k.rows)
+    solved_all flow.sigs.now flow.types.now (function_of flow.f.now) flow.edges.now c.requires.flow.edges c.loop-k.dirty (pairs_at g.R.Rows.has c.loop-k.rows)
     c.requires.flow.join c.loop-k.invariant.partial c.loop-k.invariant.flags c.in_default.ensures.none

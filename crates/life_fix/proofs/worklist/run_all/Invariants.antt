@@ -9,6 +9,7 @@ use Rattle.life_fix.proofs.worklist.run_all.Given as goal
 abbrev pub invariant-loop-k : goal.invariant-loop-k
 invariant-loop-k g l =
     let pairs = pairs_at g.R.Rows.has in
+    let sigs = l.flow.sigs.now in
     let types = l.flow.types.now in
     let f = function_of l.flow.f.now in
     let edges = l.flow.edges.now in
@@ -17,7 +18,7 @@ invariant-loop-k g l =
       flags : length l.dirty ≡ length edges;
       locations : AllLimited g.R.Rows.location_limit (length l.flow.table.now.locations) l.rows;
       elements : AllLimited g.R.Rows.element_limit (length l.flow.table.now.elements) l.rows;
-      partial : IsPartial types f edges l.dirty (pairs l.rows);
+      partial : IsPartial sigs types f edges l.dirty (pairs l.rows);
       ticks : l.steps + left_of (table_of types f) edges l.dirty (pairs l.rows) ≤ l.fn.steps + left_of (table_of types f) edges l.fn.dirty (pairs l.fn.rows);
     }
 

@@ -39,7 +39,7 @@ returns-clause-partial g c =
     let old = pairs_at g.R.Rows.has c.args.rows.now in
     let new = pairs_at g.R.Rows.has c.run_edge.new.rows in
     let at = slice_get-get_or flow.edges.now c.args.k no_edge c.requires.k in
-    visit_partial flow.types.now (function_of flow.f.now) flow.edges.now c.requires.flow.edges _ old new c.args.dirty.now c.update_flags.new.dirty c.args.k c.in_ok-gained.gained
+    visit_partial flow.sigs.now flow.types.now (function_of flow.f.now) flow.edges.now c.requires.flow.edges _ old new c.args.dirty.now c.update_flags.new.dirty c.args.k c.in_ok-gained.gained
     c.requires.partial at c.in_ok-gained.ensures.runs c.in_ok-gained.ensures.gained c.update_flags.ensures
 
 pub returns-clause-falls : goal.returns-clause-falls
@@ -48,5 +48,5 @@ returns-clause-falls g c =
     let old = pairs_at g.R.Rows.has c.args.rows.now in
     let new = pairs_at g.R.Rows.has c.run_edge.new.rows in
     let at = slice_get-get_or flow.edges.now c.args.k no_edge c.requires.k in
-    falls_visit flow.types.now (function_of flow.f.now) _ old new flow.edges.now c.args.dirty.now c.update_flags.new.dirty c.args.k c.in_ok-gained.gained
+    falls_visit flow.sigs.now flow.types.now (function_of flow.f.now) _ old new flow.edges.now c.args.dirty.now c.update_flags.new.dirty c.args.k c.in_ok-gained.gained
     at c.requires.dirty c.in_ok-gained.ensures.runs c.in_ok-gained.ensures.gained c.update_flags.ensures

@@ -9,5 +9,5 @@ use Rattle.life_rules.proofs.along.push_seconds.Given as goal
 -- what was added, and what is left to add
 abbrev pub invariant-loop-second : goal.invariant-loop-second
 invariant-loop-second l =
-    let two = two_at l.types (function_of l.f) (option_map spot_seen l.spot) l.first in
+    let two = two_at l.sigs l.types (function_of l.f) (option_map spot_seen l.spot) l.first in
     l.out.items ++ flat_map two (drop l.second-index l.facts) ≡ l.fn.out.items ++ flat_map two l.facts

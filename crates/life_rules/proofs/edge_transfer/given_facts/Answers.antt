@@ -10,6 +10,6 @@ returns g c =
     let f = function_of c.args.f.now in
     let all = c.push_all.new.out.items in
     let facts = c.in_ok-facts.facts.items in
-    gives_iff c.args.table.now c.args.types.now f c.args.edge (g.R.Rows.has c.args.from.now) facts all c.in_ok-facts.ensures
-    (all_added c.args.types.now f c.args.edge (option_map spot_seen c.args.spot) c.new-all.result.items c.deref.result.now facts all
+    gives_iff c.args.table.now c.args.sigs.now c.args.types.now f c.args.edge (g.R.Rows.has c.args.from.now) facts all c.in_ok-facts.ensures
+    (all_added c.args.sigs.now c.args.types.now f c.args.edge (option_map spot_seen c.args.spot) c.new-all.result.items c.deref.result.now facts all
     c.new-all.ensures.items c.deref.ensures.value c.requires c.in_ok-push_all.ensures)

@@ -13,22 +13,22 @@ pub returns-in_err-gained-clause-between : goal.returns-in_err-gained-clause-bet
 returns-in_err-gained-clause-between g c =
     let f = function_of c.args.f.now in
     let from = g.R.Rows.has c.args.from.now in
-    some_same (g.R.Rows.has c.args.into.now) (g.R.Rows.has c.add_facts.new.row) (IsPairOf c.args.table.now c.deref-2.result.now) (CarriesPair c.args.types.now f c.args.edge from)
-    (pairs_carried c.args.table.now c.args.types.now f c.args.edge from c.in_ok-all.all.items c.deref-2.result.now c.requires.table c.deref-2.ensures.value c.in_ok-all.ensures)
+    some_same (g.R.Rows.has c.args.into.now) (g.R.Rows.has c.add_facts.new.row) (IsPairOf c.args.table.now c.deref-2.result.now) (CarriesPair c.args.sigs.now c.args.types.now f c.args.edge from)
+    (pairs_carried c.args.table.now c.args.sigs.now c.args.types.now f c.args.edge from c.in_ok-all.all.items c.deref-2.result.now c.requires.table c.deref-2.ensures.value c.in_ok-all.ensures)
     c.in_err-gained.ensures.between
 
 pub returns-clause-carried : goal.returns-clause-carried
 returns-clause-carried g c =
     let f = function_of c.args.f.now in
     let from = g.R.Rows.has c.args.from.now in
-    gains_same (g.R.Rows.has c.args.into.now) (g.R.Rows.has c.add_facts.new.row) (IsPairOf c.args.table.now c.deref-2.result.now) (CarriesPair c.args.types.now f c.args.edge from)
-    (pairs_carried c.args.table.now c.args.types.now f c.args.edge from c.in_ok-all.all.items c.deref-2.result.now c.requires.table c.deref-2.ensures.value c.in_ok-all.ensures)
+    gains_same (g.R.Rows.has c.args.into.now) (g.R.Rows.has c.add_facts.new.row) (IsPairOf c.args.table.now c.deref-2.result.now) (CarriesPair c.args.sigs.now c.args.types.now f c.args.edge from)
+    (pairs_carried c.args.table.now c.args.sigs.now c.args.types.now f c.args.edge from c.in_ok-all.all.items c.deref-2.result.now c.requires.table c.deref-2.ensures.value c.in_ok-all.ensures)
     c.in_ok-gained.ensures.added
 
 pub returns-clause-between : goal.returns-clause-between
 returns-clause-between g c =
     let f = function_of c.args.f.now in
     let from = g.R.Rows.has c.args.from.now in
-    some_same (g.R.Rows.has c.args.into.now) (g.R.Rows.has c.add_facts.new.row) (IsPairOf c.args.table.now c.deref-2.result.now) (CarriesPair c.args.types.now f c.args.edge from)
-    (pairs_carried c.args.table.now c.args.types.now f c.args.edge from c.in_ok-all.all.items c.deref-2.result.now c.requires.table c.deref-2.ensures.value c.in_ok-all.ensures)
+    some_same (g.R.Rows.has c.args.into.now) (g.R.Rows.has c.add_facts.new.row) (IsPairOf c.args.table.now c.deref-2.result.now) (CarriesPair c.args.sigs.now c.args.types.now f c.args.edge from)
+    (pairs_carried c.args.table.now c.args.sigs.now c.args.types.now f c.args.edge from c.in_ok-all.all.items c.deref-2.result.now c.requires.table c.deref-2.ensures.value c.in_ok-all.ensures)
     c.in_ok-gained.ensures.between

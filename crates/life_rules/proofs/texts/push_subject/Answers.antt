@@ -7,7 +7,7 @@ use Rattle.life_rules.proofs.texts.push_subject.Goals as goal
 
 pub returns-in_ok-extend_from_slice-in-Changed : goal.returns-in_ok-extend_from_slice-in-Changed
 returns-in_ok-extend_from_slice-in-Changed c =
-    let names = naming_of c.args.names.now c.args.functions.now in
+    let names = naming_of c.args.names.now c.args.sigs.now in
     let f = function_of c.args.f.now in
     let out = c.args.out.now.items in
     c.in_ok-extend_from_slice-in-Changed.ensures.items

@@ -1,0 +1,12 @@
+use Rattle.life_core.specs.Operands.{argument_of}
+use Rattle.life_pset.specs.Inputs.{input_seen}
+use Rattle.life_rules.specs.Calling.{passed_for}
+use Rattle.std.proofs.Common.{◌≡◌, ◌++◌, drop, map}
+use Rattle.std.specs.List.{flat_map}
+use Rattle.life_rules.proofs.calling.push_passed_for_all.Given as goal
+
+-- what was added, and what is left to add
+abbrev pub invariant-loop-input : goal.invariant-loop-input
+invariant-loop-input l =
+    let facts = passed_for l.types l.sig (map argument_of l.arguments) l.target l.fact in
+    l.out.items ++ flat_map facts (map input_seen (drop l.input-index l.inputs)) ≡ l.fn.out.items ++ flat_map facts (map input_seen l.inputs)

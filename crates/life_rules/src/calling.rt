@@ -1,0 +1,382 @@
+// What a call makes of facts.
+ghost use Rattle.std.specs.List.{flat_map};
+ghost use Rattle.std.specs.Option.{option_copied};
+ghost use Rattle.std.specs.Prelude.{◌≡◌, ◌++◌, map, option_map, OnOk, Some};
+ghost use Rattle.life_core.specs.Operands.{argument_of, location_of};
+ghost use Rattle.life_pset.specs.Inputs.{input_seen};
+ghost use Rattle.life_rules.specs.Calling.{called_none, called_one, called_two, fixed_facts, fixed_into, is_in_target, killed_at_call, killed_by_call, passed_element, passed_fact, passed_facts, passed_for, passed_into, result_at};
+ghost use Rattle.life_rules.specs.Matching.{fact_at};
+
+use crate::matching::{located, points_under};
+use crate::push::push_if;
+use life_contract::{
+    Signature, fixed_elements, inputs_of, is_argument_of, is_mutating_argument, promised_behind,
+    result_locations, result_type, steps_place,
+};
+use life_core::{Argument, FnId, Location};
+use life_pset::{AbsPlace, Element, Fact, InputPointer, called, is_within};
+use life_types::{NoMemory, Place, TypeTable};
+use std::alloc::Global;
+
+// ---- the target
+
+/// Whether a location lies in the target of a call.
+pub fn is_in_target(target: &Option<Location>, location: &AbsPlace) -> bool
+    ensures { result ≡ is_in_target (option_map location_of target.now) location.now }
+{
+    match target {
+        None => false,
+        Some(target) => is_within(&located(target), location),
+    }
+}
+
+// A location of the result, put at the target.
+fn result_at(target: AbsPlace, location: &AbsPlace) -> AbsPlace
+    ensures { result ≡ result_at target location.now }
+{
+    target.further(location.path())
+}
+
+// ---- from no fact
+
+/// Adds what the function that is called, if there is one, promises of its result that is no place.
+pub fn push_called_none(
+    alloc: Global,
+    types: &TypeTable,
+    sig: Option<&Signature>,
+    target: &Option<Location>,
+    out: &mut Vec<Fact>,
+) -> Result<(), NoMemory>
+    ensures { OnOk result
+        (out.new.items ≡ out.old.items ++ called_none types.now (option_copied sig.entry) (option_map location_of target.now)) }
+{
+    match sig {
+        None => Ok(()),
+        Some(sig) => push_fixed_into(alloc, types, sig, target, out),
+    }
+}
+
+fn push_fixed_into(
+    alloc: Global,
+    types: &TypeTable,
+    sig: &Signature,
+    target: &Option<Location>,
+    out: &mut Vec<Fact>,
+) -> Result<(), NoMemory>
+    ensures { OnOk result
+        (out.new.items ≡ out.old.items ++ fixed_into types.now sig.now (option_map location_of target.now)) }
+{
+    match target {
+        None => Ok(()),
+        Some(target) => {
+            let locations = result_locations(alloc, sig, types)?;
+            push_all_fixed(alloc, types, sig, located(target), &locations, out)
+        }
+    }
+}
+
+fn push_all_fixed(
+    alloc: Global,
+    types: &TypeTable,
+    sig: &Signature,
+    target: AbsPlace,
+    locations: &[AbsPlace],
+    out: &mut Vec<Fact>,
+) -> Result<(), NoMemory>
+    ensures { OnOk result
+        (out.new.items ≡ out.old.items ++ flat_map (fixed_facts types.now sig.now target) locations.now) }
+{
+    for location in locations {
+        push_fixed_facts(alloc, types, sig, target, *location, out)?;
+    }
+    Ok(())
+}
+
+fn push_fixed_facts(
+    alloc: Global,
+    types: &TypeTable,
+    sig: &Signature,
+    target: AbsPlace,
+    location: AbsPlace,
+    out: &mut Vec<Fact>,
+) -> Result<(), NoMemory>
+    ensures { OnOk result
+        (out.new.items ≡ out.old.items ++ fixed_facts types.now sig.now target location) }
+{
+    let elements = fixed_elements(alloc, sig, types, result_type(sig, types, &location))?;
+    push_elements(result_at(target, &location), &elements, out)
+}
+
+// Adds these elements of a location.
+fn push_elements(
+    location: AbsPlace,
+    elements: &[Element],
+    out: &mut Vec<Fact>,
+) -> Result<(), NoMemory>
+    ensures { OnOk result (out.new.items ≡ out.old.items ++ map (fact_at location) elements.now) }
+{
+    for element in elements {
+        out.push(Fact {
+            location,
+            element: *element,
+        })?;
+    }
+    Ok(())
+}
+
+// ---- from one fact
+
+/// Adds the places that a result may have by the fact, if that is about an argument: those that are
+/// promised behind its input, from where the argument points.
+pub fn push_called_one(
+    alloc: Global,
+    types: &TypeTable,
+    sig: Option<&Signature>,
+    arguments: &[Argument],
+    target: &Option<Location>,
+    fact: Fact,
+    out: &mut Vec<Fact>,
+) -> Result<(), NoMemory>
+    ensures { OnOk result
+        (out.new.items
+        ≡ out.old.items ++ called_one types.now (option_copied sig.entry) (map argument_of arguments.now) (option_map location_of target.now) fact) }
+{
+    match sig {
+        None => Ok(()),
+        Some(sig) => push_passed_into(alloc, types, sig, arguments, target, fact, out),
+    }
+}
+
+fn push_passed_into(
+    alloc: Global,
+    types: &TypeTable,
+    sig: &Signature,
+    arguments: &[Argument],
+    target: &Option<Location>,
+    fact: Fact,
+    out: &mut Vec<Fact>,
+) -> Result<(), NoMemory>
+    ensures { OnOk result
+        (out.new.items
+        ≡ out.old.items ++ passed_into types.now sig.now (map argument_of arguments.now) (option_map location_of target.now) fact) }
+{
+    match target {
+        None => Ok(()),
+        Some(target) => {
+            let inputs = inputs_of(alloc, sig, types)?;
+            push_passed_for_all(
+                alloc,
+                types,
+                sig,
+                arguments,
+                located(target),
+                fact,
+                &inputs,
+                out,
+            )
+        }
+    }
+}
+
+fn push_passed_for_all(
+    alloc: Global,
+    types: &TypeTable,
+    sig: &Signature,
+    arguments: &[Argument],
+    target: AbsPlace,
+    fact: Fact,
+    inputs: &[InputPointer],
+    out: &mut Vec<Fact>,
+) -> Result<(), NoMemory>
+    ensures { OnOk result
+        (out.new.items
+        ≡ out.old.items ++ flat_map (passed_for types.now sig.now (map argument_of arguments.now) target fact) (map input_seen inputs.now)) }
+{
+    for input in inputs {
+        push_passed_for(alloc, types, sig, arguments, target, fact, *input, out)?;
+    }
+    Ok(())
+}
+
+fn push_passed_for(
+    alloc: Global,
+    types: &TypeTable,
+    sig: &Signature,
+    arguments: &[Argument],
+    target: AbsPlace,
+    fact: Fact,
+    input: InputPointer,
+    out: &mut Vec<Fact>,
+) -> Result<(), NoMemory>
+    ensures { OnOk result
+        (out.new.items
+        ≡ out.old.items ++ passed_for types.now sig.now (map argument_of arguments.now) target fact (input_seen input)) }
+{
+    if is_argument_of(arguments, input, &fact.location) {
+        push_passed_element(alloc, types, sig, target, input, fact.element, out)?;
+    }
+    Ok(())
+}
+
+fn push_passed_element(
+    alloc: Global,
+    types: &TypeTable,
+    sig: &Signature,
+    target: AbsPlace,
+    input: InputPointer,
+    element: Element,
+    out: &mut Vec<Fact>,
+) -> Result<(), NoMemory>
+    ensures { OnOk result
+        (out.new.items ≡ out.old.items ++ passed_element types.now sig.now target (input_seen input) element) }
+{
+    match element {
+        Element::At(place) => {
+            let locations = result_locations(alloc, sig, types)?;
+            push_passed_to_all(alloc, types, sig, input, target, place, &locations, out)
+        }
+        _ => Ok(()),
+    }
+}
+
+fn push_passed_to_all(
+    alloc: Global,
+    types: &TypeTable,
+    sig: &Signature,
+    input: InputPointer,
+    target: AbsPlace,
+    place: AbsPlace,
+    locations: &[AbsPlace],
+    out: &mut Vec<Fact>,
+) -> Result<(), NoMemory>
+    ensures { OnOk result
+        (out.new.items
+        ≡ out.old.items ++ flat_map (passed_facts types.now sig.now (input_seen input) target place) locations.now) }
+{
+    for location in locations {
+        push_passed_facts(alloc, types, sig, input, target, place, *location, out)?;
+    }
+    Ok(())
+}
+
+fn push_passed_facts(
+    alloc: Global,
+    types: &TypeTable,
+    sig: &Signature,
+    input: InputPointer,
+    target: AbsPlace,
+    place: AbsPlace,
+    location: AbsPlace,
+    out: &mut Vec<Fact>,
+) -> Result<(), NoMemory>
+    ensures { OnOk result
+        (out.new.items
+        ≡ out.old.items ++ passed_facts types.now sig.now (input_seen input) target place location) }
+{
+    let ty = result_type(sig, types, &location);
+    let promised = promised_behind(alloc, sig, types, ty, input)?;
+    push_all_passed(target, place, location, &promised, out)
+}
+
+fn push_all_passed(
+    target: AbsPlace,
+    place: AbsPlace,
+    location: AbsPlace,
+    promised: &[AbsPlace],
+    out: &mut Vec<Fact>,
+) -> Result<(), NoMemory>
+    ensures { OnOk result
+        (out.new.items ≡ out.old.items ++ map (passed_fact target place location) promised.now) }
+{
+    for behind in promised {
+        out.push(passed_fact(target, place, location, behind))?;
+    }
+    Ok(())
+}
+
+fn passed_fact(target: AbsPlace, place: AbsPlace, location: AbsPlace, behind: &AbsPlace) -> Fact
+    ensures { result ≡ passed_fact target place location behind.now }
+{
+    Fact {
+        location: result_at(target, &location),
+        element: Element::At(steps_place(place, behind.path())),
+    }
+}
+
+// ---- from two facts
+
+/// Adds that a pointer may be invalid, if it points under what a mutating argument points to, and the
+/// call doesn't write it.
+pub fn push_called_two(
+    alloc: Global,
+    types: &TypeTable,
+    place: Place,
+    callee: FnId,
+    sig: Option<&Signature>,
+    arguments: &[Argument],
+    target: &Option<Location>,
+    argument: Fact,
+    victim: Fact,
+    out: &mut Vec<Fact>,
+) -> Result<(), NoMemory>
+    ensures { OnOk result
+        (out.new.items
+        ≡ out.old.items ++ called_two types.now place callee.0 (option_copied sig.entry) (map argument_of arguments.now) (option_map location_of target.now) argument victim) }
+{
+    match sig {
+        None => Ok(()),
+        Some(sig) => push_killed_at_call(
+            alloc, types, place, callee, sig, arguments, target, argument, victim, out,
+        ),
+    }
+}
+
+fn push_killed_at_call(
+    alloc: Global,
+    types: &TypeTable,
+    place: Place,
+    callee: FnId,
+    sig: &Signature,
+    arguments: &[Argument],
+    target: &Option<Location>,
+    argument: Fact,
+    victim: Fact,
+    out: &mut Vec<Fact>,
+) -> Result<(), NoMemory>
+    ensures { OnOk result
+        (out.new.items
+        ≡ out.old.items ++ killed_at_call types.now place callee.0 sig.now (map argument_of arguments.now) (option_map location_of target.now) argument victim) }
+{
+    if is_mutating_argument(alloc, sig, types, arguments, &argument.location)? {
+        push_killed_by_call(place, callee, target, argument.element, victim, out)?;
+    }
+    Ok(())
+}
+
+fn push_killed_by_call(
+    place: Place,
+    callee: FnId,
+    target: &Option<Location>,
+    argument: Element,
+    victim: Fact,
+    out: &mut Vec<Fact>,
+) -> Result<(), NoMemory>
+    ensures { OnOk result
+        (out.new.items ≡ out.old.items ++ killed_by_call place callee.0 (option_map location_of target.now) argument victim) }
+{
+    match argument {
+        Element::At(owner) => {
+            let is_victim = points_under(&owner, &victim.element);
+            push_if(
+                is_victim && !is_in_target(target, &victim.location),
+                Fact {
+                    location: victim.location,
+                    element: Element::Invalid(called(place, callee)),
+                },
+                out,
+            )?;
+        }
+        _ => {}
+    }
+    Ok(())
+}
