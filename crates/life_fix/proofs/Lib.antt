@@ -2,9 +2,10 @@ pub mod Candidates
 pub mod Finding
 pub mod FirstKept
 pub mod Listed
-pub mod Marks
+pub mod Logs
 pub mod PointRows
 pub mod ProgramFound
+pub mod Runs
 pub mod Sizes
 pub mod Solved
 pub mod Starting

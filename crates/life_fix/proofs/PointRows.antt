@@ -2,16 +2,11 @@
 use Rattle.std.proofs.Common.{◌≡◌, ◌≢◌, ℕ, zero, suc, ◌+◌, ◌<◌, ◌≤◌, List, [], ◌∷◌, ◌++◌, refl, ap, sym, ◌∙◌, inl, inr, ◌⊎◌, arith, subst, Some, Bool, false, length, get_or}
 use Rattle.std.proofs.lemmas.Option.{slice_get_within, slice_get-get_or}
 use Rattle.std.specs.Prelude.{◌↔◌, IsTrue, slice_get, slice_set}
-use Rattle.life_types.specs.Types.{Types}
-use Rattle.life_core.specs.Function.{Function}
-use Rattle.life_core.specs.declared.stmt.Edge.{Edge}
-use Rattle.life_contract.specs.Signatures.{Signature}
-use Rattle.life_pset.specs.Pairs.{HasNew}
-use Rattle.life_rules.specs.FactSets.{CarriesPair, Gains}
+use Rattle.life_rules.specs.FactSets.{Gains}
 use Rattle.life_fix.specs.Solution.{numbered_row}
-use Rattle.life_fix.specs.Solving.{pairs_in, pairs_at, GainsAt, RunsEdge}
+use Rattle.life_fix.specs.Solving.{pairs_in, pairs_at, GainsAt}
 
-get_set_same : {A : Type 0} (xs : List A) (i : ℕ) (y : A) → i < length xs → slice_get (slice_set xs i y) i ≡ Some y
+pub get_set_same : {A : Type 0} (xs : List A) (i : ℕ) (y : A) → i < length xs → slice_get (slice_set xs i y) i ≡ Some y
 get_set_same [] i y h = absurd (omega (arith, h))
 get_set_same (x ∷ xs) zero y h = refl
 get_set_same (x ∷ xs) (suc i) y h = get_set_same xs i y (omega (arith, h))
@@ -50,13 +45,13 @@ module _ {R : Type 0} (has : R → ℕ → ℕ → Bool) (rows : List R) (i : �
   fits : i < length rows
   fits = slice_get_within rows i row at
 
-  pairs_same : pairs_at has (slice_set rows i new) (suc i) ≡ has new
+  pub pairs_same : pairs_at has (slice_set rows i new) (suc i) ≡ has new
   pairs_same = ap (pairs_in has) (get_set_same rows i new fits)
 
   pairs_was : pairs_at has rows (suc i) ≡ has row
   pairs_was = ap (pairs_in has) at
 
-  pairs_other : (p : ℕ) → p ≢ suc i → pairs_at has (slice_set rows i new) p ≡ pairs_at has rows p
+  pub pairs_other : (p : ℕ) → p ≢ suc i → pairs_at has (slice_set rows i new) p ≡ pairs_at has rows p
   pairs_other zero d = refl
   pairs_other (suc p) d = ap (pairs_in has) (get_set_other rows i p new (λ e. d (ap suc e)))
 
@@ -86,23 +81,6 @@ module _ {R : Type 0} (has : R → ℕ → ℕ → Bool) (rows : List R) (i : �
   gains_at p is added gains =
       let e : suc i ≡ p = omega (arith, is) in
       subst (λ (q : ℕ). GainsAt q (pairs_at has rows) (pairs_at has (slice_set rows i new)) added) e (gains_here added gains)
-
-  -- .. and whether it gains is whether its point does
-  pub gained_at : (p : ℕ) → i + 1 ≡ p → (r : Bool) → IsTrue r ↔ HasNew (has row) (has new) → IsTrue r ↔ HasNew (pairs_at has rows p) (pairs_at has (slice_set rows i new) p)
-  gained_at p is r h =
-      let e : suc i ≡ p = omega (arith, is) in
-      let was = subst (λ (s : ℕ → ℕ → Bool). IsTrue r ↔ HasNew s (has new)) (sym pairs_was) h in
-      let now = subst (λ (s : ℕ → ℕ → Bool). IsTrue r ↔ HasNew (pairs_at has rows (suc i)) s) (sym pairs_same) was in
-      subst (λ (q : ℕ). IsTrue r ↔ HasNew (pairs_at has rows q) (pairs_at has (slice_set rows i new) q)) e now
-
--- what the row of an edge's second point gains from the row of its first is a run of the edge
-pub runs_at : {R : Type 0} (has : R → ℕ → ℕ → Bool) (sigs : List Signature) (types : Types) (f : Function) (edge : Edge) (rows : List R) (j i : ℕ) (from row new : R)
-    → slice_get rows j ≡ Some from → slice_get rows i ≡ Some row → j + 1 ≡ edge.from.0 → i + 1 ≡ edge.to.0
-    → Gains (has row) (has new) (CarriesPair sigs types f edge (has from)) → RunsEdge sigs types f edge (pairs_at has rows) (pairs_at has (slice_set rows i new))
-runs_at has sigs types f edge rows j i from row new at_from at from_is to_is gains =
-    let same = pairs_of_row has rows edge.from.0 j from from_is at_from in
-    gains_at has rows i row new at edge.to.0 to_is (CarriesPair sigs types f edge (pairs_at has rows edge.from.0))
-    (subst (λ (s : ℕ → ℕ → Bool). Gains (has row) (has new) (CarriesPair sigs types f edge s)) (sym same) gains)
 
 -- one more row without pairs
 none_push : {R : Type 0} (has : R → ℕ → ℕ → Bool) (rows : List R) (row : R) → ((k l e : ℕ) → pairs_in has (slice_get rows k) l e ≡ false) → ((l e : ℕ) → has row l e ≡ false) → (k l e : ℕ) → pairs_in has (slice_get (rows ++ row ∷ []) k) l e ≡ false

@@ -1,14 +1,14 @@
 -- How many pairs, and how many runs are left.
-use Rattle.std.proofs.Common.{◌≡◌, ◌≢◌, ℕ, zero, suc, ◌+◌, ◌*◌, ◌<◌, ◌≤◌, List, [], ◌∷◌, refl, ap, sym, ◌∙◌, inl, inr, arith, subst, Some, Bool, true, false, length}
-use Rattle.std.specs.Prelude.{IsTrue, slice_get, slice_set, nat_eq, ◌||◌}
-use Rattle.std.proofs.lemmas.Bool.Decides.{eqb_tells}
+use Rattle.std.proofs.Common.{◌≡◌, ℕ, zero, suc, ◌+◌, ◌*◌, ◌<◌, ◌≤◌, List, [], ◌∷◌, refl, ap, sym, ◌∙◌, inl, inr, arith, subst, Some, None, Option, Bool, true, false, length}
+use Rattle.std.proofs.lemmas.Bool.Decides.{Decides-ltb}
+use Rattle.std.specs.Prelude.{IsTrue, slice_get, slice_set, nat_lt}
 use Rattle.life_core.specs.declared.stmt.Edge.{Edge}
 use Rattle.life_types.specs.Types.{Types}
 use Rattle.life_core.specs.Function.{Function}
 use Rattle.life_core.specs.Linked.{edges_of}
-use Rattle.life_pset.specs.Table.{table_of}
+use Rattle.life_pset.specs.Table.{Table, table_of}
 use Rattle.life_rules.specs.FactSets.{Includes}
-use Rattle.life_fix.specs.Solving.{bit, left_of, marked, most_pairs, most_steps, runs_left, size_of, size_of_location, sizes}
+use Rattle.life_fix.specs.Solving.{bit, is_due, left_of, most_pairs, most_steps, runs_left, size_of, size_of_location}
 use Rattle.life_fix.proofs.PointRows.{same_or_not}
 
 bit_le : (b : Bool) → bit b ≤ 1
@@ -57,52 +57,35 @@ size_more a b (suc m) n l e up lt le f t =
       | inr other ↦ omega (arith, location_mono (a m) (b m) n (up m), size_more a b m n l e up (omega (arith, lt, other)) le f t)
     ]
 
--- a run takes its edge's turn
-pub left_cleared : (most : ℕ) (size : ℕ → ℕ) (es : List Edge) (ds : List Bool) (k : ℕ) (e : Edge) → slice_get es k ≡ Some e → slice_get ds k ≡ Some true
-    → runs_left most size es (slice_set ds k false) + 1 ≡ runs_left most size es ds
-left_cleared most size [] ds k e at is = absurd (cc)
-left_cleared most size (x ∷ es) [] k e at is = absurd (cc)
-left_cleared most size (x ∷ es) (d ∷ ds) zero e at is =
-    let t : d ≡ true = cc in
-    let b : bit d ≡ 1 = ap bit t in
-    omega (arith, b)
-left_cleared most size (x ∷ es) (d ∷ ds) (suc k) e at is = omega (arith, left_cleared most size es ds k e at is)
+-- ---- how many runs are left
 
--- larger rows leave no more
-pub left_mono : (most : ℕ) (s s' : ℕ → ℕ) (es : List Edge) (ds : List Bool) → ((p : ℕ) → s p ≤ s' p) → runs_left most s' es ds ≤ runs_left most s es ds
-left_mono most s s' [] ds up = omega arith
-left_mono most s s' (e ∷ es) [] up = omega arith
-left_mono most s s' (e ∷ es) (d ∷ ds) up = omega (arith, up e.from.0, left_mono most s s' es ds up)
+runs_most : (most : ℕ) (c : Option ℕ) → runs_left most c ≤ most + 1
+runs_most most None = omega arith
+runs_most most (Some n) = omega arith
 
--- a row that gained pays for the edges out of its point
-pub left_gained : (most : ℕ) (s s' : ℕ → ℕ) (point : ℕ) (es : List Edge) (ds : List Bool) → ((p : ℕ) → s p ≤ s' p) → s point + 1 ≤ s' point → s' point ≤ most
-    → runs_left most s' es (marked es point ds) ≤ runs_left most s es ds
-left_gained most s s' point [] ds up more within = omega arith
-left_gained most s s' point (e ∷ es) [] up more within = omega arith
-left_gained most s s' point (e ∷ es) (d ∷ ds) up more within =
-    let rest = left_gained most s s' point es ds up more within in
-    elim (same_or_not e.from.0 point) [
-      | inl is ↦
-          let a : s e.from.0 + 1 ≤ s' e.from.0 = subst (λ (p : ℕ). s p + 1 ≤ s' p) (sym is) more in
-          let w : s' e.from.0 ≤ most = subst (λ (p : ℕ). s' p ≤ most) (sym is) within in
-          omega (arith, a, w, bit_le (d || nat_eq e.from.0 point), rest)
-      | inr other ↦
-          let b : bit (d || nat_eq e.from.0 point) ≡ bit d = ap bit (unmarked d e.from.0 point other) in
-          omega (arith, b, up e.from.0, rest)
-    ]
+-- a run of an edge that is due leaves less, however much its log has
+runs_fall : (most pairs : ℕ) (c : Option ℕ) → is_due c pairs ≡ true → pairs ≤ most → runs_left most (Some pairs) + 1 ≤ runs_left most c
+runs_fall most pairs None due within = omega arith
+runs_fall most pairs (Some n) due within = omega (arith, lt_of n pairs due, within)
   where
-    unmarked : (d : Bool) (x y : ℕ) → x ≢ y → (d || nat_eq x y) ≡ d
-    unmarked true x y h = refl
-    unmarked false x y h = elim (eqb_tells x y) [ inl same ↦ absurd (h same.1) | inr not_same ↦ not_same.0 ]
+    lt_of : (a b : ℕ) → nat_lt a b ≡ true → a < b
+    lt_of a b h = (Decides-ltb a b).0 h
 
--- at first each edge may be run once more than a row has room for
-pub left_at_first : (most : ℕ) (s : ℕ → ℕ) (es : List Edge) (ds : List Bool) → runs_left most s es ds ≤ length es * (most + 1)
-left_at_first most s [] ds = omega arith
-left_at_first most s (e ∷ es) [] = omega arith
-left_at_first most s (e ∷ es) (d ∷ ds) = omega (arith, bit_le d, left_at_first most s es ds)
+pub left_falls : (most pairs : ℕ) (cs : List (Option ℕ)) (k : ℕ) (c : Option ℕ) → slice_get cs k ≡ Some c → is_due c pairs ≡ true → pairs ≤ most → left_of most (slice_set cs k (Some pairs)) + 1 ≤ left_of most cs
+left_falls most pairs [] k c at due within = absurd (cc)
+left_falls most pairs (x ∷ cs) zero c at due within =
+    let is : x ≡ c = cc in
+    let fall = subst (λ (d : Option ℕ). runs_left most (Some pairs) + 1 ≤ runs_left most d) (sym is) (runs_fall most pairs c due within) in
+    omega (arith, fall)
+left_falls most pairs (x ∷ cs) (suc k) c at due within = omega (arith, left_falls most pairs cs k c at due within)
 
--- .. which is no more than a function's most steps
-pub most_left : (types : Types) (f : Function) (es : List Edge) (ds : List Bool) (pairs : ℕ → ℕ → ℕ → Bool) → es ≡ edges_of f → left_of (table_of types f) es ds pairs ≤ most_steps types f
-most_left types f es ds pairs is =
-    let t = table_of types f in
-    subst (λ (xs : List Edge). left_of t es ds pairs ≤ length xs * (most_pairs t + 1)) is (left_at_first (most_pairs t) (sizes t pairs) es ds)
+left_at_first : (most : ℕ) (cs : List (Option ℕ)) → left_of most cs ≤ length cs * (most + 1)
+left_at_first most [] = omega arith
+left_at_first most (c ∷ cs) = omega (arith, runs_most most c, left_at_first most cs)
+
+-- at first each edge may be run once more than a row has room for, which is no more than a function's most steps
+pub most_left : (types : Types) (f : Function) (t : Table) (es : List Edge) (cs : List (Option ℕ)) → t ≡ table_of types f → es ≡ edges_of f → length cs ≡ length es → left_of (most_pairs t) cs ≤ most_steps types f
+most_left types f t es cs is_table is_edges count =
+    let a = left_at_first (most_pairs t) cs in
+    let b = subst (λ (n : ℕ). left_of (most_pairs t) cs ≤ n * (most_pairs t + 1)) (count ∙ ap length is_edges) a in
+    subst (λ (u : Table). left_of (most_pairs t) cs ≤ length (edges_of f) * (most_pairs u + 1)) is_table b

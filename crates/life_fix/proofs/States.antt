@@ -1,19 +1,24 @@
--- Why a state in which no edge is dirty is the solution.
-use Rattle.std.proofs.Common.{◌≡◌, ℕ, zero, suc, ◌<◌, ◌≤◌, List, [], ◌∷◌, refl, ap, sym, ◌∙◌, inl, inr, ◌⊎◌, arith, subst, Some, Bool, false, length, get_or}
-use Rattle.std.proofs.lemmas.Option.{slice_get_within, slice_get-get_or, get_or_from_slice_get}
-use Rattle.std.specs.Prelude.{IsTrue, slice_get, Contains}
+-- Why a state in which no edge is due is the solution.
+use Rattle.std.proofs.Common.{◌≡◌, ℕ, zero, suc, ◌<◌, ◌≤◌, List, [], ◌∷◌, refl, ap, sym, ◌∙◌, arith, subst, Some, None, Option, Bool, false, length, get_or, take, inl, inr, true≢false}
+use Rattle.std.proofs.lemmas.Bool.Decides.{leb_tells}
+use Rattle.std.proofs.lemmas.List.{take_all}
+use Rattle.std.proofs.lemmas.Option.{slice_get-get_or}
+use Rattle.std.specs.Prelude.{IsTrue, slice_get, Contains, nat_lt}
+use Rattle.std.specs.declared.alloc.Global.{Global}
+use Rattle.std.specs.declared.vec.Vec.{Vec}
 use Rattle.life_types.specs.Types.{Types}
+use Rattle.life_contract.specs.Signatures.{Signature}
 use Rattle.life_core.specs.Function.{Function}
 use Rattle.life_core.specs.Linked.{edges_of, points_of, AllJoin, IsJoined}
 use Rattle.life_core.specs.declared.stmt.Edge.{Edge}
 use Rattle.life_core.specs.declared.stmt.Point.{Point}
-use Rattle.life_contract.specs.Signatures.{Signature}
 use Rattle.life_pset.specs.Table.{Table, Names, IsOf, table_of}
 use Rattle.life_pset.specs.declared.element.Fact.{Fact}
 use Rattle.life_rules.specs.Deriving.{Derives, entry, along, entry_facts}
-use Rattle.life_rules.specs.FactSets.{CarriesPair, Holds, Includes, IsPairOf}
-use Rattle.life_fix.specs.Solution.{IsDerivedPair}
-use Rattle.life_fix.specs.Solving.{RunsEdge, IsPartial, IsSettled, IsSolved, point_at}
+use Rattle.life_rules.specs.FactSets.{IsPairOf}
+use Rattle.life_rules.specs.NewFacts.{facts_of, CarriesFrom}
+use Rattle.life_rules.proofs.SetLemmas.{holds_iff}
+use Rattle.life_fix.specs.Solving.{is_due, log_at, point_at, AreLogs, IsCarried, IsPartial, IsSettled, IsSolved}
 use Rattle.life_fix.proofs.PointRows.{row_at}
 
 -- a pair of numbers stands for one fact
@@ -38,11 +43,6 @@ derives_is_of : (sigs : List Signature) (types : Types) (f : Function) (point : 
 derives_is_of sigs types f _ _ (entry is_of at) = is_of
 derives_is_of sigs types f _ _ (along edge premises at held carries) = carries.0
 
--- more pairs before never give fewer after
-carries_more : (sigs : List Signature) (types : Types) (f : Function) (edge : Edge) (a b : ℕ → ℕ → Bool) (l e : ℕ) → Includes a b → CarriesPair sigs types f edge a l e → CarriesPair sigs types f edge b l e
-carries_more sigs types f edge a b l e up c =
-    (c.0, (c.1.0, (c.1.1.0, ((λ y h. let k = c.1.1.1.0 y h in (k.0, (k.1.0, (k.1.1.0, up k.0 k.1.0 k.1.1.1)))), c.1.1.1.1))))
-
 -- where every edge is settled, each derived fact is there
 complete : (sigs : List Signature) (types : Types) (f : Function) (pairs : ℕ → ℕ → ℕ → Bool) → AllJoin (points_of f) (edges_of f)
     → (1 ≤ points_of f → (l e : ℕ) → IsPairOf (table_of types f) (entry_facts types f) l e → IsTrue (pairs 1 l e))
@@ -65,10 +65,24 @@ complete sigs types f pairs join starts settled _ x (along edge premises at held
       ),
     )
 
--- a state without dirty edges is the solution
-solved : (sigs : List Signature) (types : Types) (f : Function) (dirty : List Bool) (pairs : ℕ → ℕ → ℕ → Bool) → AllJoin (points_of f) (edges_of f) → IsPartial sigs types f (edges_of f) dirty pairs → length dirty ≡ length (edges_of f)
-    → ((k : ℕ) (d : Bool) → slice_get dirty k ≡ Some d → d ≡ false) → IsSolved sigs types f pairs
-solved sigs types f dirty pairs join partial len clean p l e low high = (
+-- what an edge that isn't due has carried is all that its first point has
+settled_edge : (sigs : List Signature) (types : Types) (f : Function) (edge : Edge) (c : Option ℕ) (pairs : ℕ → ℕ → ℕ → Bool) (logs : List (Vec (ℕ × ℕ) Global)) → AreLogs (table_of types f) pairs logs
+    → ((n : ℕ) → c ≡ Some n → IsCarried sigs types f edge n pairs logs) → is_due c (length (log_at logs edge.from.0)) ≡ false → IsSettled sigs types f edge pairs
+settled_edge sigs types f edge None pairs logs are carried clean = absurd (cc)
+settled_edge sigs types f edge (Some n) pairs logs are carried clean = λ l e p.
+    let log = log_at logs edge.from.0 in
+    let t = table_of types f in
+    let is = carried n refl in
+    let all : take n log ≡ log = take_all n log (past n (length log) clean) in
+    is.there l e (subst (λ (xs : List (ℕ × ℕ)). CarriesFrom sigs types f edge (facts_of t xs) l e) (sym all) (p.0, (p.1.0, (p.1.1.0, (λ y h. (holds_iff t log (pairs edge.from.0) ((are edge.from.0).each) y).1 (p.1.1.1.0 y h), p.1.1.1.1)))))
+  where
+    past : (a b : ℕ) → nat_lt a b ≡ false → b ≤ a
+    past a b h = elim (leb_tells (suc a) b) [ inl lower ↦ absurd (true≢false (sym lower.0 ∙ h)) | inr higher ↦ omega (arith, higher.1) ]
+
+-- a state in which no edge is due is the solution
+solved : (sigs : List Signature) (types : Types) (f : Function) (carried : List (Option ℕ)) (pairs : ℕ → ℕ → ℕ → Bool) (logs : List (Vec (ℕ × ℕ) Global)) → AllJoin (points_of f) (edges_of f) → IsPartial sigs types f (edges_of f) carried pairs logs
+    → length carried ≡ length (edges_of f) → ((k : ℕ) (edge : Edge) (c : Option ℕ) → slice_get (edges_of f) k ≡ Some edge → slice_get carried k ≡ Some c → is_due c (length (log_at logs edge.from.0)) ≡ false) → IsSolved sigs types f pairs
+solved sigs types f carried pairs logs join partial len clean p l e low high = (
   partial.sound p l e,
   λ d. complete sigs types f pairs join partial.starts edge_settled (point_at p) d.0 d.1.1 high l e d.1.0,
 )
@@ -76,51 +90,15 @@ solved sigs types f dirty pairs join partial len clean p l e low high = (
     edge_settled : (edge : Edge) → Contains (edges_of f) edge → IsSettled sigs types f edge pairs
     edge_settled edge at =
         let k = at.0 in
-        let fits : k < length dirty = omega (arith, at.1, len) in
-        let d = get_or dirty k false in
-        let reads = slice_get-get_or dirty k false fits in
-        partial.settled k edge (row_at (edges_of f) k edge at.1 (sym at.2)) (reads ∙ ap Some (clean k d reads))
+        let fits : k < length carried = omega (arith, at.1, len) in
+        let c = get_or carried k None in
+        let reads = slice_get-get_or carried k None fits in
+        let here = row_at (edges_of f) k edge at.1 (sym at.2) in
+        settled_edge sigs types f edge c pairs logs partial.logged (λ n is. partial.settled k n edge here (reads ∙ ap (λ (d : Option ℕ). Some d) is)) (clean k edge c here reads)
 
-pub solved_all : (sigs : List Signature) (types : Types) (f : Function) (es : List Edge) → es ≡ edges_of f → (dirty : List Bool) (pairs : ℕ → ℕ → ℕ → Bool) → AllJoin (points_of f) es → IsPartial sigs types f es dirty pairs → length dirty ≡ length es
-    → ((k : ℕ) (d : Bool) → slice_get dirty k ≡ Some d → d ≡ false) → IsSolved sigs types f pairs
-solved_all sigs types f es is dirty pairs join partial len clean =
-    let P : List Edge → Type 0 = λ es. AllJoin (points_of f) es → IsPartial sigs types f es dirty pairs → length dirty ≡ length es → IsSolved sigs types f pairs in
-    subst P (sym is) (λ j p n. solved sigs types f dirty pairs j p n clean) join partial len
-
--- one run of an edge
-pub partial_step : (sigs : List Signature) (types : Types) (f : Function) (dirty dirty' : List Bool) (old new : ℕ → ℕ → ℕ → Bool) (k : ℕ) (edge : Edge) → IsPartial sigs types f (edges_of f) dirty old
-    → slice_get (edges_of f) k ≡ Some edge → RunsEdge sigs types f edge old new
-    → ((j : ℕ) (e : Edge) → slice_get (edges_of f) j ≡ Some e → slice_get dirty' j ≡ Some false → Includes (new e.from.0) (old e.from.0) × ((j ≡ k) ⊎ (slice_get dirty j ≡ Some false)))
-    → IsPartial sigs types f (edges_of f) dirty' new
-partial_step sigs types f dirty dirty' old new k edge partial at runs flags = record {
-  sound = λ p l e h.
-      elim ((runs p l e).0 h) [
-        | inl was ↦ partial.sound p l e was
-        | inr c ↦ subst (λ (q : ℕ). IsDerivedPair sigs types f (point_at q) l e) (sym c.0) (sound_new l e c.1)
-      ];
-  starts = λ some l e pair. (runs 1 l e).1 (inl (partial.starts some l e pair));
-  settled = λ j e at_j clean l n c.
-      let flag = flags j e at_j clean in
-      let c_old = carries_more sigs types f e (new e.from.0) (old e.from.0) l n flag.0 c in
-      elim flag.1 [
-        | inl is ↦
-            let same : e ≡ edge = one_edge e (sym at_j ∙ ap (slice_get (edges_of f)) is ∙ at) in
-            let P : Edge → Type 0 = λ d. CarriesPair sigs types f d (old d.from.0) l n → IsTrue (new d.to.0 l n) in
-            subst P (sym same) (λ k. (runs edge.to.0 l n).1 (inr (refl, k))) c_old
-        | inr was ↦ (runs e.to.0 l n).1 (inl (partial.settled j e at_j was l n c_old))
-      ];
-}
-  where
-    one_edge : (e : Edge) → Some e ≡ Some edge → e ≡ edge
-    one_edge e h = cc
-
-    in_edges : Contains (edges_of f) edge
-    in_edges = (k, slice_get_within (edges_of f) k edge at, get_or_from_slice_get (edges_of f) k edge edge at)
-
-    derived : (y : Fact) → Holds (table_of types f) (old edge.from.0) y → Derives sigs types f edge.from y
-    derived y held =
-        let s = partial.sound edge.from.0 held.0 held.1.0 held.1.1.1 in
-        subst (λ (z : Fact). Derives sigs types f edge.from z) (one_name (table_of types f) held.0 held.1.0 s.0 y s.1.0 held.1.1.0) s.1.1
-
-    sound_new : (l e : ℕ) → CarriesPair sigs types f edge (old edge.from.0) l e → IsDerivedPair sigs types f edge.to l e
-    sound_new l e c = (c.0, (c.1.0, along edge c.1.1.0 in_edges (λ y h. derived y (c.1.1.1.0 y h)) c.1.1.1.1))
+pub solved_all : (sigs : List Signature) (types : Types) (f : Function) (es : List Edge) → es ≡ edges_of f → (carried : List (Option ℕ)) (pairs : ℕ → ℕ → ℕ → Bool) (logs : List (Vec (ℕ × ℕ) Global)) → AllJoin (points_of f) es → IsPartial sigs types f es carried pairs logs → length carried ≡ length es
+    → ((k : ℕ) (edge : Edge) (c : Option ℕ) → slice_get es k ≡ Some edge → slice_get carried k ≡ Some c → is_due c (length (log_at logs edge.from.0)) ≡ false) → IsSolved sigs types f pairs
+solved_all sigs types f es is carried pairs logs join partial len clean =
+    let P : List Edge → Type 0 = λ es. AllJoin (points_of f) es → IsPartial sigs types f es carried pairs logs → length carried ≡ length es
+    → ((k : ℕ) (edge : Edge) (c : Option ℕ) → slice_get es k ≡ Some edge → slice_get carried k ≡ Some c → is_due c (length (log_at logs edge.from.0)) ≡ false) → IsSolved sigs types f pairs in
+    subst P (sym is) (solved sigs types f carried pairs logs) join partial len clean

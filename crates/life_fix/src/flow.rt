@@ -1,16 +1,16 @@
 // What is solved, and one step along an edge.
-ghost use Rattle.std.specs.Prelude.{◌≡◌, ◌+◌, ◌≤◌, ◌↔◌, length, IfOk, IsTrue, OnOk};
+ghost use Rattle.std.specs.Prelude.{◌≡◌, ◌+◌, ◌≤◌, length, IfSome, OnOk};
 ghost use Rattle.life_core.specs.Function.{function_of};
 ghost use Rattle.life_core.specs.Linked.{IsJoined};
-ghost use Rattle.life_pset.specs.Pairs.{HasNew};
 ghost use Rattle.life_fix.specs.Solution.{AllLimited};
-ghost use Rattle.life_fix.specs.Solving.{pairs_at, IsFlow, RunsEdge};
+ghost use Rattle.life_fix.specs.Solving.{log_at, pairs_at, AllGrow, AreLogs, IsFlow, RunsEdge};
 
+use crate::log::add_facts;
 use life_base::Steps;
 use life_contract::Signatures;
 use life_core::{CoreFn, Edge, Point, SpotRef};
 use life_pset::{ElementTable, Rows};
-use life_rules::{add_facts, given_facts, spot_in};
+use life_rules::{given_by_new, spot_in};
 use life_types::{NoMemory, TypeTable};
 use std::alloc::Global;
 use std::sync::ledger::Ledger;
@@ -26,39 +26,54 @@ pub struct Flow<'a> {
     pub spots: &'a [SpotRef<'a>],
 }
 
-/// Adds to the row of the edge's second point what the edge carries from the row of its first, and
-/// says whether that row gained a fact. It is a transfer, in two parts since an edge may lead from a
-/// point to itself.
+/// Adds to the row of the edge's second point what the edge carries from those pairs of its first
+/// that it hasn't carried yet, with what it carries from two of which one was carried before.
+/// It takes one step.
 pub fn run_edge<R: Rows, L: Ledger>(
     alloc: Global,
     flow: &Flow,
     edge: Edge,
+    carried: Option<usize>,
     rows: &mut [R],
+    logs: &mut [Vec<(u32, u32)>],
     steps: &mut Steps<L>,
-) -> Result<bool, NoMemory>
+) -> Result<(), NoMemory>
     requires flow { IsFlow flow.now }
     requires join { IsJoined (length rows.old) edge }
+    requires carried { IfSome carried (λ n. n ≤ length (log_at logs.old edge.from.0)) }
+    requires count { length logs.old ≡ length rows.old }
     requires locations { AllLimited R.location_limit (length flow.now.table.now.locations) rows.old }
     requires elements { AllLimited R.element_limit (length flow.now.table.now.elements) rows.old }
+    requires logs { AreLogs flow.now.table.now (pairs_at R.has rows.old) logs.old }
     ensures runs { OnOk result
-        (RunsEdge flow.now.sigs.now flow.now.types.now (function_of flow.now.f.now) edge (pairs_at R.has rows.old) (pairs_at R.has rows.new)) }
-    ensures gained { IfOk result
-        (λ gained. IsTrue gained ↔ HasNew (pairs_at R.has rows.old edge.to.0) (pairs_at R.has rows.new edge.to.0)) }
+        (RunsEdge flow.now.sigs.now flow.now.types.now (function_of flow.now.f.now) edge (log_at logs.old edge.from.0) carried (pairs_at R.has rows.old) (pairs_at R.has rows.new)) }
+    ensures logs { OnOk result (AreLogs flow.now.table.now (pairs_at R.has rows.new) logs.new) }
+    ensures grown { OnOk result (AllGrow logs.old logs.new) }
     ensures tick { steps.new ≡ steps.old + 1 }
     ensures locations { AllLimited R.location_limit (length flow.now.table.now.locations) rows.new }
     ensures elements { AllLimited R.element_limit (length flow.now.table.now.elements) rows.new }
 {
     steps.tick();
     let spot = spot_in(flow.spots, edge.from);
-    let from = &rows[row_index(edge.from)];
-    let facts = given_facts(
-        alloc, flow.f, flow.sigs, flow.types, flow.table, edge, spot, from,
+    let log = &logs[row_index(edge.from)];
+    let facts = given_by_new(
+        alloc, flow.f, flow.sigs, flow.types, flow.table, edge, spot, log, carried,
     )?;
-    let gained = add_facts(flow.table, &facts, &mut rows[row_index(edge.to)])?;
-    Ok(gained)
+    let to = row_index(edge.to);
+    add_facts(flow.table, &facts, &mut rows[to], &mut logs[to])?;
+    Ok(())
 }
 
-// Where the row of a point stands.
+/// How many pairs the log of a point has.
+pub fn log_len(logs: &[Vec<(u32, u32)>], point: Point) -> usize
+    requires low { 1 ≤ point.0 }
+    requires high { point.0 ≤ length logs.now }
+    ensures { result ≡ length (log_at logs.now point.0) }
+{
+    logs[row_index(point)].len()
+}
+
+// Where the row of a point stands, and its log.
 fn row_index(point: Point) -> usize
     requires { 1 ≤ point.0 }
     ensures { result + 1 ≡ point.0 }

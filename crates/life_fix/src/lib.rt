@@ -4,6 +4,7 @@
 mod diagnosis;
 mod flow;
 mod listing;
+mod log;
 mod program;
 mod solution;
 mod solver;

@@ -4,7 +4,7 @@ ghost use Rattle.life_proper.specs.Knowing.{agreed, is_implied, same};
 
 /// What a local is known to hold, on whichever way control came.
 #[derive(Clone, Copy, Debug)]
-pub(crate) enum Known {
+pub enum Known {
     /// Nothing is known.
     Unknown,
     /// It isn't alive, or was never written.

@@ -17,5 +17,6 @@ mod sorts;
 mod walk;
 
 pub use checker::is_proper;
+pub use known::Known;
 pub use laws::{checked_functions_are_proper, checked_programs_are_proper};
 pub use plain::is_plain_program;

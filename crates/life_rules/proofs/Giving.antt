@@ -80,7 +80,7 @@ node_two_none sigs types f place (Question t) a b h = refl
 node_two_none sigs types f place Return a b h = refl
 node_two_none sigs types f place Stop a b h = refl
 
-two_none : (sigs : List Signature) (types : Types) (f : Function) (spot : Option Spot) (a b : Fact) → spot_takes_first spot a ≡ false → two_at sigs types f spot a b ≡ []
+pub two_none : (sigs : List Signature) (types : Types) (f : Function) (spot : Option Spot) (a b : Fact) → spot_takes_first spot a ≡ false → two_at sigs types f spot a b ≡ []
 two_none sigs types f None a b h = refl
 two_none sigs types f (Some s) a b h = node_two_none sigs types f s.place s.node a b h
 
@@ -90,7 +90,7 @@ none_of_first sigs types f spot a facts out h =
     sym (ap (λ (xs : List Fact). out ++ xs) none ∙ append-nil out)
 
 -- what stands at a point gives the fact from these
-abbrev GivesAt : List Signature → Types → Function → Option Bool → Option Spot → List Fact → Fact → Type 0
+abbrev pub GivesAt : List Signature → Types → Function → Option Bool → Option Spot → List Fact → Fact → Type 0
 GivesAt sigs types f branch spot [] x = Contains (none_at sigs types f spot) x
 GivesAt sigs types f branch spot (a ∷ []) x = Contains (one_at sigs types f branch spot a) x
 GivesAt sigs types f branch spot (a ∷ b ∷ []) x = Contains (two_at sigs types f spot a b) x
@@ -137,13 +137,13 @@ all_of_given sigs types f branch spot facts (a ∷ b ∷ []) x in_facts g =
     (flat_map_into (two_at sigs types f spot a) facts b x (in_facts b (in_tail a (b ∷ []) b (at_head b []))) g)))
 all_of_given sigs types f branch spot facts (a ∷ b ∷ c ∷ more) x in_facts g = absurd g
 
-gives_at : (sigs : List Signature) (types : Types) (f : Function) (edge : Edge) (premises : List Fact) (x : Fact) → Gives sigs types f edge premises x → GivesAt sigs types f edge.branch (spot_of f edge.from) premises x
+pub gives_at : (sigs : List Signature) (types : Types) (f : Function) (edge : Edge) (premises : List Fact) (x : Fact) → Gives sigs types f edge premises x → GivesAt sigs types f edge.branch (spot_of f edge.from) premises x
 gives_at sigs types f edge [] x g = g
 gives_at sigs types f edge (a ∷ []) x g = g
 gives_at sigs types f edge (a ∷ b ∷ []) x g = g
 gives_at sigs types f edge (a ∷ b ∷ c ∷ more) x g = g
 
-gives_back : (sigs : List Signature) (types : Types) (f : Function) (edge : Edge) (premises : List Fact) (x : Fact) → GivesAt sigs types f edge.branch (spot_of f edge.from) premises x → Gives sigs types f edge premises x
+pub gives_back : (sigs : List Signature) (types : Types) (f : Function) (edge : Edge) (premises : List Fact) (x : Fact) → GivesAt sigs types f edge.branch (spot_of f edge.from) premises x → Gives sigs types f edge premises x
 gives_back sigs types f edge [] x g = g
 gives_back sigs types f edge (a ∷ []) x g = g
 gives_back sigs types f edge (a ∷ b ∷ []) x g = g

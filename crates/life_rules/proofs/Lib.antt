@@ -1,5 +1,6 @@
 pub mod Calls
 pub mod Giving
+pub mod NewFacts
 pub mod Nothing
 pub mod OneFunction
 pub mod SetLemmas

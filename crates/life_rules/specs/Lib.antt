@@ -9,6 +9,7 @@ pub mod Keeping
 pub mod Lines
 pub mod Listing
 pub mod Matching
+pub mod NewFacts
 pub mod Returning
 pub mod Telling
 pub mod Texts

@@ -35,10 +35,10 @@ pub fn push_all(
 {
     push_none(alloc, sigs, types, f, spot, out)?;
     push_ones(alloc, sigs, types, f, branch, spot, facts, out)?;
-    push_twos(alloc, sigs, types, f, spot, facts, out)
+    push_twos(alloc, sigs, types, f, spot, facts, facts, out)
 }
 
-fn push_none(
+pub(crate) fn push_none(
     alloc: Global,
     sigs: &Signatures,
     types: &TypeTable,
@@ -63,7 +63,7 @@ fn push_none(
     Ok(())
 }
 
-fn push_ones(
+pub(crate) fn push_ones(
     alloc: Global,
     sigs: &Signatures,
     types: &TypeTable,
@@ -123,19 +123,21 @@ fn takes_first_at(spot: Option<SpotRef>, fact: &Fact) -> bool
     }
 }
 
-fn push_twos(
+// Adds what comes of each two facts, one of each list.
+pub(crate) fn push_twos(
     alloc: Global,
     sigs: &Signatures,
     types: &TypeTable,
     f: &CoreFn,
     spot: Option<SpotRef>,
-    facts: &[Fact],
+    firsts: &[Fact],
+    seconds: &[Fact],
     out: &mut Vec<Fact>,
 ) -> Result<(), NoMemory>
     ensures { OnOk result
-        (out.new.items ≡ out.old.items ++ flat_map (λ first. flat_map (two_at sigs.now types.now (function_of f.now) (option_map spot_seen spot.entry) first) facts.now) facts.now) }
+        (out.new.items ≡ out.old.items ++ flat_map (λ first. flat_map (two_at sigs.now types.now (function_of f.now) (option_map spot_seen spot.entry) first) seconds.now) firsts.now) }
 {
-    for first in facts {
+    for first in firsts {
         push_seconds(
             takes_first_at(spot, first),
             alloc,
@@ -144,7 +146,7 @@ fn push_twos(
             f,
             spot,
             *first,
-            facts,
+            seconds,
             out,
         )?;
     }

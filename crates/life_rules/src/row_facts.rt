@@ -26,7 +26,7 @@ pub fn facts_in<R: Rows>(
 }
 
 // Adds the facts for which pairs of numbers stand.
-fn push_pairs(
+pub(crate) fn push_pairs(
     table: &ElementTable,
     pairs: &[(u32, u32)],
     facts: &mut Vec<Fact>,

@@ -10,4 +10,4 @@ use Rattle.life_rules.proofs.along.push_twos.Given as goal
 abbrev pub invariant-loop-first : goal.invariant-loop-first
 invariant-loop-first l =
     let two = two_at l.sigs l.types (function_of l.f) (option_map spot_seen l.spot) in
-    l.out.items ++ flat_map (λ first. flat_map (two first) l.facts) (drop l.first-index l.facts) ≡ l.fn.out.items ++ flat_map (λ first. flat_map (two first) l.facts) l.facts
+    l.out.items ++ flat_map (λ first. flat_map (two first) l.seconds) (drop l.first-index l.firsts) ≡ l.fn.out.items ++ flat_map (λ first. flat_map (two first) l.seconds) l.firsts
