@@ -116,6 +116,17 @@ def moving_file():
     return "\n".join(lines).encode() + b"\n"
 
 
+def full_file():
+    """250 pointers in a loop, each of which takes what the next one pointed to, and 100 objects: near all limits of a function at once."""
+    lines = ["int main() {"]
+    lines += [f"  int x{n} = {n};" for n in range(100)]
+    lines += [f"  int* p{n} = &x{n % 100};" for n in range(250)]
+    lines += ["  while (x0 < 10) {"]
+    lines += [f"    p{n} = p{(n + 1) % 250};" for n in range(250)]
+    lines += ["  }", "  return 0;", "}"]
+    return "\n".join(lines).encode() + b"\n"
+
+
 FILES = [
     ("200 small functions", functions_file),
     ("one comment, 1 MiB", comment_file),
@@ -125,6 +136,7 @@ FILES = [
     ("250 variables, 1,000 points", limits_file),
     ("250 diagnostics", faults_file),
     ("60 pointers that move on", moving_file),
+    ("250 pointers, 100 objects", full_file),
 ]
 
 # What is timed beside lifecheck, with the words before the file.

@@ -15,6 +15,7 @@ use Rattle.life_elab.specs.Over.{first_of}
 use Rattle.life_elab.specs.Programs.{Functions as Written, around, core_program, functions, with_function}
 use Rattle.life_typed.specs.Programs.{FunctionForm, ProgramForm}
 use Rattle.life_fix.specs.Programs.{IsProgramWithinLimits}
+use Rattle.life_proper.specs.Plain.{IsPlainProgram}
 use Rattle.life_pset.specs.Elements.{IsWithinLimits}
 use Rattle.life_check.specs.WholeProgram.{AreWithinLimits, IsServed, IsWholeProgram, PassesNoLimit}
 
@@ -47,15 +48,15 @@ few_points types (f ∷ fs) within = (few (points_of f) (within 0 f refl).points
     few n h = omega arith
 
 -- so a program that is served is whole
-pub served_whole : (p : Program) → PassesNoLimit p → IsServed p → IsProperProgram p → IsWholeProgram p
-served_whole p passes served proper =
-    let within = within_limits p passes served.within in
+pub served_whole : (p : Program) → PassesNoLimit p → IsServed p → IsProperProgram p → IsPlainProgram p → IsWholeProgram p
+served_whole p passes served proper plain =
+    let within = within_limits p passes served in
     record {
       few = omega (arith, passes.few);
       points = few_points p.types p.functions within.each;
       proper = proper;
-      longs = served.plain.longs;
-      by_value = served.plain.by_value;
+      longs = plain.longs;
+      by_value = plain.by_value;
     }
 
 -- ---- translated programs

@@ -1,4 +1,5 @@
 pub mod CheckedText
 pub mod Faults
 pub mod Findings
+pub mod Laws
 pub mod WholeProgram

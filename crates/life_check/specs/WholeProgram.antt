@@ -1,5 +1,5 @@
 -- Core programs that are checked further, and what is known of them.
-use Rattle.std.specs.Prelude.{◌≡◌, ◌<◌, ◌≤◌, ◌^◌, List, [], ◌∷◌, None, IsTrue, length, true}
+use Rattle.std.specs.Prelude.{◌≡◌, ◌<◌, ◌≤◌, ◌^◌, List, [], ◌∷◌, None, length, true}
 use Rattle.life_types.specs.Types.{Types}
 use Rattle.life_core.specs.ByValue.{calls_by_value}
 use Rattle.life_core.specs.Function.{Function, Program}
@@ -7,8 +7,6 @@ use Rattle.life_core.specs.Limits.{HaveFewPoints, HaveLongNumbers}
 use Rattle.life_core.specs.Proper.{IsProperProgram}
 use Rattle.life_elab.specs.Over.{over_functions}
 use Rattle.life_pset.specs.Elements.{IsWithinLimits}
-use Rattle.life_proper.specs.Checking.{checked}
-use Rattle.life_proper.specs.Plain.{IsPlainProgram}
 
 -- there are no more functions than the limit, and none of them passes one
 pub record PassesNoLimit (p : Program) : Type 0 where
@@ -20,12 +18,10 @@ abbrev pub AreWithinLimits : Types → List Function → Type 0
 AreWithinLimits types [] = Unit {0}
 AreWithinLimits types (f ∷ fs) = IsWithinLimits types f × AreWithinLimits types fs
 
--- the program is let through as proper, the numbers of its literals are longs, no raw pointer and no reference goes through its calls, and
--- its functions are within the limits of the rules. So is the core program of each file that is built: that is tested, and not proved
-pub record IsServed (p : Program) : Type 0 where
-  pub within : AreWithinLimits p.types p.functions
-  pub plain : IsPlainProgram p
-  pub proper : IsTrue (checked p)
+-- its functions are within the limits of the rules. So are those of each file that is built and passes no limit: that is tested, and not
+-- proved
+abbrev pub IsServed : Program → Type 0
+IsServed p = AreWithinLimits p.types p.functions
 
 -- the program is proper, its functions have numbers and few points, its numbers are longs, and no raw pointer and no reference goes
 -- through its calls

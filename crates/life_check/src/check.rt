@@ -1,13 +1,16 @@
 // The check of the text of a file.
 ghost use Rattle.std.specs.Prelude.{◌≡◌, ◌<◌, ◌^◌, length};
 ghost use Rattle.life_core.specs.Function.{program_of};
+ghost use Rattle.life_core.specs.Proper.{IsProperProgram};
 ghost use Rattle.life_fix.specs.Programs.{IsProgramWithinLimits};
+ghost use Rattle.life_proper.specs.Plain.{IsPlainProgram};
 ghost use Rattle.life_rules.specs.Listing.{AreProgramDiagnostics};
 ghost use Rattle.life_typed.specs.Programs.{program_view};
 ghost use Rattle.life_typing.specs.Resolves.{resolved};
 ghost use Rattle.life_check.specs.CheckedText.{ComesOnlyTo, CoreComesTo, IsListed, Listed, ResolvedComesTo, TypedComesTo};
 ghost use Rattle.life_check.specs.Faults as spec;
 ghost use Rattle.life_check.specs.Findings.{Finds, IsSound, finding_of};
+ghost use Rattle.life_check.specs.Laws.{IsRead, IsTyped};
 ghost use Rattle.life_check.specs.WholeProgram.{IsWholeProgram, PassesNoLimit};
 
 use crate::checked::Checked;
@@ -16,15 +19,17 @@ use crate::fault::CheckFault;
 use life_base::Steps;
 use life_core::CoreProgram;
 use life_elab::{elaborate, is_built};
+use life_elab_laws::{translations_are_plain, translations_are_proper};
 use life_fix::program_diagnostics;
 use life_parse::parse;
-use life_proper::checked_programs_are_proper;
+use life_parse_laws::trees_have_longs;
 use life_rules::Diag;
 use life_sound::accept;
 use life_tree::Program;
 use life_typed::Typed;
 use life_types::Place;
 use life_typing::{IllKind, resolve};
+use life_typing_laws::{resolved_programs_are_as_parsed, resolved_programs_are_well_typed};
 use std::alloc::Global;
 use std::sync::ledger::Ledger;
 
@@ -45,6 +50,7 @@ pub fn check_text<L: Ledger>(
     ensures { Finds (ComesOnlyTo bytes.now) result }
 {
     let tree = parse(alloc, bytes)?;
+    trees_have_longs();
     check_tree(alloc, &tree, steps)
 }
 
@@ -54,9 +60,12 @@ fn check_tree<L: Ledger>(
     tree: &Program,
     steps: &mut Steps<L>,
 ) -> Result<Checked, CheckFault>
+    requires { IsRead tree.now }
     ensures { Finds (ResolvedComesTo (resolved tree.now)) result }
 {
     let typed = resolve(alloc, tree)?;
+    resolved_programs_are_as_parsed();
+    resolved_programs_are_well_typed();
     check_typed(alloc, &typed, steps)
 }
 
@@ -66,12 +75,15 @@ fn check_typed<L: Ledger>(
     typed: &Typed,
     steps: &mut Steps<L>,
 ) -> Result<Checked, CheckFault>
+    requires { IsTyped (program_view typed.now) }
     ensures { Finds (TypedComesTo (program_view typed.now)) result }
 {
     if !is_built(typed) {
         return Err(unsupported());
     }
     let program = elaborate(alloc, typed)?;
+    translations_are_proper();
+    translations_are_plain();
     check_core(alloc, program, steps)
 }
 
@@ -81,12 +93,13 @@ fn check_core<L: Ledger>(
     program: CoreProgram,
     steps: &mut Steps<L>,
 ) -> Result<Checked, CheckFault>
-    requires { PassesNoLimit (program_of program) }
+    requires passes { PassesNoLimit (program_of program) }
+    requires proper { IsProperProgram (program_of program) }
+    requires plain { IsPlainProgram (program_of program) }
     ensures { Finds (CoreComesTo (program_of program)) result }
 {
     let served = is_served(alloc, &program)?;
     if served {
-        checked_programs_are_proper();
         check_program(alloc, program, steps)
     } else {
         Err(unsupported())

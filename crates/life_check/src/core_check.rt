@@ -4,24 +4,16 @@ ghost use Rattle.life_core.specs.Function.{function_of, program_of};
 ghost use Rattle.life_check.specs.WholeProgram.{AreWithinLimits, IsServed};
 
 use life_core::{CoreFn, CoreProgram};
-use life_proper::{is_plain_program, is_proper};
 use life_pset::is_within_limits;
 use life_types::{NoMemory, TypeTable};
 use std::alloc::Global;
 
-/// Whether the program is checked further: it is let through as proper, the numbers of its literals are
-/// longs, no raw pointer and no reference goes through its calls, and its functions are within the
-/// limits of the rules. The only error is the want of memory.
+/// Whether the program is checked further: its functions are within the limits of the rules. The only
+/// error is the want of memory.
 pub fn is_served(alloc: Global, program: &CoreProgram) -> Result<bool, NoMemory>
     ensures { IfOk result (λ served. Decides served (IsServed (program_of program.now))) }
 {
-    if !is_plain_program(program) {
-        return Ok(false);
-    }
-    if !are_within_limits(alloc, &program.types, &program.functions)? {
-        return Ok(false);
-    }
-    is_proper(alloc, program)
+    are_within_limits(alloc, &program.types, &program.functions)
 }
 
 fn are_within_limits(

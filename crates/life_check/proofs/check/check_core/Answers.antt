@@ -13,14 +13,11 @@ returns-in_err-served g c =
 
 pub check_program-requires-clause-whole : goal.check_program-requires-clause-whole
 check_program-requires-clause-whole g c =
-    let p = program_of c.args.program in
-    let served = c.in_ok-served.ensures.0 c.if-served.true in
-    served_whole p c.requires served (c.checked_programs_are_proper.ensures p served.proper)
+    served_whole (program_of c.args.program) c.requires.passes (c.in_ok-served.ensures.0 c.if-served.true) c.requires.proper c.requires.plain
 
 pub check_program-requires-clause-within : goal.check_program-requires-clause-within
 check_program-requires-clause-within g c =
-    let served = c.in_ok-served.ensures.0 c.if-served.true in
-    within_limits (program_of c.args.program) c.requires served.within
+    within_limits (program_of c.args.program) c.requires.passes (c.in_ok-served.ensures.0 c.if-served.true)
 
 pub returns-then-served : goal.returns-then-served
 returns-then-served g c = served_finds (program_of c.args.program) c.check_program.result (c.in_ok-served.ensures.0 c.if-served.true) c.check_program.ensures

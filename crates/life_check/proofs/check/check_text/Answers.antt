@@ -7,5 +7,10 @@ returns-in_err-tree g c =
     let e = err_from_is_err_and c.from_residual.result c.from_residual.ensures.1 in
     rw (e.1, e.2) (unparsed_finds c.args.bytes.now c.in_err-tree.field-0.0 c.in_err-tree.ensures.ends c.in_err-tree.ensures.only)
 
+pub check_tree-requires : goal.check_tree-requires
+check_tree-requires g c =
+    let source = c.in_ok-tree.ensures.ends.0 in
+    let read = c.trees_have_longs.ensures c.args.bytes.now c.in_ok-tree.tree source in record { longs = read.0; fits = read.1 }
+
 pub returns : goal.returns
 returns g c = tree_finds c.args.bytes.now c.in_ok-tree.tree c.check_tree.result c.in_ok-tree.ensures.ends c.check_tree.ensures

@@ -8,5 +8,15 @@ returns-in_err-typed g c =
     let e = err_from_is_err_and c.from_residual.result c.from_residual.ensures.1 in
     rw (e.1, e.2) (untyped_finds c.args.tree.now c.in_err-typed.field-0.0 c.in_err-typed.ensures)
 
+pub check_typed-requires : goal.check_typed-requires
+check_typed-requires g c =
+    let tree = c.args.tree.now in
+    let typed = program_view c.in_ok-typed.typed in
+    let parsed = c.resolved_programs_are_as_parsed.ensures tree typed c.in_ok-typed.ensures c.requires.longs c.requires.fits in
+    record {
+      well_typed = λ built. c.resolved_programs_are_well_typed.ensures.well_typed tree typed c.in_ok-typed.ensures built parsed;
+      results = λ built. c.resolved_programs_are_well_typed.ensures.results tree typed c.in_ok-typed.ensures built parsed;
+    }
+
 pub returns : goal.returns
 returns g c = typed_finds c.args.tree.now (program_view c.in_ok-typed.typed) c.check_typed.result c.in_ok-typed.ensures c.check_typed.ensures

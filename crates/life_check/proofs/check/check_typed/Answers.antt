@@ -1,6 +1,8 @@
 use Rattle.std.proofs.Common.{subst, sym, ◌∙◌}
 use Rattle.std.proofs.lemmas.Result.{err_from_is_err_and}
 use Rattle.life_core.specs.Function.{program_of}
+use Rattle.life_core.specs.Proper.{IsProperProgram}
+use Rattle.life_proper.specs.Plain.{IsPlainProgram}
 use Rattle.life_typed.specs.Programs.{program_view}
 use Rattle.life_check.proofs.Checking.{core_finds, limited_finds, unbuilt_finds}
 use Rattle.life_check.proofs.PassedLimits.{passes_no_limit}
@@ -16,8 +18,20 @@ returns-in_err-program g c =
     rw (e.1, e.2)
     (limited_finds (program_view c.args.typed.now) (sym c.is_built.ensures ∙ c.if-not-is_built.false) c.in_err-program.field-0.0 c.in_err-program.ensures)
 
-pub check_core-requires : goal.check_core-requires
-check_core-requires g c = subst PassesNoLimit (sym c.in_ok-program.ensures.0) (passes_no_limit (program_view c.args.typed.now) c.in_ok-program.ensures.1)
+pub check_core-requires-clause-passes : goal.check_core-requires-clause-passes
+check_core-requires-clause-passes g c = subst PassesNoLimit (sym c.in_ok-program.ensures.0) (passes_no_limit (program_view c.args.typed.now) c.in_ok-program.ensures.1)
+
+pub check_core-requires-clause-proper : goal.check_core-requires-clause-proper
+check_core-requires-clause-proper g c =
+    let built = sym c.is_built.ensures ∙ c.if-not-is_built.false in
+    subst IsProperProgram (sym c.in_ok-program.ensures.0)
+    (c.translations_are_proper.ensures (program_view c.args.typed.now) (c.requires.well_typed built) (c.requires.results built) built)
+
+pub check_core-requires-clause-plain : goal.check_core-requires-clause-plain
+check_core-requires-clause-plain g c =
+    let built = sym c.is_built.ensures ∙ c.if-not-is_built.false in
+    subst IsPlainProgram (sym c.in_ok-program.ensures.0)
+    (c.translations_are_plain.ensures (program_view c.args.typed.now) (c.requires.well_typed built) (c.requires.results built) built)
 
 pub returns : goal.returns
 returns g c =

@@ -1,0 +1,244 @@
+-- Where the body of a function begins: its parameters live, and no other variable does.
+use Rattle.std.proofs.Common.{◌≡◌, ◌<◌, ◌≤◌, inl, inr, ℕ, zero, suc, true, List, [], ◌∷◌, ◌++◌, length, map, slice_get, Option, Some, option_map, refl, sym, ap, ◌∙◌, subst, unwrap_or, arith, length-append, append_assoc, append-nil}
+use Rattle.std.proofs.lemmas.Bool.{cases_eq, cases_lt, false≢true}
+use Rattle.std.proofs.lemmas.Option.{none-some, slice_get-map}
+use Rattle.life_types.specs.Types.{Types}
+use Rattle.life_types.specs.declared.ty.Ty.{Ty}
+use Rattle.life_types.specs.declared.ty.Ty.TheVariants as ty
+use Rattle.life_built.specs.Built.{are_built_variables}
+use Rattle.life_typed.specs.BaseTypes.{is_value, type_at}
+use Rattle.life_typed.specs.declared.typed_program.ParameterPromise.{ParameterPromise}
+use Rattle.life_typed.specs.declared.typed_program.TypedLocal.{TypedLocal}
+use Rattle.life_core.specs.Function.{Function}
+use Rattle.life_core.specs.Proper.{Blank, Holding, Holdings, given_holdings, held_by, sort_of}
+use Rattle.life_core.specs.declared.program.Local.{Local}
+use Rattle.life_proper.specs.declared.known.Known.{Known}
+use Rattle.life_proper.specs.declared.known.Known.TheVariants as known
+use Rattle.life_proper.specs.Knowing.{entry_known, known_as, known_at}
+use Rattle.life_well_typed.specs.Visible.{Visible, with_next, with_parameters}
+use Rattle.life_writer.specs.Around.{Around}
+use Rattle.life_writer.specs.Registers.{nameless}
+use Rattle.life_writer.specs.Writing.{State, nothing_written}
+use Rattle.life_elab.specs.Functions.{first_state, parameter_local, with_result}
+use Rattle.life_elab.specs.Functions as elab
+use Rattle.life_elab_laws.proofs.Among.{Among, among_left, among_right, contains_among}
+use Rattle.life_elab_laws.proofs.Declaring.{follows_new, with_new}
+use Rattle.life_elab_laws.proofs.Exits.{Knows}
+use Rattle.life_elab_laws.proofs.ExpressionKinds.{variable_built}
+use Rattle.life_elab_laws.proofs.Following.{Follows, HasRegister, follows_below, follows_grown}
+use Rattle.life_elab_laws.proofs.Fronts.{IsFront, front_append, front_itself, last_there}
+use Rattle.life_elab_laws.proofs.Growing.{AreShaped, Grows, grows_none, shaped_more}
+
+-- ---- what parameters hold at the entry
+
+given_length : (types : Types) (n : ℕ) (ls : List Local) → length (given_holdings types n ls) ≡ length ls
+given_length types n [] = refl
+given_length types zero (l ∷ ls) = ap suc (given_length types zero ls)
+given_length types (suc n) (l ∷ ls) = ap suc (given_length types n ls)
+
+given_there : (types : Types) (n : ℕ) (ls : List Local) (y : ℕ) (l : Local) → y < n → slice_get ls y ≡ Some l → slice_get (given_holdings types n ls) y ≡ Some (held_by types (Some l))
+given_there types n [] y l lt at = absurd (none-some l at)
+given_there types zero (u ∷ ls) y l lt at = absurd (omega (arith, lt))
+given_there types (suc n) (u ∷ ls) zero l lt at = ap (λ (o : Option Local). Some (held_by types o)) at
+given_there types (suc n) (u ∷ ls) (suc y) l lt at = given_there types n ls y l (omega (arith, lt)) at
+
+given_blank : (types : Types) (n : ℕ) (ls : List Local) (y : ℕ) (l : Local) → n ≤ y → slice_get ls y ≡ Some l → slice_get (given_holdings types n ls) y ≡ Some Blank
+given_blank types n [] y l le at = absurd (none-some l at)
+given_blank types zero (u ∷ ls) zero l le at = refl
+given_blank types zero (u ∷ ls) (suc y) l le at = given_blank types zero ls y l (omega arith) at
+given_blank types (suc n) (u ∷ ls) zero l le at = absurd (omega (arith, le))
+given_blank types (suc n) (u ∷ ls) (suc y) l le at = given_blank types n ls y l (omega (arith, le)) at
+
+known_given : (hs : Holdings) (y : ℕ) (h : Holding) → slice_get hs y ≡ Some h → known_at (map known_as hs) y ≡ known_as h
+known_given hs y h at = ap (λ (o : Option Known). unwrap_or o known.Unknown) (slice_get-map known_as hs y ∙ ap (option_map known_as) at)
+
+map_length : (hs : Holdings) → length (map known_as hs) ≡ length hs
+map_length [] = refl
+map_length (h ∷ hs) = ap suc (map_length hs)
+
+-- ---- the parameters of a function
+
+middle_there : {X : Type 0} (xs : List X) (x : X) (ys : List X) → slice_get (xs ++ x ∷ ys) (length xs) ≡ Some x
+middle_there [] x ys = refl
+middle_there (z ∷ xs) x ys = middle_there xs x ys
+
+-- what is visible behind them
+abbrev past_parameters : List ParameterPromise → Visible → Visible
+past_parameters [] v = v
+past_parameters (p ∷ ps) v = past_parameters ps (with_next v)
+
+one_more : (ps : List ParameterPromise) (v : Visible) → past_parameters ps (with_next v) ≡ with_next (past_parameters ps v)
+one_more [] v = refl
+one_more (p ∷ ps) v = one_more ps (with_next v)
+
+all_visible : (ps : List ParameterPromise) → past_parameters ps (with_parameters 0) ≡ with_parameters (length ps)
+all_visible [] = refl
+all_visible (p ∷ ps) = one_more ps (with_parameters 0) ∙ ap with_next (all_visible ps)
+
+module _ (a : Around) where
+  -- their locals
+  abbrev pub parameter_locals : List ParameterPromise → List TypedLocal → List Local
+  parameter_locals (p ∷ ps) (u ∷ us) = parameter_local a p u ∷ parameter_locals ps us
+  parameter_locals _ _ = []
+
+  locals_length : (ps : List ParameterPromise) (us : List TypedLocal) → length ps ≤ length us → length (parameter_locals ps us) ≡ length ps
+  locals_length [] us few = refl
+  locals_length (p ∷ ps) [] few = absurd (omega (arith, few))
+  locals_length (p ∷ ps) (u ∷ us) few = ap suc (locals_length ps us (omega (arith, few)))
+
+  locals_written : (ps : List ParameterPromise) (us : List TypedLocal) (s : State) → (elab.with_parameters a ps us s).locals ≡ s.locals ++ parameter_locals ps us
+  locals_written [] us s = sym (append-nil s.locals)
+  locals_written (p ∷ ps) [] s = sym (append-nil s.locals)
+  locals_written (p ∷ ps) (u ∷ us) s =
+      locals_written ps us (with_new (parameter_local a p u) s) ∙ append_assoc s.locals (parameter_local a p u ∷ []) (parameter_locals ps us)
+
+  pub types_same : (ps : List ParameterPromise) (us : List TypedLocal) (s : State) → (elab.with_parameters a ps us s).types ≡ s.types
+  types_same [] us s = refl
+  types_same (p ∷ ps) [] s = refl
+  types_same (p ∷ ps) (u ∷ us) s = types_same ps us (with_new (parameter_local a p u) s)
+
+  code_same : (ps : List ParameterPromise) (us : List TypedLocal) (s : State) → (elab.with_parameters a ps us s).code ≡ s.code
+  code_same [] us s = refl
+  code_same (p ∷ ps) [] s = refl
+  code_same (p ∷ ps) (u ∷ us) s = code_same ps us (with_new (parameter_local a p u) s)
+
+  shaped_same : (ps : List ParameterPromise) (us : List TypedLocal) (s : State) → AreShaped s.locals → AreShaped (elab.with_parameters a ps us s).locals
+  shaped_same [] us s h = h
+  shaped_same (p ∷ ps) [] s h = h
+  shaped_same (p ∷ ps) (u ∷ us) s h = shaped_same ps us (with_new (parameter_local a p u) s) (shaped_more s.locals (parameter_local a p u) h (λ is. (u.name, refl)))
+
+  -- all of them live
+  abbrev AllLive : State → Type 0
+  AllLive s = (y : ℕ) → y < length s.locals → Among y s.living
+
+  all_live : (ps : List ParameterPromise) (us : List TypedLocal) (s : State) → AllLive s → AllLive (elab.with_parameters a ps us s)
+  all_live [] us s h = h
+  all_live (p ∷ ps) [] s h = h
+  all_live (p ∷ ps) (u ∷ us) s h = all_live ps us (with_new (parameter_local a p u) s) more
+    where
+      more : AllLive (with_new (parameter_local a p u) s)
+      more y lt = elim (cases_eq (length s.locals) y) [
+        | inl e ↦ among_right s.living (length s.locals ∷ []) y (inl e)
+        | inr other ↦ among_left s.living (length s.locals ∷ []) y (h y (omega (arith, lt, other, length-append s.locals (parameter_local a p u ∷ []))))
+      ]
+
+  -- ---- the result behind them
+
+  pub result_grows : (t : Ty) (s : State) → Grows s (with_result a t s)
+  result_grows ty.Void s = grows_none s
+  result_grows _ s = record {
+    locals = front_append s.locals (nameless a a.function.result ∷ []);
+    types = front_itself s.types.types;
+    count = omega (arith, length-append s.locals (nameless a a.function.result ∷ []));
+    variables = refl;
+    living = refl;
+    outside = refl;
+    shaped = λ h. shaped_more s.locals (nameless a a.function.result) h (λ is. absurd (false≢true (sym is)));
+  }
+
+  result_there : (t : Ty) (s : State) → is_value t ≡ true → slice_get (with_result a t s).locals (length s.locals) ≡ Some (nameless a a.function.result)
+  result_there ty.Bool s w = last_there s.locals (nameless a a.function.result)
+  result_there ty.Char s w = last_there s.locals (nameless a a.function.result)
+  result_there ty.Int s w = last_there s.locals (nameless a a.function.result)
+  result_there ty.Long s w = last_there s.locals (nameless a a.function.result)
+  result_there ty.Size s w = last_there s.locals (nameless a a.function.result)
+  result_there _ s w = absurd (false≢true w)
+
+  result_code : (t : Ty) (s : State) → (with_result a t s).code ≡ s.code
+  result_code ty.Void s = refl
+  result_code _ s = refl
+
+  result_types : (t : Ty) (s : State) → (with_result a t s).types ≡ s.types
+  result_types ty.Void s = refl
+  result_types _ s = refl
+
+  -- ---- where the body begins, in a table that begins with the program's
+
+  module _ (T : Types) (fits : length a.function.parameters ≤ length a.function.locals) (table : IsFront a.program.types.types T.types) where
+    abbrev pub given : State
+    given = elab.with_parameters a a.function.parameters a.function.locals (nothing_written T)
+
+    pub given_count : length given.locals ≡ length a.function.parameters
+    given_count = ap length (locals_written a.function.parameters a.function.locals (nothing_written T)) ∙ locals_length a.function.parameters a.function.locals fits
+
+    pub first_code : (first_state a T).code ≡ []
+    first_code = result_code (type_at a.program.types a.function.result) given ∙ code_same a.function.parameters a.function.locals (nothing_written T)
+
+    pub first_types : (first_state a T).types ≡ T
+    first_types = result_types (type_at a.program.types a.function.result) given ∙ types_same a.function.parameters a.function.locals (nothing_written T)
+
+    pub first_shaped : AreShaped (first_state a T).locals
+    first_shaped = (result_grows (type_at a.program.types a.function.result) given).shaped (shaped_same a.function.parameters a.function.locals (nothing_written T) tt)
+
+    pub parameters_front : IsFront (parameter_locals a.function.parameters a.function.locals) (first_state a T).locals
+    parameters_front y l at =
+        (result_grows (type_at a.program.types a.function.result) given).locals y l
+        (subst (λ (ls : List Local). slice_get ls y ≡ Some l) (sym (locals_written a.function.parameters a.function.locals (nothing_written T))) at)
+
+    pub register_there : (t : Ty) → slice_get a.program.types.types a.function.result.0 ≡ Some t → HasRegister a (first_state a T)
+    register_there t at worth = record {
+      local = nameless a a.function.result;
+      there = ap (slice_get (first_state a T).locals) (sym given_count) ∙ result_there (type_at a.program.types a.function.result) given worth;
+      nameless = refl;
+      kind = refl;
+      ty = t;
+      typed = ap (λ (x : Types). slice_get x.types a.function.result.0) first_types ∙ table a.function.result.0 t at;
+      value = subst (λ (o : Option Ty). is_value (unwrap_or o ty.Void) ≡ true) at worth;
+    }
+
+    module _ (types : Types) (fs : List Function) (f : Function) (front : IsFront a.program.types.types types.types) (variables : are_built_variables a.program.types a.function.locals ≡ true) where
+      nothing_follows : Follows types fs f a (with_parameters 0) (nothing_written T)
+      nothing_follows = record {
+        count = refl;
+        visible = λ x c. absurd (contains_among [] x c);
+        stands = record { opened = λ y c. absurd (contains_among [] y c); seen = λ x u c at. absurd (contains_among [] x c) };
+        ascend = tt;
+        outside = omega arith;
+        living = λ y m. absurd m;
+        sorts = λ b y m. absurd m;
+      }
+
+      each_follows : (ps : List ParameterPromise) (done us : List TypedLocal) (v : Visible) (s : State) → done ++ us ≡ a.function.locals → length done ≡ v.declared → length ps ≤ length us → Follows types fs f a v s
+          → Follows types fs f a (past_parameters ps v) (elab.with_parameters a ps us s)
+      each_follows [] done us v s e n few h = h
+      each_follows (p ∷ ps) done [] v s e n few h = absurd (omega (arith, few))
+      each_follows (p ∷ ps) done (u ∷ us) v s e n few h =
+          let at : slice_get a.function.locals v.declared ≡ Some u = subst (λ (k : ℕ). slice_get a.function.locals k ≡ Some u) n (subst (λ (xs : List TypedLocal). slice_get xs (length done) ≡ Some u) e (middle_there done u us)) in
+          each_follows ps (done ++ u ∷ []) us (with_next v) (with_new (parameter_local a p u) s) (append_assoc done (u ∷ []) us ∙ e) (omega (arith, n, length-append done (u ∷ []))) (omega (arith, few))
+          (follows_new types fs f a front v u (parameter_local a p u) (record { named = refl; typed = refl; kind = refl }) s h at (variable_built a.program.types a.function.locals v.declared u variables at))
+
+      given_follows : Follows types fs f a (with_parameters (length a.function.parameters)) given
+      given_follows =
+          subst (λ (v : Visible). Follows types fs f a v given) (all_visible a.function.parameters)
+          (each_follows a.function.parameters [] a.function.locals (with_parameters 0) (nothing_written T) refl refl fits nothing_follows)
+
+      pub first_follows : Follows types fs f a (with_parameters (length a.function.parameters)) (first_state a T)
+      first_follows = follows_grown types fs f a (with_parameters (length a.function.parameters)) given (first_state a T) (result_grows (type_at a.program.types a.function.result) given) given_follows
+
+      -- the parameters are known, and all else that has a name is blank
+      pub entry_knows : f.parameters ≡ length a.function.parameters → IsFront (first_state a T).locals f.locals → Knows types fs f (first_state a T).living (entry_known types f)
+      entry_knows count locals = record {
+        sized = map_length (given_holdings types f.parameters f.locals) ∙ given_length types f.parameters f.locals;
+        alive = λ y m. alive y (subst (Among y) same m);
+        blank = λ y l name there named none. blank y l there (λ m. none (subst (Among y) (sym same) m));
+      }
+        where
+          grows : Grows given (first_state a T)
+          grows = result_grows (type_at a.program.types a.function.result) given
+
+          same : (first_state a T).living ≡ given.living
+          same = grows.living
+
+          alive : (y : ℕ) → Among y given.living → known_at (entry_known types f) y ≡ known_as (sort_of types f y)
+          alive y m =
+              let is = given_follows.living y m in
+              let there : slice_get f.locals y ≡ Some is.local = locals y is.local (grows.locals y is.local is.there) in
+              let below : y < length given.locals = follows_below types fs f a (with_parameters (length a.function.parameters)) given given_follows y m in
+              known_given (given_holdings types f.parameters f.locals) y (held_by types (Some is.local)) (given_there types f.parameters f.locals y is.local (omega (arith, below, given_count, count)) there)
+              ∙ ap (λ (o : Option Local). known_as (held_by types o)) (sym there)
+
+          blank : (y : ℕ) (l : Local) → slice_get f.locals y ≡ Some l → (Among y given.living → ⊥) → known_at (entry_known types f) y ≡ known.Blank
+          blank y l there none = elim (cases_lt y (length given.locals)) [
+            | inl lt ↦ absurd (none (all_live a.function.parameters a.function.locals (nothing_written T) (λ z small. absurd (omega (arith, small))) y lt))
+            | inr le ↦ known_given (given_holdings types f.parameters f.locals) y Blank (given_blank types f.parameters f.locals y l (omega (arith, le, given_count, count)) there)
+          ]

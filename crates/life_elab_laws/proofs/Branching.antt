@@ -1,0 +1,162 @@
+-- Branches: two lists of statements behind a condition, and assertions.
+use Rattle.std.proofs.Common.{◌≡◌, ℕ, Bool, true, List, [], ◌∷◌, ◌++◌, length, take, None, Some, refl, sym, ap, ◌∙◌, subst, arith}
+use Rattle.std.proofs.lemmas.Bool.{and_from}
+use Rattle.life_types.specs.Types.{Types}
+use Rattle.life_types.specs.declared.place.Place.{Place}
+use Rattle.life_core.specs.Function.{Function}
+use Rattle.life_core.specs.Shape.{is_condition, is_statement, test_straight, tests_straight}
+use Rattle.life_core.specs.Tree.{Tree, Skip, Choice, Stops, trees}
+use Rattle.life_proper.specs.declared.known.Known.{Known}
+use Rattle.life_proper.specs.Checking.{Flow, before_both, flow, joined}
+use Rattle.life_proper.specs.Plain.{is_plain_tree}
+use Rattle.life_proper.proofs.Joining.{joined_end}
+use Rattle.life_well_typed.specs.Visible.{Visible, behind}
+use Rattle.life_writer.specs.Around.{Around}
+use Rattle.life_writer.specs.Writing.{State, Gives, with_code, write}
+use Rattle.life_elab_laws.proofs.Doing.{Acting, DoesLevel, leaves_falling, leaves_may}
+use Rattle.life_elab_laws.proofs.Exits.{Knows, Leaves, knows_written, leaves_joined}
+use Rattle.life_elab_laws.proofs.Following.{Adds, Follows, adds_coded, adds_then, begins_added, follows_again, follows_coded, follows_grown, follows_named, grows_adds, knows_alive}
+use Rattle.life_elab_laws.proofs.Fronts.{front_length}
+use Rattle.life_elab_laws.proofs.Growing.{Begins}
+use Rattle.life_elab_laws.proofs.Testing.{Asked, AsksAll, Tests}
+
+module _ (types : Types) (fs : List Function) (f : Function) where
+  -- ---- lists of their own
+
+  pub adds_uncoded : (s s' : State) (code : List Tree) → Adds types fs f (with_code code s) s' → Adds types fs f s s'
+  adds_uncoded s s' code g = record { locals = g.locals; table = g.table; variables = g.variables; living = g.living; outside = g.outside; shaped = g.shaped }
+
+  -- what was visible before is visible again, where the same lives
+  pub visible_again : (a : Around) (v u : Visible) (s t : State) → Follows types fs f a v s → Adds types fs f s t → Follows types fs f a u t → t.living ≡ s.living → Follows types fs f a (behind v u) t
+  visible_again a v u s t h adds later level =
+      follows_again types fs f a v s t u.declared h adds.locals adds.table adds.variables level (omega (arith, adds.outside, ap length level, h.outside)) later.count
+      (omega (arith, h.count, later.count, front_length s.variables t.variables adds.variables))
+
+  pub leaves_same : (in_loop : Bool) (living living' outside outside' : List ℕ) (w : Flow) → living ≡ living' → outside ≡ outside' → Leaves types fs f in_loop living outside w → Leaves types fs f in_loop living' outside' w
+  leaves_same in_loop living living' outside outside' w e d h =
+      subst (λ (xs : List ℕ). Leaves types fs f in_loop xs outside' w) e (subst (λ (xs : List ℕ). Leaves types fs f in_loop living xs w) d h)
+
+  -- ---- behind a condition
+
+  module _ (a : Around) (v : Visible) (in_loop : Bool) (s : State) (w : Gives Tree) (h : Follows types fs f a v s) (test : Tests types fs f s w) where
+    pub tested_follows : Follows types fs f a v (with_code [] w.state)
+    tested_follows = follows_coded types fs f a v w.state [] (follows_grown types fs f a v s w.state test.grown h)
+
+    pub same_outside : take w.state.outside w.state.living ≡ take s.outside s.living
+    same_outside = ap (λ (n : ℕ). take n w.state.living) test.grown.outside ∙ ap (take s.outside) test.grown.living
+
+    -- what is known on both ways
+    pub known_behind : Begins types f w.state → (k : List Known) (asked : Asked types fs f s w.given k) → Knows types fs f s.living k → Knows types fs f s.living asked.on × Knows types fs f s.living asked.off
+    known_behind b k asked knows =
+        let names = follows_named types fs f a v s h (begins_added types fs f s w.state (grows_adds types fs f s w.state test.grown) b) in
+        (knows_written types fs f s.living (length s.locals) None k asked.on names knows asked.keeps_on, knows_written types fs f s.living (length s.locals) None k asked.off names knows asked.keeps_off)
+
+    -- both branches, the second of which is written behind the first
+    module _ (u x : Visible) (t r : State) (first : DoesLevel types fs f a u in_loop (with_code [] w.state) t) (second : DoesLevel types fs f a x in_loop (with_code [] t) r) where
+      abbrev both : State
+      both = write (Choice w.given (trees t.code) (trees r.code)) (with_code w.state.code r)
+
+      abbrev chosen : Tree
+      chosen = Choice w.given (trees first.does.code) (trees second.does.code)
+
+      branched_adds : Adds types fs f s both
+      branched_adds =
+          adds_coded types fs f s r (w.state.code ++ Choice w.given (trees t.code) (trees r.code) ∷ [])
+          (adds_then types fs f s t r
+          (adds_then types fs f s w.state t (grows_adds types fs f s w.state test.grown) (adds_uncoded w.state t [] first.does.adds))
+          (adds_uncoded t r [] second.does.adds))
+
+      branched_level : r.living ≡ s.living
+      branched_level = second.level ∙ first.level ∙ test.grown.living
+
+      branched_acts : Begins types f r → Acting types fs f in_loop s both (chosen ∷ [])
+      branched_acts b = record {
+        stated = record {
+          statement = and_from _ true (and_from (is_condition w.given) _ asks.fine.condition (and_from (is_statement (trees first.does.code)) (is_statement (trees second.does.code)) one.stated.statement other.stated.statement)) refl;
+          tests = and_from _ true (and_from (test_straight w.given) _ asks.fine.straight (and_from (tests_straight (trees first.does.code)) (tests_straight (trees second.does.code)) one.stated.tests other.stated.tests)) refl;
+          plain = and_from _ true (and_from (is_plain_tree types fs f w.given) _ asks.fine.plain (and_from (is_plain_tree types fs f (trees first.does.code)) (is_plain_tree types fs f (trees second.does.code)) one.stated.plain other.stated.plain)) refl;
+        };
+        ways = leaves_may types fs f in_loop s.living r.living (take s.outside s.living) (trees (chosen ∷ [])) went;
+      }
+        where
+          begun : Begins types f t
+          begun = begins_added types fs f t r (adds_uncoded t r [] second.does.adds) b
+
+          tested : Begins types f w.state
+          tested = begins_added types fs f w.state t (adds_uncoded w.state t [] first.does.adds) begun
+
+          asks : AsksAll types fs f s w.given
+          asks = test.runs tested
+
+          one : Acting types fs f in_loop (with_code [] w.state) t first.does.code
+          one = first.does.acts begun
+
+          other : Acting types fs f in_loop (with_code [] t) r second.does.code
+          other = second.does.acts b
+
+          outside_second : take t.outside t.living ≡ take s.outside s.living
+          outside_second = ap (λ (n : ℕ). take n t.living) first.does.adds.outside ∙ ap (take w.state.outside) first.level ∙ same_outside
+
+          went : (k : List Known) → Knows types fs f s.living k → Leaves types fs f in_loop r.living (take s.outside s.living) (flow types fs f (trees (chosen ∷ [])) (Some k))
+          went k knows =
+              let g = asks.goes k (knows_alive types fs f a v s k knows) in
+              let both_known = known_behind tested k g knows in
+              let on = one.ways (Some g.on) (subst (λ (xs : List ℕ). Knows types fs f xs g.on) (sym test.grown.living) both_known.0) in
+              let off = other.ways (Some g.off) (subst (λ (xs : List ℕ). Knows types fs f xs g.off) (sym (first.level ∙ test.grown.living)) both_known.1) in
+              let after = leaves_joined types fs f in_loop r.living (take s.outside s.living) (flow types fs f (trees first.does.code) (Some g.on)) (flow types fs f (trees second.does.code) (Some g.off))
+              (leaves_same in_loop t.living r.living (take w.state.outside w.state.living) (take s.outside s.living) (flow types fs f (trees first.does.code) (Some g.on)) (sym second.level) same_outside on)
+              (leaves_same in_loop r.living r.living (take t.outside t.living) (take s.outside s.living) (flow types fs f (trees second.does.code) (Some g.off)) refl outside_second off) in
+              subst (Leaves types fs f in_loop r.living (take s.outside s.living))
+              (sym (joined_end (flow types fs f chosen (Some k))
+              ∙ ap (λ (q : Flow). joined (before_both q) (joined (flow types fs f (trees first.does.code) q.on_true) (flow types fs f (trees second.does.code) q.on_false))) g.decides))
+              after
+
+      pub branched_does : DoesLevel types fs f a x in_loop s both
+      branched_does = record {
+        does = record {
+          adds = branched_adds;
+          follows = follows_coded types fs f a x r (w.state.code ++ Choice w.given (trees t.code) (trees r.code) ∷ []) second.does.follows;
+          code = chosen ∷ [];
+          written =
+              ap (λ (c : List Tree). c ++ Choice w.given (trees t.code) (trees r.code) ∷ []) test.unwritten
+              ∙ ap (λ (c : List Tree). s.code ++ Choice w.given (trees c) (trees r.code) ∷ []) first.does.written
+              ∙ ap (λ (c : List Tree). s.code ++ Choice w.given (trees first.does.code) (trees c) ∷ []) second.does.written;
+          acts = λ b. branched_acts (record { locals = b.locals; table = b.table });
+        };
+        level = branched_level;
+      }
+
+    -- ---- an assertion
+
+    asserted_acts : (keyword : Place) → Begins types f w.state → Acting types fs f in_loop s (write (Choice w.given Skip (Stops keyword)) w.state) (Choice w.given Skip (Stops keyword) ∷ [])
+    asserted_acts keyword b = record {
+      stated = record {
+        statement = and_from _ true (and_from (is_condition w.given) true asks.fine.condition refl) refl;
+        tests = and_from _ true (and_from (test_straight w.given) true asks.fine.straight refl) refl;
+        plain = and_from _ true (and_from (is_plain_tree types fs f w.given) true asks.fine.plain refl) refl;
+      };
+      ways = leaves_may types fs f in_loop s.living w.state.living (take s.outside s.living) (trees (Choice w.given Skip (Stops keyword) ∷ [])) went;
+    }
+      where
+        asks : AsksAll types fs f s w.given
+        asks = test.runs b
+
+        went : (k : List Known) → Knows types fs f s.living k → Leaves types fs f in_loop w.state.living (take s.outside s.living) (flow types fs f (trees (Choice w.given Skip (Stops keyword) ∷ [])) (Some k))
+        went k knows =
+            let g = asks.goes k (knows_alive types fs f a v s k knows) in
+            subst (Leaves types fs f in_loop w.state.living (take s.outside s.living))
+            (sym (joined_end (flow types fs f (Choice w.given Skip (Stops keyword)) (Some k))
+            ∙ ap (λ (q : Flow). joined (before_both q) (joined (flow types fs f Skip q.on_true) (flow types fs f (Stops keyword) q.on_false))) g.decides))
+            (leaves_falling types fs f in_loop w.state.living (take s.outside s.living) g.on (subst (λ (xs : List ℕ). Knows types fs f xs g.on) (sym test.grown.living) (known_behind b k g knows).0))
+
+    pub asserted_does : (keyword : Place) → DoesLevel types fs f a v in_loop s (write (Choice w.given Skip (Stops keyword)) w.state)
+    asserted_does keyword = record {
+      does = record {
+        adds = adds_coded types fs f s w.state (w.state.code ++ Choice w.given Skip (Stops keyword) ∷ []) (grows_adds types fs f s w.state test.grown);
+        follows = follows_coded types fs f a v w.state (w.state.code ++ Choice w.given Skip (Stops keyword) ∷ []) (follows_grown types fs f a v s w.state test.grown h);
+        code = Choice w.given Skip (Stops keyword) ∷ [];
+        written = ap (λ (c : List Tree). c ++ Choice w.given Skip (Stops keyword) ∷ []) test.unwritten;
+        acts = λ b. asserted_acts keyword (record { locals = b.locals; table = b.table });
+      };
+      level = test.grown.living;
+    }

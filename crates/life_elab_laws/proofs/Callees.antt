@@ -1,0 +1,132 @@
+-- What the core functions of a built program take and give: values.
+use Rattle.std.proofs.Common.{◌≡◌, ◌≤◌, ◌⊎◌, inl, inr, ℕ, zero, suc, true, List, [], ◌∷◌, ◌++◌, length, map, slice_get, take, Option, Some, None, refl, sym, ap, ◌∙◌, subst, unwrap_or, arith}
+use Rattle.std.proofs.lemmas.Bool.{and_parts, false≢true, or_cases}
+use Rattle.std.proofs.lemmas.Option.{none-some, same_Some}
+use Rattle.life_types.specs.Types.{Types, class, class_at}
+use Rattle.life_types.specs.declared.ty.Ty.{Ty}
+use Rattle.life_types.specs.declared.ty.Ty.TheVariants as ty
+use Rattle.life_types.specs.declared.ty.TyId.{TyId}
+use Rattle.life_built.specs.Built.{are_built_variables, are_values, is_built_function, is_built_result, is_built_statement, is_default, is_void}
+use Rattle.life_typed.specs.BaseTypes.{is_value, type_at}
+use Rattle.life_typed.specs.Programs.{FunctionForm, ProgramForm}
+use Rattle.life_typed.specs.declared.typed_program.ParameterPromise.{ParameterPromise}
+use Rattle.life_typed.specs.declared.typed_program.TypedLocal.{TypedLocal}
+use Rattle.life_core.specs.Function.{Function}
+use Rattle.life_core.specs.Proper.{AnObject, ANumber, Blank, Holding, given_holdings, held_by, held_if, parameter_sorts, result_if, result_sort, sort_of}
+use Rattle.life_core.specs.declared.program.Local.{Local}
+use Rattle.life_well_typed.specs.Expressions.{parameter_types, type_of}
+use Rattle.life_writer.specs.Around.{Around}
+use Rattle.life_writer.specs.Variables.{kind}
+use Rattle.life_elab.specs.Functions.{first_state, parameter_local}
+use Rattle.life_elab.specs.Programs.{around}
+use Rattle.life_elab_laws.proofs.Beginning.{first_types, parameter_locals, parameters_front, register_there}
+use Rattle.life_elab_laws.proofs.Calls.{IsCallee, objects}
+use Rattle.life_elab_laws.proofs.Emitting.{wanted_sort}
+use Rattle.life_elab_laws.proofs.Fronts.{IsFront, front_cut, front_then}
+use Rattle.life_elab_laws.proofs.VariablePlaces.{value_held}
+
+-- what stands in a table is the type there
+pub type_found : (types : Types) (id : TyId) (t : Ty) → slice_get types.types id.0 ≡ Some t → type_at types id ≡ t
+type_found types id t at = ap (λ (o : Option Ty). unwrap_or o ty.Void) at
+
+value_found : (types : Types) (id : TyId) → is_value (type_at types id) ≡ true → (t : Ty) × (slice_get types.types id.0 ≡ Some t) × (is_value t ≡ true)
+value_found types id w = go (slice_get types.types id.0) refl w
+  where
+    go : (o : Option Ty) → slice_get types.types id.0 ≡ o → is_value (unwrap_or o ty.Void) ≡ true → (t : Ty) × (slice_get types.types id.0 ≡ Some t) × (is_value t ≡ true)
+    go None at w = absurd (false≢true w)
+    go (Some t) at w = (t, at, w)
+
+result_kept : (t : Ty) (held : Holding) → is_value t ≡ true → result_if (Some t) held ≡ held
+result_kept ty.Bool held w = refl
+result_kept ty.Char held w = refl
+result_kept ty.Int held w = refl
+result_kept ty.Long held w = refl
+result_kept ty.Size held w = refl
+result_kept _ held w = absurd (false≢true w)
+
+no_result : (t : Ty) (held : Holding) → is_void t ≡ true → result_if (Some t) held ≡ Blank
+no_result ty.Void held w = refl
+no_result _ held w = absurd (false≢true w)
+
+-- ---- what is built
+
+pub record IsBuiltFunction (types : Types) (f : FunctionForm) : Type 0 where
+  pub result : is_built_result types f.result ≡ true
+  pub parameters : are_values types (take (length f.parameters) f.locals) ≡ true
+  pub variables : are_built_variables types f.locals ≡ true
+  pub body : is_built_statement types f.locals f.body ≡ true
+
+pub built_parts : (types : Types) (f : FunctionForm) → is_built_function types f ≡ true → IsBuiltFunction types f
+built_parts types f b =
+    let one = and_parts (is_built_result types f.result) _ b in
+    let two = and_parts (are_values types (take (length f.parameters) f.locals)) _ one.1 in
+    let three = and_parts (are_built_variables types f.locals) _ two.1 in
+    let four = and_parts (is_default f.promise) (is_built_statement types f.locals f.body) three.1 in
+    record { result = one.0; parameters = two.0; variables = three.0; body = four.1 }
+
+pub values_at : (types : Types) (us : List TypedLocal) → are_values types us ≡ true → (n : ℕ) (id : TyId) → slice_get (map type_of us) n ≡ Some id → is_value (type_at types id) ≡ true
+values_at types [] b n id at = absurd (none-some id at)
+values_at types (u ∷ us) b zero id at = subst (λ (i : TyId). is_value (type_at types i) ≡ true) (same_Some u.ty id at) (and_parts (is_value (type_at types u.ty)) (are_values types us) b).0
+values_at types (u ∷ us) b (suc n) id at = values_at types us (and_parts (is_value (type_at types u.ty)) (are_values types us) b).1 n id at
+
+-- ---- what a function takes
+
+module _ (a : Around) (types : Types) (front : IsFront a.program.types.types types.types) where
+  held_parameter : (p : ParameterPromise) (u : TypedLocal) → is_value (type_at a.program.types u.ty) ≡ true → held_by types (Some (parameter_local a p u)) ≡ AnObject
+  held_parameter p u w =
+      let found = value_found a.program.types u.ty w in
+      ap (λ (o : Option Ty). held_if (class o) (kind (class_at a.program.types u.ty)) o) (front u.ty.0 found.0 found.1)
+      ∙ ap (λ (o : Option Ty). held_if (class (Some found.0)) (kind (class o)) (Some found.0)) found.1
+      ∙ value_held found.0 found.2
+
+  objects_taken : (ps : List ParameterPromise) (us : List TypedLocal) (rest : List Local) → length ps ≤ length us → are_values a.program.types (take (length ps) us) ≡ true
+      → take (length ps) (given_holdings types (length ps) (parameter_locals a ps us ++ rest)) ≡ objects (map type_of (take (length ps) us))
+  objects_taken [] us rest few b = refl
+  objects_taken (p ∷ ps) [] rest few b = absurd (omega (arith, few))
+  objects_taken (p ∷ ps) (u ∷ us) rest few b =
+      let parts = and_parts (is_value (type_at a.program.types u.ty)) (are_values a.program.types (take (length ps) us)) b in
+      ap (λ (h : Holding). h ∷ take (length ps) (given_holdings types (length ps) (parameter_locals a ps us ++ rest))) (held_parameter p u parts.0)
+      ∙ ap (λ (hs : List Holding). AnObject ∷ hs) (objects_taken ps us rest (omega (arith, few)) parts.1)
+
+-- ---- what its core function takes and gives, where it begins as it is written
+
+module _ (p : ProgramForm) (of : FunctionForm) (T types : Types) (fs : List Function) (core : Function)
+    (fits : length of.parameters ≤ length of.locals) (built : IsBuiltFunction p.types of) (t : Ty) (result : slice_get p.types.types of.result.0 ≡ Some t)
+    (table : IsFront p.types.types T.types) (later : IsFront T.types types.types)
+    (count : core.parameters ≡ length of.parameters) (same : core.result ≡ of.result) (locals : IsFront (first_state (around p of) T).locals core.locals) where
+  front : IsFront p.types.types types.types
+  front = front_then p.types.types T.types types.types table later
+
+  takes_objects : parameter_sorts types core ≡ objects (parameter_types (Some of))
+  takes_objects =
+      let cut = front_cut (parameter_locals (around p of) of.parameters of.locals) core.locals
+      (front_then (parameter_locals (around p of) of.parameters of.locals) (first_state (around p of) T).locals core.locals (parameters_front (around p of) T fits table) locals) in
+      ap (λ (n : ℕ). take n (given_holdings types n core.locals)) count
+      ∙ ap (λ (ls : List Local). take (length of.parameters) (given_holdings types (length of.parameters) ls)) cut.1
+      ∙ objects_taken (around p of) types front of.parameters of.locals cut.0 fits built.parameters
+
+  result_type : slice_get types.types core.result.0 ≡ Some t
+  result_type = ap (λ (id : TyId). slice_get types.types id.0) same ∙ front of.result.0 t result
+
+  pub gives_nothing : is_void (type_at p.types of.result) ≡ true → result_sort types core ≡ Blank
+  gives_nothing w =
+      ap (λ (o : Option Ty). result_if o (sort_of types core core.parameters)) result_type
+      ∙ no_result t (sort_of types core core.parameters) (subst (λ (x : Ty). is_void x ≡ true) (type_found p.types of.result t result) w)
+
+  pub gives_number : is_value (type_at p.types of.result) ≡ true → result_sort types core ≡ ANumber
+  gives_number w =
+      ap (λ (o : Option Ty). result_if o (sort_of types core core.parameters)) result_type
+      ∙ result_kept t (sort_of types core core.parameters) (subst (λ (x : Ty). is_value x ≡ true) (type_found p.types of.result t result) w)
+      ∙ ap (sort_of types core) count
+      ∙ wanted_sort types fs core (first_state (around p of) T) (length of.parameters) (register_there (around p of) T fits table t result w)
+      (record { locals = locals; table = subst (λ (x : Types). IsFront x.types types.types) (sym (first_types (around p of) T fits table)) later })
+
+  pub callee_from : (g : ℕ) → slice_get fs g ≡ Some core → IsCallee p.types types fs g of
+  callee_from g there = record { core = core; there = there; takes = takes_objects; void = gives_nothing; number = gives_number }
+
+  pub gives_from : (result_sort types core ≡ Blank) ⊎ (result_sort types core ≡ ANumber)
+  gives_from = go (or_cases (is_void (type_at p.types of.result)) (is_value (type_at p.types of.result)) built.result)
+    where
+      go : (is_void (type_at p.types of.result) ≡ true) ⊎ (is_value (type_at p.types of.result) ≡ true) → (result_sort types core ≡ Blank) ⊎ (result_sort types core ≡ ANumber)
+      go (inl e) = inl (gives_nothing e)
+      go (inr e) = inr (gives_number e)

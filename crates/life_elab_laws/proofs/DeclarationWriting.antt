@@ -1,0 +1,220 @@
+-- What is written for a declaration is ready.
+use Rattle.std.proofs.Common.{◌≡◌, ◌<◌, ◌⊎◌, inl, inr, ℕ, Bool, true, false, ◌||◌, cond, List, [], ◌∷◌, length, slice_get, slice_set, Option, Some, None, refl, sym, ap, ◌∙◌, subst, unwrap_or, arith, append_assoc}
+use Rattle.std.proofs.lemmas.Bool.{and_from, and_parts, false≢true, or_left, or_right}
+use Rattle.life_types.specs.Types.{Types, class}
+use Rattle.life_types.specs.contracts.ty.TyPartialEq.TheImpl.{ghosts as compared}
+use Rattle.life_types.specs.declared.place.Place.{Place}
+use Rattle.life_types.specs.declared.ty.Ty.{Ty}
+use Rattle.life_types.specs.declared.ty.Ty.TheVariants as ty
+use Rattle.life_types.specs.declared.ty.TyId.{TyId}
+use Rattle.life_built.specs.Built.{is_built_declaration, is_built_declared, is_built_expression, is_built_initial, is_built_variable, needs_no_temporary}
+use Rattle.life_typed.specs.BaseTypes.{is_value, type_at}
+use Rattle.life_typed.specs.Conversions.{is_place_of}
+use Rattle.life_typed.specs.Programs.{FunctionForm}
+use Rattle.life_typed.specs.TypedForm.{Typed, whole as whole_form}
+use Rattle.life_typed.specs.TypedStatement.{DeclarationForm, InitialForm, one, several}
+use Rattle.life_typed.specs.declared.typed_expr.Category.{Category}
+use Rattle.life_typed.specs.declared.typed_expr.Category.TheVariants as category
+use Rattle.life_typed.specs.declared.typed_program.TypedLocal.{TypedLocal}
+use Rattle.life_core.specs.Function.{Function}
+use Rattle.life_core.specs.Operands.{Argument, Place as Aimed, object_named, whole}
+use Rattle.life_core.specs.Proper.{Holding, AnObject, ANumber, APointer, Blank, held_if, sort_of}
+use Rattle.life_core.specs.Step.{Live, Save}
+use Rattle.life_core.specs.Tree.{Tree, Acts}
+use Rattle.life_core.specs.declared.instr.Form.TheVariants.{Plain}
+use Rattle.life_proper.specs.declared.known.Known.{Known}
+use Rattle.life_proper.specs.declared.known.Known.TheVariants as known
+use Rattle.life_proper.specs.Knowing.{known_as, known_at, same}
+use Rattle.life_proper.specs.ReadyKnown.{holds, is_operand_ready, is_sort, is_step_ready}
+use Rattle.life_well_typed.specs.Expressions.{IsExpression, parameter_types}
+use Rattle.life_well_typed.specs.Given.{is_given, is_number}
+use Rattle.life_well_typed.specs.Statements.{IsDeclaration, IsInitialised}
+use Rattle.life_well_typed.specs.Visible.{Visible, with_next}
+use Rattle.life_writer.specs.Around.{Around, own_type, parameters_of, type_of}
+use Rattle.life_writer.specs.Calls.{Called, call_of, called}
+use Rattle.life_writer.specs.Expressions.{handed_over, operand, pointing, value}
+use Rattle.life_writer.specs.Pointers.{Pointing, At, pointed}
+use Rattle.life_writer.specs.Variables.{kind, variable_local}
+use Rattle.life_writer.specs.Writing.{State, Gives, emit, gives, mapped, with_code}
+use Rattle.life_elab.specs.Declarations.{declared, declared_as, given_by_call, given_initial, given_one, given_value, live, object_given}
+use Rattle.life_elab_laws.proofs.CallForms.{call_made}
+use Rattle.life_elab_laws.proofs.Calls.{AreNumbersFor, born_plain, born_ready}
+use Rattle.life_elab_laws.proofs.Declaring.{declared_does, its_local, new_below, new_ends, new_sort, with_new}
+use Rattle.life_elab_laws.proofs.Doing.{Does}
+use Rattle.life_elab_laws.proofs.ExpressionKinds.{variable_built}
+use Rattle.life_elab_laws.proofs.ExpressionWriting.{given_number, handed_over_made, place_made, pointing_whole, value_made}
+use Rattle.life_elab_laws.proofs.Falling.{Falls, falling, falls_acts, falls_append}
+use Rattle.life_elab_laws.proofs.Following.{Follows, follows_grown}
+use Rattle.life_elab_laws.proofs.Growing.{Begins, Grows}
+use Rattle.life_elab_laws.proofs.Knowledge.{at_set, beside_set}
+use Rattle.life_elab_laws.proofs.Leaves.{number_held, object_held}
+use Rattle.life_elab_laws.proofs.Making.{Always, IsNumber, IsPlace, IsPointing, Makes, nothing_made, seen}
+use Rattle.life_elab_laws.proofs.Setting.{Setting}
+use Rattle.life_elab_laws.proofs.Shaping.{fine_acts, fine_append}
+use Rattle.life_elab_laws.proofs.SimpleWriting.{Done, aimed_after, aimed_ready, given_pointer, pointed_plain}
+use Rattle.life_elab_laws.proofs.VariablePlaces.{IsVariableType, a_raw, a_reference, a_value, value_held, variable_type}
+
+a_place : (c : Category) (target : TyId) → is_place_of c target ≡ true → (id : TyId) × (constant : Bool) × (c ≡ category.Place id constant)
+a_place category.Value target e = absurd (false≢true e)
+a_place (category.Place id constant) target e = (id, constant, refl)
+
+module _ (a : Around) (types : Types) (fs : List Function) (f : Function) (setting : Setting a types fs f) (v : Visible) (in_loop : Bool) where
+  module _ (u : TypedLocal) (s : State) (h : Follows types fs f a v s) (at : slice_get a.function.locals v.declared ≡ Some u) (built : is_built_variable a.program.types u.ty ≡ true) where
+    abbrev Born : State → Type 0
+    Born s' = Does types fs f a (with_next v) in_loop s s'
+
+    abbrev Whole : Typed → Type 0
+    Whole e = IsExpression a.program a.function.locals v.visible (whole_form e)
+
+    -- where so much has been written
+    abbrev New : State → Type 0
+    New s' = Begins types f (with_new (variable_local a u) s')
+
+    -- ---- what the variable holds
+
+    object_sort : (t : Ty) → slice_get a.program.types.types u.ty.0 ≡ Some t → is_value t ≡ true → (s' : State) → Grows s s' → New s' → sort_of types f (length s'.locals) ≡ AnObject
+    object_sort t is w s' g b = new_sort types fs f a setting.front v u (variable_local a u) (its_local a u) s' (follows_grown types fs f a v s s' g h) at built b t is ∙ value_held t w
+
+    pointer_sort : (t : Ty) → slice_get a.program.types.types u.ty.0 ≡ Some t → held_if (class (Some t)) (kind (class (Some t))) (Some t) ≡ APointer → (s' : State) → Grows s s' → New s' → sort_of types f (length s'.locals) ≡ APointer
+    pointer_sort t is w s' g b = new_sort types fs f a setting.front v u (variable_local a u) (its_local a u) s' (follows_grown types fs f a v s s' g h) at built b t is ∙ w
+
+    below : (s' : State) → Grows s s' → New s' → length s'.locals < length f.locals
+    below s' g b = new_below types fs f a setting.front v u (variable_local a u) (its_local a u) s' (follows_grown types fs f a v s s' g h) at built b
+
+    -- ---- it comes to life
+
+    live_ready : (x : ℕ) (k : List Known) → known_at k x ≡ known.Blank → (sort_of types f x ≡ AnObject) ⊎ (sort_of types f x ≡ APointer) → is_step_ready types fs f k (Live x Plain) ≡ true
+    live_ready x k blank sort = and_from (holds k x Blank) (is_sort (sort_of types f x) AnObject || is_sort (sort_of types f x) APointer) (ap (λ (b : Known). same b known.Blank) blank) (go sort)
+      where
+        go : (sort_of types f x ≡ AnObject) ⊎ (sort_of types f x ≡ APointer) → (is_sort (sort_of types f x) AnObject || is_sort (sort_of types f x) APointer) ≡ true
+        go (inl e) = or_left (is_sort (sort_of types f x) AnObject) _ (ap (λ (g : Holding). is_sort g AnObject) e)
+        go (inr e) = or_right (is_sort (sort_of types f x) AnObject) _ (ap (λ (g : Holding). is_sort g APointer) e)
+
+    live_does : Born (live a u s).state
+    live_does =
+        declared_does types fs f a setting.front v in_loop u s (gives tt s) Done (Acts u.place (Live (length s.locals) Plain) ∷ []) h at built
+        (nothing_made types fs f tt s Always Done (λ b k alive p. tt))
+        (λ b. fine_acts types fs f u.place (Live (length s.locals) Plain) refl)
+        (λ b k size q blank. falls_acts types fs f u.place (Live (length s.locals) Plain) k (live_ready (length s.locals) k blank (new_ends types fs f a setting.front v u (variable_local a u) (its_local a u) s h at built b)))
+
+    -- ---- an object
+
+    saved : (x r : ℕ) (k : List Known) → sort_of types f x ≡ AnObject → x < length k → known_at k x ≡ known.Blank → r < x → known_at k r ≡ known.Number
+        → Falls types fs f (Acts u.place (Live x Plain) ∷ Acts u.place (Save (object_named x) r) ∷ []) k (slice_set k x (known_as (sort_of types f x)))
+    saved x r k sort lt blank lower number =
+        let j : List Known = slice_set k x (known_as (sort_of types f x)) in
+        falls_append types fs f (Acts u.place (Live x Plain) ∷ []) (Acts u.place (Save (object_named x) r) ∷ []) k j j
+        (falls_acts types fs f u.place (Live x Plain) k (live_ready x k blank (inl sort)))
+        (falls_acts types fs f u.place (Save (object_named x) r) j
+        (and_from (holds j r ANumber) (is_operand_ready j (object_named x))
+        (number_held j r (beside_set k x r (known_as (sort_of types f x)) (λ e. omega (arith, e, lower)) ∙ number))
+        (object_held j x (at_set k x (known_as (sort_of types f x)) lt ∙ ap known_as sort))))
+
+    -- a value is computed before it lives
+    valued_does : (t : Ty) → slice_get a.program.types.types u.ty.0 ≡ Some t → is_value t ≡ true → (w : Gives ℕ) → Makes types fs f None s w Always IsNumber
+        → Born (emit u.place (Save (object_named (length w.state.locals)) w.given) (emit u.place (Live (length w.state.locals) Plain) (with_new (variable_local a u) w.state)))
+    valued_does t is worth w made =
+        subst (λ (c : List Tree). Born (with_code c (with_new (variable_local a u) w.state)))
+        (sym (append_assoc w.state.code (Acts u.place (Live (length w.state.locals) Plain) ∷ []) (Acts u.place (Save (object_named (length w.state.locals)) w.given) ∷ [])))
+        (declared_does types fs f a setting.front v in_loop u s w IsNumber (Acts u.place (Live (length w.state.locals) Plain) ∷ Acts u.place (Save (object_named (length w.state.locals)) w.given) ∷ []) h at built made
+        (λ b.
+        fine_append types fs f (Acts u.place (Live (length w.state.locals) Plain) ∷ []) (Acts u.place (Save (object_named (length w.state.locals)) w.given) ∷ [])
+        (fine_acts types fs f u.place (Live (length w.state.locals) Plain) refl) (fine_acts types fs f u.place (Save (object_named (length w.state.locals)) w.given) refl))
+        (λ b k size q blank. saved (length w.state.locals) w.given k (object_sort t is worth w.state made.grown b) (omega (arith, size, below w.state made.grown b)) blank q.0 q.1))
+
+    -- a call brings it to life
+    called_does : (t : Ty) → slice_get a.program.types.types u.ty.0 ≡ Some t → is_value t ≡ true → (g : ℕ) (of : FunctionForm) (place : Place) → slice_get a.program.functions g ≡ Some of → is_value (type_at a.program.types of.result) ≡ true
+        → (w : Gives (List Argument)) → Makes types fs f None s w Always (AreNumbersFor (parameter_types (Some of)))
+        → Born (emit place (called g w.given (length w.state.locals)) (with_new (variable_local a u) w.state))
+    called_does t is worth g of place there value w made =
+        declared_does types fs f a setting.front v in_loop u s w (AreNumbersFor (parameter_types (Some of))) (Acts place (called g w.given (length w.state.locals)) ∷ []) h at built made
+        (λ b. fine_acts types fs f place (called g w.given (length w.state.locals)) (born_plain types fs f g w.given a.program.types of (length w.state.locals) (setting.callees g of there) (object_sort t is worth w.state made.grown b)))
+        (λ b k size q blank.
+        falls_acts types fs f place (called g w.given (length w.state.locals)) k
+        (born_ready types fs f g w.given (length w.state.locals) a.program.types of (length w.state.locals) k (setting.callees g of there) value q (object_sort t is worth w.state made.grown b) blank))
+
+    -- ---- a pointer or a reference
+
+    aimed_does : (t : Ty) → slice_get a.program.types.types u.ty.0 ≡ Some t → held_if (class (Some t)) (kind (class (Some t))) (Some t) ≡ APointer → (place : Place) (w : Gives Pointing) → Makes types fs f None s w Always (IsPointing types f)
+        → Born (emit place (pointed (whole (length w.state.locals)) w.given) (with_new (variable_local a u) w.state))
+    aimed_does t is held place w made =
+        declared_does types fs f a setting.front v in_loop u s w (IsPointing types f) (Acts place (pointed (whole (length w.state.locals)) w.given) ∷ []) h at built made
+        (λ b. fine_acts types fs f place (pointed (whole (length w.state.locals)) w.given) (pointed_plain types fs f (whole (length w.state.locals)) w.given))
+        (λ b k size q blank.
+        falls_acts types fs f place (pointed (whole (length w.state.locals)) w.given) k
+        (aimed_ready types fs f (length w.state.locals) (length w.state.locals) w.given k (pointer_sort t is held w.state made.grown b) q)
+        ∙ ap falling (aimed_after types fs f (length w.state.locals) w.given k))
+
+    -- ---- any variable that is given one expression
+
+    module _ (e : Typed) (b : is_built_expression e ≡ true) (he : Whole e) where
+      type_is : (t : Ty) → slice_get a.program.types.types u.ty.0 ≡ Some t → type_of a u.ty ≡ t
+      type_is t is = ap (λ (o : Option Ty). unwrap_or o ty.Void) is
+
+      module _ (t : Ty) (is : slice_get a.program.types.types u.ty.0 ≡ Some t) (worth : is_value t ≡ true) (n : is_number e.ty ≡ true) where
+        given_value_does : Born (given_value a u e s)
+        given_value_does =
+            valued_does t is worth (value a (whole_form e) (type_of a u.ty) None s)
+            (value_made a v.visible types fs f setting (whole_form e) b he n (type_of a u.ty) (ap is_value (type_is t is) ∙ worth) None s tt h.stands)
+
+        given_by_call_does : (c : Called) → call_of e.form ≡ Some c → Born (given_by_call a u e.place c s)
+        given_by_call_does c found =
+            let k = call_made a.program a.function.locals v.visible setting.variables setting.functions e.form e b he c found in
+            let ids = parameter_types (Some k.of) in
+            subst (λ (these : List TyId). Born (emit e.place (called c.function (handed_over a c.arguments these s).given (length (handed_over a c.arguments these s).state.locals)) (with_new (variable_local a u) (handed_over a c.arguments these s).state)))
+            (sym (ap parameters_of k.there))
+            (called_does t is worth c.function k.of e.place k.there (k.worth n) (handed_over a c.arguments ids s)
+            (handed_over_made a v.visible types fs f setting c.arguments k.built k.arguments ids k.given (setting.taken c.function k.of k.there) s h.stands))
+
+        object_does : (o : Option Called) → call_of e.form ≡ o → Born (object_given a u e o s)
+        object_does None found = given_value_does
+        object_does (Some c) found = go (compared.eq (own_type e.ty) (type_of a u.ty))
+          where
+            go : (b : Bool) → Born (cond b (given_by_call a u e.place c s) (given_value a u e s))
+            go true = given_by_call_does c found
+            go false = given_value_does
+
+      value_given : (t : Ty) → is_value t ≡ true → given_one a u e t s ≡ object_given a u e (call_of (whole_form e)) s
+      value_given ty.Bool w = refl
+      value_given ty.Char w = refl
+      value_given ty.Int w = refl
+      value_given ty.Long w = refl
+      value_given ty.Size w = refl
+      value_given _ w = absurd (false≢true w)
+
+      one_does : needs_no_temporary (type_at a.program.types u.ty) e ≡ true → is_given (type_at a.program.types u.ty) e.ty ≡ true → Born (given_one a u e (type_of a u.ty) s)
+      one_does temporary given = go (variable_type a.program.types u.ty built)
+        where
+          go : IsVariableType a.program.types u.ty → Born (given_one a u e (type_of a u.ty) s)
+          go (a_value t is w) =
+              subst (λ (x : Ty). Born (given_one a u e x s)) (sym (type_is t is))
+              (subst Born (sym (value_given t w)) (object_does t is w (given_number a v.visible types fs f setting t e.ty w (subst (λ (x : Ty). is_given x e.ty ≡ true) (type_is t is) given)) (call_of e.form) refl))
+          go (a_raw target constant is) =
+              subst (λ (x : Ty). Born (given_one a u e x s)) (sym (type_is (ty.Raw target constant) is))
+              (aimed_does (ty.Raw target constant) is refl e.place (pointing a (whole_form e) s)
+              (pointing_whole a v.visible types fs f setting (whole_form e) b he
+              (given_pointer (ty.Raw target constant) e.ty refl (subst (λ (x : Ty). is_given x e.ty ≡ true) (type_is (ty.Raw target constant) is) given)) s h.stands))
+          go (a_reference target constant is w) =
+              let p = a_place e.category target (subst (λ (x : Ty). needs_no_temporary x e ≡ true) (type_is (ty.Reference target constant) is) temporary) in
+              subst (λ (x : Ty). Born (given_one a u e x s)) (sym (type_is (ty.Reference target constant) is))
+              (aimed_does (ty.Reference target constant) is refl e.place (mapped (λ o. At (Aimed o)) (operand a (whole_form e) s))
+              (seen types fs f None s (operand a (whole_form e) s) (λ o. At (Aimed o)) Always IsPlace (IsPointing types f)
+              (place_made a v.visible types fs f setting (whole_form e) b he p.0 p.1 p.2 s h.stands) (λ o n k q. q)))
+
+    -- ---- any variable
+
+    initial_does : (result : TyId) (initial : Option InitialForm) → is_built_initial (type_at a.program.types u.ty) initial ≡ true → IsInitialised a.program a.function.locals result v.visible (Some u) initial → Born (given_initial a u initial s)
+    initial_does result None b i = live_does
+    initial_does result (Some (one e)) b i =
+        let parts = and_parts (is_built_expression e) (needs_no_temporary (type_at a.program.types u.ty) e) b in one_does e parts.0 i.1 parts.1 i.0
+    initial_does result (Some (several list)) b i = absurd (false≢true b)
+
+  pub declaration_does : (result : TyId) (d : DeclarationForm) (s : State) → Follows types fs f a v s → is_built_declaration a.program.types a.function.locals d ≡ true → IsDeclaration a.program a.function.locals result d v
+      → Does types fs f a (with_next v) in_loop s (declared a d s)
+  declaration_does result d s h b here = go (slice_get a.function.locals d.local) refl b here.1
+    where
+      go : (o : Option TypedLocal) → slice_get a.function.locals d.local ≡ o → is_built_declared a.program.types o d.value ≡ true → IsInitialised a.program a.function.locals result v.visible o d.value
+          → Does types fs f a (with_next v) in_loop s (declared_as a o d.value s)
+      go None at b i = absurd i
+      go (Some u) at b i =
+          initial_does u s h (sym (ap (slice_get a.function.locals) here.0) ∙ at) (variable_built a.program.types a.function.locals d.local u setting.variables at) result d.value b i

@@ -1,0 +1,240 @@
+-- What a declaration adds: the next variable, which is visible and lives from here on.
+use Rattle.std.proofs.Common.{◌≡◌, ◌<◌, ◌⊎◌, inl, inr, ℕ, Bool, true, List, [], ◌∷◌, ◌++◌, Contains, length, slice_get, slice_set, take, Option, Some, None, refl, sym, ap, ◌∙◌, subst, unwrap_or, arith, length-append, append_assoc}
+use Rattle.std.proofs.lemmas.List.Elements.{Contains-append_left, Contains-push, Contains-push_cases}
+use Rattle.std.proofs.lemmas.Option.{same_Some, slice_get_within}
+use Rattle.life_types.specs.Types.{Types, class, class_at}
+use Rattle.life_types.specs.declared.ty.Ty.{Ty}
+use Rattle.life_types.specs.declared.ty.Ty.TheVariants as ty
+use Rattle.life_types.specs.declared.ty.TyId.{TyId}
+use Rattle.life_built.specs.Built.{is_built_variable}
+use Rattle.life_typed.specs.declared.typed_program.TypedLocal.{TypedLocal}
+use Rattle.life_core.specs.Function.{Function}
+use Rattle.life_core.specs.Proper.{AnObject, APointer, held_by, held_if, sort_of}
+use Rattle.life_core.specs.Tree.{Tree, trees}
+use Rattle.life_core.specs.declared.program.Local.{Local}
+use Rattle.life_core.specs.declared.program.LocalKind.{LocalKind}
+use Rattle.life_proper.specs.declared.known.Known.{Known}
+use Rattle.life_proper.specs.declared.known.Known.TheVariants as known
+use Rattle.life_proper.specs.Checking.{flow}
+use Rattle.life_proper.specs.Knowing.{known_as, known_at}
+use Rattle.life_well_typed.specs.Visible.{Visible, with_next}
+use Rattle.life_writer.specs.Around.{Around}
+use Rattle.life_writer.specs.Variables.{kind, variable, variable_local, with_variable}
+use Rattle.life_writer.specs.Writing.{State, Gives, with_code}
+use Rattle.life_elab_laws.proofs.Among.{Among, among_either, among_left, among_right, ascend_more}
+use Rattle.life_elab_laws.proofs.Doing.{Acting, Does, fine_stated, leaves_falling, leaves_may, stated_append}
+use Rattle.life_elab_laws.proofs.Exits.{Knows, Leaves, knows_written}
+use Rattle.life_elab_laws.proofs.Falling.{Falls, falls_append}
+use Rattle.life_elab_laws.proofs.Following.{Adds, Follows, IsLiving, adds_coded, adds_then, begins_added, follows_below, follows_coded, follows_grown, follows_named, grows_adds, knows_alive, same_variable}
+use Rattle.life_elab_laws.proofs.Fronts.{IsFront, front_append, front_itself, front_then, last_there}
+use Rattle.life_elab_laws.proofs.Growing.{Begins, shaped_more}
+use Rattle.life_elab_laws.proofs.Knowledge.{at_set, beside_set, set_length}
+use Rattle.life_elab_laws.proofs.Making.{Always, Makes}
+use Rattle.life_elab_laws.proofs.Shaping.{IsFine}
+use Rattle.life_elab_laws.proofs.VariablePlaces.{IsVariableAt, IsVariableType, a_raw, a_reference, a_value, value_held, variable_type}
+
+take_before : (xs ys : List ℕ) → take (length xs) (xs ++ ys) ≡ xs
+take_before [] ys = refl
+take_before (x ∷ xs) ys = ap (λ (zs : List ℕ). x ∷ zs) (take_before xs ys)
+
+-- the local of a variable or parameter
+pub record IsLocalOf (a : Around) (u : TypedLocal) (l : Local) : Type 0 where
+  pub named : l.name ≡ Some u.name
+  pub typed : l.ty ≡ u.ty
+  pub kind : l.kind ≡ kind (class_at a.program.types u.ty)
+
+pub its_local : (a : Around) (u : TypedLocal) → IsLocalOf a u (variable_local a u)
+its_local a u = record { named = refl; typed = refl; kind = refl }
+
+-- it is the next local
+abbrev pub with_new : Local → State → State
+with_new l s = (with_variable l s).state
+
+module _ (types : Types) (fs : List Function) (f : Function) (a : Around) (front : IsFront a.program.types.types types.types) where
+  module _ (v : Visible) (u : TypedLocal) (l : Local) (of : IsLocalOf a u l) (s : State) (h : Follows types fs f a v s) (at : slice_get a.function.locals v.declared ≡ Some u) (built : is_built_variable a.program.types u.ty ≡ true) where
+    pub new_at : slice_get (with_new l s).locals (length s.locals) ≡ Some l
+    new_at = last_there s.locals l
+
+    new_variable : (x : ℕ) → v.declared ≡ x → variable (with_new l s) x ≡ length s.locals
+    new_variable x e =
+        ap (λ (o : Option ℕ). unwrap_or o 0)
+        (subst (λ (z : ℕ). slice_get (s.variables ++ length s.locals ∷ []) z ≡ Some (length s.locals)) (h.count ∙ e) (last_there s.variables (length s.locals)))
+
+    pub new_below : Begins types f (with_new l s) → length s.locals < length f.locals
+    new_below b = slice_get_within f.locals (length s.locals) l (b.locals (length s.locals) l new_at)
+
+    -- ---- what it holds
+
+    pub new_sort : Begins types f (with_new l s) → (t : Ty) → slice_get a.program.types.types u.ty.0 ≡ Some t
+        → sort_of types f (length s.locals) ≡ held_if (class (Some t)) (kind (class (Some t))) (Some t)
+    new_sort b t is =
+        ap (held_by types) (b.locals (length s.locals) l new_at)
+        ∙ ap (λ (i : TyId). held_if (class (slice_get types.types i.0)) l.kind (slice_get types.types i.0)) of.typed
+        ∙ ap (λ (o : Option Ty). held_if (class o) l.kind o) (front u.ty.0 t is)
+        ∙ ap (λ (k : LocalKind). held_if (class (Some t)) k (Some t)) of.kind
+        ∙ ap (λ (o : Option Ty). held_if (class (Some t)) (kind (class o)) (Some t)) is
+
+    pub new_ends : Begins types f (with_new l s) → (sort_of types f (length s.locals) ≡ AnObject) ⊎ (sort_of types f (length s.locals) ≡ APointer)
+    new_ends b = go (variable_type a.program.types u.ty built)
+      where
+        go : IsVariableType a.program.types u.ty → (sort_of types f (length s.locals) ≡ AnObject) ⊎ (sort_of types f (length s.locals) ≡ APointer)
+        go (a_value t is e) = inl (new_sort b t is ∙ value_held t e)
+        go (a_raw target constant is) = inr (new_sort b (ty.Raw target constant) is)
+        go (a_reference target constant is e) = inr (new_sort b (ty.Reference target constant) is)
+
+    -- ---- the state
+
+    begins_old : Begins types f (with_new l s) → Begins types f s
+    begins_old b = record { locals = front_then s.locals (with_new l s).locals f.locals (front_append s.locals (l ∷ [])) b.locals; table = b.table }
+
+    opened : (y : ℕ) → Contains (s.living ++ length s.locals ∷ []) y → y < length (s.locals ++ l ∷ [])
+    opened y c = elim (Contains-push_cases s.living (length s.locals) y c) [
+      | inl old ↦ omega (arith, h.stands.opened y old, length-append s.locals (l ∷ []))
+      | inr e ↦ omega (arith, e, length-append s.locals (l ∷ []))
+    ]
+
+    moved : (x : ℕ) (w : TypedLocal) → x < v.declared → IsVariableAt a s x w → IsVariableAt a (with_new l s) x w
+    moved x w lt is = record {
+      local = is.local;
+      there = ap (slice_get (with_new l s).locals) same ∙ front_append s.locals (l ∷ []) (variable s x) is.local is.there;
+      typed = is.typed;
+      kind = is.kind;
+      lives = subst (Contains (s.living ++ length s.locals ∷ [])) (sym same) (Contains-append_left s.living (length s.locals ∷ []) (variable s x) is.lives);
+    }
+      where
+        same : variable (with_new l s) x ≡ variable s x
+        same = same_variable types fs f s (with_new l s) x (front_append s.variables (length s.locals ∷ [])) (omega (arith, lt, h.count))
+
+    fresh : (x : ℕ) (w : TypedLocal) → v.declared ≡ x → slice_get a.function.locals x ≡ Some w → IsVariableAt a (with_new l s) x w
+    fresh x w e there = record {
+      local = l;
+      there = ap (slice_get (with_new l s).locals) (new_variable x e) ∙ new_at;
+      typed = of.typed ∙ ap (λ (z : TypedLocal). z.ty) same;
+      kind = of.kind ∙ ap (λ (z : TypedLocal). kind (class_at a.program.types z.ty)) same;
+      lives = subst (Contains (s.living ++ length s.locals ∷ [])) (sym (new_variable x e)) (Contains-push s.living (length s.locals));
+    }
+      where
+        same : u ≡ w
+        same = same_Some u w (sym at ∙ ap (slice_get a.function.locals) e ∙ there)
+
+    lives : (y : ℕ) → Among y s.living ⊎ Among y (length s.locals ∷ []) → IsLiving (with_new l s) y
+    lives y (inl m) = let is = h.living y m in record {
+      local = is.local;
+      there = front_append s.locals (l ∷ []) y is.local is.there;
+      name = is.name;
+      named = is.named;
+    }
+    lives y (inr (inl e)) = record {
+      local = l;
+      there = subst (λ (z : ℕ). slice_get (with_new l s).locals z ≡ Some l) e new_at;
+      name = u.name;
+      named = of.named;
+    }
+    lives y (inr (inr none)) = absurd none
+
+    can_end : Begins types f (with_new l s) → (y : ℕ) → Among y s.living ⊎ Among y (length s.locals ∷ []) → (sort_of types f y ≡ AnObject) ⊎ (sort_of types f y ≡ APointer)
+    can_end b y (inl m) = h.sorts (begins_old b) y m
+    can_end b y (inr (inl e)) = subst (λ (z : ℕ). (sort_of types f z ≡ AnObject) ⊎ (sort_of types f z ≡ APointer)) e (new_ends b)
+    can_end b y (inr (inr none)) = absurd none
+
+    pub follows_new : Follows types fs f a (with_next v) (with_new l s)
+    follows_new = record {
+      count = omega (arith, length-append s.variables (length s.locals ∷ []), h.count);
+      visible = λ x c. elim (Contains-push_cases v.visible v.declared x c) [ inl old ↦ omega (arith, h.visible x old) | inr e ↦ omega (arith, e) ];
+      stands = record {
+        opened = opened;
+        seen = λ x w c there. elim (Contains-push_cases v.visible v.declared x c) [ inl old ↦ moved x w (h.visible x old) (h.stands.seen x w old there) | inr e ↦ fresh x w e there ];
+      };
+      ascend = ascend_more 0 s.living (length s.locals) h.ascend (omega arith) (λ y m. follows_below types fs f a v s h y m);
+      outside = omega (arith, length-append s.living (length s.locals ∷ []), h.outside);
+      living = λ y m. lives y (among_either s.living (length s.locals ∷ []) y m);
+      sorts = λ b y m. can_end b y (among_either s.living (length s.locals ∷ []) y m);
+    }
+
+    pub adds_new : Adds types fs f s (with_new l s)
+    adds_new = record {
+      locals = front_append s.locals (l ∷ []);
+      table = front_itself s.types.types;
+      variables = front_append s.variables (length s.locals ∷ []);
+      living = take_before s.living (length s.locals ∷ []);
+      outside = refl;
+      shaped = λ are. shaped_more s.locals l are (λ is. (u.name, of.named));
+    }
+
+    -- ---- what is known
+
+    pub blank_new : Begins types f (with_new l s) → (k : List Known) → Knows types fs f s.living k → known_at k (length s.locals) ≡ known.Blank
+    blank_new b k knows =
+        knows.blank (length s.locals) l u.name (b.locals (length s.locals) l new_at) of.named
+        (λ m. let below = follows_below types fs f a v s h (length s.locals) m in omega (arith, below))
+
+    pub knows_new : Begins types f (with_new l s) → (k : List Known) → Knows types fs f s.living k
+        → Knows types fs f (s.living ++ length s.locals ∷ []) (slice_set k (length s.locals) (known_as (sort_of types f (length s.locals))))
+    knows_new b k knows = record {
+      sized = set_length k (length s.locals) now ∙ knows.sized;
+      alive = λ y m. alive y (among_either s.living (length s.locals ∷ []) y m);
+      blank = λ y z name there named no.
+          beside_set k (length s.locals) y now (λ e. no (among_right s.living (length s.locals ∷ []) y (inl e)))
+          ∙ knows.blank y z name there named (λ m. no (among_left s.living (length s.locals ∷ []) y m));
+    }
+      where
+        now : Known
+        now = known_as (sort_of types f (length s.locals))
+
+        lt : length s.locals < length k
+        lt = omega (arith, knows.sized, new_below b)
+
+        alive : (y : ℕ) → Among y s.living ⊎ Among y (length s.locals ∷ []) → known_at (slice_set k (length s.locals) now) y ≡ known_as (sort_of types f y)
+        alive y (inl m) =
+            beside_set k (length s.locals) y now (λ e. let below = follows_below types fs f a v s h y m in omega (arith, e, below)) ∙ knows.alive y m
+        alive y (inr (inl e)) = subst (λ (z : ℕ). known_at (slice_set k (length s.locals) now) z ≡ known_as (sort_of types f z)) e (at_set k (length s.locals) now lt)
+        alive y (inr (inr none)) = absurd none
+
+  -- ---- the whole: what computes what it is given, the variable, and what gives it that
+
+  module _ {A : Type 0} (v : Visible) (in_loop : Bool) (u : TypedLocal) (s : State) (w : Gives A) (Q : A → ℕ → List Known → Type 0) (code : List Tree)
+      (h : Follows types fs f a v s) (at : slice_get a.function.locals v.declared ≡ Some u) (built : is_built_variable a.program.types u.ty ≡ true)
+      (made : Makes types fs f None s w Always Q)
+      (fine : Begins types f (with_new (variable_local a u) w.state) → IsFine types fs f code)
+      (falls : Begins types f (with_new (variable_local a u) w.state) → (k : List Known) → length k ≡ length f.locals → Q w.given (length w.state.locals) k → known_at k (length w.state.locals) ≡ known.Blank
+      → Falls types fs f code k (slice_set k (length w.state.locals) (known_as (sort_of types f (length w.state.locals))))) where
+    later : Follows types fs f a v w.state
+    later = follows_grown types fs f a v s w.state made.grown h
+
+    adds : Adds types fs f s (with_new (variable_local a u) w.state)
+    adds = adds_then types fs f s w.state (with_new (variable_local a u) w.state) (grows_adds types fs f s w.state made.grown) (adds_new v u (variable_local a u) (its_local a u) w.state later at built)
+
+    abbrev done : State
+    done = with_code (w.state.code ++ code) (with_new (variable_local a u) w.state)
+
+    acting : Begins types f (with_new (variable_local a u) w.state) → Acting types fs f in_loop s done (made.code ++ code)
+    acting b = record {
+      stated = stated_append types fs f made.code code (fine_stated types fs f made.code (made.runs before).fine) (fine_stated types fs f code (fine b));
+      ways = leaves_may types fs f in_loop s.living (w.state.living ++ length w.state.locals ∷ []) (take s.outside s.living) (trees (made.code ++ code)) went;
+    }
+      where
+        before : Begins types f w.state
+        before = begins_old v u (variable_local a u) (its_local a u) w.state later at built b
+
+        first : Begins types f s
+        first = begins_added types fs f s w.state (grows_adds types fs f s w.state made.grown) before
+
+        went : (k : List Known) → Knows types fs f s.living k
+            → Leaves types fs f in_loop (w.state.living ++ length w.state.locals ∷ []) (take s.outside s.living) (flow types fs f (trees (made.code ++ code)) (Some k))
+        went k knows =
+            let g = (made.runs before).goes k (knows_alive types fs f a v s k knows) tt in
+            let mid : Knows types fs f w.state.living g.after =
+            subst (λ (ys : List ℕ). Knows types fs f ys g.after) (sym made.grown.living) (knows_written types fs f s.living (length s.locals) None k g.after (follows_named types fs f a v s h first) knows g.keeps) in
+            let after : List Known = slice_set g.after (length w.state.locals) (known_as (sort_of types f (length w.state.locals))) in
+            subst (Leaves types fs f in_loop (w.state.living ++ length w.state.locals ∷ []) (take s.outside s.living))
+            (sym (falls_append types fs f made.code code k g.after after g.falls (falls b g.after mid.sized g.gives (blank_new v u (variable_local a u) (its_local a u) w.state later at built b g.after mid))))
+            (leaves_falling types fs f in_loop (w.state.living ++ length w.state.locals ∷ []) (take s.outside s.living) after (knows_new v u (variable_local a u) (its_local a u) w.state later at built b g.after mid))
+
+    pub declared_does : Does types fs f a (with_next v) in_loop s done
+    declared_does = record {
+      adds = adds_coded types fs f s (with_new (variable_local a u) w.state) (w.state.code ++ code) adds;
+      follows = follows_coded types fs f a (with_next v) (with_new (variable_local a u) w.state) (w.state.code ++ code) (follows_new v u (variable_local a u) (its_local a u) w.state later at built);
+      code = made.code ++ code;
+      written = ap (λ (c : List Tree). c ++ code) made.written ∙ append_assoc s.code made.code code;
+      acts = λ b. acting (record { locals = b.locals; table = b.table });
+    }

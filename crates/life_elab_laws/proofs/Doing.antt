@@ -1,0 +1,179 @@
+-- What a statement writes: from knowledge between statements to such knowledge, and at each exit.
+use Rattle.std.proofs.Common.{◌≡◌, ◌≤◌, ℕ, Bool, true, false, List, [], ◌∷◌, ◌++◌, length, take, Option, Some, None, refl, sym, ap, ◌∙◌, subst, arith, append_assoc, append-nil}
+use Rattle.life_types.specs.Types.{Types}
+use Rattle.life_types.specs.declared.place.Place.{Place}
+use Rattle.life_core.specs.Function.{Function}
+use Rattle.life_core.specs.Shape.{is_statement, tests_straight}
+use Rattle.life_core.specs.Step.{Step}
+use Rattle.life_core.specs.Tree.{Tree, Acts, trees}
+use Rattle.life_proper.specs.declared.known.Known.{Known}
+use Rattle.life_proper.specs.Checking.{Flow, flow}
+use Rattle.life_proper.specs.Knowing.{State as Knowing}
+use Rattle.life_proper.specs.Plain.{is_plain_step, is_plain_tree}
+use Rattle.life_proper.specs.ReadyKnown.{is_step_ready, known_after}
+use Rattle.life_well_typed.specs.Visible.{Visible}
+use Rattle.life_writer.specs.Around.{Around}
+use Rattle.life_writer.specs.Writing.{State, Gives, emit, gives}
+use Rattle.life_elab_laws.proofs.Exits.{Knows, Leaves, MayKnow, MayLeave, knows_written, leaves_then}
+use Rattle.life_elab_laws.proofs.Falling.{falling, falls_acts, flow_append}
+use Rattle.life_elab_laws.proofs.Following.{Adds, Follows, adds_none, adds_then, begins_added, follows_grown, follows_named, grows_adds, knows_alive, take_front, take_itself}
+use Rattle.life_elab_laws.proofs.Fronts.{front_itself}
+use Rattle.life_elab_laws.proofs.Growing.{Begins}
+use Rattle.life_elab_laws.proofs.Making.{Alive, Always, Keeps, Makes, Runs}
+use Rattle.life_elab_laws.proofs.Nowhere.{IsNowhere, nowhere_flows}
+use Rattle.life_elab_laws.proofs.Shaping.{IsFine, all_append, fine_acts}
+
+module _ (types : Types) (fs : List Function) (f : Function) where
+  -- ---- statements and lists of them
+
+  pub record IsStated (code : List Tree) : Type 0 where
+    pub statement : is_statement (trees code) ≡ true
+    pub tests : tests_straight (trees code) ≡ true
+    pub plain : is_plain_tree types fs f (trees code) ≡ true
+
+  pub stated_append : (c d : List Tree) → IsStated c → IsStated d → IsStated (c ++ d)
+  stated_append c d first second = record {
+    statement = all_append is_statement refl (λ a b. refl) c d first.statement second.statement;
+    tests = all_append tests_straight refl (λ a b. refl) c d first.tests second.tests;
+    plain = all_append (is_plain_tree types fs f) refl (λ a b. refl) c d first.plain second.plain;
+  }
+
+  pub fine_stated : (c : List Tree) → IsFine types fs f c → IsStated c
+  fine_stated c h = record { statement = h.statement; tests = h.tests; plain = h.plain }
+
+  pub record Acting (in_loop : Bool) (s s' : State) (code : List Tree) : Type 0 where
+    pub stated : IsStated code
+    pub ways : (o : Knowing) → MayKnow types fs f s.living o → Leaves types fs f in_loop s'.living (take s.outside s.living) (flow types fs f (trees code) o)
+
+  pub record Does (a : Around) (v : Visible) (in_loop : Bool) (s s' : State) : Type 0 where
+    pub adds : Adds types fs f s s'
+    pub follows : Follows types fs f a v s'
+    pub code : List Tree
+    pub written : s'.code ≡ s.code ++ code
+    pub acts : Begins types f s' → Acting in_loop s s' code
+
+  -- what stays outside of the innermost loop is the same
+  take_less : (n m : ℕ) (xs ys : List ℕ) → n ≤ m → take m ys ≡ take m xs → take n ys ≡ take n xs
+  take_less n m xs ys h e = sym (take_front types fs f n m ys h) ∙ ap (take n) e ∙ take_front types fs f n m xs h
+
+  pub outside_stays : (s s' : State) → Adds types fs f s s' → s.outside ≤ length s.living → take s'.outside s'.living ≡ take s.outside s.living
+  outside_stays s s' g h = ap (λ (n : ℕ). take n s'.living) g.outside ∙ take_less s.outside (length s.living) s.living s'.living h (g.living ∙ sym (take_itself types fs f s.living))
+
+  -- no way leaves
+  pub none_leaves : (b : Bool) (outside : List ℕ) → MayLeave types fs f b outside None
+  none_leaves true outside = tt
+  none_leaves false outside = refl
+
+  -- what lives is the same behind it
+  pub record DoesLevel (a : Around) (v : Visible) (in_loop : Bool) (s s' : State) : Type 0 where
+    pub does : Does a v in_loop s s'
+    pub level : s'.living ≡ s.living
+
+  -- nothing
+  pub does_nothing : (a : Around) (v : Visible) (in_loop : Bool) (s : State) → Follows types fs f a v s → Does a v in_loop s s
+  does_nothing a v in_loop s h = record {
+    adds = adds_none types fs f s;
+    follows = h;
+    code = [];
+    written = sym (append-nil s.code);
+    acts = λ b. record { stated = record { statement = refl; tests = refl; plain = refl }; ways = λ o k. record { fine = refl; next = k; on_break = none_leaves in_loop (take s.outside s.living); on_continue = none_leaves in_loop (take s.outside s.living); on_true = refl; on_false = refl } };
+  }
+
+  -- one and then another
+  pub does_then : (a : Around) (v u : Visible) (in_loop : Bool) (s t r : State) → s.outside ≤ length s.living → Does a v in_loop s t → Does a u in_loop t r → Does a u in_loop s r
+  does_then a v u in_loop s t r h first second = record {
+    adds = adds_then types fs f s t r first.adds second.adds;
+    follows = second.follows;
+    code = first.code ++ second.code;
+    written = second.written ∙ ap (λ (c : List Tree). c ++ second.code) first.written ∙ append_assoc s.code first.code second.code;
+    acts = λ b. both (first.acts (begins_added types fs f t r second.adds b)) (second.acts b);
+  }
+    where
+      both : Acting in_loop s t first.code → Acting in_loop t r second.code → Acting in_loop s r (first.code ++ second.code)
+      both p q = record {
+        stated = stated_append first.code second.code p.stated q.stated;
+        ways = λ o k.
+            let w = p.ways o k in
+            subst (λ (x : Flow). Leaves types fs f in_loop r.living (take s.outside s.living) x) (sym (flow_append types fs f first.code second.code o))
+            (leaves_then types fs f in_loop t.living r.living (take s.outside s.living) (flow types fs f (trees first.code) o) (flow types fs f (trees second.code) (flow types fs f (trees first.code) o).next) w
+            (subst (λ (ys : List ℕ). Leaves types fs f in_loop r.living ys (flow types fs f (trees second.code) (flow types fs f (trees first.code) o).next)) (outside_stays s t first.adds h) (q.ways (flow types fs f (trees first.code) o).next w.next)));
+      }
+
+  -- ---- what an expression writes, as a statement
+
+  leaves_nowhere : (in_loop : Bool) (living outside : List ℕ) (w : Flow) → IsNowhere w → Leaves types fs f in_loop living outside w
+  leaves_nowhere in_loop living outside w h = record {
+    fine = h.fine;
+    next = subst (MayKnow types fs f living) (sym h.next) tt;
+    on_break = none in_loop w.on_break h.on_break;
+    on_continue = none in_loop w.on_continue h.on_continue;
+    on_true = h.on_true;
+    on_false = h.on_false;
+  }
+    where
+      none : (b : Bool) (o : Knowing) → o ≡ None → MayLeave types fs f b outside o
+      none true o e = subst (MayKnow types fs f outside) (sym e) tt
+      none false o e = e
+
+  pub leaves_falling : (in_loop : Bool) (living outside : List ℕ) (k : List Known) → Knows types fs f living k → Leaves types fs f in_loop living outside (falling k)
+  leaves_falling in_loop living outside k h = record { fine = refl; next = h; on_break = none_leaves in_loop outside; on_continue = none_leaves in_loop outside; on_true = refl; on_false = refl }
+
+  -- control that comes or not
+  pub leaves_may : (in_loop : Bool) (before after outside : List ℕ) (t : Tree) → ((k : List Known) → Knows types fs f before k → Leaves types fs f in_loop after outside (flow types fs f t (Some k)))
+      → (o : Knowing) → MayKnow types fs f before o → Leaves types fs f in_loop after outside (flow types fs f t o)
+  leaves_may in_loop before after outside t some None h = leaves_nowhere in_loop after outside (flow types fs f t None) (nowhere_flows types fs f t None refl)
+  leaves_may in_loop before after outside t some (Some k) h = some k h
+
+  pub does_made : {A : Type 0} (a : Around) (v : Visible) (in_loop : Bool) (into : Option ℕ) (s : State) (w : Gives A) (Q : A → ℕ → List Known → Type 0) → Follows types fs f a v s → Makes types fs f into s w Always Q → Does a v in_loop s w.state
+  does_made a v in_loop into s w Q h made = record {
+    adds = grows_adds types fs f s w.state made.grown;
+    follows = follows_grown types fs f a v s w.state made.grown h;
+    code = made.code;
+    written = made.written;
+    acts = λ b. acting b (made.runs b);
+  }
+    where
+      begun : Begins types f w.state → Begins types f s
+      begun b = begins_added types fs f s w.state (grows_adds types fs f s w.state made.grown) b
+
+      acting : Begins types f w.state → Runs types fs f into s w Always Q made.code → Acting in_loop s w.state made.code
+      acting b r = record {
+        stated = fine_stated made.code r.fine;
+        ways = leaves_may in_loop s.living w.state.living (take s.outside s.living) (trees made.code) went;
+      }
+        where
+          went : (k : List Known) → Knows types fs f s.living k → Leaves types fs f in_loop w.state.living (take s.outside s.living) (flow types fs f (trees made.code) (Some k))
+          went k known =
+              let g = r.goes k (knows_alive types fs f a v s k known) tt in
+              subst (Leaves types fs f in_loop w.state.living (take s.outside s.living)) (sym g.falls)
+              (leaves_falling in_loop w.state.living (take s.outside s.living) g.after
+              (subst (λ (ys : List ℕ). Knows types fs f ys g.after) (sym made.grown.living) (knows_written types fs f s.living (length s.locals) into k g.after (follows_named types fs f a v s h (begun b)) known g.keeps)))
+
+  -- ---- an instruction that leaves all that is known
+
+  pub acted : (place : Place) (i : Step) (s : State) (P : List Known → Type 0)
+      → (Begins types f s → (k : List Known) → Alive types fs f s k → P k → is_step_ready types fs f k i ≡ true)
+      → ((k : List Known) → P k → Keeps types fs f (length s.locals) None k (known_after types f i k)) → is_plain_step types fs f i ≡ true
+      → Makes types fs f None s (gives tt (emit place i s)) P (λ (x : Unit {0}) n k. Unit {0})
+  acted place i s P ready after plain = record {
+    grown = record {
+      locals = front_itself s.locals;
+      types = front_itself s.types.types;
+      count = omega arith;
+      variables = refl;
+      living = refl;
+      outside = refl;
+      shaped = λ h. h;
+    };
+    code = Acts place i ∷ [];
+    written = refl;
+    runs = λ b. record {
+      fine = fine_acts types fs f place i plain;
+      goes = λ k alive p. record {
+        after = known_after types f i k;
+        falls = falls_acts types fs f place i k (ready (record { locals = b.locals; table = b.table }) k alive p);
+        keeps = after k p;
+        gives = tt;
+      };
+    };
+  }

@@ -1,0 +1,127 @@
+-- What is known between statements: each living variable is there, and no other one is.
+use Rattle.std.proofs.Common.{◌≡◌, ℕ, zero, suc, Bool, true, false, List, [], ◌∷◌, length, slice_get, Option, Some, None, refl, sym, ap, ◌∙◌, subst, arith}
+use Rattle.std.proofs.lemmas.Bool.{and_from}
+use Rattle.life_types.specs.Types.{Types}
+use Rattle.life_types.specs.declared.ty.NameId.{NameId}
+use Rattle.life_core.specs.Function.{Function}
+use Rattle.life_core.specs.Proper.{sort_of}
+use Rattle.life_core.specs.declared.program.Local.{Local}
+use Rattle.life_proper.specs.declared.known.Known.{Known}
+use Rattle.life_proper.specs.declared.known.Known.TheVariants as known
+use Rattle.life_proper.specs.Checking.{Flow, before_next, joined}
+use Rattle.life_proper.specs.Knowing.{State, agreed_all, are_implied, forgotten, is_implied, is_intermediate, known_as, known_at, met, same}
+use Rattle.life_elab_laws.proofs.Among.{Among}
+use Rattle.life_elab_laws.proofs.Knowledge.{agreed_length, at_agreed}
+use Rattle.life_elab_laws.proofs.Making.{Keeps}
+
+module _ (types : Types) (fs : List Function) (f : Function) where
+  -- these variables live, and no other one does
+  pub record Knows (living : List ℕ) (k : List Known) : Type 0 where
+    pub sized : length k ≡ length f.locals
+    pub alive : (y : ℕ) → Among y living → known_at k y ≡ known_as (sort_of types f y)
+    pub blank : (y : ℕ) (l : Local) (name : NameId) → slice_get f.locals y ≡ Some l → l.name ≡ Some name → (Among y living → ⊥) → known_at k y ≡ known.Blank
+
+  -- .. where some way comes
+  abbrev pub MayKnow : List ℕ → State → Type 0
+  MayKnow living None = Unit {0}
+  MayKnow living (Some k) = Knows living k
+
+  -- a living variable has a name
+  abbrev pub AreNamed : List ℕ → Type 0
+  AreNamed living = (y : ℕ) → Among y living → (l : Local) × (name : NameId) × (slice_get f.locals y ≡ Some l) × (l.name ≡ Some name)
+
+  -- ---- where two ways meet
+
+  agreed_at : (living : List ℕ) (k j : List Known) (y : ℕ) → Knows living k → Knows living j → known_at k y ≡ known_at j y → known_at (agreed_all k j) y ≡ known_at k y
+  agreed_at living k j y a b e = at_agreed k j y (a.sized ∙ sym b.sized) e
+
+  pub knows_agreed : (living : List ℕ) (k j : List Known) → Knows living k → Knows living j → Knows living (agreed_all k j)
+  knows_agreed living k j a b = record {
+    sized = agreed_length k j (a.sized ∙ sym b.sized) ∙ a.sized;
+    alive = λ y c. agreed_at living k j y a b (a.alive y c ∙ sym (b.alive y c)) ∙ a.alive y c;
+    blank = λ y l name there named c. agreed_at living k j y a b (a.blank y l name there named c ∙ sym (b.blank y l name there named c)) ∙ a.blank y l name there named c;
+  }
+
+  pub may_met : (living : List ℕ) (s t : State) → MayKnow living s → MayKnow living t → MayKnow living (met s t)
+  may_met living None t a b = b
+  may_met living (Some k) None a b = a
+  may_met living (Some k) (Some j) a b = knows_agreed living k j a b
+
+  -- ---- behind an expression, also one that goes to a register that was there
+
+  pub knows_written : (living : List ℕ) (n : ℕ) (into : Option ℕ) (k j : List Known) → AreNamed living → Knows living k → Keeps types fs f n into k j → Knows living j
+  knows_written living n into k j names a keeps = record {
+    sized = keeps.sized ∙ a.sized;
+    alive = λ y c. let is = names y c in keeps.named y is.0 is.1 is.2 is.3 ∙ a.alive y c;
+    blank = λ y l name there named c. keeps.named y l name there named ∙ a.blank y l name there named c;
+  }
+
+  -- ---- the ways out of a statement
+
+  -- .. of one in a loop, or of one outside
+  abbrev pub MayLeave : Bool → List ℕ → State → Type 0
+  MayLeave true outside s = MayKnow outside s
+  MayLeave false outside s = s ≡ None
+
+  pub record Leaves (in_loop : Bool) (living outside : List ℕ) (w : Flow) : Type 0 where
+    pub fine : w.fine ≡ true
+    pub next : MayKnow living w.next
+    pub on_break : MayLeave in_loop outside w.on_break
+    pub on_continue : MayLeave in_loop outside w.on_continue
+    pub on_true : w.on_true ≡ None
+    pub on_false : w.on_false ≡ None
+
+  met_none : (s t : State) → s ≡ None → t ≡ None → met s t ≡ None
+  met_none s t a b = ap (λ (u : State). met u t) a ∙ b
+
+  may_leave_met : (in_loop : Bool) (outside : List ℕ) (s t : State) → MayLeave in_loop outside s → MayLeave in_loop outside t → MayLeave in_loop outside (met s t)
+  may_leave_met true outside s t a b = may_met outside s t a b
+  may_leave_met false outside s t a b = met_none s t a b
+
+  pub leaves_joined : (in_loop : Bool) (living outside : List ℕ) (w v : Flow) → Leaves in_loop living outside w → Leaves in_loop living outside v → Leaves in_loop living outside (joined w v)
+  leaves_joined in_loop living outside w v a b = record {
+    fine = and_from w.fine v.fine a.fine b.fine;
+    next = may_met living w.next v.next a.next b.next;
+    on_break = may_leave_met in_loop outside w.on_break v.on_break a.on_break b.on_break;
+    on_continue = may_leave_met in_loop outside w.on_continue v.on_continue a.on_continue b.on_continue;
+    on_true = met_none w.on_true v.on_true a.on_true b.on_true;
+    on_false = met_none w.on_false v.on_false a.on_false b.on_false;
+  }
+
+  -- one before another one, which begins with what it leaves
+  pub leaves_then : (in_loop : Bool) (living later outside : List ℕ) (w v : Flow) → Leaves in_loop living outside w → Leaves in_loop later outside v → Leaves in_loop later outside (joined (before_next w) v)
+  leaves_then in_loop living later outside w v a b =
+      leaves_joined in_loop later outside (before_next w) v
+      (record { fine = a.fine; next = tt; on_break = a.on_break; on_continue = a.on_continue; on_true = a.on_true; on_false = a.on_false })
+      b
+
+  -- ---- loops
+
+  implied_itself : (a b : Known) → b ≡ a → (same a a ≡ true) → is_implied a b ≡ true
+  implied_itself known.Unknown b e s = refl
+  implied_itself known.Blank b e s = subst (λ (c : Known). is_implied known.Blank c ≡ true) (sym e) refl
+  implied_itself known.Object b e s = subst (λ (c : Known). is_implied known.Object c ≡ true) (sym e) refl
+  implied_itself known.Number b e s = subst (λ (c : Known). is_implied known.Number c ≡ true) (sym e) refl
+  implied_itself known.Pointer b e s = subst (λ (c : Known). is_implied known.Pointer c ≡ true) (sym e) refl
+  implied_itself known.View b e s = subst (λ (c : Known). is_implied known.View c ≡ true) (sym e) refl
+
+  implied_same : (a b : Known) → b ≡ a → is_implied a b ≡ true
+  implied_same known.Unknown b e = refl
+  implied_same known.Blank b e = implied_itself known.Blank b e refl
+  implied_same known.Object b e = implied_itself known.Object b e refl
+  implied_same known.Number b e = implied_itself known.Number b e refl
+  implied_same known.Pointer b e = implied_itself known.Pointer b e refl
+  implied_same known.View b e = implied_itself known.View b e refl
+
+  -- what is known at the head is known on the way back, where both know the same of all but intermediate registers
+  pub forgotten_implied : (ls : List Local) (k j : List Known) → length k ≡ length ls → length j ≡ length ls
+      → ((y : ℕ) (l : Local) → slice_get ls y ≡ Some l → is_intermediate l ≡ false → known_at j y ≡ known_at k y) → are_implied (forgotten ls k) j ≡ true
+  forgotten_implied [] [] j a b h = refl
+  forgotten_implied [] (x ∷ k) j a b h = absurd (omega (arith, a))
+  forgotten_implied (l ∷ ls) [] j a b h = refl
+  forgotten_implied (l ∷ ls) (x ∷ k) [] a b h = absurd (omega (arith, b))
+  forgotten_implied (l ∷ ls) (x ∷ k) (y ∷ j) a b h = go (is_intermediate l) refl (forgotten_implied ls k j (omega (arith, a)) (omega (arith, b)) (λ n. h (suc n)))
+    where
+      go : (m : Bool) → is_intermediate l ≡ m → are_implied (forgotten ls k) j ≡ true → are_implied (forgotten (l ∷ ls) (x ∷ k)) (y ∷ j) ≡ true
+      go true e rest = rw e rest
+      go false e rest = rw e (and_from (is_implied x y) (are_implied (forgotten ls k) j) (implied_same x y (h zero l refl e)) rest)

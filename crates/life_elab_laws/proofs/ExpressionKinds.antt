@@ -1,0 +1,222 @@
+-- Each well typed expression that is built is of one of these kinds.
+use Rattle.std.proofs.Common.{◌≡◌, ℕ, zero, suc, Bool, true, false, cond, List, [], ◌∷◌, Option, Some, None, Ok, slice_get, refl, sym, ap, ◌∙◌, subst, true≢false}
+use Rattle.std.proofs.lemmas.Bool.{and_parts, false≢true}
+use Rattle.life_types.specs.Types.{Types}
+use Rattle.life_types.specs.declared.ty.Ty.{Ty}
+use Rattle.life_types.specs.declared.ty.Ty.TheVariants as ty
+use Rattle.life_types.specs.declared.ty.TyId.{TyId}
+use Rattle.life_built.specs.Built.{are_built_functions, are_built_variables, is_built_form, is_built_function, is_built_result, is_built_variable}
+use Rattle.life_names.specs.Found.{not_found}
+use Rattle.life_names.specs.declared.fault.IllKind.TheVariants as kinds
+use Rattle.life_typed.specs.BaseTypes.{is_raw, is_value, type_at}
+use Rattle.life_typed.specs.Operators.{dereferenced, is_condition, negated, negated_type, promoted}
+use Rattle.life_typed.specs.Programs.{FunctionForm, ProgramForm}
+use Rattle.life_typed.specs.TypedForm.{Form, Typed, number, character, boolean, text, null, local, call, construct, paren, move, make_unique, text_of, input, member, dereference, index, method, negate, not, address_of, binary, typed, nothing, ◌⨟◌}
+use Rattle.life_typed.specs.declared.typed_expr.Category.{Category}
+use Rattle.life_typed.specs.declared.typed_expr.Category.TheVariants as category
+use Rattle.life_typed.specs.declared.typed_expr.ExprType.{ExprType}
+use Rattle.life_typed.specs.declared.typed_expr.ExprType.TheVariants.{Of}
+use Rattle.life_typed.specs.declared.typed_program.TypedLocal.{TypedLocal}
+use Rattle.life_type_expr.specs.Operands.{dereferenced_to, inverted, negated_to, number_type, place_of, pointed_to, value}
+use Rattle.life_well_typed.specs.Expressions.{HasResult, IsAddress, IsExpression, IsMadeOf, IsVariable, typed_in}
+use Rattle.life_well_typed.specs.Given.{is_number}
+use Rattle.life_elab_laws.proofs.TypedKinds.{HasKind, IsKind, a_null, a_number, a_pointer, answer_value, combined_as, err_ok, kind_of_place, kind_of_result, kind_of_variable, kind_same, kind_value, no_value, ok_same, operand_kind, promoted_value, value_place}
+
+-- ---- what is built
+
+pub variable_built : (types : Types) (vs : List TypedLocal) (x : ℕ) (v : TypedLocal) → are_built_variables types vs ≡ true → slice_get vs x ≡ Some v → is_built_variable types v.ty ≡ true
+variable_built types [] x v b at = absurd (clash at)
+  where
+    clash : None ≡ Some v → ⊥
+    clash e = cc
+variable_built types (u ∷ us) zero v b at = subst (λ (w : TypedLocal). is_built_variable types w.ty ≡ true) (same at) (and_parts (is_built_variable types u.ty) (are_built_variables types us) b).0
+  where
+    same : Some u ≡ Some v → u ≡ v
+    same e = cc
+variable_built types (u ∷ us) (suc x) v b at = variable_built types us x v (and_parts (is_built_variable types u.ty) (are_built_variables types us) b).1 at
+
+pub function_built : (types : Types) (fs : List FunctionForm) (g : ℕ) (f : FunctionForm) → are_built_functions types fs ≡ true → slice_get fs g ≡ Some f → is_built_function types f ≡ true
+function_built types [] g f b at = absurd (clash at)
+  where
+    clash : None ≡ Some f → ⊥
+    clash e = cc
+function_built types (h ∷ hs) zero f b at = subst (λ (w : FunctionForm). is_built_function types w ≡ true) (same at) (and_parts (is_built_function types h) (are_built_functions types hs) b).0
+  where
+    same : Some h ≡ Some f → h ≡ f
+    same e = cc
+function_built types (h ∷ hs) (suc g) f b at = function_built types hs g f (and_parts (is_built_function types h) (are_built_functions types hs) b).1 at
+
+pub result_built : (types : Types) (f : FunctionForm) → is_built_function types f ≡ true → is_built_result types f.result ≡ true
+result_built types f b = (and_parts (is_built_result types f.result) _ b).0
+
+-- ---- single expressions
+
+pub number_value : (n : ℕ) → is_value (number_type n) ≡ true
+number_value n = go _
+  where
+    go : (b : Bool) → is_value (cond b ty.Int ty.Long) ≡ true
+    go true = refl
+    go false = refl
+
+kind_local : (types : Types) (locals : List TypedLocal) (x : ℕ) (e : Typed) → are_built_variables types locals ≡ true → IsVariable types x (slice_get locals x) e → IsKind types e
+kind_local types locals x e b h = go (slice_get locals x) refl h
+  where
+    go : (o : Option TypedLocal) → slice_get locals x ≡ o → IsVariable types x o e → IsKind types e
+    go None at h = absurd h
+    go (Some v) at h = kind_of_variable types e v.ty v.constant (local x) (type_at types v.ty) refl (variable_built types locals x v b at) h
+
+kind_call : (types : Types) (fs : List FunctionForm) (g : ℕ) (e : Typed) → are_built_functions types fs ≡ true → HasResult types (slice_get fs g) e → IsKind types e
+kind_call types fs g e b h = go (slice_get fs g) refl h
+  where
+    go : (o : Option FunctionForm) → slice_get fs g ≡ o → HasResult types o e → IsKind types e
+    go None at h = absurd h
+    go (Some f) at h = kind_of_result types e (type_at types f.result) (result_built types f (function_built types fs g f b at)) h
+
+-- what a dereferenced operand is
+pub record IsDereferenced (types : Types) (inner e : Typed) : Type 0 where
+  pub target : TyId
+  pub constant : Bool
+  pub pointer : inner.ty ≡ Of (ty.Raw target constant)
+  pub value : is_value (type_at types target) ≡ true
+  pub form : Form
+  pub is : e ≡ place_of types target constant e.place form
+
+value_no_target : (t : Ty) → is_value t ≡ true → dereferenced (Of t) ≡ None
+value_no_target ty.Bool e = refl
+value_no_target ty.Char e = refl
+value_no_target ty.Int e = refl
+value_no_target ty.Long e = refl
+value_no_target ty.Size e = refl
+value_no_target _ e = absurd (false≢true e)
+
+pub dereferenced_as : (types : Types) (inner e : Typed) → IsKind types inner → pointed_to types e.place inner ≡ Ok e → IsDereferenced types inner e
+dereferenced_as types inner e k h = go k.kind
+  where
+    refused : dereferenced inner.ty ≡ None → IsDereferenced types inner e
+    refused none = absurd (err_ok (sym (ap (λ o. dereferenced_to o types e.place inner) none) ∙ h))
+
+    go : HasKind types inner → IsDereferenced types inner e
+    go (a_number t is v) = refused (ap dereferenced is ∙ value_no_target t v)
+    go (no_value is v) = refused (ap dereferenced is)
+    go (a_null is v) = refused (ap dereferenced is)
+    go (a_pointer target constant is v) = record {
+      target = target;
+      constant = constant;
+      pointer = is;
+      value = v;
+      form = dereference (typed inner.place inner.ty inner.category inner.form);
+      is = sym (ok_same (sym (ap (λ t. dereferenced_to (dereferenced t) types e.place inner) is) ∙ h));
+    }
+
+pub record IsNegated (inner e : Typed) : Type 0 where
+  pub ty : Ty
+  pub number : is_number inner.ty ≡ true
+  pub worth : is_value ty ≡ true
+  pub is : e ≡ value e.place ty e.form
+
+pub negated_as : (types : Types) (inner e : Typed) → IsKind types inner → negated_to (negated inner.ty) e.place inner ≡ Ok e → IsNegated inner e
+negated_as types inner e k h = go k.kind
+  where
+    go : HasKind types inner → IsNegated inner e
+    go (a_number t is v) =
+        let here : negated_to (negated_type t) e.place inner ≡ Ok e = subst (λ (x : ExprType). negated_to (negated x) e.place inner ≡ Ok e) is h in
+        let plain : negated_to (Ok (promoted t t)) e.place inner ≡ Ok e = rw v at here in
+        record {
+          ty = promoted t t;
+          number = ap is_number is ∙ v;
+          worth = promoted_value t t;
+          is = sym (ok_same plain) ∙ ap (λ (x : Typed). value e.place (promoted t t) x.form) (ok_same plain);
+        }
+    go (a_pointer target constant is v) = absurd (err_ok (sym (ap (λ t. negated_to (negated t) e.place inner) is) ∙ h))
+    go (no_value is v) = absurd (err_ok (sym (ap (λ t. negated_to (negated t) e.place inner) is) ∙ h))
+    go (a_null is v) = absurd (err_ok (sym (ap (λ t. negated_to (negated t) e.place inner) is) ∙ h))
+
+pub record IsInverted (inner e : Typed) : Type 0 where
+  pub condition : is_condition inner.ty ≡ true
+  pub is : e ≡ value e.place ty.Bool e.form
+
+pub inverted_as : (inner e : Typed) → inverted e.place inner ≡ Ok e → IsInverted inner e
+inverted_as inner e h = go (is_condition inner.ty) refl h
+  where
+    go : (b : Bool) → is_condition inner.ty ≡ b → cond b (Ok (value e.place ty.Bool (not (typed inner.place inner.ty inner.category inner.form)))) (not_found kinds.WrongType e.place) ≡ Ok e → IsInverted inner e
+    go false c h = absurd (err_ok h)
+    go true c h = record { condition = c; is = sym (ok_same h) ∙ ap (λ (x : Typed). value e.place ty.Bool x.form) (ok_same h) }
+
+-- an address is one of a place with a value
+pub record IsAddressed (types : Types) (inner e : Typed) : Type 0 where
+  pub target : TyId
+  pub constant : Bool
+  pub place : inner.category ≡ category.Place target constant
+  pub worth : is_value (type_at types target) ≡ true
+  pub is : e ≡ value e.place (ty.Raw target constant) e.form
+
+pub addressed_as : (types : Types) (inner e : Typed) → IsKind types inner → IsAddress types inner.category e → IsAddressed types inner e
+addressed_as types inner e k h = go inner.category refl h
+  where
+    typed_as : (id : TyId) (c : Bool) → inner.category ≡ category.Place id c → is_raw (type_at types id) ≡ false → HasKind types inner → is_value (type_at types id) ≡ true
+    typed_as id c at raw (a_number t is v) = subst (λ (x : Ty). is_value x ≡ true) (same (sym is ∙ k.place id c at)) v
+      where
+        same : Of t ≡ Of (type_at types id) → t ≡ type_at types id
+        same e = cc
+    typed_as id c at raw (a_pointer target constant is v) = absurd (true≢false (ap is_raw (same (sym is ∙ k.place id c at)) ∙ raw))
+      where
+        same : Of (ty.Raw target constant) ≡ Of (type_at types id) → ty.Raw target constant ≡ type_at types id
+        same e = cc
+    typed_as id c at raw (no_value is v) = absurd (value_place (sym v ∙ at))
+    typed_as id c at raw (a_null is v) = absurd (value_place (sym v ∙ at))
+
+    go : (o : Category) → inner.category ≡ o → IsAddress types o e → IsAddressed types inner e
+    go category.Value at h = absurd h
+    go (category.Place id c) at h = record { target = id; constant = c; place = at; worth = typed_as id c at h.0 k.kind; is = h.1 }
+
+-- ---- any expression
+
+module _ (p : ProgramForm) (locals : List TypedLocal) (visible : List ℕ) (variables : are_built_variables p.types locals ≡ true) (functions : are_built_functions p.types p.functions ≡ true) where
+  mutual
+    pub kind_of : (form : Form) → is_built_form form ≡ true → IsExpression p locals visible form → IsKind p.types (typed_in form)
+    kind_of (typed place t c form) b h = kind_made form (record { place = place; ty = t; category = c; form = form }) b h
+    kind_of _ b h = absurd h
+
+    pub kind_made : (form : Form) (e : Typed) → is_built_form form ≡ true → IsMadeOf p locals visible e form → IsKind p.types e
+    kind_made (number n) e b h = kind_value p.types e (number_type n) h.0 (number_value n)
+    kind_made (character c) e b h = kind_value p.types e ty.Char h.0 refl
+    kind_made (boolean x) e b h = kind_value p.types e ty.Bool h refl
+    kind_made null e b h = record { kind = a_null h.0 h.1; place = λ id c at. absurd (value_place (sym h.1 ∙ at)) }
+    kind_made (local x) e b h = kind_local p.types locals x e variables h.1
+    kind_made (call g arguments closing) e b h = kind_call p.types p.functions g e functions h.0
+    kind_made (paren inner closing) e b h =
+        kind_same p.types (typed_in inner) e (sym (ap (λ (x : Typed). x.ty) (ok_same h.0))) (sym (ap (λ (x : Typed). x.category) (ok_same h.0))) (kind_of inner b h.1)
+    kind_made input e b h = kind_value p.types e ty.Long h refl
+    kind_made (dereference inner) e b h =
+        let d = dereferenced_as p.types (typed_in inner) e (kind_of inner b h.1) h.0 in
+        kind_of_place p.types e d.target d.constant d.form d.is (a_number (type_at p.types d.target) (ap (λ (x : Typed). x.ty) d.is) d.value)
+    kind_made (negate inner) e b h =
+        let n = negated_as p.types (typed_in inner) e (kind_of inner b h.1) h.0 in kind_value p.types e n.ty n.is n.worth
+    kind_made (not inner) e b h = kind_value p.types e ty.Bool (inverted_as (typed_in inner) e h.0).is refl
+    kind_made (address_of inner) e b h =
+        let d = addressed_as p.types (typed_in inner) e (kind_of inner b h.1) h.0 in
+        record {
+          kind = a_pointer d.target d.constant (ap (λ (x : Typed). x.ty) d.is) d.worth;
+          place = λ id c at. absurd (value_place (sym (ap (λ (x : Typed). x.category) d.is) ∙ at));
+        }
+    kind_made (binary o left right) e b h =
+        let parts = and_parts (is_built_form left) (is_built_form right) b in
+        let l = kind_of left parts.0 h.1 in
+        let r = kind_of right parts.1 h.2 in
+        let c = combined_as o e.place (typed_in left) (typed_in right) e h.0 in
+        let v = answer_value o (typed_in left).ty (typed_in right).ty c.ty (operand_kind p.types (typed_in left) l) (operand_kind p.types (typed_in right) r) c.answer in
+        record {
+          kind = a_number c.ty c.is.0 v;
+          place = λ id d at. absurd (value_place (sym c.is.1 ∙ at));
+        }
+    kind_made (text id) e b h = absurd (false≢true b)
+    kind_made (construct structure elements closing) e b h = absurd (false≢true b)
+    kind_made (move x) e b h = absurd (false≢true b)
+    kind_made (make_unique id argument closing) e b h = absurd (false≢true b)
+    kind_made (text_of inner closing) e b h = absurd (false≢true b)
+    kind_made (member base which) e b h = absurd (false≢true b)
+    kind_made (index base position closing) e b h = absurd (false≢true b)
+    kind_made (method base called arguments closing) e b h = absurd (false≢true b)
+    kind_made (typed place t c form) e b h = absurd h
+    kind_made nothing e b h = absurd h
+    kind_made (first ⨟ others) e b h = absurd h

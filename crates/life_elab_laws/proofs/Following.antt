@@ -1,0 +1,188 @@
+-- What has been written of a function and what is visible, between statements.
+use Rattle.std.proofs.Common.{◌≡◌, ◌<◌, ◌≤◌, ℕ, zero, suc, true, List, [], ◌∷◌, Contains, length, slice_get, take, Option, Some, None, refl, sym, ap, ◌∙◌, subst, unwrap_or, arith}
+use Rattle.std.proofs.lemmas.Option.{slice_get_within}
+use Rattle.life_types.specs.Types.{Types}
+use Rattle.life_types.specs.declared.ty.NameId.{NameId}
+use Rattle.life_typed.specs.BaseTypes.{is_value, type_at}
+use Rattle.life_typed.specs.declared.typed_program.TypedLocal.{TypedLocal}
+use Rattle.life_core.specs.Function.{Function}
+use Rattle.life_core.specs.Tree.{Tree}
+use Rattle.life_core.specs.declared.program.Local.{Local}
+use Rattle.life_proper.specs.declared.known.Known.{Known}
+use Rattle.life_well_typed.specs.Visible.{Visible}
+use Rattle.life_writer.specs.Around.{Around, result_local}
+use Rattle.life_writer.specs.Variables.{variable}
+use Rattle.life_writer.specs.Writing.{State, with_code}
+use Rattle.life_elab_laws.proofs.Among.{Among, Ascend, contains_among}
+use Rattle.life_elab_laws.proofs.Emitting.{IsWanted}
+use Rattle.life_elab_laws.proofs.Ending.{CanEnd}
+use Rattle.life_elab_laws.proofs.Exits.{AreNamed, Knows}
+use Rattle.life_elab_laws.proofs.Fronts.{IsFront, front_itself, front_then}
+use Rattle.life_elab_laws.proofs.Growing.{AreShaped, Begins, Grows}
+use Rattle.life_elab_laws.proofs.Making.{Alive}
+use Rattle.life_elab_laws.proofs.VariablePlaces.{IsVariableAt, Stands}
+
+-- the local of a living variable: it has a name
+pub record IsLiving (s : State) (y : ℕ) : Type 0 where
+  pub local : Local
+  pub there : slice_get s.locals y ≡ Some local
+  pub name : NameId
+  pub named : local.name ≡ Some name
+
+-- the register of the result is there, where the function gives a value back
+abbrev pub HasRegister : Around → State → Type 0
+HasRegister a s = is_value (type_at a.program.types a.function.result) ≡ true → IsWanted s (result_local a)
+
+pub register_later : (a : Around) (s s' : State) → IsFront s.locals s'.locals → IsFront s.types.types s'.types.types → HasRegister a s → HasRegister a s'
+register_later a s s' locals table h worth = let is = h worth in record {
+  local = is.local;
+  there = locals (result_local a) is.local is.there;
+  nameless = is.nameless;
+  kind = is.kind;
+  ty = is.ty;
+  typed = table is.local.ty.0 is.ty is.typed;
+  value = is.value;
+}
+
+module _ (types : Types) (fs : List Function) (f : Function) where
+  pub record Follows (a : Around) (v : Visible) (s : State) : Type 0 where
+    pub count : length s.variables ≡ v.declared
+    pub visible : (x : ℕ) → Contains v.visible x → x < v.declared
+    pub stands : Stands types fs f a v.visible s
+    pub ascend : Ascend 0 s.living
+    pub outside : s.outside ≤ length s.living
+    pub living : (y : ℕ) → Among y s.living → IsLiving s y
+    pub sorts : Begins types f s → CanEnd types fs f s.living
+
+  -- between statements all that is asked of expressions is there
+  pub knows_alive : (a : Around) (v : Visible) (s : State) (k : List Known) → Knows types fs f s.living k → Alive types fs f s k
+  knows_alive a v s k h = record { sized = h.sized; living = λ y c. h.alive y (contains_among s.living y c) }
+
+  pub follows_named : (a : Around) (v : Visible) (s : State) → Follows a v s → Begins types f s → AreNamed types fs f s.living
+  follows_named a v s h b y m = let is = h.living y m in (is.local, is.name, b.locals y is.local is.there, is.named)
+
+  pub follows_below : (a : Around) (v : Visible) (s : State) → Follows a v s → (y : ℕ) → Among y s.living → y < length s.locals
+  follows_below a v s h y m = let is = h.living y m in slice_get_within s.locals y is.local is.there
+
+  -- ---- statements add to what has been written
+
+  pub record Adds (s s' : State) : Type 0 where
+    pub locals : IsFront s.locals s'.locals
+    pub table : IsFront s.types.types s'.types.types
+    pub variables : IsFront s.variables s'.variables
+    pub living : take (length s.living) s'.living ≡ s.living
+    pub outside : s'.outside ≡ s.outside
+    pub shaped : AreShaped s.locals → AreShaped s'.locals
+
+  pub take_itself : (xs : List ℕ) → take (length xs) xs ≡ xs
+  take_itself [] = refl
+  take_itself (x ∷ xs) = ap (λ (ys : List ℕ). x ∷ ys) (take_itself xs)
+
+  pub take_front : (n m : ℕ) (xs : List ℕ) → n ≤ m → take n (take m xs) ≡ take n xs
+  take_front zero m xs h = refl
+  take_front (suc n) zero xs h = absurd (omega (arith, h))
+  take_front (suc n) (suc m) [] h = refl
+  take_front (suc n) (suc m) (x ∷ xs) h = ap (λ (ys : List ℕ). x ∷ ys) (take_front n m xs (omega (arith, h)))
+
+  length_front : (xs ys : List ℕ) → take (length xs) ys ≡ xs → length xs ≤ length ys
+  length_front [] ys e = omega arith
+  length_front (x ∷ xs) [] e = absurd (clash e)
+    where
+      clash : [] ≡ x ∷ xs → ⊥
+      clash e = cc
+  length_front (x ∷ xs) (y ∷ ys) e = let more = length_front xs ys (tail e) in omega (arith, more)
+    where
+      rest : List ℕ → List ℕ
+      rest [] = []
+      rest (z ∷ zs) = zs
+
+      tail : y ∷ take (length xs) ys ≡ x ∷ xs → take (length xs) ys ≡ xs
+      tail e = ap rest e
+
+  pub adds_none : (s : State) → Adds s s
+  adds_none s = record { locals = front_itself s.locals; table = front_itself s.types.types; variables = front_itself s.variables; living = take_itself s.living; outside = refl; shaped = λ h. h }
+
+  pub adds_then : (s t u : State) → Adds s t → Adds t u → Adds s u
+  adds_then s t u g h = record {
+    locals = front_then s.locals t.locals u.locals g.locals h.locals;
+    table = front_then s.types.types t.types.types u.types.types g.table h.table;
+    variables = front_then s.variables t.variables u.variables g.variables h.variables;
+    living =
+        sym (take_front (length s.living) (length t.living) u.living (length_front s.living t.living g.living))
+        ∙ ap (take (length s.living)) h.living ∙ g.living;
+    outside = h.outside ∙ g.outside;
+    shaped = λ are. h.shaped (g.shaped are);
+  }
+
+  pub grows_adds : (s s' : State) → Grows s s' → Adds s s'
+  grows_adds s s' g = record {
+    locals = g.locals;
+    table = g.types;
+    variables = subst (IsFront s.variables) (sym g.variables) (front_itself s.variables);
+    living = ap (take (length s.living)) g.living ∙ take_itself s.living;
+    outside = g.outside;
+    shaped = g.shaped;
+  }
+
+  -- .. whatever list is being written
+  pub adds_coded : (s s' : State) (code : List Tree) → Adds s s' → Adds s (with_code code s')
+  adds_coded s s' code g = record { locals = g.locals; table = g.table; variables = g.variables; living = g.living; outside = g.outside; shaped = g.shaped }
+
+  pub begins_added : (s s' : State) → Adds s s' → Begins types f s' → Begins types f s
+  begins_added s s' g b = record {
+    locals = front_then s.locals s'.locals f.locals g.locals b.locals;
+    table = front_then s.types.types s'.types.types types.types g.table b.table;
+  }
+
+  -- ---- what is visible stays where nothing is declared, and is again where a block ends
+
+  pub same_variable : (s s' : State) (x : ℕ) → IsFront s.variables s'.variables → x < length s.variables → variable s' x ≡ variable s x
+  same_variable s s' x front lt = go (slice_get s.variables x) refl
+    where
+      go : (o : Option ℕ) → slice_get s.variables x ≡ o → variable s' x ≡ variable s x
+      go (Some y) at = ap (λ (o : Option ℕ). unwrap_or o 0) (front x y at) ∙ sym (ap (λ (o : Option ℕ). unwrap_or o 0) at)
+      go None at = absurd (never s.variables x lt at)
+        where
+          never : (xs : List ℕ) (n : ℕ) → n < length xs → slice_get xs n ≡ None → ⊥
+          never [] n lt e = omega (arith, lt)
+          never (z ∷ zs) zero lt e = clash e
+            where
+              clash : Some z ≡ None → ⊥
+              clash e = cc
+          never (z ∷ zs) (suc n) lt e = never zs n (omega (arith, lt)) e
+
+  pub follows_again : (a : Around) (v : Visible) (s s' : State) (n : ℕ) → Follows a v s → IsFront s.locals s'.locals → IsFront s.types.types s'.types.types → IsFront s.variables s'.variables → s'.living ≡ s.living → s'.outside ≤ length s'.living
+      → length s'.variables ≡ n → v.declared ≤ n → Follows a (record { declared = n; visible = v.visible }) s'
+  follows_again a v s s' n h locals table variables living outside count more = record {
+    count = count;
+    visible = λ x c. omega (arith, h.visible x c, more);
+    stands = record {
+      opened = λ y c. let is = later y (contains_among s.living y (subst (λ (ys : List ℕ). Contains ys y) living c)) in slice_get_within s'.locals y is.local is.there;
+      seen = λ x u c at. moved x u c (h.stands.seen x u c at);
+    };
+    ascend = subst (Ascend 0) (sym living) h.ascend;
+    outside = outside;
+    living = λ y m. later y (subst (Among y) living m);
+    sorts = λ b y m. h.sorts (record { locals = front_then s.locals s'.locals f.locals locals b.locals; table = front_then s.types.types s'.types.types types.types table b.table }) y (subst (Among y) living m);
+  }
+    where
+      later : (y : ℕ) → Among y s.living → IsLiving s' y
+      later y m = let is = h.living y m in record { local = is.local; there = locals y is.local is.there; name = is.name; named = is.named }
+
+      moved : (x : ℕ) (u : TypedLocal) → Contains v.visible x → IsVariableAt a s x u → IsVariableAt a s' x u
+      moved x u c is = record {
+        local = is.local;
+        there = ap (slice_get s'.locals) same ∙ locals (variable s x) is.local is.there;
+        typed = is.typed;
+        kind = is.kind;
+        lives = subst (λ (ys : List ℕ). Contains ys (variable s' x)) (sym living) (subst (Contains s.living) (sym same) is.lives);
+      }
+        where
+          same : variable s' x ≡ variable s x
+          same = same_variable s s' x variables (omega (arith, h.visible x c, h.count))
+
+  pub follows_grown : (a : Around) (v : Visible) (s s' : State) → Grows s s' → Follows a v s → Follows a v s'
+  follows_grown a v s s' g h = follows_again a v s s' v.declared h g.locals g.types (subst (IsFront s.variables) (sym g.variables) (front_itself s.variables)) g.living (omega (arith, g.outside, ap length g.living, h.outside)) (ap length g.variables ∙ h.count) (omega arith)
+
+  pub follows_coded : (a : Around) (v : Visible) (s : State) (code : List Tree) → Follows a v s → Follows a v (with_code code s)
+  follows_coded a v s code h = follows_again a v s (with_code code s) v.declared h (front_itself s.locals) (front_itself s.types.types) (front_itself s.variables) refl h.outside h.count (omega arith)

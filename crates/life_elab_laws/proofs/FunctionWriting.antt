@@ -1,0 +1,107 @@
+-- What is written for a whole function: all is ready on every way, and no way runs past the end.
+use Rattle.std.proofs.Common.{◌≡◌, ◌≤◌, Bool, true, false, List, [], ◌∷◌, ◌++◌, length, slice_get, take, Some, None, is_none, refl, sym, ap, ◌∙◌}
+use Rattle.std.proofs.lemmas.Bool.{and_from, false≢true}
+use Rattle.life_types.specs.Types.{Types}
+use Rattle.life_types.specs.declared.ty.Ty.{Ty}
+use Rattle.life_built.specs.Built.{is_built_statement}
+use Rattle.life_typed.specs.Programs.{FunctionForm, ProgramForm}
+use Rattle.life_typed.specs.TypedStatement.{StmtForm, block}
+use Rattle.life_core.specs.Function.{Function}
+use Rattle.life_core.specs.Shape.{is_statement, tests_straight}
+use Rattle.life_core.specs.Tree.{Tree, Returns, trees}
+use Rattle.life_proper.specs.Checking.{Flow, body_flow, flow, is_checked, is_over}
+use Rattle.life_proper.specs.Knowing.{State as Knowing, entry_known}
+use Rattle.life_proper.specs.Plain.{is_plain_tree}
+use Rattle.life_well_typed.specs.Functions.{IsBody}
+use Rattle.life_well_typed.specs.Visible.{Visible, after, with_parameters}
+use Rattle.life_writer.specs.Variables.{end_past}
+use Rattle.life_writer.specs.Writing.{State}
+use Rattle.life_elab.specs.Ends.{ends}
+use Rattle.life_elab.specs.Functions.{body, first_state, returned_at_end, written}
+use Rattle.life_elab.specs.Programs.{around}
+use Rattle.life_elab.specs.Statements.{left, statement}
+use Rattle.life_elab_laws.proofs.Beginning.{entry_knows, first_code, first_follows, register_there}
+use Rattle.life_elab_laws.proofs.Callees.{IsBuiltFunction}
+use Rattle.life_elab_laws.proofs.Doing.{Acting, Does, does_then}
+use Rattle.life_elab_laws.proofs.Exits.{Leaves}
+use Rattle.life_elab_laws.proofs.Following.{Follows, HasRegister}
+use Rattle.life_elab_laws.proofs.Fronts.{IsFront}
+use Rattle.life_elab_laws.proofs.Growing.{Begins}
+use Rattle.life_elab_laws.proofs.Returning.{return_does}
+use Rattle.life_elab_laws.proofs.Setting.{Setting}
+use Rattle.life_elab_laws.proofs.Statements.{statement_does}
+use Rattle.life_elab_laws.proofs.Stopping.{stops, stops_next, stops_right}
+
+module _ (p : ProgramForm) (form : FunctionForm) (T types : Types) (fs : List Function) (f : Function) (setting : Setting (around p form) types fs f) where
+  -- a body behind which no way goes on
+  pub record IsFinished (s s' : State) : Type 0 where
+    pub behind : Visible
+    pub does : Does types fs f (around p form) behind false s s'
+    pub stopped : stops (trees s'.code) ≡ true
+
+  finished : (it : StmtForm) (s : State) → IsBody p form it → is_built_statement p.types form.locals it ≡ true → Follows types fs f (around p form) (with_parameters (length form.parameters)) s → HasRegister (around p form) s
+      → IsFinished s (body (around p form) it s)
+  finished (block items closing) s h b follows register = go (ends (block items closing)) refl
+    where
+      go : (e : Bool) → ends (block items closing) ≡ e → IsFinished s (returned_at_end e closing (statement (around p form) items s))
+      go true e =
+          let inner = statement_does (around p form) types fs f setting items false (with_parameters (length form.parameters)) s b h follows register in
+          record { behind = after items (with_parameters (length form.parameters)); does = inner.does; stopped = inner.last false (λ n. absurd (false≢true n)) e }
+      go false e =
+          let u = after items (with_parameters (length form.parameters)) in
+          let t = statement (around p form) items s in
+          let inner = statement_does (around p form) types fs f setting items false (with_parameters (length form.parameters)) s b h follows register in
+          let last = return_does (around p form) types fs f setting u false t inner.does.follows closing in
+          record {
+            behind = u;
+            does = does_then types fs f (around p form) u u false s t (left 0 closing (Returns closing) t) follows.outside inner.does last.does;
+            stopped = stops_right (end_past 0 closing t).code (Returns closing ∷ []) refl;
+          }
+  finished _ s h b follows register = absurd h
+
+  module _ (fits : length form.parameters ≤ length form.locals) (built : IsBuiltFunction p.types form) (typed : IsBody p form form.body) (t : Ty) (result : slice_get p.types.types form.result.0 ≡ Some t) (table : IsFront p.types.types T.types) where
+    pub function_finished : IsFinished (first_state (around p form) T) (written (around p form) T)
+    function_finished =
+        finished form.body (first_state (around p form) T) typed built.body (first_follows (around p form) T fits table types fs f setting.front built.variables) (register_there (around p form) T fits table t result)
+
+    -- ---- in the finished function
+
+    module _ (begins : Begins types f (written (around p form) T)) (count : f.parameters ≡ length form.parameters) (locals : IsFront (first_state (around p form) T).locals f.locals)
+        (whole : f.body ≡ trees (written (around p form) T).code) where
+      code_is : (written (around p form) T).code ≡ function_finished.does.code
+      code_is = function_finished.does.written ∙ ap (λ (c : List Tree). c ++ function_finished.does.code) (first_code (around p form) T fits table)
+
+      body_is : f.body ≡ trees function_finished.does.code
+      body_is = whole ∙ ap trees code_is
+
+      acting : Acting types fs f false (first_state (around p form) T) (written (around p form) T) function_finished.does.code
+      acting = function_finished.does.acts begins
+
+      abbrev ways : Flow
+      ways = flow types fs f (trees function_finished.does.code) (Some (entry_known types f))
+
+      leaves : Leaves types fs f false (written (around p form) T).living (take (first_state (around p form) T).outside (first_state (around p form) T).living) ways
+      leaves = acting.ways (Some (entry_known types f)) (entry_knows (around p form) T fits table types fs f setting.front built.variables count locals)
+
+      ended : ways.next ≡ None
+      ended = stops_next types fs f (trees function_finished.does.code) acting.stated.statement (ap (λ (c : List Tree). stops (trees c)) (sym code_is) ∙ function_finished.stopped) (Some (entry_known types f))
+
+      none : (o : Knowing) → o ≡ None → is_none o ≡ true
+      none o e = ap is_none e
+
+      over : is_over ways ≡ true
+      over =
+          and_from ways.fine _ leaves.fine
+          (and_from (is_none ways.next) _ (none ways.next ended)
+          (and_from (is_none ways.on_break) _ (none ways.on_break leaves.on_break)
+          (and_from (is_none ways.on_continue) _ (none ways.on_continue leaves.on_continue)
+          (and_from (is_none ways.on_true) (is_none ways.on_false) (none ways.on_true leaves.on_true) (none ways.on_false leaves.on_false)))))
+
+      pub function_checked : is_checked types fs f ≡ true
+      function_checked =
+          and_from (is_statement f.body) _ (ap is_statement body_is ∙ acting.stated.statement)
+          (and_from (tests_straight f.body) (is_over (body_flow types fs f)) (ap tests_straight body_is ∙ acting.stated.tests)
+          (ap (λ (t : Tree). is_over (flow types fs f t (Some (entry_known types f)))) body_is ∙ over))
+
+      pub function_plain : is_plain_tree types fs f f.body ≡ true
+      function_plain = ap (is_plain_tree types fs f) body_is ∙ acting.stated.plain

@@ -1,0 +1,153 @@
+-- Where variables end: at the end of a block, and before control goes elsewhere.
+use Rattle.std.proofs.Common.{◌≡◌, ◌<◌, ℕ, Bool, true, List, [], ◌∷◌, ◌++◌, drop, length, reverse, take, Some, refl, sym, ap, ◌∙◌, subst, arith, append_assoc, append-nil}
+use Rattle.std.proofs.lemmas.Option.{slice_get_within}
+use Rattle.life_types.specs.Types.{Types}
+use Rattle.life_types.specs.declared.place.Place.{Place}
+use Rattle.life_core.specs.Function.{Function}
+use Rattle.life_core.specs.Step.{End}
+use Rattle.life_core.specs.Tree.{Tree, Acts, trees}
+use Rattle.life_proper.specs.declared.known.Known.{Known}
+use Rattle.life_proper.specs.Checking.{Flow, before_next, flow, joined}
+use Rattle.life_proper.specs.Knowing.{State as Knowing}
+use Rattle.life_proper.specs.ReadyKnown.{can_end, known_blank}
+use Rattle.life_well_typed.specs.Visible.{Visible, behind}
+use Rattle.life_writer.specs.Around.{Around}
+use Rattle.life_writer.specs.Variables.{end, end_since, with_living_of}
+use Rattle.life_writer.specs.Writing.{State, with_code, write}
+use Rattle.life_elab.specs.Statements.{left}
+use Rattle.life_elab_laws.proofs.Among.{Among}
+use Rattle.life_elab_laws.proofs.Doing.{Acting, Does, IsStated, fine_stated, leaves_falling, leaves_may, stated_append}
+use Rattle.life_elab_laws.proofs.Ending.{end_knows, end_ready}
+use Rattle.life_elab_laws.proofs.Exits.{Knows, Leaves, MayKnow, leaves_then}
+use Rattle.life_elab_laws.proofs.Falling.{Falls, falling, falls_acts, flow_append}
+use Rattle.life_elab_laws.proofs.Following.{Follows, adds_coded, adds_none, follows_again, follows_coded, take_itself}
+use Rattle.life_elab_laws.proofs.Fronts.{front_length}
+use Rattle.life_elab_laws.proofs.Growing.{Begins}
+use Rattle.life_elab_laws.proofs.Shaping.{IsFine, fine_acts, fine_none}
+
+module _ (types : Types) (fs : List Function) (f : Function) where
+  -- ---- these end
+
+  pub record IsEnded (xs : List ℕ) (place : Place) (s : State) : Type 0 where
+    pub code : List Tree
+    pub written : end xs place s ≡ with_code (s.code ++ code) s
+    pub fine : IsFine types fs f code
+    pub falls : (k : List Known) → can_end k xs ≡ true → Falls types fs f code k (known_blank xs k)
+
+  pub ended : (xs : List ℕ) (place : Place) (s : State) → IsEnded xs place s
+  ended [] place s = record {
+    code = [];
+    written = ap (λ (c : List Tree). with_code c s) (sym (append-nil s.code));
+    fine = fine_none types fs f;
+    falls = λ k ready. refl;
+  }
+  ended (x ∷ xs) place s = record {
+    code = Acts place (End (x ∷ xs)) ∷ [];
+    written = refl;
+    fine = fine_acts types fs f place (End (x ∷ xs)) refl;
+    falls = λ k ready. falls_acts types fs f place (End (x ∷ xs)) k ready;
+  }
+
+  end_living : (xs : List ℕ) (place : Place) (s : State) → (end xs place s).living ≡ s.living
+  end_living [] place s = refl
+  end_living (x ∷ xs) place s = refl
+
+  -- all past so many
+  module _ (a : Around) (v : Visible) (s : State) (h : Follows types fs f a v s) (b : Begins types f s) (n : ℕ) where
+    below : (y : ℕ) → Among y s.living → y < length f.locals
+    below y m = let is = h.living y m in slice_get_within f.locals y is.local (b.locals y is.local is.there)
+
+    pub past_ready : (k : List Known) → Knows types fs f s.living k → can_end k (reverse (drop n s.living)) ≡ true
+    past_ready k knows = end_ready types fs f s.living n 0 h.ascend k knows (h.sorts b) below
+
+    pub past_knows : (k : List Known) → Knows types fs f s.living k → Knows types fs f (take n s.living) (known_blank (reverse (drop n s.living)) k)
+    past_knows k knows = end_knows types fs f s.living n 0 h.ascend k knows (h.sorts b) below
+
+  -- ---- the end of a block
+
+  -- what was visible before it is visible again, and only what lived before lives
+  module _ (a : Around) (v u : Visible) (in_loop : Bool) (s t : State) (h : Follows types fs f a v s) (inner : Does types fs f a u in_loop s t) (place : Place) where
+    is : IsEnded (reverse (drop (length s.living) t.living)) place t
+    is = ended (reverse (drop (length s.living) t.living)) place t
+
+    abbrev behind_block : List Tree → State
+    behind_block code = with_living_of (length s.living) (with_code (t.code ++ code) t)
+
+    ended_acts : (e : IsEnded (reverse (drop (length s.living) t.living)) place t) → Begins types f t → Acting types fs f in_loop s (behind_block e.code) (inner.code ++ e.code)
+    ended_acts e b = record {
+      stated = stated_append types fs f inner.code e.code (inner.acts b).stated (fine_stated types fs f e.code e.fine);
+      ways = ways;
+    }
+      where
+        last : (k : List Known) → Knows types fs f t.living k
+            → Leaves types fs f in_loop (take (length s.living) t.living) (take s.outside s.living) (flow types fs f (trees e.code) (Some k))
+        last k knows =
+            subst (Leaves types fs f in_loop (take (length s.living) t.living) (take s.outside s.living)) (sym (e.falls k (past_ready a u t inner.follows b (length s.living) k knows)))
+            (leaves_falling types fs f in_loop (take (length s.living) t.living) (take s.outside s.living) (known_blank (reverse (drop (length s.living) t.living)) k)
+            (past_knows a u t inner.follows b (length s.living) k knows))
+
+        ways : (o : Knowing) → MayKnow types fs f s.living o → Leaves types fs f in_loop (take (length s.living) t.living) (take s.outside s.living) (flow types fs f (trees (inner.code ++ e.code)) o)
+        ways o knows =
+            let w = (inner.acts b).ways o knows in
+            let between : Knowing = (flow types fs f (trees inner.code) o).next in
+            subst (Leaves types fs f in_loop (take (length s.living) t.living) (take s.outside s.living)) (sym (flow_append types fs f inner.code e.code o))
+            (leaves_then types fs f in_loop t.living (take (length s.living) t.living) (take s.outside s.living) (flow types fs f (trees inner.code) o) (flow types fs f (trees e.code) between) w
+            (leaves_may types fs f in_loop t.living (take (length s.living) t.living) (take s.outside s.living) (trees e.code) last between w.next))
+
+    ended_does : (e : IsEnded (reverse (drop (length s.living) t.living)) place t) → Does types fs f a (behind v u) in_loop s (behind_block e.code)
+    ended_does e = record {
+      adds = record {
+        locals = inner.adds.locals;
+        table = inner.adds.table;
+        variables = inner.adds.variables;
+        living = ap (take (length s.living)) inner.adds.living ∙ take_itself types fs f s.living;
+        outside = inner.adds.outside;
+        shaped = inner.adds.shaped;
+      };
+      follows = follows_again types fs f a v s (behind_block e.code) u.declared h inner.adds.locals inner.adds.table inner.adds.variables inner.adds.living
+          (omega (arith, inner.adds.outside, ap length inner.adds.living, h.outside)) inner.follows.count
+          (omega (arith, h.count, inner.follows.count, front_length s.variables t.variables inner.adds.variables));
+      code = inner.code ++ e.code;
+      written = ap (λ (c : List Tree). c ++ e.code) inner.written ∙ append_assoc s.code inner.code e.code;
+      acts = λ b. ended_acts e (record { locals = b.locals; table = b.table });
+    }
+
+    pub block_does : Does types fs f a (behind v u) in_loop s (end_since place (length s.living) t)
+    block_does = subst (λ (r : State). Does types fs f a (behind v u) in_loop s (with_living_of (length s.living) r)) (sym is.written) (ended_does is)
+
+    pub block_level : (end_since place (length s.living) t).living ≡ s.living
+    block_level = ap (take (length s.living)) (end_living (reverse (drop (length s.living) t.living)) place t) ∙ inner.adds.living
+
+  -- ---- control goes elsewhere
+
+  module _ (a : Around) (v : Visible) (in_loop : Bool) (s : State) (h : Follows types fs f a v s) (n : ℕ) (place : Place) (t : Tree) (stated : IsStated types fs f (t ∷ []))
+      (leaves : (k : List Known) → Knows types fs f (take n s.living) k → Leaves types fs f in_loop s.living (take s.outside s.living) (flow types fs f (trees (t ∷ [])) (Some k))) where
+    left_acts : (e : IsEnded (reverse (drop n s.living)) place s) → Begins types f s → Acting types fs f in_loop s (write t (with_code (s.code ++ e.code) s)) (e.code ++ t ∷ [])
+    left_acts e b = record {
+      stated = stated_append types fs f e.code (t ∷ []) (fine_stated types fs f e.code e.fine) stated;
+      ways = leaves_may types fs f in_loop s.living s.living (take s.outside s.living) (trees (e.code ++ t ∷ [])) went;
+    }
+      where
+        went : (k : List Known) → Knows types fs f s.living k → Leaves types fs f in_loop s.living (take s.outside s.living) (flow types fs f (trees (e.code ++ t ∷ [])) (Some k))
+        went k knows =
+            let j : List Known = known_blank (reverse (drop n s.living)) k in
+            let ends : Knows types fs f (take n s.living) j = past_knows a v s h b n k knows in
+            subst (Leaves types fs f in_loop s.living (take s.outside s.living))
+            (sym (flow_append types fs f e.code (t ∷ []) (Some k) ∙ ap (λ (w : Flow). joined (before_next w) (flow types fs f (trees (t ∷ [])) w.next)) (e.falls k (past_ready a v s h b n k knows))))
+            (leaves_then types fs f in_loop (take n s.living) s.living (take s.outside s.living) (falling j) (flow types fs f (trees (t ∷ [])) (Some j))
+            (leaves_falling types fs f in_loop (take n s.living) (take s.outside s.living) j ends) (leaves j ends))
+
+    left_from : (e : IsEnded (reverse (drop n s.living)) place s) → Does types fs f a v in_loop s (write t (with_code (s.code ++ e.code) s))
+    left_from e = record {
+      adds = adds_coded types fs f s s ((s.code ++ e.code) ++ t ∷ []) (adds_none types fs f s);
+      follows = follows_coded types fs f a v s ((s.code ++ e.code) ++ t ∷ []) h;
+      code = e.code ++ t ∷ [];
+      written = append_assoc s.code e.code (t ∷ []);
+      acts = λ b. left_acts e (record { locals = b.locals; table = b.table });
+    }
+
+    pub left_does : Does types fs f a v in_loop s (left n place t s)
+    left_does = subst (λ (r : State). Does types fs f a v in_loop s (write t r)) (sym (ended (reverse (drop n s.living)) place s).written) (left_from (ended (reverse (drop n s.living)) place s))
+
+  pub left_level : (s : State) (n : ℕ) (place : Place) (t : Tree) → (left n place t s).living ≡ s.living
+  left_level s n place t = end_living (reverse (drop n s.living)) place s

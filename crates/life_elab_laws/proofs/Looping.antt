@@ -1,0 +1,224 @@
+-- Loops: what is known at the head of a loop is known again wherever control comes back to it.
+use Rattle.std.proofs.Common.{◌≡◌, ◌⊎◌, inl, inr, ℕ, zero, suc, Bool, true, false, ◌&&◌, List, [], ◌∷◌, ◌++◌, length, slice_get, take, Option, Some, None, refl, sym, ap, ◌∙◌, subst, arith, is_none}
+use Rattle.std.proofs.lemmas.Bool.{and_from}
+use Rattle.std.proofs.lemmas.Option.{same_Some}
+use Rattle.life_types.specs.Types.{Types}
+use Rattle.life_types.specs.declared.ty.NameId.{NameId}
+use Rattle.life_core.specs.Function.{Function}
+use Rattle.life_core.specs.Shape.{is_condition, is_statement, test_straight, tests_straight}
+use Rattle.life_core.specs.Tree.{Tree, Turns, trees}
+use Rattle.life_core.specs.declared.program.Local.{Local}
+use Rattle.life_proper.specs.declared.known.Known.{Known}
+use Rattle.life_proper.specs.Checking.{Flow, flow, joined, of_body, of_step, of_test}
+use Rattle.life_proper.specs.Knowing.{State as Knowing, are_implied, comes_back, forgotten, is_intermediate, is_register, known_at, met}
+use Rattle.life_proper.specs.Plain.{is_plain_tree}
+use Rattle.life_proper.proofs.Joining.{joined_end}
+use Rattle.life_well_typed.specs.Visible.{Visible, behind}
+use Rattle.life_writer.specs.Around.{Around}
+use Rattle.life_writer.specs.Variables.{with_outside}
+use Rattle.life_writer.specs.Writing.{State, Gives, with_code, write}
+use Rattle.life_elab_laws.proofs.Among.{Among, among_or}
+use Rattle.life_elab_laws.proofs.Branching.{adds_uncoded, known_behind, leaves_same, visible_again}
+use Rattle.life_elab_laws.proofs.Doing.{Acting, DoesLevel, leaves_may, none_leaves}
+use Rattle.life_elab_laws.proofs.Exits.{AreNamed, Knows, Leaves, MayKnow, MayLeave, forgotten_implied, leaves_joined, may_met}
+use Rattle.life_elab_laws.proofs.Falling.{deciding}
+use Rattle.life_elab_laws.proofs.Following.{Adds, Follows, adds_coded, adds_then, begins_added, follows_again, follows_coded, follows_grown, follows_named, grows_adds, knows_alive, take_itself}
+use Rattle.life_elab_laws.proofs.Fronts.{front_itself}
+use Rattle.life_elab_laws.proofs.Growing.{AreShaped, Begins, shaped_at}
+use Rattle.life_elab_laws.proofs.Testing.{AsksAll, Tests}
+
+-- ---- at the head nothing is known of intermediate values, and the same of all others
+
+and_false : (b : Bool) → (b && false) ≡ false
+and_false true = refl
+and_false false = refl
+
+named_stays : (l : Local) (name : NameId) → l.name ≡ Some name → is_intermediate l ≡ false
+named_stays l name e = ap (λ (o : Option NameId). is_register l.kind && is_none o) e ∙ and_false (is_register l.kind)
+
+forgotten_length : (ls : List Local) (k : List Known) → length (forgotten ls k) ≡ length k
+forgotten_length [] k = refl
+forgotten_length (l ∷ ls) [] = refl
+forgotten_length (l ∷ ls) (x ∷ k) = ap suc (forgotten_length ls k)
+
+forgotten_at : (ls : List Local) (k : List Known) (y : ℕ) (l : Local) → slice_get ls y ≡ Some l → is_intermediate l ≡ false → known_at (forgotten ls k) y ≡ known_at k y
+forgotten_at [] k y l at e = refl
+forgotten_at (u ∷ ls) [] y l at e = refl
+forgotten_at (u ∷ ls) (x ∷ k) zero l at e = rw here refl
+  where
+    here : is_intermediate u ≡ false
+    here = ap is_intermediate (same_Some u l at) ∙ e
+forgotten_at (u ∷ ls) (x ∷ k) (suc y) l at e = forgotten_at ls k y l at e
+
+module _ (types : Types) (fs : List Function) (f : Function) where
+  knows_forgotten : (living : List ℕ) (k : List Known) → AreNamed types fs f living → Knows types fs f living k → Knows types fs f living (forgotten f.locals k)
+  knows_forgotten living k names knows = record {
+    sized = forgotten_length f.locals k ∙ knows.sized;
+    alive = λ y m. let is = names y m in forgotten_at f.locals k y is.0 is.2 (named_stays is.0 is.1 is.3) ∙ knows.alive y m;
+    blank = λ y l name there named no. forgotten_at f.locals k y l there (named_stays l name named) ∙ knows.blank y l name there named no;
+  }
+
+  -- control comes back with what is known at the head
+  known_again : (living : List ℕ) (k j : List Known) → AreShaped f.locals → Knows types fs f living k → Knows types fs f living j → are_implied (forgotten f.locals k) j ≡ true
+  known_again living k j shaped a b = forgotten_implied types fs f f.locals k j a.sized b.sized same
+    where
+      same : (y : ℕ) (l : Local) → slice_get f.locals y ≡ Some l → is_intermediate l ≡ false → known_at j y ≡ known_at k y
+      same y l there e = go (among_or y living)
+        where
+          named : (name : NameId) × (l.name ≡ Some name)
+          named = shaped_at f.locals y l shaped there e
+
+          go : Among y living ⊎ (Among y living → ⊥) → known_at j y ≡ known_at k y
+          go (inl m) = b.alive y m ∙ sym (a.alive y m)
+          go (inr none) = b.blank y l named.0 there named.1 none ∙ sym (a.blank y l named.0 there named.1 none)
+
+  comes : (living : List ℕ) (k : List Known) (o : Knowing) → AreShaped f.locals → Knows types fs f living k → MayKnow types fs f living o → comes_back (Some (forgotten f.locals k)) o ≡ true
+  comes living k None shaped a b = refl
+  comes living k (Some j) shaped a b = known_again living k j shaped a b
+
+  -- ---- the ways out of a loop
+
+  module _ (in_loop : Bool) (living outside : List ℕ) where
+    test_leaves : (off : List Known) → Knows types fs f living off → (on : List Known) → Leaves types fs f in_loop living outside (of_test (deciding on off))
+    test_leaves off knows on = record { fine = refl; next = knows; on_break = none_leaves types fs f in_loop outside; on_continue = none_leaves types fs f in_loop outside; on_true = refl; on_false = refl }
+
+    body_leaves : (w : Flow) → Leaves types fs f true living living w → Leaves types fs f in_loop living outside (of_body w)
+    body_leaves w h = record { fine = h.fine; next = h.on_break; on_break = none_leaves types fs f in_loop outside; on_continue = none_leaves types fs f in_loop outside; on_true = h.on_true; on_false = h.on_false }
+
+    step_leaves : (k : List Known) (w : Flow) → AreShaped f.locals → Knows types fs f living k → Leaves types fs f false living outside w → Leaves types fs f in_loop living outside (of_step (Some (forgotten f.locals k)) w)
+    step_leaves k w shaped knows h = record {
+      fine = and_from w.fine (comes_back (Some (forgotten f.locals k)) w.next) h.fine (comes living k w.next shaped knows h.next);
+      next = tt;
+      on_break = never in_loop w.on_break h.on_break;
+      on_continue = never in_loop w.on_continue h.on_continue;
+      on_true = h.on_true;
+      on_false = h.on_false;
+    }
+      where
+        never : (b : Bool) (o : Knowing) → o ≡ None → MayLeave types fs f b outside o
+        never b o e = subst (MayLeave types fs f b outside) (sym e) (none_leaves types fs f b outside)
+
+  -- ---- the whole loop
+
+  module _ (a : Around) (v : Visible) (in_loop : Bool) (s : State) (w : Gives Tree) (h : Follows types fs f a v s) (test : Tests types fs f s w) (shaped : AreShaped f.locals) where
+    -- the body is written where all that lives stays outside of the loop
+    abbrev pub inside : State
+    inside = with_outside (length w.state.living) (with_code [] w.state)
+
+    abbrev pub past : State → State
+    past t = with_outside w.state.outside t
+
+    pub inside_follows : Follows types fs f a v inside
+    inside_follows =
+        let later = follows_grown types fs f a v s w.state test.grown h in
+        follows_again types fs f a v w.state inside v.declared later (front_itself w.state.locals) (front_itself w.state.types.types) (front_itself w.state.variables) refl (omega arith) later.count (omega arith)
+
+    -- .. and the step where what was visible before the body is again
+    pub step_follows : (u : Visible) (t : State) → DoesLevel types fs f a u true inside t → Follows types fs f a (behind v u) (with_code [] (past t))
+    step_follows u t body =
+        let again = visible_again types fs f a v u inside t inside_follows body.does.adds body.does.follows body.level in
+        follows_again types fs f a (behind v u) t (with_code [] (past t)) u.declared again (front_itself t.locals) (front_itself t.types.types) (front_itself t.variables) refl
+        (omega (arith, test.grown.outside, h.outside, ap length body.level, ap length test.grown.living)) again.count (omega arith)
+
+    module _ (u x : Visible) (t r : State) (body : DoesLevel types fs f a u true inside t) (step : DoesLevel types fs f a x false (with_code [] (past t)) r) where
+      abbrev whole : State
+      whole = write (Turns w.given (trees t.code) (trees r.code)) (with_code w.state.code r)
+
+      abbrev turns : Tree
+      turns = Turns w.given (trees body.does.code) (trees step.does.code)
+
+      to_body : Adds types fs f w.state (past t)
+      to_body = record {
+        locals = body.does.adds.locals;
+        table = body.does.adds.table;
+        variables = body.does.adds.variables;
+        living = body.does.adds.living;
+        outside = refl;
+        shaped = body.does.adds.shaped;
+      }
+
+      to_step : Adds types fs f (past t) r
+      to_step = adds_uncoded types fs f (past t) r [] step.does.adds
+
+      loop_acts : Begins types f r → Acting types fs f in_loop s whole (turns ∷ [])
+      loop_acts b = record {
+        stated = record {
+          statement = and_from _ true (and_from (is_condition w.given) _ asks.fine.condition (and_from (is_statement (trees body.does.code)) (is_statement (trees step.does.code)) one.stated.statement other.stated.statement)) refl;
+          tests = and_from _ true (and_from (test_straight w.given) _ asks.fine.straight (and_from (tests_straight (trees body.does.code)) (tests_straight (trees step.does.code)) one.stated.tests other.stated.tests)) refl;
+          plain = and_from _ true (and_from (is_plain_tree types fs f w.given) _ asks.fine.plain (and_from (is_plain_tree types fs f (trees body.does.code)) (is_plain_tree types fs f (trees step.does.code)) one.stated.plain other.stated.plain)) refl;
+        };
+        ways = leaves_may types fs f in_loop s.living r.living (take s.outside s.living) (trees (turns ∷ [])) went;
+      }
+        where
+          begun : Begins types f (past t)
+          begun = begins_added types fs f (past t) r to_step b
+
+          tested : Begins types f w.state
+          tested = begins_added types fs f w.state (past t) to_body begun
+
+          asks : AsksAll types fs f s w.given
+          asks = test.runs tested
+
+          one : Acting types fs f true inside t body.does.code
+          one = body.does.acts (record { locals = begun.locals; table = begun.table })
+
+          other : Acting types fs f false (with_code [] (past t)) r step.does.code
+          other = step.does.acts b
+
+          body_living : t.living ≡ s.living
+          body_living = body.level ∙ test.grown.living
+
+          step_living : r.living ≡ s.living
+          step_living = step.level ∙ body_living
+
+          body_outside : take (length w.state.living) w.state.living ≡ s.living
+          body_outside = take_itself types fs f w.state.living ∙ test.grown.living
+
+          step_outside : take w.state.outside t.living ≡ take s.outside s.living
+          step_outside = ap (take w.state.outside) body_living ∙ ap (λ (n : ℕ). take n s.living) test.grown.outside
+
+          names : AreNamed types fs f s.living
+          names = follows_named types fs f a v s h (begins_added types fs f s w.state (grows_adds types fs f s w.state test.grown) tested)
+
+          went : (k : List Known) → Knows types fs f s.living k → Leaves types fs f in_loop r.living (take s.outside s.living) (flow types fs f (trees (turns ∷ [])) (Some k))
+          went k knows =
+              let head : List Known = forgotten f.locals k in
+              let at_head = knows_forgotten s.living k names knows in
+              let g = asks.goes head (knows_alive types fs f a v s head at_head) in
+              let both = known_behind types fs f a v in_loop s w h test tested head g at_head in
+              let inner : Flow = flow types fs f (trees body.does.code) (Some g.on) in
+              let on = leaves_same types fs f true t.living s.living (take (length w.state.living) w.state.living) s.living inner body_living body_outside
+              (one.ways (Some g.on) (subst (λ (xs : List ℕ). Knows types fs f xs g.on) (sym test.grown.living) both.0)) in
+              let back : Knowing = met inner.next inner.on_continue in
+              let last : Flow = flow types fs f (trees step.does.code) back in
+              let stepped = leaves_same types fs f false r.living s.living (take w.state.outside t.living) (take s.outside s.living) last step_living step_outside
+              (other.ways back (subst (λ (xs : List ℕ). MayKnow types fs f xs back) (sym body_living) (may_met types fs f s.living inner.next inner.on_continue on.next on.on_continue))) in
+              let out = leaves_joined types fs f in_loop s.living (take s.outside s.living) (of_test (deciding g.on g.off)) (joined (of_body inner) (of_step (Some head) last))
+              (test_leaves in_loop s.living (take s.outside s.living) g.off both.1 g.on)
+              (leaves_joined types fs f in_loop s.living (take s.outside s.living) (of_body inner) (of_step (Some head) last)
+              (body_leaves in_loop s.living (take s.outside s.living) inner on)
+              (step_leaves in_loop s.living (take s.outside s.living) k last shaped knows stepped)) in
+              leaves_same types fs f in_loop s.living r.living (take s.outside s.living) (take s.outside s.living) (flow types fs f (trees (turns ∷ [])) (Some k)) (sym step_living) refl
+              (subst (Leaves types fs f in_loop s.living (take s.outside s.living)) (sym (joined_end (flow types fs f turns (Some k)) ∙ ap (ways_of head) g.decides)) out)
+            where
+              ways_of : List Known → Flow → Flow
+              ways_of head q =
+                  let v = flow types fs f (trees body.does.code) q.on_true in
+                  joined (of_test q) (joined (of_body v) (of_step (Some head) (flow types fs f (trees step.does.code) (met v.next v.on_continue))))
+
+      pub loop_does : DoesLevel types fs f a x in_loop s whole
+      loop_does = record {
+        does = record {
+          adds =
+              adds_coded types fs f s r (w.state.code ++ Turns w.given (trees t.code) (trees r.code) ∷ [])
+              (adds_then types fs f s (past t) r (adds_then types fs f s w.state (past t) (grows_adds types fs f s w.state test.grown) to_body) to_step);
+          follows = follows_coded types fs f a x r (w.state.code ++ Turns w.given (trees t.code) (trees r.code) ∷ []) step.does.follows;
+          code = turns ∷ [];
+          written =
+              ap (λ (c : List Tree). c ++ Turns w.given (trees t.code) (trees r.code) ∷ []) test.unwritten
+              ∙ ap (λ (c : List Tree). s.code ++ Turns w.given (trees c) (trees r.code) ∷ []) body.does.written
+              ∙ ap (λ (c : List Tree). s.code ++ Turns w.given (trees body.does.code) (trees c) ∷ []) step.does.written;
+          acts = λ b. loop_acts (record { locals = b.locals; table = b.table });
+        };
+        level = step.level ∙ body.level ∙ test.grown.living;
+      }

@@ -1,0 +1,230 @@
+-- The core program of a well typed program that is built: each of its functions is checked, among all of them.
+use Rattle.std.proofs.Common.{◌≡◌, ◌<◌, ◌⊎◌, ℕ, zero, suc, true, List, [], ◌∷◌, ◌++◌, length, map, slice_get, take, Some, option_map, refl, sym, ap, ◌∙◌, subst, arith, append_assoc, append-nil}
+use Rattle.std.proofs.lemmas.Bool.{and_from, and_parts}
+use Rattle.std.proofs.lemmas.Option.{none-some, same_Some, slice_get-map}
+use Rattle.life_types.specs.Types.{Types}
+use Rattle.life_types.specs.declared.ty.Ty.{Ty}
+use Rattle.life_built.specs.Built.{are_built_functions, has_built_types, has_no_structs, is_built}
+use Rattle.life_typed.specs.Programs.{FunctionForm, ProgramForm}
+use Rattle.life_core.specs.Function.{Function}
+use Rattle.life_core.specs.Proper.{ANumber, Blank, result_sort}
+use Rattle.life_proper.specs.Checking.{are_checked, checked, is_checked}
+use Rattle.life_proper.specs.Plain.{are_plain, is_plain, is_plain_tree}
+use Rattle.life_well_typed.specs.Functions.{AreWellTyped, IsWellTyped, IsWellTypedFunction}
+use Rattle.life_elab.specs.Functions.{first_state, function_from, written}
+use Rattle.life_elab.specs.Programs.{Functions, all_functions, around, core_program, functions, with_function}
+use Rattle.life_well_typed.specs.Results.{HasResults, HaveResults}
+use Rattle.life_elab_laws.proofs.Beginning.{first_shaped, first_types}
+use Rattle.life_elab_laws.proofs.Callees.{IsBuiltFunction, built_parts, callee_from, gives_from, values_at}
+use Rattle.life_elab_laws.proofs.Calls.{IsCallee}
+use Rattle.life_elab_laws.proofs.ExpressionKinds.{function_built}
+use Rattle.life_elab_laws.proofs.Fronts.{IsFront, front_itself, front_then}
+use Rattle.life_elab_laws.proofs.FunctionWriting.{function_checked, function_finished, function_plain}
+use Rattle.life_elab_laws.proofs.Growing.{AreShaped, Begins}
+use Rattle.life_elab_laws.proofs.Setting.{Setting}
+
+-- ---- one function among others
+
+typed_at : (p : ProgramForm) (fs : List FunctionForm) (n : ℕ) (f : FunctionForm) → AreWellTyped p fs → slice_get fs n ≡ Some f → IsWellTypedFunction p f
+typed_at p [] n f h at = absurd (none-some f at)
+typed_at p (x ∷ fs) zero f h at = subst (IsWellTypedFunction p) (same_Some x f at) h.0
+typed_at p (x ∷ fs) (suc n) f h at = typed_at p fs n f h.1 at
+
+there : {X : Type 0} (xs : List X) (n : ℕ) → n < length xs → (x : X) × (slice_get xs n ≡ Some x)
+there [] n lt = absurd (omega (arith, lt))
+there (x ∷ xs) zero lt = (x, refl)
+there (x ∷ xs) (suc n) lt = there xs n (omega (arith, lt))
+
+result_at : (types : Types) (fs : List FunctionForm) (n : ℕ) (f : FunctionForm) → HaveResults types fs → slice_get fs n ≡ Some f → (t : Ty) × (slice_get types.types f.result.0 ≡ Some t)
+result_at types [] n f h at = absurd (none-some f at)
+result_at types (x ∷ fs) zero f h at = subst (λ (y : FunctionForm). (t : Ty) × (slice_get types.types y.result.0 ≡ Some t)) (same_Some x f at) (there types.types x.result.0 h.0)
+result_at types (x ∷ fs) (suc n) f h at = result_at types fs n f h.1 at
+
+-- what is written for a function, whatever the table has by then, adds to what stands there where its body begins
+pub record FunctionGrows (p : ProgramForm) (f : FunctionForm) (T : Types) : Type 0 where
+  pub locals : IsFront (first_state (around p f) T).locals (written (around p f) T).locals
+  pub table : IsFront T.types (written (around p f) T).types.types
+  pub shaped : AreShaped (written (around p f) T).locals
+
+-- a core function is what is written for a typed one, in a table that the program's ends with
+pub record IsWritten (p : ProgramForm) (types : Types) (f : FunctionForm) (core : Function) : Type 0 where
+  pub before : Types
+  pub table : IsFront p.types.types before.types
+  pub is : core ≡ function_from f (written (around p f) before)
+  pub later : IsFront (written (around p f) before).types.types types.types
+
+abbrev pub AreWritten : ProgramForm → Types → List FunctionForm → List Function → Type 0
+AreWritten p types [] [] = Unit {0}
+AreWritten p types (f ∷ fs) (core ∷ cores) = IsWritten p types f core × AreWritten p types fs cores
+AreWritten p types _ _ = ⊥
+
+written_at : (p : ProgramForm) (types : Types) (fs : List FunctionForm) (cores : List Function) (n : ℕ) (f : FunctionForm) → AreWritten p types fs cores → slice_get fs n ≡ Some f
+    → (core : Function) × (slice_get cores n ≡ Some core) × IsWritten p types f core
+written_at p types [] [] n f h at = absurd (none-some f at)
+written_at p types (x ∷ fs) (core ∷ cores) zero f h at = (core, refl, subst (λ (y : FunctionForm). IsWritten p types y core) (same_Some x f at) h.0)
+written_at p types (x ∷ fs) (core ∷ cores) (suc n) f h at = written_at p types fs cores n f h.1 at
+written_at p types _ _ n f h at = absurd h
+
+-- all of them, one after the other
+pub record AllWritten (p : ProgramForm) (fs : List FunctionForm) (w : Functions) : Type 0 where
+  pub more : List Function
+  pub listed : (functions p fs w).functions ≡ w.functions ++ more
+  pub table : IsFront w.types.types (functions p fs w).types.types
+  pub each : (types : Types) → IsFront (functions p fs w).types.types types.types → AreWritten p types fs more
+
+all_written : (p : ProgramForm) (fs : List FunctionForm) (w : Functions) → ((n : ℕ) (f : FunctionForm) → slice_get fs n ≡ Some f → (T : Types) → IsFront p.types.types T.types → FunctionGrows p f T) → IsFront p.types.types w.types.types → AllWritten p fs w
+all_written p [] w grows table = record { more = []; listed = sym (append-nil w.functions); table = front_itself w.types.types; each = λ types later. tt }
+all_written p (f ∷ fs) w grows table =
+    let s = written (around p f) w.types in
+    let here = (grows zero f refl w.types table).table in
+    let rest = all_written p fs (with_function f s w) (λ n. grows (suc n)) (front_then p.types.types w.types.types s.types.types table here) in
+    record {
+      more = function_from f s ∷ rest.more;
+      listed = rest.listed ∙ append_assoc w.functions (function_from f s ∷ []) rest.more;
+      table = front_then w.types.types s.types.types _ here rest.table;
+      each = λ types later. (record { before = w.types; table = table; is = refl; later = front_then s.types.types _ types.types rest.table later }, rest.each types later);
+    }
+
+module _ (p : ProgramForm) (typed : IsWellTyped p) (built : are_built_functions p.types p.functions ≡ true) (results : HasResults p) where
+  parts : (n : ℕ) (f : FunctionForm) → slice_get p.functions n ≡ Some f → IsBuiltFunction p.types f
+  parts n f at = built_parts p.types f (function_built p.types p.functions n f built at)
+
+  setting_of : (types : Types) (fs : List Function) (f : FunctionForm) (core : Function) (n : ℕ) → slice_get p.functions n ≡ Some f → IsFront p.types.types types.types
+      → ((g : ℕ) (of : FunctionForm) → slice_get p.functions g ≡ Some of → IsCallee p.types types fs g of) → (result_sort types core ≡ Blank) ⊎ (result_sort types core ≡ ANumber) → AreShaped core.locals
+      → Setting (around p f) types fs core
+  setting_of types fs f core n at front callees gives shaped = record {
+    front = front;
+    variables = (parts n f at).variables;
+    functions = built;
+    result = (parts n f at).result;
+    taken = λ g of there m id is. values_at p.types (take (length of.parameters) of.locals) (parts g of there).parameters m id is;
+    callees = callees;
+    gives = gives;
+    shaped = shaped;
+  }
+
+  -- ---- what is written grows: shown with functions that only begin
+
+  abbrev begun : FunctionForm → Function
+  begun f = function_from f (first_state (around p f) p.types)
+
+  begun_there : (n : ℕ) (f : FunctionForm) → slice_get p.functions n ≡ Some f → slice_get (map begun p.functions) n ≡ Some (begun f)
+  begun_there n f at = slice_get-map begun p.functions n ∙ ap (option_map begun) at
+
+  begun_callee : (g : ℕ) (of : FunctionForm) → slice_get p.functions g ≡ Some of → IsCallee p.types p.types (map begun p.functions) g of
+  begun_callee g of at =
+      let t = result_at p.types p.functions g of results at in
+      callee_from p of p.types p.types (map begun p.functions) (begun of) (typed_at p p.functions g of typed at).parameters (parts g of at) t.0 t.1 (front_itself p.types.types) (front_itself p.types.types) refl refl
+      (front_itself (first_state (around p of) p.types).locals) g (begun_there g of at)
+
+  begun_setting : (n : ℕ) (f : FunctionForm) → slice_get p.functions n ≡ Some f → Setting (around p f) p.types (map begun p.functions) (begun f)
+  begun_setting n f at =
+      let t = result_at p.types p.functions n f results at in
+      let fits = (typed_at p p.functions n f typed at).parameters in
+      setting_of p.types (map begun p.functions) f (begun f) n at (front_itself p.types.types) begun_callee
+      (gives_from p f p.types p.types (map begun p.functions) (begun f) fits (parts n f at) t.0 t.1 (front_itself p.types.types) (front_itself p.types.types) refl refl (front_itself (first_state (around p f) p.types).locals))
+      (first_shaped (around p f) p.types fits (front_itself p.types.types))
+
+  grows : (n : ℕ) (f : FunctionForm) → slice_get p.functions n ≡ Some f → (T : Types) → IsFront p.types.types T.types → FunctionGrows p f T
+  grows n f at T table =
+      let t = result_at p.types p.functions n f results at in
+      let is = typed_at p p.functions n f typed at in
+      let done = function_finished p f T p.types (map begun p.functions) (begun f) (begun_setting n f at) is.parameters (parts n f at) is.body t.0 t.1 table in
+      record {
+        locals = done.does.adds.locals;
+        table = subst (λ (x : Types). IsFront x.types (written (around p f) T).types.types) (first_types (around p f) T is.parameters table) done.does.adds.table;
+        shaped = done.does.adds.shaped (first_shaped (around p f) T is.parameters table);
+      }
+
+  -- ---- the finished program
+
+  abbrev whole : Functions
+  whole = all_functions p
+
+  all : AllWritten p p.functions (record { types = p.types; functions = [] })
+  all = all_written p p.functions (record { types = p.types; functions = [] }) grows (front_itself p.types.types)
+
+  each_written : AreWritten p whole.types p.functions whole.functions
+  each_written = subst (AreWritten p whole.types p.functions) (sym all.listed) (all.each whole.types (front_itself whole.types.types))
+
+  module _ (n : ℕ) (f : FunctionForm) (at : slice_get p.functions n ≡ Some f) (core : Function) (w : IsWritten p whole.types f core) where
+    later : IsFront w.before.types whole.types.types
+    later = front_then w.before.types (written (around p f) w.before).types.types whole.types.types (grows n f at w.before w.table).table w.later
+
+    count : core.parameters ≡ length f.parameters
+    count = ap (λ (c : Function). c.parameters) w.is
+
+    same : core.result ≡ f.result
+    same = ap (λ (c : Function). c.result) w.is
+
+    locals : IsFront (first_state (around p f) w.before).locals core.locals
+    locals = subst (λ (c : Function). IsFront (first_state (around p f) w.before).locals c.locals) (sym w.is) (grows n f at w.before w.table).locals
+
+    written_callee : slice_get whole.functions n ≡ Some core → IsCallee p.types whole.types whole.functions n f
+    written_callee is =
+        let t = result_at p.types p.functions n f results at in
+        callee_from p f w.before whole.types whole.functions core (typed_at p p.functions n f typed at).parameters (parts n f at) t.0 t.1 w.table later count same locals n is
+
+    written_gives : (result_sort whole.types core ≡ Blank) ⊎ (result_sort whole.types core ≡ ANumber)
+    written_gives =
+        let t = result_at p.types p.functions n f results at in
+        gives_from p f w.before whole.types whole.functions core (typed_at p p.functions n f typed at).parameters (parts n f at) t.0 t.1 w.table later count same locals
+
+    written_begins : Begins whole.types core (written (around p f) w.before)
+    written_begins = record {
+      locals = subst (λ (c : Function). IsFront (written (around p f) w.before).locals c.locals) (sym w.is) (front_itself (written (around p f) w.before).locals);
+      table = w.later;
+    }
+
+  callee : (g : ℕ) (of : FunctionForm) → slice_get p.functions g ≡ Some of → IsCallee p.types whole.types whole.functions g of
+  callee g of at = let found = written_at p whole.types p.functions whole.functions g of each_written at in written_callee g of at found.0 found.2 found.1
+
+  written_setting : (n : ℕ) (f : FunctionForm) (at : slice_get p.functions n ≡ Some f) (core : Function) → IsWritten p whole.types f core → Setting (around p f) whole.types whole.functions core
+  written_setting n f at core w =
+      setting_of whole.types whole.functions f core n at (front_then p.types.types w.before.types whole.types.types w.table (later n f at core w)) callee (written_gives n f at core w)
+      (subst (λ (c : Function). AreShaped c.locals) (sym w.is) (grows n f at w.before w.table).shaped)
+
+  one_checked : (n : ℕ) (f : FunctionForm) → slice_get p.functions n ≡ Some f → (core : Function) → IsWritten p whole.types f core → is_checked whole.types whole.functions core ≡ true
+  one_checked n f at core w =
+      let t = result_at p.types p.functions n f results at in
+      let is = typed_at p p.functions n f typed at in
+      function_checked p f w.before whole.types whole.functions core (written_setting n f at core w) is.parameters (parts n f at) is.body t.0 t.1 w.table
+      (written_begins n f at core w) (count n f at core w) (locals n f at core w) (ap (λ (c : Function). c.body) w.is)
+
+  one_plain : (n : ℕ) (f : FunctionForm) → slice_get p.functions n ≡ Some f → (core : Function) → IsWritten p whole.types f core → is_plain_tree whole.types whole.functions core core.body ≡ true
+  one_plain n f at core w =
+      let t = result_at p.types p.functions n f results at in
+      let is = typed_at p p.functions n f typed at in
+      function_plain p f w.before whole.types whole.functions core (written_setting n f at core w) is.parameters (parts n f at) is.body t.0 t.1 w.table
+      (written_begins n f at core w) (count n f at core w) (locals n f at core w) (ap (λ (c : Function). c.body) w.is)
+
+  all_checked : (fs : List FunctionForm) (cores : List Function) → ((n : ℕ) (f : FunctionForm) → slice_get fs n ≡ Some f → (core : Function) → IsWritten p whole.types f core → is_checked whole.types whole.functions core ≡ true)
+      → AreWritten p whole.types fs cores → are_checked whole.types whole.functions cores ≡ true
+  all_checked [] [] each h = refl
+  all_checked (f ∷ fs) (core ∷ cores) each h =
+      and_from (is_checked whole.types whole.functions core) (are_checked whole.types whole.functions cores) (each zero f refl core h.0) (all_checked fs cores (λ n. each (suc n)) h.1)
+  all_checked _ _ each h = absurd h
+
+  all_plain : (fs : List FunctionForm) (cores : List Function) → ((n : ℕ) (f : FunctionForm) → slice_get fs n ≡ Some f → (core : Function) → IsWritten p whole.types f core → is_plain_tree whole.types whole.functions core core.body ≡ true)
+      → AreWritten p whole.types fs cores → are_plain whole.types whole.functions cores ≡ true
+  all_plain [] [] each h = refl
+  all_plain (f ∷ fs) (core ∷ cores) each h =
+      and_from (is_plain_tree whole.types whole.functions core core.body) (are_plain whole.types whole.functions cores) (each zero f refl core h.0) (all_plain fs cores (λ n. each (suc n)) h.1)
+  all_plain _ _ each h = absurd h
+
+  pub program_checked : checked (core_program p) ≡ true
+  program_checked = all_checked p.functions whole.functions one_checked each_written
+
+  pub program_plain : is_plain (core_program p) ≡ true
+  program_plain = all_plain p.functions whole.functions one_plain each_written
+
+-- ---- of what is built
+
+functions_built : (p : ProgramForm) → is_built p ≡ true → are_built_functions p.types p.functions ≡ true
+functions_built p b = (and_parts (has_no_structs p.structs) (are_built_functions p.types p.functions) (and_parts (has_built_types p.types) _ b).1).1
+
+pub translation_checked : (p : ProgramForm) → IsWellTyped p → HasResults p → is_built p ≡ true → checked (core_program p) ≡ true
+translation_checked p typed results b = program_checked p typed (functions_built p b) results
+
+pub translation_plain : (p : ProgramForm) → IsWellTyped p → HasResults p → is_built p ≡ true → is_plain (core_program p) ≡ true
+translation_plain p typed results b = program_plain p typed (functions_built p b) results

@@ -1,0 +1,25 @@
+-- Where a function is written: in a program that is built, whose core functions take and give what they should.
+use Rattle.std.proofs.Common.{◌≡◌, ◌⊎◌, ℕ, true, List, Some, slice_get}
+use Rattle.life_types.specs.Types.{Types}
+use Rattle.life_types.specs.declared.ty.TyId.{TyId}
+use Rattle.life_built.specs.Built.{are_built_functions, are_built_variables, is_built_result}
+use Rattle.life_typed.specs.BaseTypes.{is_value, type_at}
+use Rattle.life_typed.specs.Programs.{FunctionForm}
+use Rattle.life_core.specs.Function.{Function}
+use Rattle.life_core.specs.Proper.{ANumber, Blank, result_sort}
+use Rattle.life_well_typed.specs.Expressions.{parameter_types}
+use Rattle.life_writer.specs.Around.{Around}
+use Rattle.life_elab_laws.proofs.Calls.{IsCallee}
+use Rattle.life_elab_laws.proofs.Fronts.{IsFront}
+use Rattle.life_elab_laws.proofs.Growing.{AreShaped}
+
+pub record Setting (a : Around) (types : Types) (fs : List Function) (f : Function) : Type 0 where
+  pub front : IsFront a.program.types.types types.types
+  pub variables : are_built_variables a.program.types a.function.locals ≡ true
+  pub functions : are_built_functions a.program.types a.program.functions ≡ true
+  pub result : is_built_result a.program.types a.function.result ≡ true
+  pub taken : (g : ℕ) (of : FunctionForm) → slice_get a.program.functions g ≡ Some of → (n : ℕ) (id : TyId) → slice_get (parameter_types (Some of)) n ≡ Some id → is_value (type_at a.program.types id) ≡ true
+  pub callees : (g : ℕ) (of : FunctionForm) → slice_get a.program.functions g ≡ Some of → IsCallee a.program.types types fs g of
+  -- the function itself gives a value back, or nothing, and its locals without names are registers
+  pub gives : (result_sort types f ≡ Blank) ⊎ (result_sort types f ≡ ANumber)
+  pub shaped : AreShaped f.locals

@@ -1,0 +1,257 @@
+-- Conditions, and values that are decided by them.
+use Rattle.std.proofs.Common.{◌≡◌, ◌<◌, ℕ, Bool, true, false, cond, List, [], ◌∷◌, ◌++◌, length, slice_set, Option, Some, None, refl, sym, ap, ◌∙◌, subst, arith}
+use Rattle.std.proofs.lemmas.Bool.{and_from}
+use Rattle.std.proofs.lemmas.Option.{slice_get_within}
+use Rattle.life_types.specs.Types.{Types}
+use Rattle.life_types.specs.declared.place.Place.{Place}
+use Rattle.life_types.specs.declared.ty.Ty.{Ty}
+use Rattle.life_typed.specs.BaseTypes.{is_raw, is_value}
+use Rattle.life_core.specs.Function.{Function}
+use Rattle.life_core.specs.Operands.{Location}
+use Rattle.life_core.specs.Proper.{ANumber, APointer, sort_of}
+use Rattle.life_core.specs.Step.{Test, NonZero, NotNull}
+use Rattle.life_core.specs.Tree.{Tree, Then, Acts, Asks, Both, Either, Choice, trees}
+use Rattle.life_proper.specs.declared.known.Known.{Known}
+use Rattle.life_proper.specs.declared.known.Known.TheVariants as known
+use Rattle.life_proper.specs.Knowing.{agreed_all}
+use Rattle.life_proper.specs.ReadyKnown.{holds_at, is_sort, is_test_ready}
+use Rattle.life_writer.specs.Around.{Around}
+use Rattle.life_writer.specs.Conditions.{answer, branched, by_branch, condition_from, joined, negation, non_zero, not_null, tested}
+use Rattle.life_writer.specs.Registers.{constant, target}
+use Rattle.life_writer.specs.Writing.{State, Gives, mapped, with_code}
+use Rattle.life_elab_laws.proofs.Emitting.{IsInto, IsNameless, Targets, into_later, keeps_set, targeted}
+use Rattle.life_elab_laws.proofs.Falling.{Decides, Falls, decides_asks, decides_behind, decides_both, decides_either, decides_negated, falls_acts, falls_choice}
+use Rattle.life_elab_laws.proofs.Growing.{Begins, Grows, begins_before, grows_then}
+use Rattle.life_elab_laws.proofs.Knowledge.{agreed_length, at_agreed, at_set}
+use Rattle.life_elab_laws.proofs.Leaves.{number_held, number_sort, pointer_held}
+use Rattle.life_elab_laws.proofs.Making.{Alive, Always, Goes, IsBeside, IsNumber, IsOpen, IsPointer, Keeps, Makes, Runs, alive_later, keeps_then, seen}
+use Rattle.life_elab_laws.proofs.Shaping.{IsFineTest, fine_acts, fine_asks, fine_behind, fine_both, fine_choice, fine_either, fine_negated}
+
+module _ (types : Types) (fs : List Function) (f : Function) where
+  -- ---- what a condition writes
+
+  pub record Asked (s : State) (t : Tree) (k : List Known) : Type 0 where
+    pub on : List Known
+    pub off : List Known
+    pub decides : Decides types fs f t k on off
+    pub keeps_on : Keeps types fs f (length s.locals) None k on
+    pub keeps_off : Keeps types fs f (length s.locals) None k off
+
+  pub record AsksAll (s : State) (t : Tree) : Type 0 where
+    pub fine : IsFineTest types fs f t
+    pub goes : (k : List Known) → Alive types fs f s k → Asked s t k
+
+  pub record Tests (s : State) (w : Gives Tree) : Type 0 where
+    pub grown : Grows s w.state
+    pub unwritten : w.state.code ≡ s.code
+    pub runs : Begins types f w.state → AsksAll s w.given
+
+  -- ---- where two ways meet
+
+  pub keeps_agreed : (n : ℕ) (into : Option ℕ) (k j l : List Known) → Keeps types fs f n into k j → Keeps types fs f n into k l → Keeps types fs f n into k (agreed_all j l)
+  keeps_agreed n into k j l first second = record {
+    sized = agreed_length j l sizes ∙ first.sized;
+    below = λ y lt b. at_agreed j l y sizes (first.below y lt b ∙ sym (second.below y lt b)) ∙ first.below y lt b;
+    named = λ y u name there is. at_agreed j l y sizes (first.named y u name there is ∙ sym (second.named y u name there is)) ∙ first.named y u name there is;
+  }
+    where
+      sizes : length j ≡ length l
+      sizes = first.sized ∙ sym second.sized
+
+  -- ---- single tests
+
+  pub tested_made : (place : Place) (asks : State → Gives Test) (s : State) → Makes types fs f None (with_code [] s) (asks (with_code [] s)) Always (λ t n k. is_test_ready k t ≡ true)
+      → Tests s (tested place asks s)
+  tested_made place asks s made = record {
+    grown = record {
+      locals = made.grown.locals;
+      types = made.grown.types;
+      count = made.grown.count;
+      variables = made.grown.variables;
+      living = made.grown.living;
+      outside = made.grown.outside;
+      shaped = made.grown.shaped;
+    };
+    unwritten = refl;
+    runs = λ b. subst (λ (c : List Tree). AsksAll s (Then (trees c) (Asks place (asks (with_code [] s)).given))) (sym made.written) (all (made.runs (record { locals = b.locals; table = b.table })));
+  }
+    where
+      all : Runs types fs f None (with_code [] s) (asks (with_code [] s)) Always (λ t n k. is_test_ready k t ≡ true) made.code
+          → AsksAll s (Then (trees made.code) (Asks place (asks (with_code [] s)).given))
+      all r = record {
+        fine = fine_behind types fs f made.code (Asks place (asks (with_code [] s)).given) r.fine (fine_asks types fs f place (asks (with_code [] s)).given);
+        goes = λ k alive. let g = r.goes k (record { sized = alive.sized; living = alive.living }) tt in record {
+          on = g.after;
+          off = g.after;
+          decides = decides_behind types fs f made.code (Asks place (asks (with_code [] s)).given) k g.after g.after g.after g.falls (decides_asks types fs f place (asks (with_code [] s)).given g.after g.gives);
+          keeps_on = record { sized = g.keeps.sized; below = g.keeps.below; named = g.keeps.named };
+          keeps_off = record { sized = g.keeps.sized; below = g.keeps.below; named = g.keeps.named };
+        };
+      }
+
+  pub non_zero_made : (place : Place) (value : State → Gives ℕ) (s : State) → Makes types fs f None (with_code [] s) (value (with_code [] s)) Always IsNumber → Tests s (non_zero place value s)
+  non_zero_made place value s made =
+      tested_made place (λ s. mapped NonZero (value s)) s
+      (seen types fs f None (with_code [] s) (value (with_code [] s)) NonZero Always IsNumber (λ t n k. is_test_ready k t ≡ true) made (λ r n k h. number_held k r h.1))
+
+  pub not_null_made : (place : Place) (pointer : State → Gives Location) (s : State) → Makes types fs f None (with_code [] s) (pointer (with_code [] s)) Always (IsPointer types f) → Tests s (not_null place pointer s)
+  not_null_made place pointer s made =
+      tested_made place (λ s. mapped NotNull (pointer s)) s
+      (seen types fs f None (with_code [] s) (pointer (with_code [] s)) NotNull Always (IsPointer types f) (λ t n k. is_test_ready k t ≡ true) made
+      (λ l n k h. ap (λ (q : Location). holds_at k q APointer) h.is ∙ pointer_held k h.local h.held))
+
+  -- ---- conditions of others
+
+  pub negation_made : (w : State → Gives Tree) (s : State) → Tests s (w s) → Tests s (negation w s)
+  negation_made w s t = record {
+    grown = t.grown;
+    unwritten = t.unwritten;
+    runs = λ b. let r = t.runs b in record {
+      fine = fine_negated types fs f (w s).given r.fine;
+      goes = λ k alive. let g = r.goes k alive in record {
+        on = g.off;
+        off = g.on;
+        decides = decides_negated types fs f (w s).given k g.on g.off g.decides;
+        keeps_on = g.keeps_off;
+        keeps_off = g.keeps_on;
+      };
+    };
+  }
+
+  module _ (left right : State → Gives Tree) (s : State) (opened : IsOpen types fs f s) (first : Tests s (left s)) (second : Tests (left s).state (right (left s).state)) where
+    grown : Grows s (right (left s).state).state
+    grown = grows_then s (left s).state (right (left s).state).state first.grown second.grown
+
+    before : Begins types f (right (left s).state).state → Begins types f (left s).state
+    before b = begins_before types f (left s).state (right (left s).state).state second.grown b
+
+    -- what the second keeps
+    then_keeps : (k j l : List Known) → Keeps types fs f (length s.locals) None k j → Keeps types fs f (length (left s).state.locals) None j l → Keeps types fs f (length s.locals) None k l
+    then_keeps k j l a b = keeps_then types fs f (length s.locals) (length (left s).state.locals) None k j l first.grown.count a b
+
+    both_asked : (k : List Known) → Alive types fs f s k → Asked s (left s).given k → AsksAll (left s).state (right (left s).state).given → Asked s (Both (left s).given (right (left s).state).given) k
+    both_asked k alive g q =
+        let h = q.goes g.on (alive_later types fs f s (left s).state k g.on opened first.grown alive g.keeps_on) in
+        record {
+          on = h.on;
+          off = agreed_all g.off h.off;
+          decides = decides_both types fs f (left s).given (right (left s).state).given k g.on g.off h.on h.off g.decides h.decides;
+          keeps_on = then_keeps k g.on h.on g.keeps_on h.keeps_on;
+          keeps_off = keeps_agreed (length s.locals) None k g.off h.off g.keeps_off (then_keeps k g.on h.off g.keeps_on h.keeps_off);
+        }
+
+    either_asked : (k : List Known) → Alive types fs f s k → Asked s (left s).given k → AsksAll (left s).state (right (left s).state).given → Asked s (Either (left s).given (right (left s).state).given) k
+    either_asked k alive g q =
+        let h = q.goes g.off (alive_later types fs f s (left s).state k g.off opened first.grown alive g.keeps_off) in
+        record {
+          on = agreed_all g.on h.on;
+          off = h.off;
+          decides = decides_either types fs f (left s).given (right (left s).state).given k g.on g.off h.on h.off g.decides h.decides;
+          keeps_on = keeps_agreed (length s.locals) None k g.on h.on g.keeps_on (then_keeps k g.off h.on g.keeps_off h.keeps_on);
+          keeps_off = then_keeps k g.off h.off g.keeps_off h.keeps_off;
+        }
+
+    pub both_made : Tests s (joined Both left right s)
+    both_made = record {
+      grown = grown;
+      unwritten = second.unwritten ∙ first.unwritten;
+      runs = λ b. both (first.runs (before b)) (second.runs b);
+    }
+      where
+        both : AsksAll s (left s).given → AsksAll (left s).state (right (left s).state).given → AsksAll s (Both (left s).given (right (left s).state).given)
+        both r q = record {
+          fine = fine_both types fs f (left s).given (right (left s).state).given r.fine q.fine;
+          goes = λ k alive. both_asked k alive (r.goes k alive) q;
+        }
+
+    pub either_made : Tests s (joined Either left right s)
+    either_made = record {
+      grown = grown;
+      unwritten = second.unwritten ∙ first.unwritten;
+      runs = λ b. either (first.runs (before b)) (second.runs b);
+    }
+      where
+        either : AsksAll s (left s).given → AsksAll (left s).state (right (left s).state).given → AsksAll s (Either (left s).given (right (left s).state).given)
+        either r q = record {
+          fine = fine_either types fs f (left s).given (right (left s).state).given r.fine q.fine;
+          goes = λ k alive. either_asked k alive (r.goes k alive) q;
+        }
+
+  -- ---- an answer in a register
+
+  answered : (place : Place) (n : ℕ) (r : ℕ) (k : List Known) → sort_of types f r ≡ ANumber → Falls types fs f (Acts place (constant n r) ∷ []) k (slice_set k r known.Number)
+  answered place n r k e = falls_acts types fs f place (constant n r) k (and_from (is_sort (sort_of types f r) ANumber) true (number_sort (sort_of types f r) e) refl)
+
+  pub by_branch_made : (a : Around) (into : Option ℕ) (t : Ty) (place : Place) (condition : State → Gives Tree) (s : State) → is_value t ≡ true → IsInto s into → IsOpen types fs f s
+      → Tests s (condition s) → Makes types fs f into s (by_branch a into t place condition s) Always IsNumber
+  by_branch_made a into t place condition s v wanted opened test =
+      made (target a into t (condition s).state) (targeted types fs f a t (condition s).state into v (into_later s (condition s).state into test.grown wanted))
+    where
+      chosen : ℕ → Tree
+      chosen r = Choice (condition s).given (answer place 1 r) (answer place 0 r)
+
+      run : (w : Gives ℕ) → Targets types fs f ANumber into (condition s).state w → IsNameless types fs f ANumber w.given → AsksAll s (condition s).given
+          → Runs types fs f into s (branched place (condition s).given w.given w.state) Always IsNumber (chosen w.given ∷ [])
+      run w target is asks = record {
+        fine = fine_choice types fs f (condition s).given (Acts place (constant 1 w.given) ∷ []) (Acts place (constant 0 w.given) ∷ []) asks.fine
+            (fine_acts types fs f place (constant 1 w.given) refl) (fine_acts types fs f place (constant 0 w.given) refl);
+        goes = λ k alive p. went k alive (asks.goes k alive);
+      }
+        where
+          beside : (y : ℕ) → y < length s.locals → IsBeside into y → w.given ≡ y → ⊥
+          beside y lt b = target.beside y (omega (arith, lt, test.grown.count)) b
+
+          written : (k j : List Known) → Keeps types fs f (length s.locals) None k j → Keeps types fs f (length s.locals) into k (slice_set j w.given known.Number)
+          written k j keeps =
+              keeps_then types fs f (length s.locals) (length s.locals) into k j (slice_set j w.given known.Number) (omega arith) keeps
+              (keeps_set types fs f (length s.locals) into ANumber w.given known.Number j is beside)
+
+          size : (k j : List Known) → Alive types fs f s k → Keeps types fs f (length s.locals) None k j → w.given < length j
+          size k j alive keeps = omega (arith, keeps.sized, alive.sized, slice_get_within f.locals w.given is.local is.there)
+
+          went : (k : List Known) → Alive types fs f s k → Asked s (condition s).given k → Goes types fs f into s (branched place (condition s).given w.given w.state) IsNumber (chosen w.given ∷ []) k
+          went k alive g = record {
+            after = agreed_all (slice_set g.on w.given known.Number) (slice_set g.off w.given known.Number);
+            falls = falls_choice types fs f (condition s).given (Acts place (constant 1 w.given) ∷ []) (Acts place (constant 0 w.given) ∷ []) k g.on g.off
+                (slice_set g.on w.given known.Number) (slice_set g.off w.given known.Number) g.decides (answered place 1 w.given g.on is.sort) (answered place 0 w.given g.off is.sort);
+            keeps = keeps_agreed (length s.locals) into k (slice_set g.on w.given known.Number) (slice_set g.off w.given known.Number) (written k g.on g.keeps_on) (written k g.off g.keeps_off);
+            gives = (
+              target.below,
+              at_agreed (slice_set g.on w.given known.Number) (slice_set g.off w.given known.Number) w.given
+                  ((written k g.on g.keeps_on).sized ∙ sym (written k g.off g.keeps_off).sized)
+                  (at_set g.on w.given known.Number (size k g.on alive g.keeps_on) ∙ sym (at_set g.off w.given known.Number (size k g.off alive g.keeps_off)))
+                  ∙ at_set g.on w.given known.Number (size k g.on alive g.keeps_on),
+            );
+          }
+
+      made : (w : Gives ℕ) → Targets types fs f ANumber into (condition s).state w → Makes types fs f into s (branched place (condition s).given w.given w.state) Always IsNumber
+      made w target = record {
+        grown = record {
+          locals = (grows_then s (condition s).state w.state test.grown target.grown).locals;
+          types = (grows_then s (condition s).state w.state test.grown target.grown).types;
+          count = (grows_then s (condition s).state w.state test.grown target.grown).count;
+          variables = (grows_then s (condition s).state w.state test.grown target.grown).variables;
+          living = (grows_then s (condition s).state w.state test.grown target.grown).living;
+          outside = (grows_then s (condition s).state w.state test.grown target.grown).outside;
+          shaped = (grows_then s (condition s).state w.state test.grown target.grown).shaped;
+        };
+        code = chosen w.given ∷ [];
+        written = ap (λ (c : List Tree). c ++ chosen w.given ∷ []) (target.unwritten ∙ test.unwritten);
+        runs = λ b.
+            let here : Begins types f w.state = record { locals = b.locals; table = b.table } in
+            run w target (target.there here) (test.runs (begins_before types f (condition s).state w.state target.grown here));
+      }
+
+  -- ---- any condition
+
+  pub condition_made : (decision : Option (State → Gives Tree)) (t : Ty) (place : Place) (pointer : State → Gives Location) (value : State → Gives ℕ) (s : State)
+      → ((w : State → Gives Tree) → decision ≡ Some w → Tests s (w s))
+      → (decision ≡ None → is_raw t ≡ true → Makes types fs f None (with_code [] s) (pointer (with_code [] s)) Always (IsPointer types f))
+      → (decision ≡ None → is_raw t ≡ false → Makes types fs f None (with_code [] s) (value (with_code [] s)) Always IsNumber)
+      → Tests s (condition_from decision t place pointer value s)
+  condition_made (Some w) t place pointer value s decided pointed valued = decided w refl
+  condition_made None t place pointer value s decided pointed valued = go (is_raw t) refl
+    where
+      go : (b : Bool) → is_raw t ≡ b → Tests s (cond b (not_null place pointer s) (non_zero place value s))
+      go true e = not_null_made place pointer s (pointed refl e)
+      go false e = non_zero_made place value s (valued refl e)

@@ -1,0 +1,184 @@
+-- Where the visible variables of a function lie while it is written.
+use Rattle.std.proofs.Common.{◌≡◌, ◌<◌, ℕ, Bool, true, ◌||◌, List, [], Contains, length, slice_get, Option, Some, None, refl, sym, ap, ◌∙◌, subst, unwrap_or, arith}
+use Rattle.std.proofs.lemmas.Bool.{false≢true}
+use Rattle.std.proofs.lemmas.Option.{slice_get_within}
+use Rattle.life_types.specs.Types.{Types, class, class_at}
+use Rattle.life_types.specs.declared.ty.Ty.{Ty}
+use Rattle.life_types.specs.declared.ty.Ty.TheVariants as ty
+use Rattle.life_types.specs.declared.ty.TyId.{TyId}
+use Rattle.life_built.specs.Built.{is_built_variable, is_pointing}
+use Rattle.life_typed.specs.BaseTypes.{is_raw, is_value, type_at}
+use Rattle.life_typed.specs.TypedForm.{Form, Typed}
+use Rattle.life_typed.specs.declared.typed_expr.ExprType.TheVariants.{Of}
+use Rattle.life_typed.specs.declared.typed_program.TypedLocal.{TypedLocal}
+use Rattle.life_type_expr.specs.Operands.{variable_of}
+use Rattle.life_core.specs.Function.{Function}
+use Rattle.life_core.specs.Operands.{whole}
+use Rattle.life_core.specs.Proper.{AnObject, held_by, held_if, sort_of}
+use Rattle.life_core.specs.declared.program.Local.{Local}
+use Rattle.life_core.specs.declared.program.LocalKind.{LocalKind}
+use Rattle.life_core.specs.declared.program.LocalKind.TheVariants.{Object, Register}
+use Rattle.life_proper.specs.declared.known.Known.{Known}
+use Rattle.life_proper.specs.Knowing.{known_as}
+use Rattle.life_writer.specs.Around.{Around}
+use Rattle.life_writer.specs.Variables.{kind, place_of, place_of_kind, variable, variable_place}
+use Rattle.life_writer.specs.Writing.{State, with_code}
+use Rattle.life_elab_laws.proofs.Fronts.{IsFront}
+use Rattle.life_elab_laws.proofs.Growing.{Begins, Grows}
+use Rattle.life_elab_laws.proofs.Making.{Alive, IsOpen, IsPlace, IsPointer, a_target, an_object}
+
+-- ---- what a variable is
+
+-- a value, or a pointer or reference to one
+pub data IsVariableType (types : Types) (id : TyId) : Type 0 where
+  a_value : (t : Ty) → slice_get types.types id.0 ≡ Some t → is_value t ≡ true → IsVariableType types id
+  a_raw : (target : TyId) (constant : Bool) → slice_get types.types id.0 ≡ Some (ty.Raw target constant) → IsVariableType types id
+  a_reference : (target : TyId) (constant : Bool) → slice_get types.types id.0 ≡ Some (ty.Reference target constant) → is_value (type_at types target) ≡ true → IsVariableType types id
+
+pub variable_type : (types : Types) (id : TyId) → is_built_variable types id ≡ true → IsVariableType types id
+variable_type types id b = go (slice_get types.types id.0) refl b
+  where
+    go : (o : Option Ty) → slice_get types.types id.0 ≡ o → (is_value (unwrap_or o ty.Void) || is_pointing types (unwrap_or o ty.Void)) ≡ true → IsVariableType types id
+    go None at b = absurd (false≢true b)
+    go (Some ty.Bool) at b = a_value ty.Bool at refl
+    go (Some ty.Char) at b = a_value ty.Char at refl
+    go (Some ty.Int) at b = a_value ty.Int at refl
+    go (Some ty.Long) at b = a_value ty.Long at refl
+    go (Some ty.Size) at b = a_value ty.Size at refl
+    go (Some (ty.Raw target constant)) at b = a_raw target constant at
+    go (Some (ty.Reference target constant)) at b = a_reference target constant at b
+    go (Some _) at b = absurd (false≢true b)
+
+-- ---- where it lies
+
+pub record IsVariableAt (a : Around) (s : State) (x : ℕ) (v : TypedLocal) : Type 0 where
+  pub local : Local
+  pub there : slice_get s.locals (variable s x) ≡ Some local
+  pub typed : local.ty ≡ v.ty
+  pub kind : local.kind ≡ kind (class_at a.program.types v.ty)
+  pub lives : Contains s.living (variable s x)
+
+value_class : (t : Ty) → is_value t ≡ true → kind (class (Some t)) ≡ Object
+value_class ty.Bool e = refl
+value_class ty.Char e = refl
+value_class ty.Int e = refl
+value_class ty.Long e = refl
+value_class ty.Size e = refl
+value_class _ e = absurd (false≢true e)
+
+pub value_held : (t : Ty) → is_value t ≡ true → held_if (class (Some t)) (kind (class (Some t))) (Some t) ≡ AnObject
+value_held ty.Bool e = refl
+value_held ty.Char e = refl
+value_held ty.Int e = refl
+value_held ty.Long e = refl
+value_held ty.Size e = refl
+value_held _ e = absurd (false≢true e)
+
+module _ (types : Types) (fs : List Function) (f : Function) where
+  -- the visible variables are there
+  pub record Stands (a : Around) (visible : List ℕ) (s : State) : Type 0 where
+    pub opened : IsOpen types fs f s
+    pub seen : (x : ℕ) (v : TypedLocal) → Contains visible x → slice_get a.function.locals x ≡ Some v → IsVariableAt a s x v
+
+  pub stands_later : (a : Around) (visible : List ℕ) (s s' : State) → Grows s s' → Stands a visible s → Stands a visible s'
+  stands_later a visible s s' g h = record {
+    opened = λ y c. omega (arith, h.opened y (subst (λ (ys : List ℕ). Contains ys y) g.living c), g.count);
+    seen = λ x v c at. moved x v (h.seen x v c at);
+  }
+    where
+      moved : (x : ℕ) (v : TypedLocal) → IsVariableAt a s x v → IsVariableAt a s' x v
+      moved x v there = record {
+        local = there.local;
+        there = ap (slice_get s'.locals) same ∙ g.locals (variable s x) there.local there.there;
+        typed = there.typed;
+        kind = there.kind;
+        lives = subst (λ (ys : List ℕ). Contains ys (variable s' x)) (sym g.living) (subst (λ (y : ℕ). Contains s.living y) (sym same) there.lives);
+      }
+        where
+          same : variable s' x ≡ variable s x
+          same = ap (λ (vs : List ℕ). unwrap_or (slice_get vs x) 0) g.variables
+
+  pub stands_apart : (a : Around) (visible : List ℕ) (s : State) → Stands a visible s → Stands a visible (with_code [] s)
+  stands_apart a visible s h = record {
+    opened = h.opened;
+    seen = λ x v c at. let there = h.seen x v c at in record { local = there.local; there = there.there; typed = there.typed; kind = there.kind; lives = there.lives };
+  }
+
+  -- ---- what it holds
+
+  module _ (a : Around) (front : IsFront a.program.types.types types.types) (s : State) (b : Begins types f s) (x : ℕ) (v : TypedLocal) (h : IsVariableAt a s x v) where
+    sort_is : (t : Ty) → slice_get a.program.types.types v.ty.0 ≡ Some t → sort_of types f (variable s x) ≡ held_if (class (Some t)) (kind (class (Some t))) (Some t)
+    sort_is t at =
+        ap (held_by types) (b.locals (variable s x) h.local h.there)
+        ∙ ap (λ (o : Option Ty). held_if (class o) h.local.kind o) (ap (λ (i : TyId). slice_get types.types i.0) h.typed ∙ front v.ty.0 t at)
+        ∙ ap (λ (k : LocalKind). held_if (class (Some t)) k (Some t)) (h.kind ∙ ap (λ (o : Option Ty). kind (class o)) at)
+
+    kind_is : (t : Ty) → slice_get a.program.types.types v.ty.0 ≡ Some t → h.local.kind ≡ kind (class (Some t))
+    kind_is t at = h.kind ∙ ap (λ (o : Option Ty). kind (class o)) at
+
+    place_is : (k : LocalKind) → h.local.kind ≡ k → variable_place s x ≡ place_of_kind k (variable s x)
+    place_is k e = ap (λ (o : Option Local). place_of o (variable s x)) h.there ∙ ap (λ (c : LocalKind). place_of_kind c (variable s x)) e
+
+    below : variable s x < length s.locals
+    below = slice_get_within s.locals (variable s x) h.local h.there
+
+    -- a variable is a place
+    pub variable_there : is_built_variable a.program.types v.ty ≡ true → (k : List Known) → Alive types fs f s k → IsPlace (variable_place s x) (length s.locals) k
+    variable_there built k alive = go (variable_type a.program.types v.ty built)
+      where
+        go : IsVariableType a.program.types v.ty → IsPlace (variable_place s x) (length s.locals) k
+        go (a_value t at e) =
+            an_object (variable s x) (place_is Object (kind_is t at ∙ value_class t e)) below
+            (alive.living (variable s x) h.lives ∙ ap known_as (sort_is t at ∙ value_held t e))
+        go (a_raw target constant at) =
+            a_target (variable s x) (place_is Register (kind_is (ty.Raw target constant) at)) below
+            (alive.living (variable s x) h.lives ∙ ap known_as (sort_is (ty.Raw target constant) at))
+        go (a_reference target constant at e) =
+            a_target (variable s x) (place_is Register (kind_is (ty.Reference target constant) at)) below
+            (alive.living (variable s x) h.lives ∙ ap known_as (sort_is (ty.Reference target constant) at))
+
+    -- .. and one of a raw pointer type is a pointer
+    pub pointer_there : (target : TyId) (constant : Bool) → type_at a.program.types v.ty ≡ ty.Raw target constant → (k : List Known) → Alive types fs f s k → IsPointer types f (whole (variable s x)) (length s.locals) k
+    pointer_there target constant at k alive = record {
+      local = variable s x;
+      is = refl;
+      below = below;
+      held = alive.living (variable s x) h.lives ∙ ap known_as (sort_is (ty.Raw target constant) (found (slice_get a.program.types.types v.ty.0) refl at));
+      sort = sort_is (ty.Raw target constant) (found (slice_get a.program.types.types v.ty.0) refl at);
+    }
+      where
+        found : (o : Option Ty) → slice_get a.program.types.types v.ty.0 ≡ o → unwrap_or o ty.Void ≡ ty.Raw target constant → slice_get a.program.types.types v.ty.0 ≡ Some (ty.Raw target constant)
+        found None is e = absurd (clash e)
+          where
+            clash : ty.Void ≡ ty.Raw target constant → ⊥
+            clash e = cc
+        found (Some t) is e = is ∙ ap Some e
+
+-- an expression of a raw pointer type that names a variable names one of that type
+pub named_raw : (types : Types) (e : Typed) (v : TypedLocal) (form : Form) → is_built_variable types v.ty ≡ true → e ≡ variable_of (type_at types v.ty) types v.ty v.constant e.place form
+    → (t : Ty) → e.ty ≡ Of t → is_raw t ≡ true → (target : TyId) × (constant : Bool) × (type_at types v.ty ≡ ty.Raw target constant)
+named_raw types e v form built is t of raw = go (type_at types v.ty) refl built is
+  where
+    same : {u w : Ty} → Of u ≡ Of w → u ≡ w
+    same e = cc
+
+    not_raw : (u : Ty) → is_value u ≡ true → e.ty ≡ Of u → ⊥
+    not_raw u v at = clash u v (subst (λ (w : Ty). is_raw w ≡ true) (same (sym of ∙ at)) raw)
+      where
+        clash : (u : Ty) → is_value u ≡ true → is_raw u ≡ true → ⊥
+        clash ty.Bool v r = false≢true r
+        clash ty.Char v r = false≢true r
+        clash ty.Int v r = false≢true r
+        clash ty.Long v r = false≢true r
+        clash ty.Size v r = false≢true r
+        clash _ v r = false≢true v
+
+    go : (u : Ty) → type_at types v.ty ≡ u → (is_value u || is_pointing types u) ≡ true → e ≡ variable_of u types v.ty v.constant e.place form → (target : TyId) × (constant : Bool) × (type_at types v.ty ≡ ty.Raw target constant)
+    go (ty.Raw target constant) at b is = (target, constant, at)
+    go (ty.Reference target constant) at b is = absurd (not_raw (type_at types target) b (ap (λ (x : Typed). x.ty) is))
+    go ty.Bool at b is = absurd (not_raw ty.Bool refl (ap (λ (x : Typed). x.ty) is ∙ ap Of at))
+    go ty.Char at b is = absurd (not_raw ty.Char refl (ap (λ (x : Typed). x.ty) is ∙ ap Of at))
+    go ty.Int at b is = absurd (not_raw ty.Int refl (ap (λ (x : Typed). x.ty) is ∙ ap Of at))
+    go ty.Long at b is = absurd (not_raw ty.Long refl (ap (λ (x : Typed). x.ty) is ∙ ap Of at))
+    go ty.Size at b is = absurd (not_raw ty.Size refl (ap (λ (x : Typed). x.ty) is ∙ ap Of at))
+    go _ at b is = absurd (false≢true b)

@@ -1,0 +1,25 @@
+// What is translated is proper.
+ghost use Rattle.life_built.specs.Built.{is_built};
+ghost use Rattle.life_core.specs.Proper.{IsProperProgram};
+ghost use Rattle.life_elab.specs.Programs.{core_program};
+ghost use Rattle.life_proper.specs.Checking.{checked};
+ghost use Rattle.life_proper.specs.Plain.{IsPlainProgram};
+ghost use Rattle.life_typed.specs.Programs.{ProgramForm};
+ghost use Rattle.life_well_typed.specs.Functions.{IsWellTyped};
+ghost use Rattle.life_well_typed.specs.Results.{HasResults};
+ghost use Rattle.std.specs.Prelude.{IsTrue};
+
+/// The checker lets the core program of a well typed program that is built through, whatever limits it passes.
+pub fn translations_are_checked()
+    ensures { (p : ProgramForm) → IsWellTyped p → HasResults p → IsTrue (is_built p) → IsTrue (checked (core_program p)) }
+{}
+
+/// .. so it is proper: on every way through it what is used is ready, and no way runs past the end of a function.
+pub fn translations_are_proper()
+    ensures { (p : ProgramForm) → IsWellTyped p → HasResults p → IsTrue (is_built p) → IsProperProgram (core_program p) }
+{}
+
+/// .. and plain: the numbers of its literals are longs, and its calls hand over values alone.
+pub fn translations_are_plain()
+    ensures { (p : ProgramForm) → IsWellTyped p → HasResults p → IsTrue (is_built p) → IsPlainProgram (core_program p) }
+{}

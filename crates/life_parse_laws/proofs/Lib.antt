@@ -1,0 +1,2 @@
+pub mod CharactersFit
+pub mod LongFiles

@@ -1,0 +1,187 @@
+-- Whole files: what is resolved, built, and as it was parsed, is well typed.
+use Rattle.std.proofs.Common.{◌≡◌, inr, ⊎_elim, ℕ, zero, suc, Bool, true, false, ◌&&◌, Some, Ok, Err, List, [], ◌∷◌, length, slice_get, refl, sym, ap, subst, ◌∙◌, arith}
+use Rattle.std.proofs.lemmas.Bool.{and_parts}
+use Rattle.std.proofs.lemmas.Option.{slice_get_within}
+use Rattle.life_types.specs.Trees.{HasPartsBelow, IsOrdered}
+use Rattle.life_types.specs.Types.{HasType, Types}
+use Rattle.life_types.specs.declared.ty.Ty.{Ty}
+use Rattle.life_types.specs.declared.ty.TyId.{TyId}
+use Rattle.life_types.proofs.TreeLemmas.{IsThere, within}
+use Rattle.life_tree.specs.declared.program.Definition.{Definition}
+use Rattle.life_tree.specs.declared.program.Definition.TheVariants as definition
+use Rattle.life_tree.specs.declared.program.Program.{Program}
+use Rattle.life_typed.specs.BaseTypes.{base_types}
+use Rattle.life_typed.specs.Programs.{FunctionForm, ProgramForm, StructForm}
+use Rattle.life_names.specs.Environment.{SignatureView, unseen_names}
+use Rattle.life_names.specs.declared.environment.Entity.TheVariants as entity
+use Rattle.life_built.specs.Built.{are_built_functions, has_built_types, has_no_structs, is_built}
+use Rattle.life_typing.specs.Answers.{Answer, ◌>>◌}
+use Rattle.life_typing.specs.Functions.{with_function}
+use Rattle.life_typing.specs.Names.{DeclaredView}
+use Rattle.life_typing.specs.Progress.{ProgressView, nothing_defined}
+use Rattle.life_typing.specs.Resolves.{bodies_of, finished, no_flags, resolved, texts_of, with_definitions}
+use Rattle.life_typing.specs.Structs.{with_structure}
+use Rattle.life_well_typed.specs.AsParsed.{is_as_parsed}
+use Rattle.life_well_typed.specs.Functions.{AreWellTyped, IsWellTyped, IsWellTypedFunction}
+use Rattle.life_well_typed.specs.Results.{HasResults, HaveResults}
+use Rattle.life_typing_laws.proofs.BodiesCome.{BodiesCome, all_flags_size, bodies_come_on, flag_comes, no_flag}
+use Rattle.life_typing_laws.proofs.Counted.{Goes, IsCounted, definitions_go, struct_adds}
+use Rattle.life_typing_laws.proofs.Each.{EachHolds}
+use Rattle.life_typing_laws.proofs.FromBuilt.{served_functions}
+use Rattle.life_typing_laws.proofs.Growing.{grows_not}
+use Rattle.life_typing_laws.proofs.Known.{HasBody, HasInEnd, KnownAt}
+use Rattle.life_typing_laws.proofs.Steps.{answered, same_some, same_answer}
+use Rattle.life_typing_laws.proofs.Visible.{IsUnderway}
+use Rattle.life_typing_laws.proofs.Went.{AreServed, Went, function_went}
+
+-- ---- at the beginning
+
+held_at : {A : Type 0} (Holds : A → Type 0) (xs : List A) (n : ℕ) (x : A) → EachHolds Holds xs → slice_get xs n ≡ Some x → Holds x
+held_at Holds [] n x all e = absurd (cc)
+held_at Holds (y ∷ ys) zero x all e = subst Holds (same_some y x e) all.0
+held_at Holds (y ∷ ys) (suc n) x all e = held_at Holds ys n x all.1 e
+
+nothing_there : {A : Type 0} (n : ℕ) (x : A) → slice_get [] n ≡ Some x → ⊥
+nothing_there n x e = cc
+
+base_ordered : IsOrdered base_types
+base_ordered = record {
+  parts = λ n t e. held_at (λ (u : Ty). HasPartsBelow base_types n u) base_types.types n t (tt, (tt, (tt, (tt, (tt, (tt, (tt, (tt, tt)))))))) e;
+  members = λ n ids e. absurd (nothing_there n ids e);
+}
+
+no_local : (names : List (List ℕ)) (k n : ℕ) → slice_get (unseen_names names) k ≡ Some (entity.Local n) → ⊥
+no_local [] k n e = cc
+no_local (name ∷ names) zero n e = cc
+no_local (name ∷ names) (suc k) n e = no_local names k n e
+
+names_count : (names : List (List ℕ)) → length (unseen_names names) ≡ length (no_flags names)
+names_count [] = refl
+names_count (name ∷ names) = ap suc (names_count names)
+
+begins : (tree : Program) → IsUnderway (bodies_of tree) (nothing_defined (texts_of tree))
+begins tree = record {
+  sound = record {
+    ordered = base_ordered;
+    based = grows_not base_types;
+    no_structs = refl;
+    locals_there = λ n l e. absurd (nothing_there n l e);
+    results_there = λ n s e. absurd (nothing_there n s e);
+    parameters_there = λ n s e. absurd (nothing_there n s e);
+    declared = refl;
+    visible = λ k n e. absurd (no_local (texts_of tree) k n e);
+  };
+  known = record { forms_count = refl; declared_count = refl; each = λ n s e. absurd (nothing_there n s e) };
+  size = names_count (texts_of tree) ∙ sym (all_flags_size tree.definitions.items (no_flags (texts_of tree)));
+}
+
+all_come : (tree : Program) → BodiesCome (bodies_of tree) (nothing_defined (texts_of tree)) tree.definitions.items
+all_come tree = record {
+  flagged = λ k e. ⊎_elim (λ old. absurd (no_flag (texts_of tree) k old)) (λ comes. inr comes) (flag_comes tree.definitions.items (no_flags (texts_of tree)) k e);
+  pending = λ m d e none. absurd (nothing_there m d e);
+}
+
+-- ---- along the definitions
+
+pub record Ends (bodies : List Bool) (q : ProgressView) : Type 0 where
+  pub under : IsUnderway bodies q
+  pub come : BodiesCome bodies q []
+
+-- one step, as several
+one_step : (first : Answer ProgressView) (x : ProgressView) → first ≡ Ok x → (first >> (λ y. Ok y)) ≡ Ok x
+one_step (Ok y) x e = e
+one_step (Err fault) x e = e
+
+counted_of : (bodies : List Bool) (p : ProgressView) → IsUnderway bodies p → IsCounted p
+counted_of bodies p under = record { forms = under.known.forms_count; declared = under.known.declared_count }
+
+goes_on : (bodies : List Bool) (ds : List Definition) (p q : ProgressView) → IsUnderway bodies p → BodiesCome bodies p ds → with_definitions bodies ds p ≡ Ok q → AreServed q.functions q.declared → q.structs ≡ []
+    → Ends bodies q
+goes_on bodies [] p q under come e served none = subst (Ends bodies) (same_answer p q e) (record { under = under; come = come })
+goes_on bodies (definition.Function f ∷ ds) p q under come e served none =
+    let step = answered (with_function bodies f p) (with_definitions bodies ds) q e in
+    let first : Goes p step.value = definitions_go bodies (definition.Function f ∷ []) p step.value (counted_of bodies p under) (one_step (with_function bodies f p) step.value step.gave) in
+    let rest : Goes step.value q = definitions_go bodies ds step.value q first.counted step.behind in
+    let served_now : AreServed step.value.functions step.value.declared =
+    λ n form d there noted has. let kept = rest.bodies n form d there noted has in served n form d kept.0 kept.1 has in
+    let went : Went bodies f p step.value = function_went bodies f p step.value under step.gave served_now in
+    goes_on bodies ds step.value q went.under (bodies_come_on bodies f ds p step.value come went) step.behind served none
+goes_on bodies (definition.Struct s ∷ ds) p q under come e served none =
+    let step = answered (with_structure s p) (with_definitions bodies ds) q e in
+    let adds = struct_adds s p step.value step.gave in
+    let counted : IsCounted step.value = record {
+      forms = ap length adds.functions ∙ under.known.forms_count ∙ ap length (sym adds.signatures);
+      declared = ap length adds.declared ∙ under.known.declared_count ∙ ap length (sym adds.signatures);
+    } in
+    let rest : Goes step.value q = definitions_go bodies ds step.value q counted step.behind in
+    let nothing : length q.structs ≡ 0 = ap length none in
+    absurd (omega (arith, rest.structs, adds.structs, nothing))
+
+-- ---- at the end
+
+each_gives : (types : Types) (fs : List FunctionForm) → ((n : ℕ) (f : FunctionForm) → slice_get fs n ≡ Some f → HasType types f.result) → HaveResults types fs
+each_gives types [] gives = tt
+each_gives types (f ∷ fs) gives = (gives 0 f refl, each_gives types fs (λ n g e. gives (suc n) g e))
+
+each_well : (p : ProgramForm) (fs : List FunctionForm) → ((n : ℕ) (f : FunctionForm) → slice_get fs n ≡ Some f → IsWellTypedFunction p f) → AreWellTyped p fs
+each_well p [] well = tt
+each_well p (f ∷ fs) well = (well 0 f refl, each_well p fs (λ n g e. well (suc n) g e))
+
+no_structs_there : (ss : List StructForm) → has_no_structs ss ≡ true → ss ≡ []
+no_structs_there [] e = refl
+no_structs_there (s ∷ ss) e = absurd (cc)
+
+module _ (tree : Program) (q : ProgressView) (ends : Ends (bodies_of tree) q) where
+  abbrev p : ProgramForm
+  p = finished tree q
+
+  -- each has its body
+  has_body_now : (n : ℕ) (d : DeclaredView) → slice_get q.declared n ≡ Some d → d.has_body ≡ true
+  has_body_now n d e = go d.has_body refl
+    where
+      go : (b : Bool) → d.has_body ≡ b → d.has_body ≡ true
+      go true is = is
+      go false is = absurd ((ends.come.pending n d e is).comes)
+
+  body_now : (n : ℕ) (s : SignatureView) (k : KnownAt q.types q.scope.functions q.functions q.declared n s) → HasBody q.types q.scope.functions k.form s
+  body_now n s k = k.is.body (has_body_now n k.declared k.declared_there)
+
+  in_end : HasInEnd p q.types q.scope.functions
+  in_end = record {
+    grown = grows_not q.types;
+    functions = λ n s e.
+        let k = ends.under.known.each n s e in
+        record { form = k.form; there = k.form_there; result = k.is.result; parameters = (body_now n s k).parameters };
+  }
+
+  -- .. and the table has the type of what it gives back
+  function_gives : (n : ℕ) (f : FunctionForm) → slice_get q.functions n ≡ Some f → HasType q.types f.result
+  function_gives n f e =
+      let found : IsThere q.scope.functions n = within q.scope.functions n (omega (arith, slice_get_within q.functions n f e, ends.under.known.forms_count)) in
+      let k = ends.under.known.each n found.item found.there in
+      let same : found.item.result ≡ f.result = sym k.is.result ∙ ap (λ (g : FunctionForm). g.result) (same_some k.form f (sym k.form_there ∙ e)) in
+      subst (λ (id : TyId). HasType q.types id) same (ends.under.sound.results_there n found.item found.there)
+
+  function_well : (n : ℕ) (f : FunctionForm) → slice_get q.functions n ≡ Some f → IsWellTypedFunction p f
+  function_well n f e =
+      let found : IsThere q.scope.functions n = within q.scope.functions n (omega (arith, slice_get_within q.functions n f e, ends.under.known.forms_count)) in
+      let k = ends.under.known.each n found.item found.there in
+      subst (IsWellTypedFunction p) (same_some k.form f (sym k.form_there ∙ e)) ((body_now n found.item k).is p in_end)
+
+  all_well : IsWellTyped p × HasResults p
+  all_well = (each_well p q.functions function_well, each_gives q.types q.functions function_gives)
+
+pub resolved_well_typed : (tree : Program) (p : ProgramForm) → resolved tree ≡ Ok p → is_built p ≡ true → is_as_parsed p ≡ true → IsWellTyped p × HasResults p
+resolved_well_typed tree p e built parsed =
+    let step = answered (with_definitions (bodies_of tree) tree.definitions.items (nothing_defined (texts_of tree))) (λ q. Ok (finished tree q)) p e in
+    let same : finished tree step.value ≡ p = same_answer (finished tree step.value) p step.behind in
+    subst (λ (r : ProgramForm). IsWellTyped r × HasResults r) same (all_well tree step.value (of step.value step.gave
+    (subst (λ (r : ProgramForm). is_built r ≡ true) (sym same) built) (subst (λ (r : ProgramForm). is_as_parsed r ≡ true) (sym same) parsed)))
+  where
+    of : (q : ProgressView) → with_definitions (bodies_of tree) tree.definitions.items (nothing_defined (texts_of tree)) ≡ Ok q → is_built (finished tree q) ≡ true → is_as_parsed (finished tree q) ≡ true
+        → Ends (bodies_of tree) q
+    of q gave built parsed =
+        let parts = and_parts (has_built_types q.types) (has_no_structs q.structs && are_built_functions q.types q.functions) built in
+        let more = and_parts (has_no_structs q.structs) (are_built_functions q.types q.functions) parts.1 in
+        goes_on (bodies_of tree) tree.definitions.items (nothing_defined (texts_of tree)) q (begins tree) (all_come tree) gave
+        (λ n form d there noted has. served_functions q.types q.functions n form more.1 parsed there) (no_structs_there q.structs more.0)

@@ -1,0 +1,140 @@
+-- The table of types grows: what was there stays, what is added has its number, and the parts of each type are there.
+use Rattle.std.proofs.Common.{◌≡◌, ℕ, ◌<◌, ◌-◌, ◌^◌, Bool, true, false, Option, None, Some, List, [], ◌∷◌, ◌++◌, Ok, length, slice_get, if◌then◌else◌, refl, sym, ap, subst, ◌∙◌, arith, rules}
+use Rattle.std.specs.List.{list_any}
+use Rattle.std.specs.Prelude.{nat_lt}
+use Rattle.std.proofs.lemmas.Bool.{and_parts, ltb-true}
+use Rattle.std.proofs.lemmas.Option.{slice_get_within}
+use Rattle.life_types.specs.Trees.{IsOrdered, HasPartsBelow}
+use Rattle.life_types.specs.Types.{Types, HasType, HasTypes, HasParts, with_type}
+use Rattle.life_types.specs.contracts.ty.TyPartialEq.TheImpl.{ghosts as compared}
+use Rattle.life_types.specs.declared.place.Place.{Place}
+use Rattle.life_types.specs.declared.ty.Ty.{Ty}
+use Rattle.life_types.specs.declared.ty.Ty.TheVariants as ty
+use Rattle.life_types.specs.declared.ty.TyId.{TyId}
+use Rattle.life_types.proofs.TreeLemmas.{grows_more, ordered_more, IsThere, within}
+use Rattle.life_typed.specs.BaseTypes.{type_at}
+use Rattle.life_names.specs.Checked.{Checked, broken}
+use Rattle.life_names.specs.Table.{can_add, has_parts, number_of, type_added}
+use Rattle.life_names.specs.WrittenTypes.{sound}
+use Rattle.life_names.specs.declared.fault.IllKind.{IllKind}
+use Rattle.life_names.specs.declared.fault.IllKind.TheVariants as kinds
+use Rattle.life_typing_laws.specs.Sound.{Grows}
+
+-- ---- growing
+
+pub grows_not : (types : Types) → Grows types types
+grows_not types = record { types = λ n t e. e; structs = λ n ids e. e }
+
+pub grows_on : (a b c : Types) → Grows a b → Grows b c → Grows a c
+grows_on a b c first second = record { types = λ n t e. second.types n t (first.types n t e); structs = λ n ids e. second.structs n ids (first.structs n ids e) }
+
+-- a type that is there keeps its number
+pub stays_there : (old new : Types) (id : TyId) → Grows old new → HasType old id → HasType new id
+stays_there old new id grows there =
+    let found : IsThere old.types id.0 = within old.types id.0 there in
+    slice_get_within new.types id.0 found.item (grows.types id.0 found.item found.there)
+
+pub stay_there : (old new : Types) (ids : List TyId) → Grows old new → HasTypes old ids → HasTypes new ids
+stay_there old new [] grows there = tt
+stay_there old new (id ∷ ids) grows there = (stays_there old new id grows there.0, stay_there old new ids grows there.1)
+
+pub type_is : (types : Types) (id : TyId) (t : Ty) → slice_get types.types id.0 ≡ Some t → type_at types id ≡ t
+type_is types id t e = rw e refl
+
+-- .. and stays what it is
+pub same_type_at : (old new : Types) (id : TyId) → Grows old new → HasType old id → type_at new id ≡ type_at old id
+same_type_at old new id grows there =
+    let found : IsThere old.types id.0 = within old.types id.0 there in
+    type_is new id found.item (grows.types id.0 found.item found.there) ∙ sym (type_is old id found.item found.there)
+
+-- ---- the parts of a type
+
+parts_below : (types : Types) (n : ℕ) (t : Ty) → n < length types.types → HasPartsBelow types n t → HasParts types t
+parts_below types n (ty.Vector element) few below = omega (arith, below)
+parts_below types n (ty.Unique target) few below = omega (arith, below)
+parts_below types n (ty.Raw target constant) few below = omega (arith, below)
+parts_below types n (ty.Reference target constant) few below = omega (arith, below)
+parts_below types n (ty.Iterator target constant) few below = omega (arith, below)
+parts_below types n (ty.Span target constant) few below = omega (arith, below)
+parts_below types n (ty.Struct number) few below = slice_get_within types.structs number below.members below.there
+parts_below types n _ few below = tt
+
+pub parts_there : (types : Types) (id : TyId) → IsOrdered types → HasType types id → HasParts types (type_at types id)
+parts_there types id ordered there =
+    let found : IsThere types.types id.0 = within types.types id.0 there in
+    subst (HasParts types) (sym (type_is types id found.item found.there)) (parts_below types id.0 found.item there (ordered.parts id.0 found.item found.there))
+
+-- ---- a type is added
+
+same_type : (t : Ty) → compared.eq t t ≡ true
+same_type t = search rules
+
+same_types : (t u : Ty) → compared.eq t u ≡ true → t ≡ u
+same_types t u e = search rules
+
+number_in : (xs : List Ty) (t : Ty) → list_any (compared.eq t) xs ≡ true → slice_get xs (number_of xs t) ≡ Some t
+number_in [] t e = absurd (cc)
+number_in (x ∷ xs) t e = go (compared.eq t x) refl (number_in xs t) e
+  where
+    go : (b : Bool) → compared.eq t x ≡ b → (list_any (compared.eq t) xs ≡ true → slice_get xs (number_of xs t) ≡ Some t)
+        → list_any (compared.eq t) (x ∷ xs) ≡ true → slice_get (x ∷ xs) (number_of (x ∷ xs) t) ≡ Some t
+    go true is rest among = rw is (ap Some (sym (same_types t x is)))
+    go false is rest among = rw is (rest (rw is at among))
+
+any_last : (xs : List Ty) (t : Ty) → list_any (compared.eq t) (xs ++ t ∷ []) ≡ true
+any_last [] t = rw (same_type t) refl
+any_last (x ∷ xs) t = go (compared.eq t x) refl (any_last xs t)
+  where
+    go : (b : Bool) → compared.eq t x ≡ b → list_any (compared.eq t) (xs ++ t ∷ []) ≡ true → list_any (compared.eq t) (x ∷ (xs ++ t ∷ [])) ≡ true
+    go true is rest = rw is refl
+    go false is rest = rw is rest
+
+parts_are_there : (types : Types) (t : Ty) → has_parts types t ≡ true → HasParts types t
+parts_are_there types (ty.Vector element) e = ltb-true element.0 (length types.types) e
+parts_are_there types (ty.Unique target) e = ltb-true target.0 (length types.types) e
+parts_are_there types (ty.Raw target constant) e = ltb-true target.0 (length types.types) e
+parts_are_there types (ty.Reference target constant) e = ltb-true target.0 (length types.types) e
+parts_are_there types (ty.Iterator target constant) e = ltb-true target.0 (length types.types) e
+parts_are_there types (ty.Span target constant) e = ltb-true target.0 (length types.types) e
+parts_are_there types (ty.Struct number) e = absurd (cc)
+parts_are_there types _ e = tt
+
+-- a type of which this is said, and the table behind it
+pub record IsAdded (t : Ty) (types : Types) (x : TyId × Types) : Type 0 where
+  pub grows : Grows types x.1
+  pub ordered : IsOrdered x.1
+  pub is : slice_get x.1.types x.0.0 ≡ Some t
+
+abbrev over : Types → Ty → List Ty → TyId × Types
+over types t ts = (record { 0 = number_of ts t }, record types { types = ts })
+
+abbrev grown_by : Types → Ty → TyId × Types
+grown_by types t = over types t (with_type types.types t)
+
+with_added : (types : Types) (t : Ty) → IsOrdered types → HasParts types t → IsAdded t types (grown_by types t)
+with_added types t ordered there = go (list_any (compared.eq t) types.types) refl
+  where
+    old : list_any (compared.eq t) types.types ≡ true → with_type types.types t ≡ types.types
+    old is = ap (λ b. if b then types.types else types.types ++ t ∷ []) is
+
+    new : list_any (compared.eq t) types.types ≡ false → with_type types.types t ≡ types.types ++ t ∷ []
+    new is = ap (λ b. if b then types.types else types.types ++ t ∷ []) is
+
+    go : (b : Bool) → list_any (compared.eq t) types.types ≡ b → IsAdded t types (over types t (with_type types.types t))
+    go true is = subst (λ (ts : List Ty). IsAdded t types (over types t ts)) (sym (old is)) (record { grows = grows_not types; ordered = ordered; is = number_in types.types t is })
+    go false is = subst (λ (ts : List Ty). IsAdded t types (over types t ts)) (sym (new is))
+        (record { grows = record { types = (grows_more types ordered t there).types; structs = (grows_more types ordered t there).structs }; ordered = ordered_more types ordered t there; is = number_in (types.types ++ t ∷ []) t (any_last types.types t) })
+
+pub added : (place : Place) (t : Ty) (types : Types) (x : TyId × Types) → IsOrdered types → type_added place t types ≡ Ok x → IsAdded t types x
+unfolding type_added
+added place t types x ordered e = go (can_add types t) refl e
+  where
+    go : (b : Bool) → can_add types t ≡ b → ◌≡◌ {A = Checked TyId} (if b then Ok (grown_by types t) else broken kinds.Unsupported place) (Ok x) → IsAdded t types x
+    go true can is =
+        let same : grown_by types t ≡ x = cc in
+        subst (IsAdded t types) same (with_added types t ordered (parts_are_there types t (and_parts (nat_lt (length types.types) (2 ^ 32 - 1)) (has_parts types t) can).1))
+    go false can is = absurd (cc)
+
+pub sound_added : (fault : Option IllKind) (place : Place) (t : Ty) (types : Types) (x : TyId × Types) → IsOrdered types → sound fault place t types ≡ Ok x → IsAdded t types x
+sound_added None place t types x ordered e = added place t types x ordered e
+sound_added (Some kind) place t types x ordered e = absurd (cc)

@@ -1,0 +1,93 @@
+-- Expressions whose numbers and characters are longs: what operators make of such operands.
+use Rattle.std.proofs.Common.{◌≡◌, Bool, true, List, [], ◌∷◌, Option, None, Some, Result, Ok, Err}
+use Rattle.std.proofs.lemmas.Bool.{and_from}
+use Rattle.life_types.specs.Types.{Types}
+use Rattle.life_types.specs.declared.place.Place.{Place}
+use Rattle.life_types.specs.declared.ty.Ty.{Ty}
+use Rattle.life_types.specs.declared.ty.TyId.{TyId}
+use Rattle.life_tree.specs.declared.operator.PrefixOperator.{PrefixOperator}
+use Rattle.life_tree.specs.declared.operator.PrefixOperator.TheVariants as prefix
+use Rattle.life_typed.specs.Operators.{combined, dereferenced, is_condition, negated}
+use Rattle.life_typed.specs.TypedForm.{Typed}
+use Rattle.life_typed.specs.declared.misfit.Misfit.{Misfit}
+use Rattle.life_typed.specs.declared.typed_expr.BinaryOperator.{BinaryOperator}
+use Rattle.life_typed.specs.declared.typed_expr.Category.{Category}
+use Rattle.life_typed.specs.declared.typed_expr.Category.TheVariants as category
+use Rattle.life_types.specs.Trees.{is_plain, tree_at}
+use Rattle.life_names.specs.Checked.{◌>>=◌}
+use Rattle.life_names.specs.Environment.{Scope}
+use Rattle.life_names.specs.Found.{found_in}
+use Rattle.life_type_expr.specs.Expressions.{PartMeaning, chain, chained, operand_part}
+use Rattle.life_type_expr.specs.Lists.{ListMeaning, Meaning}
+use Rattle.life_type_expr.specs.Operands.{address_to, combined_to, dereferenced_to, makes_text, negated_to, parenthesized, prefixed, prefixed_by, text_made}
+use Rattle.life_well_typed.specs.AsParsed.{has_longs}
+use Rattle.life_typing_laws.proofs.Each.{EachHolds}
+use Rattle.life_typing_laws.proofs.Yields.{Finds, Yields, finds_if, finds_none, finds_ok, yields_found, yields_given, yields_ok, yields_then}
+
+-- its numbers and characters are longs
+abbrev pub IsLong : Typed → Type 0
+IsLong e = has_longs e.form ≡ true
+
+-- .. wherever it is checked
+abbrev pub GivesLong : Meaning → Type 0
+GivesLong m = (scope : Scope) (types : Types) → Yields IsLong (m scope types)
+
+-- .. behind such an operand
+abbrev pub GivesLongBehind : PartMeaning → Type 0
+GivesLongBehind p = (e : Typed) → IsLong e → GivesLong (p e)
+
+-- .. of each of a list
+abbrev pub GiveLong : ListMeaning → Type 0
+GiveLong l = EachHolds GivesLong l.list
+
+-- ---- operators between operands
+
+combined_long : (r : Result Ty Misfit) (operator : BinaryOperator) (place : Place) (left right : Typed) → IsLong left → IsLong right → Finds IsLong (combined_to r operator place left right)
+combined_long (Ok t) operator place left right l r = finds_ok _ _ (and_from (has_longs left.form) (has_longs right.form) l r)
+combined_long (Err m) operator place left right l r = finds_none _ _
+
+pub operand_long : (operator : BinaryOperator) (place : Place) (operand : Meaning) → GivesLong operand → GivesLongBehind (operand_part operator place operand)
+operand_long operator place operand good left l scope types =
+    yields_given _ _ _ (λ _. yields_then IsLong _ _ _ (good scope types) (λ x r. yields_given _ _ _ (λ _. yields_found _ _ _ (combined_long (combined operator left.ty x.0.ty) operator place left x.0 l r))))
+
+chained_long : (ps : List PartMeaning) → EachHolds GivesLongBehind ps → (scope : Scope) (x : Typed × Types) → IsLong x.0 → Yields IsLong (chained ps scope x)
+chained_long [] held scope x l = yields_ok IsLong x.0 x.1 l
+chained_long (p ∷ ps) held scope x l = yields_then IsLong IsLong _ _ (held.0 x.0 l scope x.1) (λ y m. chained_long ps held.1 scope y m)
+
+pub chain_long : (first : Meaning) (ps : List PartMeaning) → GivesLong first → EachHolds GivesLongBehind ps → GivesLong (chain first ps)
+chain_long first ps good held scope types = yields_then IsLong IsLong _ _ (good scope types) (λ x l. chained_long ps held scope x l)
+
+-- ---- operators before an operand
+
+negated_long : (r : Result Ty Misfit) (place : Place) (e : Typed) → IsLong e → Finds IsLong (negated_to r place e)
+negated_long (Ok t) place e l = finds_ok _ _ l
+negated_long (Err m) place e l = finds_none _ _
+
+dereferenced_long : (o : Option (TyId × Bool)) (types : Types) (place : Place) (e : Typed) → IsLong e → Finds IsLong (dereferenced_to o types place e)
+dereferenced_long None types place e l = finds_none _ _
+dereferenced_long (Some target) types place e l = finds_ok _ _ l
+
+address_long : (c : Category) (types : Types) (place : Place) (e : Typed) → IsLong e → Finds IsLong (address_to c types place e)
+address_long category.Value types place e l = finds_none _ _
+address_long (category.Place id constant) types place e l = finds_if _ (is_plain (tree_at types id)) _ _ l
+
+pub pointed_long : (types : Types) (place : Place) (e : Typed) → IsLong e → Finds IsLong (prefixed_by prefix.Dereference types place e)
+pointed_long types place e l = dereferenced_long (dereferenced e.ty) types place e l
+
+prefixed_by_long : (operator : PrefixOperator) (types : Types) (place : Place) (e : Typed) → IsLong e → Finds IsLong (prefixed_by operator types place e)
+prefixed_by_long prefix.Not types place e l = finds_if _ (is_condition e.ty) _ _ l
+prefixed_by_long prefix.Negate types place e l = negated_long (negated e.ty) place e l
+prefixed_by_long prefix.Dereference types place e l = pointed_long types place e l
+prefixed_by_long prefix.AddressOf types place e l = address_long e.category types place e l
+
+pub prefixed_long : (operator : PrefixOperator) (place : Place) (inner : Meaning) → GivesLong inner → GivesLong (λ scope types. inner scope types >>= prefixed operator place)
+prefixed_long operator place inner good scope types =
+    yields_then IsLong IsLong _ _ (good scope types) (λ x l. yields_given _ _ _ (λ _. yields_found _ _ _ (prefixed_by_long operator x.1 place x.0 l)))
+
+-- ---- what stands in parentheses
+
+pub paren_long : (closing : Place) (inner : Meaning) → GivesLong inner → GivesLong (λ scope types. inner scope types >>= (λ x. found_in x.1 (parenthesized closing x.0)))
+paren_long closing inner good scope types = yields_then IsLong IsLong _ _ (good scope types) (λ x l. yields_found _ _ _ (finds_ok _ _ l))
+
+pub text_long : (place closing : Place) (inner : Meaning) → GivesLong inner → GivesLong (λ scope types. inner scope types >>= (λ x. found_in x.1 (text_made place closing x.0)))
+text_long place closing inner good scope types = yields_then IsLong IsLong _ _ (good scope types) (λ x l. yields_found _ _ _ (finds_if _ (makes_text x.0.ty) _ _ l))

@@ -1,0 +1,186 @@
+-- What a statement gives to something, and what decides, is printed or goes over a range: of a tree that is read, its numbers and characters are longs.
+use Rattle.std.proofs.Common.{◌≡◌, Bool, true, false, List, [], ◌∷◌, map, Option, None, Some, Box, refl, subst}
+use Rattle.std.specs.declared.alloc.Global.{Global}
+use Rattle.std.proofs.lemmas.Bool.{and_from}
+use Rattle.life_types.specs.Types.{Types}
+use Rattle.life_types.specs.declared.place.Place.{Place}
+use Rattle.life_types.specs.declared.ty.Ty.{Ty}
+use Rattle.life_types.specs.declared.ty.TyId.{TyId}
+use Rattle.life_tree.specs.Views.{boxed, expr_tree, init_list_tree, initial_tree, initializer_tree, list_tree, optional_tree, print_item_tree, print_part_tree}
+use Rattle.life_tree.specs.declared.declaration.DeclaredType.{DeclaredType}
+use Rattle.life_tree.specs.declared.declaration.DeclaredType.TheVariants as declared_type
+use Rattle.life_tree.specs.declared.declaration.InitialValue.{InitialValue}
+use Rattle.life_tree.specs.declared.declaration.InitialValue.TheVariants as initial_value
+use Rattle.life_tree.specs.declared.declaration.Initializer.{Initializer}
+use Rattle.life_tree.specs.declared.declaration.Initializer.TheVariants as initializer
+use Rattle.life_tree.specs.declared.expr.Expr.{Expr}
+use Rattle.life_tree.specs.declared.expr.InitList.{InitList, out-InitList}
+use Rattle.life_tree.specs.declared.identifier.Identifier.{Identifier}
+use Rattle.life_tree.specs.declared.primary.PostfixPart.TheFolds.{fold_out-InitList}
+use Rattle.life_tree.specs.declared.stmt.PrintItem.{PrintItem}
+use Rattle.life_tree.specs.declared.stmt.PrintItem.TheVariants as print_item
+use Rattle.life_tree.specs.declared.stmt.PrintPart.{PrintPart}
+use Rattle.life_typed.specs.Operators.{is_condition}
+use Rattle.life_typed.specs.Statements.{range_element}
+use Rattle.life_typed.specs.TypedForm.{Typed}
+use Rattle.life_typed.specs.TypedStatement.{DeclarationForm, InitialForm, ItemForm, ListForm, line_end, one, printed, several}
+use Rattle.life_names.specs.Environment.{Scope, declared}
+use Rattle.life_names.specs.Found.{allowed}
+use Rattle.life_names.specs.declared.fault.IllKind.TheVariants as kinds
+use Rattle.life_typed.specs.BaseTypes.{type_at}
+use Rattle.life_names.specs.WrittenTypes.{written_local}
+use Rattle.life_type_expr.specs.Expressions.{PartMeaning, expr_meaning, init_list_meaning}
+use Rattle.life_type_expr.specs.Expressions.{part_step, primary_step, unary_step, additive_step, additive_part, multiplicative_step, multiplicative_part, equality_step, equality_part, relational_step, relational_part, and_part, arguments_step, expr_step, init_list_step, logical_and_step, or_part, postfix_step}
+use Rattle.life_type_expr.specs.Lists.{ListMeaning, Meaning, lower_kind}
+use Rattle.life_type_expr.specs.Operands.{is_constant, literal_allowed}
+use Rattle.life_type_stmt.specs.Autos.{auto_given, auto_local, auto_value, auto_written, lone_elements, lone_list}
+use Rattle.life_type_stmt.specs.Conditions.{condition, item, items, optional_condition, unless}
+use Rattle.life_type_stmt.specs.Declarations.{declaration_by, local_of, redeclared, variable_fault}
+use Rattle.life_type_stmt.specs.Given.{given_expr, given_first, given_list, given_value, value_fault}
+use Rattle.life_type_stmt.specs.Ranges.{RangeForm, RangeHead, element_place, element_type, elements_of, range_head, range_of}
+use Rattle.life_well_typed.specs.AsParsed.{are_items_as_parsed, has_longs, has_longs_if_any, have_longs, is_first_as_parsed, is_initial_as_parsed}
+use Rattle.life_typing_laws.proofs.Each.{EachHolds}
+use Rattle.life_typing_laws.proofs.LongExpressions.{whole_additive_reads, whole_expr_reads, whole_init_list_reads}
+use Rattle.life_typing_laws.proofs.LongLists.{AreLong, passed_long}
+use Rattle.life_typing_laws.proofs.LongOperands.{GiveLong, GivesLong, IsLong}
+use Rattle.life_typing_laws.proofs.ReadTrees.{IsRead}
+use Rattle.life_typing_laws.proofs.Yields.{Finds, Yields, finds_none, finds_ok, yields_behind, yields_given, yields_given_with, yields_ok, yields_then}
+
+-- ---- what is given
+
+abbrev pub IsParsedInitial : InitialForm → Type 0
+IsParsedInitial value = is_initial_as_parsed value ≡ true
+
+abbrev pub IsParsedFirst : Option InitialForm → Type 0
+IsParsedFirst value = is_first_as_parsed value ≡ true
+
+pub expr_given : (target : Ty) (e : Expr) → IsRead (expr_tree e) → (scope : Scope) (types : Types) → Yields IsLong (given_expr target e scope types)
+expr_given target e read scope types = yields_then IsLong IsLong _ _ (whole_expr_reads e read scope types) (λ x l. yields_given _ _ _ (λ _. yields_ok IsLong x.0 x.1 l))
+
+list_given : (target : Ty) (l : InitList) → IsRead (init_list_tree l) → (scope : Scope) (types : Types) → Yields IsParsedInitial (given_list target l scope types)
+list_given target l read scope types =
+    yields_then (λ (f : ListForm). AreLong f.elements) IsParsedInitial _ _
+    (yields_then AreLong _ _ _ (passed_long _ _ _ _ (init_list_meaning l).list (whole_init_list_reads l read) scope types) (λ x all. yields_ok (λ (f : ListForm). AreLong f.elements) _ _ all))
+    (λ x all. yields_ok IsParsedInitial (several x.0) x.1 all)
+
+pub value_given : (target : Ty) (value : InitialValue) → IsRead (initial_tree value) → (scope : Scope) (types : Types) → Yields IsParsedInitial (given_value target value scope types)
+value_given target (initial_value.Expr e) read scope types = yields_then IsLong IsParsedInitial _ _ (expr_given target e.value read.1 scope types) (λ x l. yields_ok IsParsedInitial (one x.0) x.1 l)
+value_given target (initial_value.List l) read scope types = list_given target l read.1 scope types
+
+first_given : (target : Ty) (i : Option Initializer) → IsRead (initializer_tree i) → (scope : Scope) (types : Types) → Yields IsParsedFirst (given_first target i scope types)
+first_given target None read scope types = yields_ok IsParsedFirst None types refl
+first_given target (Some (initializer.Equals equals value)) read scope types =
+    yields_then IsParsedInitial IsParsedFirst _ _ (value_given target value read.1.1 scope types) (λ x l. yields_ok IsParsedFirst (Some x.0) x.1 l)
+first_given target (Some (initializer.List l)) read scope types =
+    yields_then IsParsedInitial IsParsedFirst _ _ (list_given target l read.1 scope types) (λ x l. yields_ok IsParsedFirst (Some x.0) x.1 l)
+
+-- ---- what is given to `auto`
+
+list_opened : (l : InitList) → init_list_meaning l ≡ record { opening = (out-InitList l).opening; list = map expr_meaning (out-InitList l).list.items; closing = (out-InitList l).closing }
+unfolding init_list_meaning expr_meaning
+list_opened l = fold_out-InitList PartMeaning Meaning Meaning Meaning PartMeaning Meaning PartMeaning Meaning PartMeaning Meaning PartMeaning PartMeaning ListMeaning Meaning ListMeaning Meaning PartMeaning Meaning
+    part_step primary_step unary_step additive_step additive_part multiplicative_step multiplicative_part equality_step equality_part relational_step relational_part and_part arguments_step expr_step
+    init_list_step logical_and_step or_part postfix_step l
+
+lone_long : (es : List Expr) → EachHolds GivesLong (map expr_meaning es) → (scope : Scope) (types : Types) → Yields AreLong (lone_elements es scope types)
+lone_long [] held scope types = yields_ok AreLong [] types refl
+lone_long (e ∷ es) held scope types =
+    yields_then IsLong AreLong _ _ (yields_then IsLong IsLong _ _ (held.0 scope types) (λ x l. yields_given _ _ _ (λ _. yields_ok IsLong x.0 x.1 l))) (λ y l.
+    yields_then AreLong AreLong _ _ (lone_long es held.1 scope y.1) (λ ys all. yields_ok AreLong (y.0 ∷ ys.0) ys.1 (and_from (has_longs y.0.form) (have_longs ys.0) l all)))
+
+lone_list_long : (l : InitList) → IsRead (init_list_tree l) → (scope : Scope) (types : Types) → Yields IsParsedInitial (lone_list l scope types)
+lone_list_long l read scope types =
+    yields_then AreLong IsParsedInitial _ _ (lone_long (out-InitList l).list.items (subst GiveLong (list_opened l) (whole_init_list_reads l read)) scope types) (λ x all.
+    yields_ok IsParsedInitial (several (record { opening = (out-InitList l).opening; elements = x.0; closing = (out-InitList l).closing })) x.1 all)
+
+auto_long : (value : InitialValue) → IsRead (initial_tree value) → (scope : Scope) (types : Types) → Yields IsParsedInitial (auto_value value scope types)
+auto_long (initial_value.Expr e) read scope types = yields_then IsLong IsParsedInitial _ _ (whole_expr_reads e.value read.1 scope types) (λ x l. yields_ok IsParsedInitial (one x.0) x.1 l)
+auto_long (initial_value.List l) read scope types = lone_list_long l read.1 scope types
+
+auto_first : (i : Option Initializer) → IsRead (initializer_tree i) → (scope : Scope) (types : Types) → Yields IsParsedFirst (auto_given i scope types)
+auto_first None read scope types = yields_ok IsParsedFirst None types refl
+auto_first (Some (initializer.Equals equals value)) read scope types =
+    yields_then IsParsedInitial IsParsedFirst _ _ (auto_long value read.1.1 scope types) (λ x l. yields_ok IsParsedFirst (Some x.0) x.1 l)
+auto_first (Some (initializer.List l)) read scope types = yields_then IsParsedInitial IsParsedFirst _ _ (lone_list_long l read.1 scope types) (λ x l. yields_ok IsParsedFirst (Some x.0) x.1 l)
+
+-- ---- declarations
+
+abbrev pub IsParsedDeclaration : DeclarationForm × Scope → Type 0
+IsParsedDeclaration x = IsParsedFirst x.0.value
+
+pub declared_long : (t : DeclaredType) (name : Identifier) (i : Option Initializer) → IsRead (initializer_tree i) → (scope : Scope) (types : Types)
+    → Yields IsParsedDeclaration (declaration_by t name i scope types)
+declared_long (declared_type.Written t) name i read scope types =
+    yields_behind IsParsedDeclaration (written_local t name.place scope types) _ (λ w. yields_then IsParsedFirst IsParsedDeclaration _ _ (first_given _ i read scope w.1) (λ v l.
+    yields_given IsParsedDeclaration (allowed (lower_kind (redeclared scope name.id) (variable_fault v.1 (type_at w.1 w.0.ty) v.0)) name.place) _ (λ _.
+    yields_given IsParsedDeclaration (declared (local_of name w.0) scope) _ (λ n. yields_ok IsParsedDeclaration (record { local = n.0; name = name; value = v.0 }, n.1) v.1 l))))
+declared_long (declared_type.Auto a) name i read scope types =
+    yields_then IsParsedFirst IsParsedDeclaration _ _ (auto_first i read scope types) (λ v l.
+    yields_given IsParsedDeclaration (allowed (redeclared scope name.id) name.place) _ (λ _. yields_behind IsParsedDeclaration (auto_local a name.place v.0 scope v.1) _ (λ w.
+    yields_given IsParsedDeclaration (declared (local_of name w.0) scope) _ (λ n. yields_ok IsParsedDeclaration (record { local = n.0; name = name; value = v.0 }, n.1) w.1 l))))
+
+-- ---- what decides
+
+pub condition_long : (e : Expr) → IsRead (expr_tree e) → (scope : Scope) (types : Types) → Yields IsLong (condition e scope types)
+condition_long e read scope types =
+    yields_then IsLong IsLong _ _ (whole_expr_reads e read scope types) (λ x l.
+    yields_given IsLong (literal_allowed false x.0) _ (λ _. yields_given IsLong (allowed (unless (is_condition x.0.ty) kinds.WrongType) x.0.place) _ (λ _. yields_ok IsLong x.0 x.1 l)))
+
+abbrev pub IsLongIfAny : Option Typed → Type 0
+IsLongIfAny e = has_longs_if_any e ≡ true
+
+pub optional_condition_long : (e : Option (Box Expr Global)) → IsRead (optional_tree (boxed expr_tree) e) → (scope : Scope) (types : Types) → Yields IsLongIfAny (optional_condition e scope types)
+optional_condition_long None read scope types = yields_ok IsLongIfAny None types refl
+optional_condition_long (Some e) read scope types = yields_then IsLong IsLongIfAny _ _ (condition_long e.value read scope types) (λ x l. yields_ok IsLongIfAny (Some x.0) x.1 l)
+
+-- ---- what is printed
+
+abbrev pub AreParsedItems : List ItemForm → Type 0
+AreParsedItems is = are_items_as_parsed is ≡ true
+
+abbrev IsParsedItem : ItemForm → Type 0
+IsParsedItem (printed e) = IsLong e
+IsParsedItem (line_end place) = Unit {0}
+
+items_with : (i : ItemForm) (is : List ItemForm) → IsParsedItem i → AreParsedItems is → AreParsedItems (i ∷ is)
+items_with (printed e) is l all = and_from (has_longs e.form) (are_items_as_parsed is) l all
+items_with (line_end place) is l all = all
+
+item_long : (i : PrintItem) → IsRead (print_item_tree i) → (scope : Scope) (types : Types) → Yields IsParsedItem (item i scope types)
+item_long (print_item.Value e) read scope types =
+    yields_then IsLong IsParsedItem _ _ (whole_additive_reads e read.1 scope types) (λ x l. yields_given _ _ _ (λ _. yields_ok IsParsedItem (printed x.0) x.1 l))
+item_long (print_item.EndLine name) read scope types = yields_ok IsParsedItem (line_end name.word) types tt
+
+pub items_long : (ps : List PrintPart) → IsRead (list_tree (map print_part_tree ps)) → (scope : Scope) (types : Types) → Yields AreParsedItems (items ps scope types)
+items_long [] read scope types = yields_ok AreParsedItems [] types refl
+items_long (p ∷ ps) read scope types =
+    yields_then IsParsedItem AreParsedItems _ _ (item_long p.item read.0.1.1 scope types) (λ x l. yields_then AreParsedItems AreParsedItems _ _ (items_long ps read.1 scope x.1) (λ xs all.
+    yields_ok AreParsedItems (x.0 ∷ xs.0) xs.1 (items_with x.0 xs.0 l all)))
+
+-- ---- ranges
+
+abbrev IsLongRange : RangeForm → Type 0
+IsLongRange r = IsLong r.range
+
+elements_long : (o : Option (TyId × Bool)) (colon : Place) (e : Typed) → IsLong e → Finds IsLongRange (elements_of o colon e)
+elements_long None colon e l = finds_none _ _
+elements_long (Some element) colon e l = finds_ok _ _ l
+
+range_long : (name : Identifier) (colon : Place) (e : Expr) → IsRead (expr_tree e) → (scope : Scope) (types : Types) → Yields IsLongRange (range_of name colon e scope types)
+range_long name colon e read scope types =
+    yields_then IsLong IsLongRange _ _ (whole_expr_reads e read scope types) (λ x l.
+    yields_given IsLongRange (literal_allowed false x.0) _ (λ _. yields_given IsLongRange (allowed (redeclared scope name.id) name.place) _ (λ _.
+    yields_given_with IsLongRange _ _ _ (elements_long (range_element x.0.ty (is_constant x.0.category)) colon x.0 l) (λ r m. yields_ok IsLongRange r x.1 m))))
+
+abbrev pub IsLongHead : RangeHead × Scope → Type 0
+IsLongHead h = IsLong h.0.range
+
+pub head_long : (t : DeclaredType) (name : Identifier) (colon : Place) (e : Expr) → IsRead (expr_tree e) → (scope : Scope) (types : Types) → Yields IsLongHead (range_head t name colon e scope types)
+head_long (declared_type.Written t) name colon e read scope types =
+    yields_behind IsLongHead (written_local t name.place scope types) _ (λ w. yields_then IsLongRange IsLongHead _ _ (range_long name colon e read scope w.1) (λ r l.
+    yields_given IsLongHead (allowed (value_fault kinds.WrongType r.1 (type_at w.1 w.0.ty) (element_type r.1 r.0.element) (element_place r.0.element)) name.place) _ (λ _.
+    yields_given IsLongHead (declared (local_of name w.0) scope) _ (λ n. yields_ok IsLongHead (record { local = n.0; range = r.0.range }, n.1) r.1 l))))
+head_long (declared_type.Auto a) name colon e read scope types =
+    yields_then IsLongRange IsLongHead _ _ (range_long name colon e read scope types) (λ r l.
+    yields_behind IsLongHead (auto_written a name.place (element_type r.1 r.0.element) (element_place r.0.element) scope r.1) _ (λ w.
+    yields_given IsLongHead (declared (local_of name w.0) scope) _ (λ n. yields_ok IsLongHead (record { local = n.0; range = r.0.range }, n.1) w.1 l)))

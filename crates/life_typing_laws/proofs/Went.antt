@@ -1,0 +1,272 @@
+-- A whole function: what is known behind it.
+use Rattle.std.proofs.Common.{◌≡◌, ◌⊎◌, inl, inr, ⊎_elim, ℕ, suc, ◌≤◌, Bool, true, false, Option, Some, Ok, List, [], ◌∷◌, length, map, slice_get, slice_set, take, refl, sym, ap, subst, ◌∙◌, arith}
+use Rattle.std.proofs.lemmas.List.{length-map}
+use Rattle.life_types.specs.Types.{Types}
+use Rattle.life_types.specs.declared.ty.NameId.{NameId}
+use Rattle.life_types.specs.declared.ty.TyId.{TyId}
+use Rattle.life_tree.specs.declared.function.Function.{Function}
+use Rattle.life_tree.specs.declared.function.FunctionBody.{FunctionBody}
+use Rattle.life_tree.specs.declared.function.FunctionBody.TheVariants as function_body
+use Rattle.life_tree.specs.declared.function.Parameter.{Parameter}
+use Rattle.life_tree.specs.declared.stmt.Block.{Block}
+use Rattle.life_typed.specs.Programs.{FunctionForm, ProgramForm}
+use Rattle.life_typed.specs.TypedStatement.{StmtForm, block}
+use Rattle.life_typed.specs.declared.typed_program.TypedLocal.{TypedLocal}
+use Rattle.life_names.specs.Environment.{Scope, SignatureView, forgotten, seen_as, without_locals}
+use Rattle.life_names.specs.declared.environment.Entity.TheVariants as entity
+use Rattle.life_type_stmt.specs.Bodies.{body}
+use Rattle.life_typing.specs.Functions.{PartsView, behind_header, behind_header_as, body_kept, changed_at, with_function, with_parameters_forgotten}
+use Rattle.life_typing.specs.Names.{DeclaredView, has_body, is_main}
+use Rattle.life_typing.specs.Parameters.{parameters_forgotten}
+use Rattle.life_typing.specs.Progress.{ProgressView}
+use Rattle.life_well_typed.specs.Expressions.{parameter_types, type_of}
+use Rattle.life_well_typed.specs.Functions.{IsBody, IsWellTypedFunction}
+use Rattle.life_well_typed.specs.Statements.{IsStatement}
+use Rattle.life_well_typed.specs.Visible.{Visible, after, with_parameters}
+use Rattle.life_typing_laws.proofs.Declaring.{function_is, parts}
+use Rattle.life_typing_laws.proofs.Bodies.{around_body, body_block, body_part}
+use Rattle.life_typing_laws.proofs.Entered.{Entered, IsBegun, enters}
+use Rattle.life_typing_laws.proofs.Known.{AreKnown, HasInEnd, KnownAt, known_changed, known_grown, same_or_not}
+use Rattle.life_typing_laws.proofs.Parameters.{names_of}
+use Rattle.life_typing_laws.proofs.Scopes.{IsIn, forgotten_functions, forgotten_keeps, forgotten_locals, forgotten_means, forgotten_size, forgotten_structs, set_else, set_there}
+use Rattle.life_typing_laws.proofs.Statements.{IsPart, is_block}
+use Rattle.life_typing_laws.proofs.Steps.{answered, same_some, same_answer, not_both}
+use Rattle.life_typing_laws.proofs.Visible.{IsUnderway}
+use Rattle.life_typing_laws.specs.Served.{is_served_statement}
+use Rattle.life_typing_laws.specs.Sound.{IsSound, Keeps}
+
+-- ---- behind it no parameter and no variable is visible
+
+forgotten_are : (ps : List Parameter) (scope : Scope) → parameters_forgotten ps scope ≡ forgotten (names_of ps) scope
+forgotten_are [] scope = refl
+forgotten_are (q ∷ ps) scope = forgotten_are ps (seen_as q.name.id entity.Unseen scope)
+
+abbrev ended : List NameId → Scope → Scope
+ended names scope = forgotten names (without_locals scope)
+
+ended_sound : (names : List NameId) (v : Visible) (scope : Scope) (types : Types) → IsSound v scope types → ((k n : ℕ) → slice_get scope.visible k ≡ Some (entity.Local n) → IsIn names k)
+    → IsSound (with_parameters 0) (ended names scope) types
+ended_sound names v scope types sound shows = record {
+  ordered = sound.ordered;
+  based = sound.based;
+  no_structs = forgotten_structs names (without_locals scope) ∙ sound.no_structs;
+  locals_there = λ n l e. absurd (never n l (subst (λ (ls : List TypedLocal). slice_get ls n ≡ Some l) (forgotten_locals names (without_locals scope)) e));
+  results_there = λ n s e. sound.results_there n s (subst (λ (fs : List SignatureView). slice_get fs n ≡ Some s) (forgotten_functions names (without_locals scope)) e);
+  parameters_there = λ n s e. sound.parameters_there n s (subst (λ (fs : List SignatureView). slice_get fs n ≡ Some s) (forgotten_functions names (without_locals scope)) e);
+  declared = ap length (forgotten_locals names (without_locals scope));
+  visible = λ k n e. let found = forgotten_means names (without_locals scope) k n e in absurd (found.0 (shows k n found.1));
+}
+  where
+    never : (n : ℕ) (l : TypedLocal) → slice_get [] n ≡ Some l → ⊥
+    never n l e = cc
+
+-- ---- lists in which what stood at a number stays there begin the same
+
+first_kept : {A : Type 0} (x y : A) (xs ys : List A) → Keeps (x ∷ xs) (y ∷ ys) → y ≡ x
+first_kept x y xs ys keeps = same_some y x (keeps 0 x refl)
+
+none_kept : {A : Type 0} (x : A) (xs : List A) → Keeps (x ∷ xs) [] → ⊥
+none_kept x xs keeps = never (keeps 0 x refl)
+  where
+    never : slice_get [] 0 ≡ Some x → ⊥
+    never e = cc
+
+kept_front : {A : Type 0} (xs ys : List A) → Keeps xs ys → take (length xs) ys ≡ xs
+kept_front [] ys keeps = refl
+kept_front (x ∷ xs) [] keeps = absurd (none_kept x xs keeps)
+kept_front (x ∷ xs) (y ∷ ys) keeps = ap (λ z. z ∷ take (length xs) ys) (first_kept x y xs ys keeps) ∙ ap (λ zs. x ∷ zs) (kept_front xs ys (λ n z e. keeps (suc n) z e))
+
+kept_count : {A : Type 0} (xs ys : List A) → Keeps xs ys → length xs ≤ length ys
+kept_count [] ys keeps = omega arith
+kept_count (x ∷ xs) [] keeps = absurd (none_kept x xs keeps)
+kept_count (x ∷ xs) (y ∷ ys) keeps = let rest : length xs ≤ length ys = kept_count xs ys (λ n z e. keeps (suc n) z e) in omega (arith, rest)
+
+-- ---- what holds behind a function
+
+-- each body is served
+abbrev pub AreServed : List FunctionForm → List DeclaredView → Type 0
+AreServed forms ds = (n : ℕ) (form : FunctionForm) (d : DeclaredView) → slice_get forms n ≡ Some form → slice_get ds n ≡ Some d → d.has_body ≡ true → is_served_statement form.body ≡ true
+
+pub record Went (bodies : List Bool) (f : Function) (p q : ProgressView) : Type 0 where
+  pub under : IsUnderway bodies q
+  pub number : ℕ
+  pub keeps : (k n : ℕ) → slice_get p.scope.visible k ≡ Some (entity.Function n) → slice_get q.scope.visible k ≡ Some (entity.Function n)
+  pub named : slice_get q.scope.visible f.name.id.0 ≡ Some (entity.Function number)
+  pub noted : has_body f.body ≡ true → (d : DeclaredView) → slice_get q.declared number ≡ Some d → d.has_body ≡ true
+  pub came : (m : ℕ) (d : DeclaredView) → slice_get q.declared m ≡ Some d → d.has_body ≡ false → (slice_get p.declared m ≡ Some d) ⊎ (IsBegun bodies f p number m × (has_body f.body ≡ false))
+
+module _ (bodies : List Bool) (f : Function) (p : ProgressView) (h : PartsView) (y : ℕ × ProgressView) (entered : Entered bodies f p h y) where
+  abbrev names : List NameId
+  names = names_of f.parameters.items
+
+  -- what is visible behind it, from what is visible behind its body
+  shut : (scope : Scope) (types : Types) (forms : List FunctionForm) (ds : List DeclaredView) (v : Visible) → IsSound v scope types → AreKnown types scope.functions forms ds
+      → ((k n : ℕ) → slice_get scope.visible k ≡ Some (entity.Local n) → IsIn names k) → length scope.visible ≡ length bodies
+      → IsUnderway bodies (record y.1 { scope = ended names scope; types = types; functions = forms; declared = ds })
+  shut scope types forms ds v sound known shows size = record {
+    sound = ended_sound names v scope types sound shows;
+    known = subst (λ (fs : List SignatureView). AreKnown types fs forms ds) (sym (forgotten_functions names (without_locals scope))) known;
+    size = forgotten_size names (without_locals scope) ∙ size;
+  }
+
+  -- a name that means a function behind the body means it behind the function too
+  stays : (scope : Scope) (k n : ℕ) → (IsIn names k → ⊥) → slice_get scope.visible k ≡ Some (entity.Function n) → slice_get (ended names scope).visible k ≡ Some (entity.Function n)
+  stays scope k n none e = forgotten_keeps names (without_locals scope) k none ∙ e
+
+  -- ---- without a body
+
+  declared_went : has_body f.body ≡ false → Went bodies f p (record y.1 { scope = ended names y.1.scope })
+  declared_went bodiless = record {
+    under = shut y.1.scope y.1.types y.1.functions y.1.declared (with_parameters (length f.parameters.items)) entered.sound entered.known entered.shows entered.size;
+    number = y.0;
+    keeps = λ k n e. let kept = entered.keeps k n e in stays y.1.scope k n kept.0 kept.1;
+    named = stays y.1.scope f.name.id.0 y.0 entered.named.0 entered.named.1;
+    noted = λ bodied d e. not_both (has_body f.body) bodied bodiless;
+    came = λ m d e none. ⊎_elim (λ old. inl old) (λ begun. inr (begun, bodiless)) (entered.came m d e);
+  }
+
+  -- ---- with a body
+
+  at : KnownAt y.1.types y.1.scope.functions y.1.functions y.1.declared y.0 entered.s
+  at = entered.known.each y.0 entered.s entered.there
+
+  abbrev with_body : (StmtForm × Scope) × Types → FunctionForm
+  with_body w = record at.form { place = f.name.place; locals = w.0.1.locals; body = w.0.0 }
+
+  abbrev noted : DeclaredView
+  noted = record at.declared { has_body = true }
+
+  abbrev behind_body : (StmtForm × Scope) × Types → ProgressView
+  behind_body w = record y.1 { scope = ended names w.0.1; types = w.1; functions = slice_set y.1.functions y.0 (with_body w); declared = slice_set y.1.declared y.0 noted }
+
+  module _ (b : Block) (main : Bool) (w : (StmtForm × Scope) × Types) (checked : body h.returned main b y.1.scope y.1.types ≡ Ok w) (served : is_served_statement w.0.0 ≡ true) where
+    abbrev form : FunctionForm
+    form = with_body w
+
+    abbrev v : Visible
+    v = with_parameters (length f.parameters.items)
+
+    part : IsPart [] (around_body h.returned) v y.1.scope y.1.types w
+    part = body_part h.returned main b v y.1.scope y.1.types w checked served entered.sound entered.result_there
+
+    -- the parameters are its first locals
+    locals_count : length at.form.parameters ≡ length y.1.scope.locals
+    locals_count = at.is.promises ∙ ap length (sym entered.parameters) ∙ ap length (sym entered.locals) ∙ length-map y.1.scope.locals type_of
+
+    front : take (length at.form.parameters) w.0.1.locals ≡ y.1.scope.locals
+    front = subst (λ (n : ℕ). take n w.0.1.locals ≡ y.1.scope.locals) (sym locals_count) (kept_front y.1.scope.locals w.0.1.locals part.moves.locals)
+
+    types_are : parameter_types (Some form) ≡ entered.s.parameters
+    types_are = ap (map type_of) front ∙ entered.locals ∙ entered.parameters
+
+    promises_count : length f.parameters.items ≡ length at.form.parameters
+    promises_count = sym entered.count ∙ ap length entered.parameters ∙ sym at.is.promises
+
+    result_is : h.returned ≡ at.form.result
+    result_is = entered.result ∙ sym at.is.result
+
+    module _ (P : ProgramForm) where
+      block_is : (s : StmtForm) → is_block s ≡ true → IsStatement P w.0.1.locals at.form.result s false (with_parameters (length at.form.parameters)) → IsBody P form s
+      block_is (block items closing) is typed = typed
+      block_is _ is typed = absurd (cc)
+
+      well_typed : HasInEnd P w.1 w.0.1.functions → IsWellTypedFunction P form
+      well_typed final = record {
+        parameters = subst (λ (n : ℕ). n ≤ length w.0.1.locals) (sym locals_count) (kept_count y.1.scope.locals w.0.1.locals part.moves.locals);
+        body = block_is w.0.0 (body_block h.returned main b y.1.scope y.1.types w checked)
+            (subst (λ (t : TyId). IsStatement P w.0.1.locals t w.0.0 false (with_parameters (length at.form.parameters))) result_is
+            (subst (λ (n : ℕ). IsStatement P w.0.1.locals h.returned w.0.0 false (with_parameters n)) promises_count
+            (part.is P w.0.1.locals (record { grown = final.grown; kept = λ n l e. e; functions = final.functions }))));
+      }
+
+    known_behind : AreKnown w.1 w.0.1.functions (slice_set y.1.functions y.0 form) (slice_set y.1.declared y.0 noted)
+    known_behind = known_changed w.1 w.0.1.functions y.1.functions y.1.declared grown y.0 form at.form noted at.declared entered.s at.form_there at.declared_there
+        (subst (λ (fs : List SignatureView). slice_get fs y.0 ≡ Some entered.s) (sym part.moves.functions) entered.there)
+        (record {
+          result = at.is.result;
+          promises = at.is.promises;
+          said = at.is.said;
+          body = λ has. record { parameters = types_are; is = well_typed };
+        })
+      where
+        grown : AreKnown w.1 w.0.1.functions y.1.functions y.1.declared
+        grown = subst (λ (fs : List SignatureView). AreKnown w.1 fs y.1.functions y.1.declared) (sym part.moves.functions)
+            (known_grown y.1.types w.1 y.1.scope.functions y.1.functions y.1.declared part.moves.types entered.known)
+
+    bodied_went : has_body f.body ≡ true → Went bodies f p (behind_body w)
+    bodied_went bodied = record {
+      under = shut w.0.1 w.1 (slice_set y.1.functions y.0 form) (slice_set y.1.declared y.0 noted) (after w.0.0 v) part.sound known_behind
+          (λ k n e. ⊎_elim (λ none. absurd none) (λ old. entered.shows k n old) (part.moves.shows k n e)) (part.moves.size ∙ entered.size);
+      number = y.0;
+      keeps = λ k n e. let kept = entered.keeps k n e in stays w.0.1 k n kept.0 (part.moves.keeps k n kept.1).1;
+      named = stays w.0.1 f.name.id.0 y.0 entered.named.0 (part.moves.keeps f.name.id.0 y.0 entered.named.1).1;
+      noted = λ _ d e. ap (λ (c : DeclaredView). c.has_body) (sym (same_some noted d (sym noted_there ∙ e)));
+      came = λ m d e none. ⊎_elim (λ same. not_both d.has_body (is_noted m d same e) none) (λ other. older m d (sym (set_else y.1.declared y.0 m noted other) ∙ e) other) (same_or_not y.0 m);
+    }
+      where
+        noted_there : slice_get (slice_set y.1.declared y.0 noted) y.0 ≡ Some noted
+        noted_there = set_there y.1.declared y.0 at.declared noted at.declared_there
+
+        is_noted : (m : ℕ) (d : DeclaredView) → y.0 ≡ m → slice_get (slice_set y.1.declared y.0 noted) m ≡ Some d → d.has_body ≡ true
+        is_noted m d same e =
+            let there : slice_get (slice_set y.1.declared y.0 noted) m ≡ Some noted = subst (λ (i : ℕ). slice_get (slice_set y.1.declared y.0 noted) i ≡ Some noted) same noted_there in
+            ap (λ (c : DeclaredView). c.has_body) (sym (same_some noted d (sym there ∙ e)))
+
+        older : (m : ℕ) (d : DeclaredView) → slice_get y.1.declared m ≡ Some d → (y.0 ≡ m → ⊥) → (slice_get p.declared m ≡ Some d) ⊎ (IsBegun bodies f p y.0 m × (has_body f.body ≡ false))
+        older m d e other = ⊎_elim (λ old. inl old) (λ begun. absurd (other (sym begun.is))) (entered.came m d e)
+
+-- ---- the whole step
+
+module _ (bodies : List Bool) (f : Function) (p q : ProgressView) (h : PartsView) (y : ℕ × ProgressView) (entered : Entered bodies f p h y) (z : ProgressView)
+    (same : with_parameters_forgotten f z ≡ q) (served : AreServed q.functions q.declared) where
+  -- what is changed at the function's number
+  abbrev changed_form : (StmtForm × Scope) × Types → FunctionForm → FunctionForm
+  changed_form w g = record g { place = f.name.place; locals = w.0.1.locals; body = w.0.0 }
+
+  abbrev changed_note : DeclaredView → DeclaredView
+  changed_note d = record d { has_body = true }
+
+  abbrev built : (StmtForm × Scope) × Types → Scope → List FunctionForm → List DeclaredView → ProgressView
+  built w scope forms ds = record y.1 { scope = scope; types = w.1; functions = forms; declared = ds }
+
+  module _ (w : (StmtForm × Scope) × Types) (kept : body_kept f y.0 y.1 w.0.0 w.0.1 w.1 ≡ z) where
+    abbrev k : KnownAt y.1.types y.1.scope.functions y.1.functions y.1.declared y.0 entered.s
+    k = at bodies f p h y entered
+
+    -- that is what is behind the body
+    behind_it : behind_body bodies f p h y entered w ≡ q
+    behind_it =
+        ap (λ (s : Scope). built w s (slice_set y.1.functions y.0 (changed_form w k.form)) (slice_set y.1.declared y.0 (changed_note k.declared))) (sym (forgotten_are f.parameters.items (without_locals w.0.1)))
+        ∙ ap (λ (o : Option FunctionForm). built w (parameters_forgotten f.parameters.items (without_locals w.0.1)) (changed_at y.0 (changed_form w) y.1.functions o) (slice_set y.1.declared y.0 (changed_note k.declared)))
+        (sym k.form_there)
+        ∙ ap (λ (o : Option DeclaredView). built w (parameters_forgotten f.parameters.items (without_locals w.0.1)) (changed_at y.0 (changed_form w) y.1.functions (slice_get y.1.functions y.0)) (changed_at y.0 changed_note y.1.declared o))
+        (sym k.declared_there)
+        ∙ ap (λ (u : ProgressView). with_parameters_forgotten f u) kept
+        ∙ same
+
+    body_served : is_served_statement w.0.0 ≡ true
+    body_served = served y.0 (changed_form w k.form) (changed_note k.declared)
+        (subst (λ (u : ProgressView). slice_get u.functions y.0 ≡ Some (changed_form w k.form)) behind_it (set_there y.1.functions y.0 k.form (changed_form w k.form) k.form_there))
+        (subst (λ (u : ProgressView). slice_get u.declared y.0 ≡ Some (changed_note k.declared)) behind_it (set_there y.1.declared y.0 k.declared (changed_note k.declared) k.declared_there))
+        refl
+
+  behind_header_went : behind_header f y.0 h.returned y.1 ≡ Ok z → Went bodies f p q
+  behind_header_went e = go f.body refl e
+    where
+      go : (c : FunctionBody) → f.body ≡ c → behind_header_as c f y.0 h.returned y.1 ≡ Ok z → Went bodies f p q
+      go (function_body.Declared place) is e =
+          subst (Went bodies f p)
+          (ap (λ (s : Scope). record y.1 { scope = s }) (sym (forgotten_are f.parameters.items (without_locals y.1.scope)))
+          ∙ ap (λ (u : ProgressView). with_parameters_forgotten f u) (same_answer (record y.1 { scope = without_locals y.1.scope }) z e) ∙ same)
+          (declared_went bodies f p h y entered (ap (λ (c : FunctionBody). has_body c) is))
+      go (function_body.Block b) is e =
+          let step = answered (body h.returned (is_main y.1.scope f.name.id) b y.1.scope y.1.types) (λ x. Ok (body_kept f y.0 y.1 (x.0).0 (x.0).1 x.1)) z e in
+          let kept = same_answer (body_kept f y.0 y.1 step.value.0.0 step.value.0.1 step.value.1) z step.behind in
+          subst (Went bodies f p) (behind_it step.value kept)
+          (bodied_went bodies f p h y entered b (is_main y.1.scope f.name.id) step.value step.gave (body_served step.value kept) (ap (λ (c : FunctionBody). has_body c) is))
+
+-- so a function that is read leaves all as it should be
+pub function_went : (bodies : List Bool) (f : Function) (p q : ProgressView) → IsUnderway bodies p → with_function bodies f p ≡ Ok q → AreServed q.functions q.declared → Went bodies f p q
+function_went bodies f p q under e served =
+    let it = function_is bodies f p q e in
+    behind_header_went bodies f p q (parts it.h) it.y (enters bodies f p under it.x it.h it.y it.declared) it.z it.is served it.behind

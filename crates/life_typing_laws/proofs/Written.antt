@@ -1,0 +1,122 @@
+-- A type that is written is there, in a table that has grown.
+use Rattle.std.proofs.Common.{◌≡◌, ◌<◌, Bool, Option, None, Some, List, [], Ok, length, slice_get, refl, subst, arith}
+use Rattle.std.specs.Prelude.{is_some}
+use Rattle.std.proofs.lemmas.Option.{slice_get_within}
+use Rattle.life_types.specs.Trees.{IsOrdered}
+use Rattle.life_types.specs.Types.{Types, HasType}
+use Rattle.life_types.specs.declared.place.Place.{Place}
+use Rattle.life_types.specs.declared.ty.Ty.{Ty}
+use Rattle.life_types.specs.declared.ty.Ty.TheVariants as ty
+use Rattle.life_types.specs.declared.ty.TyId.{TyId}
+use Rattle.life_typing_laws.specs.Sound.{Grows}
+use Rattle.life_tree.specs.declared.type_name.Base.TheOpen as type_open
+use Rattle.life_tree.specs.declared.type_name.IteratorName.{IteratorName}
+use Rattle.life_tree.specs.declared.type_name.Suffix.{Suffix}
+use Rattle.life_tree.specs.declared.type_name.Suffix.TheVariants as suffix
+use Rattle.life_tree.specs.declared.type_name.TypeName.{TypeName}
+use Rattle.life_typed.specs.BaseTypes.{base_types}
+use Rattle.life_typed.specs.declared.basic.TheConstants.{BOOL, CHAR, INT, LONG, SIZE, TEXT, VIEW}
+use Rattle.life_names.specs.Checked.{Checked}
+use Rattle.life_names.specs.Environment.{Scope, StructureView, meaning}
+use Rattle.life_names.specs.WrittenTypes.{Meaning, NameMeaning, argument_step, base_step, element_fault, held_fault, sound, span, struct_type, suffixed, target_fault, type_meaning, type_meant, type_step, unique, vector, vector_type}
+use Rattle.life_names.specs.declared.environment.Entity.{Entity}
+use Rattle.life_names.specs.declared.environment.Entity.TheVariants as entity
+use Rattle.life_typing_laws.proofs.Growing.{IsAdded, grows_not, grows_on, sound_added}
+use Rattle.life_typing_laws.proofs.Steps.{bound}
+use Rattle.life_typing_laws.proofs.TypesKeep.{Held-Base, type_holds}
+
+-- a number of a type that is there, and the table behind it
+pub record IsFound (types : Types) (x : TyId × Types) : Type 0 where
+  pub grows : Grows types x.1
+  pub ordered : IsOrdered x.1
+  pub there : HasType x.1 x.0
+
+-- .. where no struct is defined
+abbrev pub Finds : Meaning → Type 0
+Finds meaning =
+    (place : Place) (scope : Scope) (types : Types) (x : TyId × Types) → IsOrdered types → Grows base_types types → scope.structs ≡ [] → meaning place scope types ≡ Ok x → IsFound types x
+
+abbrev pub FindsNamed : NameMeaning → Type 0
+FindsNamed meaning = Finds meaning.written
+
+-- ---- types without parts
+
+based : (types : Types) (id : TyId) → IsOrdered types → Grows base_types types → id.0 < 8 → IsFound types (id, types)
+based types id ordered base few =
+    let last : 7 < length types.types = slice_get_within types.types 7 ty.View (base.types 7 ty.View refl) in
+    record { grows = grows_not types; ordered = ordered; there = omega arith }
+
+-- ---- types with parts
+
+-- a type that is added behind its part
+behind : (types : Types) (part x : TyId × Types) (t : Ty) → IsFound types part → IsAdded t part.1 x → IsFound types x
+behind types part x t first last = record { grows = grows_on types part.1 x.1 first.grows last.grows; ordered = last.ordered; there = slice_get_within x.1.types x.0.0 t last.is }
+
+named_finds : (e : Entity) (place : Place) (scope : Scope) (types : Types) (x : TyId × Types) → scope.structs ≡ [] → type_meant e place scope types ≡ Ok x → IsFound types x
+named_finds entity.Unseen place scope types x none e = absurd (cc)
+named_finds (entity.Structure number) place scope types x none e =
+    absurd (never (subst (λ (ss : List StructureView). struct_type (slice_get ss number) place types ≡ Ok x) none e))
+  where
+    never : struct_type None place types ≡ Ok x → ⊥
+    never e = cc
+named_finds (entity.Function number) place scope types x none e = absurd (cc)
+named_finds (entity.Local number) place scope types x none e = absurd (cc)
+
+same_found : (types : Types) (id : TyId) (x : TyId × Types) → ◌≡◌ {A = Checked TyId} (Ok (id, types)) (Ok x) → IsFound types (id, types) → IsFound types x
+same_found types id x e found = let same : ◌≡◌ {A = TyId × Types} (id, types) x = cc in subst (IsFound types) same found
+
+vector_finds : (element : NameMeaning) (iterator : Option IteratorName) → FindsNamed element → Finds (vector element iterator)
+vector_finds element iterator finds place scope types x ordered base none e =
+    let step = bound (element.written place scope types) (λ y. sound (element_fault element.constant y.1 y.0) place (vector_type iterator y.0) y.1) x e in
+    let part = finds place scope types step.value ordered base none step.gave in
+    behind types step.value x (vector_type iterator step.value.0) part
+    (sound_added (element_fault element.constant step.value.1 step.value.0) place (vector_type iterator step.value.0) step.value.1 x part.ordered step.behind)
+
+unique_finds : (element : NameMeaning) → FindsNamed element → Finds (unique element)
+unique_finds element finds place scope types x ordered base none e =
+    let step = bound (element.written place scope types) (λ y. sound (held_fault element.constant y.1 y.0) place (ty.Unique y.0) y.1) x e in
+    let part = finds place scope types step.value ordered base none step.gave in
+    behind types step.value x (ty.Unique step.value.0) part (sound_added (held_fault element.constant step.value.1 step.value.0) place (ty.Unique step.value.0) step.value.1 x part.ordered step.behind)
+
+span_finds : (element : NameMeaning) → FindsNamed element → Finds (span element)
+span_finds element finds place scope types x ordered base none e =
+    let step = bound (element.written place scope types) (λ y. sound (target_fault y.1 y.0) place (ty.Span y.0 element.constant) y.1) x e in
+    let part = finds place scope types step.value ordered base none step.gave in
+    behind types step.value x (ty.Span step.value.0 element.constant) part
+    (sound_added (target_fault step.value.1 step.value.0) place (ty.Span step.value.0 element.constant) step.value.1 x part.ordered step.behind)
+
+base_finds : (l : type_open.Base-F Meaning NameMeaning NameMeaning) → Held-Base Meaning NameMeaning Finds FindsNamed l → Finds (base_step l)
+base_finds (type_open.Bool at) held place scope types x ordered base none e = same_found types BOOL x e (based types BOOL ordered base (omega arith))
+base_finds (type_open.Char at) held place scope types x ordered base none e = same_found types CHAR x e (based types CHAR ordered base (omega arith))
+base_finds (type_open.Int at) held place scope types x ordered base none e = same_found types INT x e (based types INT ordered base (omega arith))
+base_finds (type_open.Long at) held place scope types x ordered base none e = same_found types LONG x e (based types LONG ordered base (omega arith))
+base_finds (type_open.SizeT name) held place scope types x ordered base none e = same_found types SIZE x e (based types SIZE ordered base (omega arith))
+base_finds (type_open.Text name) held place scope types x ordered base none e = same_found types TEXT x e (based types TEXT ordered base (omega arith))
+base_finds (type_open.View name) held place scope types x ordered base none e = same_found types VIEW x e (based types VIEW ordered base (omega arith))
+base_finds (type_open.Named name) held place scope types x ordered base none e = named_finds (meaning scope name.id) name.place scope types x none e
+base_finds (type_open.Vector name element iterator) held place scope types x ordered base none e = vector_finds element iterator held place scope types x ordered base none e
+base_finds (type_open.UniquePtr name element) held place scope types x ordered base none e = unique_finds element held place scope types x ordered base none e
+base_finds (type_open.Span name element) held place scope types x ordered base none e = span_finds element held place scope types x ordered base none e
+
+suffixed_finds : (constant : Bool) (s : Option Suffix) (place : Place) (id : TyId) (types : Types) (x : TyId × Types) → IsOrdered types → HasType types id
+    → suffixed constant s place id types ≡ Ok x → IsFound types x
+suffixed_finds constant None place id types x ordered there e =
+    let same : ◌≡◌ {A = TyId × Types} (id, types) x = cc in
+    subst (IsFound types) same (record { grows = grows_not types; ordered = ordered; there = there })
+suffixed_finds constant (Some (suffix.Pointer at)) place id types x ordered there e =
+    let new = sound_added (target_fault types id) place (ty.Raw id constant) types x ordered e in
+    record { grows = new.grows; ordered = new.ordered; there = slice_get_within x.1.types x.0.0 (ty.Raw id constant) new.is }
+suffixed_finds constant (Some (suffix.Reference at)) place id types x ordered there e =
+    let new = sound_added (target_fault types id) place (ty.Reference id constant) types x ordered e in
+    record { grows = new.grows; ordered = new.ordered; there = slice_get_within x.1.types x.0.0 (ty.Reference id constant) new.is }
+
+type_finds : (l : type_open.TypeName-F Meaning NameMeaning NameMeaning) → Finds l.base → FindsNamed (type_step l)
+type_finds l finds place scope types x ordered base none e =
+    let step = bound (l.base place scope types) (λ y. suffixed (is_some l.constant) l.suffix place y.0 y.1) x e in
+    let part = finds place scope types step.value ordered base none step.gave in
+    let whole = suffixed_finds (is_some l.constant) l.suffix place step.value.0 step.value.1 x part.ordered part.there step.behind in
+    record { grows = grows_on types step.value.1 x.1 part.grows whole.grows; ordered = whole.ordered; there = whole.there }
+
+pub written_finds : (t : TypeName) → FindsNamed (type_meaning t)
+unfolding type_meaning
+written_finds = type_holds Meaning NameMeaning Finds FindsNamed base_step argument_step type_step base_finds (λ l held. held) type_finds

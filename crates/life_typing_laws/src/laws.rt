@@ -1,0 +1,44 @@
+// What checking gives is well typed.
+ghost use Rattle.life_built.specs.Built.{is_built};
+ghost use Rattle.life_names.specs.Environment.{Scope};
+ghost use Rattle.life_tree.specs.declared.expr.Expr.{Expr};
+ghost use Rattle.life_tree.specs.declared.program.Program.{Program};
+ghost use Rattle.life_tree.specs.declared.stmt.Block.{Block};
+ghost use Rattle.life_type_expr.specs.Expressions.{expr_meaning};
+ghost use Rattle.life_type_stmt.specs.Bodies.{body};
+ghost use Rattle.life_typed.specs.Programs.{ProgramForm};
+ghost use Rattle.life_typed.specs.TypedForm.{Typed, whole};
+ghost use Rattle.life_typed.specs.TypedStatement.{StmtForm};
+ghost use Rattle.life_typed.specs.declared.typed_program.TypedLocal.{TypedLocal};
+ghost use Rattle.life_types.specs.Types.{HasType, Types};
+ghost use Rattle.life_types.specs.declared.ty.TyId.{TyId};
+ghost use Rattle.life_typing.specs.Resolves.{resolved};
+ghost use Rattle.life_typing_laws.specs.Served.{is_served_form, is_served_statement};
+ghost use Rattle.life_typing_laws.specs.Sound.{IsFinal, IsSound};
+ghost use Rattle.life_well_typed.specs.AsParsed.{is_as_parsed};
+ghost use Rattle.life_well_typed.specs.Expressions.{IsExpression};
+ghost use Rattle.life_well_typed.specs.Functions.{IsWellTyped};
+ghost use Rattle.life_well_typed.specs.Results.{HasResults};
+ghost use Rattle.life_well_typed.specs.Statements.{IsStatement};
+ghost use Rattle.life_well_typed.specs.Visible.{Visible};
+ghost use Rattle.std.specs.Prelude.{◌≡◌, Bool, List, Ok, false, true};
+
+/// An expression is well typed, where it is checked in a sound scope and table and served, in each program and function that have in the end what there is here; and it adds no types.
+pub fn expressions_are_well_typed()
+    ensures { (p : ProgramForm) (locals : List TypedLocal) (e : Expr) (v : Visible) (scope : Scope) (types : Types) (x : Typed × Types)
+        → expr_meaning e scope types ≡ Ok x → is_served_form x.0.form ≡ true → IsSound v scope types → IsFinal p locals scope types
+        → (x.1 ≡ types) × IsExpression p locals v.visible (whole x.0) }
+{}
+
+/// A function's body is well typed, where it is checked in a sound scope and table and served, in each program and function that have in the end what there is behind it.
+pub fn bodies_are_well_typed()
+    ensures { (p : ProgramForm) (locals : List TypedLocal) (result : TyId) (is_main : Bool) (b : Block) (v : Visible) (scope : Scope) (types : Types) (x : (StmtForm × Scope) × Types)
+        → body result is_main b scope types ≡ Ok x → is_served_statement x.0.0 ≡ true → IsSound v scope types → HasType types result → IsFinal p locals x.0.1 x.1
+        → IsStatement p locals result x.0.0 false v }
+{}
+
+/// The typed program of a tree is well typed, where it is built so far and as it was parsed: the numbers in it are longs, and only calls stand alone; and its table has the type of what each function gives back.
+pub fn resolved_programs_are_well_typed()
+    ensures well_typed { (tree : Program) (p : ProgramForm) → resolved tree ≡ Ok p → is_built p ≡ true → is_as_parsed p ≡ true → IsWellTyped p }
+    ensures results { (tree : Program) (p : ProgramForm) → resolved tree ≡ Ok p → is_built p ≡ true → is_as_parsed p ≡ true → HasResults p }
+{}

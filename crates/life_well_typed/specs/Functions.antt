@@ -1,0 +1,24 @@
+-- Functions and programs that are well typed.
+use Rattle.std.specs.Prelude.{◌≤◌, false, List, [], ◌∷◌, length}
+use Rattle.life_typed.specs.Programs.{FunctionForm, ProgramForm}
+use Rattle.life_typed.specs.TypedStatement.{StmtForm, block}
+use Rattle.life_well_typed.specs.Statements.{IsStatement}
+use Rattle.life_well_typed.specs.Visible.{with_parameters}
+
+-- a body is a block, outside of loops, in which the parameters are visible
+abbrev pub IsBody : ProgramForm → FunctionForm → StmtForm → Type 0
+IsBody p f (block items closing) = IsStatement p f.locals f.result items false (with_parameters (length f.parameters))
+IsBody p f _ = ⊥
+
+-- the first locals of a function are its parameters
+pub record IsWellTypedFunction (p : ProgramForm) (f : FunctionForm) : Type 0 where
+  pub parameters : length f.parameters ≤ length f.locals
+  pub body : IsBody p f f.body
+
+abbrev pub AreWellTyped : ProgramForm → List FunctionForm → Type 0
+AreWellTyped p [] = Unit {0}
+AreWellTyped p (f ∷ fs) = IsWellTypedFunction p f × AreWellTyped p fs
+
+-- each function of a program, over the program's table of types
+abbrev pub IsWellTyped : ProgramForm → Type 0
+IsWellTyped p = AreWellTyped p p.functions

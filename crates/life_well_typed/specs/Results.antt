@@ -1,0 +1,11 @@
+-- What typing gives beside well typed functions: the table has the type of what each of them gives back.
+use Rattle.std.specs.Prelude.{List, [], ◌∷◌}
+use Rattle.life_types.specs.Types.{HasType, Types}
+use Rattle.life_typed.specs.Programs.{FunctionForm, ProgramForm}
+
+abbrev pub HaveResults : Types → List FunctionForm → Type 0
+HaveResults types [] = Unit {0}
+HaveResults types (f ∷ fs) = HasType types f.result × HaveResults types fs
+
+abbrev pub HasResults : ProgramForm → Type 0
+HasResults p = HaveResults p.types p.functions
