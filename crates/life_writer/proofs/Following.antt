@@ -16,7 +16,7 @@ use Rattle.life_typed.specs.declared.typed_expr.TypedOperand.{TypedOperand}
 use Rattle.life_core.specs.Operands.{Location}
 use Rattle.life_core.specs.Tree.{Tree}
 use Rattle.life_writer.specs.Around.{Around, own_type}
-use Rattle.life_writer.specs.Chains.{Follows, Runs, converted_in, is_between, is_computed, is_decided, is_link, joined_on, joins, operated_on, own_of}
+use Rattle.life_writer.specs.Chains.{Follows, Runs, converted_in, is_between, is_computed, is_decided, is_link, joined_on, joins, links, operated_on, own_of}
 use Rattle.life_writer.specs.Conditions.{beside_null, decided, null_compared, stands_for_null}
 use Rattle.life_writer.specs.Expressions.{common, condition, made, operand, pointer, value}
 use Rattle.life_writer.specs.Parts.{HasLeft, inside, node_view, part_view, shape_form}
@@ -65,6 +65,29 @@ module _ (which : Chain) where
     link = subst (λ (f : Form). IsTrue (is_between which category o f (whole (part_view right)))) beside link;
   }
 
+  linked_by : (place : Place) (t : ExprType) (category : Category) (s : Shape) → is_link which category s ≡ links which (typed place t category (shape_form s))
+  linked_by place t category (shape.Number n) = refl
+  linked_by place t category (shape.Char c) = refl
+  linked_by place t category (shape.Bool b) = refl
+  linked_by place t category (shape.Text x) = refl
+  linked_by place t category shape.Null = refl
+  linked_by place t category (shape.Local x) = refl
+  linked_by place t category (shape.Call f arguments closing) = refl
+  linked_by place t category (shape.Construct n elements closing) = refl
+  linked_by place t category (shape.Paren inner closing) = refl
+  linked_by place t category (shape.Move x) = refl
+  linked_by place t category (shape.MakeUnique element argument closing) = refl
+  linked_by place t category (shape.TextOf inner closing) = refl
+  linked_by place t category shape.Input = refl
+  linked_by place t category (shape.Member base which) = refl
+  linked_by place t category (shape.Dereference e) = refl
+  linked_by place t category (shape.Index base position closing) = refl
+  linked_by place t category (shape.Method base called arguments closing) = refl
+  linked_by place t category (shape.Negate e) = refl
+  linked_by place t category (shape.Not e) = refl
+  linked_by place t category (shape.AddressOf e) = refl
+  linked_by place t category (shape.Binary o l right) = refl
+
   pub follows : (n : Node) (left : Form) → IsTrue (is_link which n.category n.shape) → HasLeft n.shape left → Follows which left (whole (node_view n))
   follows n left link beside = follows_by n.place n.ty n.category n.shape left link beside
 
@@ -83,6 +106,10 @@ follows_at which n part operands i b more form within node left found is =
     let here : Follows which (inside part.within.now) (whole (node_view n)) = follows which n (inside part.within.now) (sym found ∙ is) left in
     let behind : Follows which (inside part.within.now) (inside (take (i + 1) operands)) = subst (λ (f : Form). Follows which (inside part.within.now) f) (ap whole node ∙ form) here in
     subst (λ (f : Form). Follows which f (inside (take (i + 1) operands))) (ap inside (within ∙ shorter operands i more)) behind
+
+-- whether it is one, where it is an operand of a list
+pub linked_at : (which : Chain) (n : Node) (part : Part) (form : Form) (b : Bool) → whole (part_view part) ≡ form → node_view n ≡ part_view part → b ≡ is_link which n.category n.shape → b ≡ links which form
+linked_at which n part form b same node found = found ∙ linked_by which n.place n.ty n.category n.shape ∙ ap (λ (f : Form). links which f) (ap whole node ∙ same)
 
 -- one more operand
 pub runs_more : (which : Chain) (operands : List TypedOperand) (n m : ℕ) → m ≡ n + 1 → Follows which (inside (take n operands)) (inside (take (n + 1) operands)) → Runs which operands m → Runs which operands n

@@ -51,6 +51,11 @@ abbrev pub is_link : Chain → Category → Shape → Bool
 is_link which kind (shape.Binary o left right) = is_between which kind o (part_form left) (whole (part_view right))
 is_link which kind _ = false
 
+-- .. of an expression
+abbrev pub links : Chain → Form → Bool
+links which (typed place ty kind (binary by left right)) = is_between which kind by left right
+links which _ = false
+
 -- ---- one around the other
 
 -- the second is an operator of the chain, with the first to its left
@@ -66,6 +71,10 @@ pub record Follows (which : Chain) (first second : Form) : Type 0 where
 -- .. from one operand on
 abbrev pub Runs : Chain → List TypedOperand → ℕ → Type 0
 Runs which operands from = (k : ℕ) → from ≤ k → k < length operands → Follows which (inside (take k operands)) (inside (take (k + 1) operands))
+
+-- .. and what stands before it, if anything does, is none
+abbrev pub IsFirst : Chain → List TypedOperand → ℕ → Type 0
+IsFirst which operands from = 0 < from → links which (inside (take from operands)) ≡ false
 
 -- ---- what is written behind the left operand
 

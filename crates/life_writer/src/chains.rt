@@ -90,7 +90,8 @@ pub(crate) fn is_link(chain: Chain, node: Node<'_>) -> bool
 // Whether the operand with this number is one, and the operands before it are within it.
 fn is_link_at(chain: Chain, operands: &[TypedOperand], number: usize) -> bool
     requires { number < length operands.now }
-    ensures { IsTrue result → spec.Follows chain (inside (take number operands.now)) (inside (take (number + 1) operands.now)) }
+    ensures link { result ≡ spec.links chain (inside (take (number + 1) operands.now)) }
+    ensures follows { IsTrue result → spec.Follows chain (inside (take number operands.now)) (inside (take (number + 1) operands.now)) }
 {
     match last_of(&operands[..number + 1]) {
         Some(part) => is_link(chain, part.opened()),
@@ -103,6 +104,7 @@ fn is_link_at(chain: Chain, operands: &[TypedOperand], number: usize) -> bool
 pub(crate) fn chain_begins(chain: Chain, operands: &[TypedOperand]) -> usize
     ensures few { result ≤ length operands.now }
     ensures links { spec.Runs chain operands.now result }
+    ensures first { spec.IsFirst chain operands.now result }
 {
     let mut from = operands.len();
     'links: while from > 0 {

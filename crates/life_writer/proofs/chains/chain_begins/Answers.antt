@@ -11,5 +11,5 @@ links-init c = record {
 pub links-preserved : goal.links-preserved
 links-preserved c = record {
   few = omega arith;
-  links = runs_more c.args.chain c.args.operands.now (c.links.from - 1) c.links.from (omega arith) (c.is_link_at.ensures c.if-not-is_link_at.false) c.links.invariant.links;
+  links = runs_more c.args.chain c.args.operands.now (c.links.from - 1) c.links.from (omega arith) (c.is_link_at.ensures.follows c.if-not-is_link_at.false) c.links.invariant.links;
 }
