@@ -9,6 +9,7 @@ takes. Only these ratios carry over to another machine. clang++ stops at its fir
 import os
 import shutil
 import tempfile
+from functools import partial
 
 from timing import least_time, program_to_time
 
@@ -103,26 +104,13 @@ def functions_file():
     return "\n".join(lines).encode() + b"\n"
 
 
-def moving_file():
-    """60 pointers in a loop, each of which takes what the next one pointed to: the sets grow for sixty turns."""
+def moving_file(pointers, objects):
+    """Pointers to so many objects in a loop, each of which takes what the next one pointed to: their sets grow turn by turn."""
     lines = ["int main() {"]
-    lines += [f"  int x{n} = {n};" for n in range(60)]
-    lines += [f"  int* p{n} = &x{n};" for n in range(60)]
+    lines += [f"  int x{n} = {n};" for n in range(objects)]
+    lines += [f"  int* p{n} = &x{n % objects};" for n in range(pointers)]
     lines += ["  while (x0 < 10) {"]
-    lines += [f"    p{n} = p{n + 1};" for n in range(59)]
-    lines += [f"    if (x0 == {n}) {{ return {n}; }}" for n in range(14)]
-    lines += [f"    *p{n} = x{n};" for n in range(60)]
-    lines += ["  }", "  return 0;", "}"]
-    return "\n".join(lines).encode() + b"\n"
-
-
-def full_file():
-    """250 pointers in a loop, each of which takes what the next one pointed to, and 100 objects: near all limits of a function at once."""
-    lines = ["int main() {"]
-    lines += [f"  int x{n} = {n};" for n in range(100)]
-    lines += [f"  int* p{n} = &x{n % 100};" for n in range(250)]
-    lines += ["  while (x0 < 10) {"]
-    lines += [f"    p{n} = p{(n + 1) % 250};" for n in range(250)]
+    lines += [f"    p{n} = p{(n + 1) % pointers};" for n in range(pointers)]
     lines += ["  }", "  return 0;", "}"]
     return "\n".join(lines).encode() + b"\n"
 
@@ -135,8 +123,8 @@ FILES = [
     ("empty blocks, 1 MiB", blocks_file),
     ("250 variables, 1,000 points", limits_file),
     ("250 diagnostics", faults_file),
-    ("60 pointers that move on", moving_file),
-    ("250 pointers, 100 objects", full_file),
+    ("60 pointers that move on", partial(moving_file, 60, 60)),
+    ("250 pointers, 100 objects", partial(moving_file, 250, 100)),
 ]
 
 # What is timed beside lifecheck, with the words before the file.
