@@ -1,5 +1,5 @@
 -- From what a part of the check finds to what the text comes to.
-use Rattle.std.proofs.Common.{◌≡◌, inl, inr, ℕ, true, false, List, Option, None, Some, Result, Ok, Err, refl, sym, subst}
+use Rattle.std.proofs.Common.{◌≡◌, ℕ, true, false, List, Option, None, Some, Result, Ok, Err, refl, sym, subst}
 use Rattle.life_built.specs.Built.{is_built}
 use Rattle.life_core.specs.Function.{Program}
 use Rattle.life_elab.specs.Elaborated.{Elaborates}
@@ -18,10 +18,9 @@ use Rattle.life_typed.specs.Programs.{ProgramForm}
 use Rattle.life_typing.specs.Answers.{Tells}
 use Rattle.life_typing.specs.Resolves.{resolved}
 use Rattle.life_check.proofs.OneFinding.{comes_only}
-use Rattle.life_check.specs.CheckedText.{BuiltComesTo, ComesOnlyTo, CoreComesTo, Faulty, Finding, IsListed, LimitedComesTo, ResolvedComesTo, TypedComesTo}
+use Rattle.life_check.specs.CheckedText.{BuiltComesTo, ComesOnlyTo, Faulty, Finding, IsListed, LimitedComesTo, ResolvedComesTo, TypedComesTo}
 use Rattle.life_check.specs.Faults.{limit_fault, tree_fault, type_fault, unsupported}
 use Rattle.life_check.specs.Findings.{Finds, finding_of}
-use Rattle.life_check.specs.WholeProgram.{IsServed}
 use Rattle.life_check.specs.declared.checked.Checked.{Checked}
 use Rattle.life_check.specs.declared.fault.CheckFault.{CheckFault}
 use Rattle.life_check.specs.declared.fault.CheckFault.TheVariants as fault
@@ -35,14 +34,6 @@ finds_as P Q (Err (fault.Ill kind place)) to found = to (Faulty (fault.Ill kind 
 finds_as P Q (Err (fault.Limit reason)) to found = to (Faulty (fault.Limit reason)) found
 finds_as P Q (Err fault.NoMemory) to found = tt
 
--- ---- core programs
-
-pub served_finds : (core : Program) (result : Result Checked CheckFault) → IsServed core → Finds (IsListed core) result → Finds (CoreComesTo core) result
-served_finds core result served found = finds_as (IsListed core) (CoreComesTo core) result (λ f is. inl (served, is)) found
-
-pub unserved_finds : (core : Program) → (IsServed core → ⊥) → Finds (CoreComesTo core) (Err unsupported)
-unserved_finds core not = inr (not, refl)
-
 -- ---- texts whose tree has types
 
 module _ (typed : ProgramForm) where
@@ -55,9 +46,9 @@ module _ (typed : ProgramForm) where
         subst (λ b. BuiltComesTo b typed f) (sym built) (subst (λ o. LimitedComesTo o (core_program typed) f) (sym passed) is)
 
     pub core_finds : (core : Program) (result : Result Checked CheckFault) → core ≡ core_program typed → over typed (core_program typed) ≡ None
-        → Finds (CoreComesTo core) result → Finds (TypedComesTo typed) result
+        → Finds (IsListed core) result → Finds (TypedComesTo typed) result
     core_finds core result is none found =
-        finds_as (CoreComesTo core) (TypedComesTo typed) result (λ f comes. of_limits None none f (subst (λ c. CoreComesTo c f) is comes)) found
+        finds_as (IsListed core) (TypedComesTo typed) result (λ f listed. of_limits None none f (subst (λ c. IsListed c f) is listed)) found
 
     pub limited_finds : (reason : ElabFault) → Elaborates typed (Err reason) → Finds (TypedComesTo typed) (Err (limit_fault reason))
     limited_finds (elab.Limit passed) is = of_limits (Some passed) is (Faulty (fault.Limit passed)) refl

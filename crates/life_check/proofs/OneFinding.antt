@@ -1,5 +1,5 @@
 -- A text comes to one thing.
-use Rattle.std.proofs.Common.{◌≡◌, inl, inr, ℕ, Bool, true, false, List, Option, None, Some, Result, Ok, Err, refl, sym, ◌∙◌, ap, subst}
+use Rattle.std.proofs.Common.{◌≡◌, ℕ, Bool, true, false, List, Option, None, Some, Result, Ok, Err, refl, sym, ◌∙◌, ap, subst}
 use Rattle.life_built.specs.Built.{is_built}
 use Rattle.life_core.specs.Function.{Program}
 use Rattle.life_elab.specs.Over.{over}
@@ -18,7 +18,7 @@ use Rattle.life_tree.specs.declared.program.Program.{Program as Parsed}
 use Rattle.life_typed.specs.Programs.{ProgramForm}
 use Rattle.life_typing.proofs.BlindPrograms.{types_of_trees}
 use Rattle.life_typing.specs.Resolves.{resolved}
-use Rattle.life_check.specs.CheckedText.{BuiltComesTo, ComesOnlyTo, ComesTo, CoreComesTo, Faulty, Finding, HasNoTreeFor, IsListed, LimitedComesTo, Listed, ParsingComesTo, ResolvedComesTo, TreeComesTo}
+use Rattle.life_check.specs.CheckedText.{BuiltComesTo, ComesOnlyTo, ComesTo, Faulty, Finding, HasNoTreeFor, IsListed, LimitedComesTo, Listed, ParsingComesTo, ResolvedComesTo, TreeComesTo}
 use Rattle.life_check.specs.Faults.{tree_fault}
 
 one_program : (p : Program) (a b : Finding) → IsListed p a → IsListed p b → a ≡ b
@@ -26,14 +26,8 @@ one_program p a b x y =
     let same : x.diagnostics ≡ y.diagnostics = only_listing x.listed y.listed in
     x.is ∙ ap (λ (ds : List Diag). Listed p ds) same ∙ sym y.is
 
-one_core : (core : Program) (a b : Finding) → CoreComesTo core a → CoreComesTo core b → a ≡ b
-one_core core a b (inl p) (inl q) = one_program core a b p.1 q.1
-one_core core a b (inl p) (inr q) = absurd (q.0 p.0)
-one_core core a b (inr p) (inl q) = absurd (p.0 q.0)
-one_core core a b (inr p) (inr q) = p.1 ∙ sym q.1
-
 one_of_limits : (passed : Option LimitFault) (core : Program) (a b : Finding) → LimitedComesTo passed core a → LimitedComesTo passed core b → a ≡ b
-one_of_limits None core a b p q = one_core core a b p q
+one_of_limits None core a b p q = one_program core a b p q
 one_of_limits (Some fault) core a b p q = p ∙ sym q
 
 one_built : (built : Bool) (typed : ProgramForm) (a b : Finding) → BuiltComesTo built typed a → BuiltComesTo built typed b → a ≡ b
@@ -68,6 +62,14 @@ has_none bytes (parsing.Lex lexical) parsed told = parsed.1
 has_none bytes (parsing.Refused at place) parsed told = parsed.1
 has_none bytes (parsing.Limit passed) parsed told = parsed.1
 has_none bytes parsing.NoMemory parsed told = absurd (told refl)
+
+of_parsing : (bytes : List ℕ) (tree : Parsed) (reason : Option ParseFault) (a : Finding) → Parses bytes (Ok tree) → ParsingComesTo bytes reason a → ResolvedComesTo (resolved tree) a
+of_parsing bytes tree None a parsed is = of_tree bytes tree a parsed is
+of_parsing bytes tree (Some reason) a parsed is = absurd (one_way bytes tree parsed (has_none bytes reason is.parsed is.told))
+
+-- so where a tree was read, it decides
+pub of_only_tree : (bytes : List ℕ) (tree : Parsed) (a : Finding) → Parses bytes (Ok tree) → ComesTo bytes a → ResolvedComesTo (resolved tree) a
+of_only_tree bytes tree a parsed is = of_parsing bytes tree is.reason a parsed is.is
 
 only_reason : (bytes : List ℕ) (f g : ParseFault) → IsOnlyFault bytes f → (f ≡ parsing.NoMemory → ⊥) → Parses bytes (Err g) → (g ≡ parsing.NoMemory → ⊥) → g ≡ f
 only_reason bytes (parsing.Lex lexical) g only had parsed told = only g parsed told

@@ -1,44 +1,66 @@
 -- A core program that passes no limit is within those that the rules ask for.
-use Rattle.std.proofs.Common.{◌≡◌, ◌≤◌, ◌<◌, ◌^◌, ℕ, zero, suc, ◌+◌, List, [], ◌∷◌, Option, None, Some, arith, length, refl, subst, slice_get}
+use Rattle.std.proofs.Common.{◌≡◌, ◌≤◌, ◌<◌, ◌^◌, ℕ, zero, suc, ◌+◌, Bool, true, false, if◌then◌else◌, nat_lt, List, [], ◌∷◌, Option, None, Some, arith, length, refl, subst, sym, slice_get}
 use Rattle.std.specs.Prelude.{option_map}
+use Rattle.std.proofs.lemmas.Bool.Decides.{nat_tests}
 use Rattle.std.proofs.lemmas.List.{length-append}
+use Rattle.std.proofs.lemmas.Option.{none-some, same_Some}
 use Rattle.life_types.specs.Types.{Types}
+use Rattle.life_types.specs.declared.place.Place.{Place}
 use Rattle.life_tree.specs.declared.limit.LimitFault.{LimitFault}
-use Rattle.life_tree.specs.declared.limit.LimitName.TheVariants.{Functions}
+use Rattle.life_tree.specs.declared.limit.LimitName.{LimitName}
+use Rattle.life_tree.specs.declared.limit.LimitName.TheVariants.{Functions, Locations, Points, Elements}
 use Rattle.life_core.specs.Function.{Function, Program}
 use Rattle.life_core.specs.Linked.{points_of}
 use Rattle.life_core.specs.Limits.{HaveFewPoints}
 use Rattle.life_core.specs.Proper.{IsProperProgram}
+use Rattle.life_elab.specs.Bounds.{HaveNumberedLocals, HaveShortPlaces}
 use Rattle.life_elab.specs.Functions.{function_from, written}
 use Rattle.life_elab.specs.Over as over
-use Rattle.life_elab.specs.Over.{first_of}
+use Rattle.life_elab.specs.Over.{first_of, over_function, over_functions, passes}
 use Rattle.life_elab.specs.Programs.{Functions as Written, around, core_program, functions, with_function}
 use Rattle.life_typed.specs.Programs.{FunctionForm, ProgramForm}
 use Rattle.life_fix.specs.Programs.{IsProgramWithinLimits}
 use Rattle.life_proper.specs.Plain.{IsPlainProgram}
-use Rattle.life_pset.specs.Elements.{IsWithinLimits}
-use Rattle.life_check.specs.WholeProgram.{AreWithinLimits, IsServed, IsWholeProgram, PassesNoLimit}
+use Rattle.life_pset.specs.Elements.{AreShort, IsWithinLimits, elements_of, locations_of}
+use Rattle.life_check.specs.WholeProgram.{IsWholeProgram}
 
 first_none : (a b : Option LimitFault) → first_of a b ≡ None → (a ≡ None) × (b ≡ None)
 first_none None b h = (refl, h)
-first_none (Some fault) b h = absurd (clash h)
-  where
-    clash : Some fault ≡ None → ⊥
-    clash e = cc
+first_none (Some fault) b h = absurd (none-some fault (sym h))
 
-each_within : (types : Types) (fs : List Function) → AreWithinLimits types fs → (i : ℕ) (f : Function) → slice_get fs i ≡ Some f → IsWithinLimits types f
-each_within types [] all i f at = absurd (clash at)
-  where
-    clash : slice_get [] i ≡ Some f → ⊥
-    clash e = cc
-each_within types (g ∷ gs) all zero f at = subst (IsWithinLimits types) (same at) all.0
-  where
-    same : {a b : Function} → Some a ≡ Some b → a ≡ b
-    same e = cc
-each_within types (g ∷ gs) all (suc i) f at = each_within types gs all.1 i f at
+-- ---- functions
 
-pub within_limits : (p : Program) → PassesNoLimit p → AreWithinLimits p.types p.functions → IsProgramWithinLimits p
-within_limits p passes all = record { few = passes.few; each = each_within p.types p.functions all }
+not_passed : (count most : ℕ) (name : LimitName) (place : Place) → passes count most name place ≡ None → count ≤ most
+not_passed count most name place none = go (nat_lt most count) refl none
+  where
+    at_most : nat_lt most count ≡ false → count ≤ most
+    at_most h = grind (arith, nat_tests)
+
+    go : (b : Bool) → nat_lt most count ≡ b → (if b then Some (over.limit name place) else None) ≡ None → count ≤ most
+    go true is none = absurd (none-some (over.limit name place) (sym none))
+    go false is none = at_most is
+
+within : (types : Types) (f : Function) → over_function types f ≡ None → length f.locals < 2 ^ 32 → AreShort (elements_of types f) → IsWithinLimits types f
+within types f none numbered short =
+    let locations = passes (length (locations_of types f)) 256 Locations f.place in
+    let points = passes (points_of f) 1024 Points f.place in
+    let elements = passes (length (elements_of types f)) 2048 Elements f.place in
+    let first = first_none locations (first_of points elements) none in
+    let second = first_none points elements first.1 in
+    record {
+      points = not_passed (points_of f) 1024 Points f.place second.0;
+      locals = numbered;
+      locations = not_passed (length (locations_of types f)) 256 Locations f.place first.0;
+      elements = not_passed (length (elements_of types f)) 2048 Elements f.place second.1;
+      steps = short;
+    }
+
+each_within : (types : Types) (fs : List Function) → over_functions types fs ≡ None → HaveNumberedLocals fs → HaveShortPlaces types fs → (i : ℕ) (f : Function) → slice_get fs i ≡ Some f → IsWithinLimits types f
+each_within types [] none numbered short i f at = absurd (none-some f at)
+each_within types (g ∷ gs) none numbered short zero f at =
+    subst (IsWithinLimits types) (same_Some g f at) (within types g (first_none (over_function types g) (over_functions types gs) none).0 numbered.0 short.0)
+each_within types (g ∷ gs) none numbered short (suc i) f at =
+    each_within types gs (first_none (over_function types g) (over_functions types gs) none).1 numbered.1 short.1 i f at
 
 few_points : (types : Types) (fs : List Function) → ((i : ℕ) (f : Function) → slice_get fs i ≡ Some f → IsWithinLimits types f) → HaveFewPoints fs
 few_points types [] within = tt
@@ -46,18 +68,6 @@ few_points types (f ∷ fs) within = (few (points_of f) (within 0 f refl).points
   where
     few : (n : ℕ) → n ≤ 1024 → n < 2 ^ 31
     few n h = omega arith
-
--- so a program that is served is whole
-pub served_whole : (p : Program) → PassesNoLimit p → IsServed p → IsProperProgram p → IsPlainProgram p → IsWholeProgram p
-served_whole p passes served proper plain =
-    let within = within_limits p passes served in
-    record {
-      few = omega (arith, passes.few);
-      points = few_points p.types p.functions within.each;
-      proper = proper;
-      longs = plain.longs;
-      by_value = plain.by_value;
-    }
 
 -- ---- translated programs
 
@@ -69,24 +79,32 @@ count_functions p (f ∷ fs) w =
 
 none_past : {A : Type 0} (xs : List A) (n : ℕ) → slice_get xs n ≡ None → length xs ≤ n
 none_past [] n none = omega arith
-none_past (x ∷ xs) zero none = absurd (clash none)
-  where
-    clash : Some x ≡ None → ⊥
-    clash e = cc
+none_past (x ∷ xs) zero none = absurd (none-some x (sym none))
 none_past (x ∷ xs) (suc n) none = omega (arith, none_past xs n none)
 
 none_mapped : {A B : Type 0} (g : A → B) (o : Option A) → option_map g o ≡ None → o ≡ None
 none_mapped g None h = refl
-none_mapped g (Some x) h = absurd (clash h)
-  where
-    clash : Some (g x) ≡ None → ⊥
-    clash e = cc
+none_mapped g (Some x) h = absurd (none-some (g x) (sym h))
 
-pub passes_no_limit : (p : ProgramForm) → over.over p (core_program p) ≡ None → PassesNoLimit (core_program p)
-passes_no_limit p none =
-    let both = first_none (over.too_many p) (over.over_functions (core_program p).types (core_program p).functions) none in
-    let past = none_past p.functions 1024 (none_mapped (λ (f : FunctionForm). over.limit Functions f.first_place) (slice_get p.functions 1024) both.0) in
-    record {
-      few = omega (arith, count_functions p p.functions (record { types = p.types; functions = [] }), past);
-      none = both.1;
-    }
+module _ (p : ProgramForm) (core : Program) (is : core ≡ core_program p) (none : over.over p (core_program p) ≡ None) (numbered : HaveNumberedLocals core.functions) (short : HaveShortPlaces (core_program p).types (core_program p).functions) where
+  its_limits : IsProgramWithinLimits (core_program p)
+  its_limits =
+      let both = first_none (over.too_many p) (over_functions (core_program p).types (core_program p).functions) none in
+      let past = none_past p.functions 1024 (none_mapped (λ (f : FunctionForm). over.limit Functions f.first_place) (slice_get p.functions 1024) both.0) in
+      record {
+        few = omega (arith, count_functions p p.functions (record { types = p.types; functions = [] }), past);
+        each = each_within (core_program p).types (core_program p).functions both.1 (subst (λ (c : Program). HaveNumberedLocals c.functions) is numbered) short;
+      }
+
+  pub translated_within : IsProgramWithinLimits core
+  translated_within = subst IsProgramWithinLimits (sym is) its_limits
+
+  -- so it is whole
+  pub translated_whole : IsProperProgram (core_program p) → IsPlainProgram (core_program p) → IsWholeProgram core
+  translated_whole proper plain = subst IsWholeProgram (sym is) (record {
+    few = omega (arith, its_limits.few);
+    points = few_points (core_program p).types (core_program p).functions its_limits.each;
+    proper = proper;
+    longs = plain.longs;
+    by_value = plain.by_value;
+  })

@@ -1,5 +1,5 @@
 -- What the text of a file comes to.
-use Rattle.std.specs.Prelude.{◌≡◌, ◌≢◌, ◌⊎◌, ℕ, Bool, true, false, List, Option, None, Some, Result, Ok, Err}
+use Rattle.std.specs.Prelude.{◌≡◌, ◌≢◌, ℕ, Bool, true, false, List, Option, None, Some, Result, Ok, Err}
 use Rattle.life_built.specs.Built.{is_built}
 use Rattle.life_core.specs.Function.{Program}
 use Rattle.life_elab.specs.Over.{over}
@@ -15,7 +15,6 @@ use Rattle.life_tree.specs.declared.program.Program.{Program as Parsed}
 use Rattle.life_typed.specs.Programs.{ProgramForm}
 use Rattle.life_typing.specs.Resolves.{resolved}
 use Rattle.life_check.specs.Faults.{tree_fault, unsupported}
-use Rattle.life_check.specs.WholeProgram.{IsServed}
 use Rattle.life_check.specs.declared.fault.CheckFault.{CheckFault}
 use Rattle.life_check.specs.declared.fault.CheckFault.TheVariants.{Ill, Limit}
 
@@ -30,13 +29,9 @@ pub record IsListed (p : Program) (finding : Finding) : Type 0 where
   pub listed : AreProgramDiagnostics p diagnostics
   pub is : finding ≡ Listed p diagnostics
 
--- a core program that passes no limit: its diagnostics, where it is one that is served
-abbrev pub CoreComesTo : Program → Finding → Type 0
-CoreComesTo core finding = (IsServed core × IsListed core finding) ⊎ ((IsServed core → ⊥) × (finding ≡ Faulty unsupported))
-
--- .. and the first limit that is passed, where there is one
+-- a core program with its diagnostics, or the first limit that it passes
 abbrev pub LimitedComesTo : Option LimitFault → Program → Finding → Type 0
-LimitedComesTo None core finding = CoreComesTo core finding
+LimitedComesTo None core finding = IsListed core finding
 LimitedComesTo (Some fault) core finding = finding ≡ Faulty (Limit fault)
 
 -- the core program of a typed one that is built

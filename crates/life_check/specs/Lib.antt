@@ -2,4 +2,5 @@ pub mod CheckedText
 pub mod Faults
 pub mod Findings
 pub mod Laws
+pub mod Steps
 pub mod WholeProgram

@@ -1,25 +1,25 @@
 // The check of the text of a file.
 ghost use Rattle.std.specs.Prelude.{◌≡◌, ◌<◌, ◌^◌, length};
 ghost use Rattle.life_core.specs.Function.{program_of};
-ghost use Rattle.life_core.specs.Proper.{IsProperProgram};
 ghost use Rattle.life_fix.specs.Programs.{IsProgramWithinLimits};
-ghost use Rattle.life_proper.specs.Plain.{IsPlainProgram};
 ghost use Rattle.life_rules.specs.Listing.{AreProgramDiagnostics};
 ghost use Rattle.life_typed.specs.Programs.{program_view};
 ghost use Rattle.life_typing.specs.Resolves.{resolved};
-ghost use Rattle.life_check.specs.CheckedText.{ComesOnlyTo, CoreComesTo, IsListed, Listed, ResolvedComesTo, TypedComesTo};
+ghost use Rattle.life_check.specs.CheckedText.{ComesOnlyTo, ComesTo, IsListed, Listed, ResolvedComesTo, TypedComesTo};
 ghost use Rattle.life_check.specs.Faults as spec;
 ghost use Rattle.life_check.specs.Findings.{Finds, IsSound, finding_of};
 ghost use Rattle.life_check.specs.Laws.{IsRead, IsTyped};
-ghost use Rattle.life_check.specs.WholeProgram.{IsWholeProgram, PassesNoLimit};
+ghost use Rattle.life_check.specs.Steps.{TakesFew};
+ghost use Rattle.life_check.specs.WholeProgram.{IsWholeProgram};
 
 use crate::checked::Checked;
-use crate::core_check::is_served;
 use crate::fault::CheckFault;
 use life_base::Steps;
 use life_core::CoreProgram;
 use life_elab::{elaborate, is_built};
-use life_elab_laws::{translations_are_plain, translations_are_proper};
+use life_elab_laws::{
+    translations_are_plain, translations_are_proper, translations_have_short_places,
+};
 use life_fix::program_diagnostics;
 use life_parse::parse;
 use life_parse_laws::trees_have_longs;
@@ -34,7 +34,8 @@ use std::alloc::Global;
 use std::sync::ledger::Ledger;
 
 /// Checks the text of a file of fewer than 2^28 bytes. Its program is accepted where nothing is diagnosed
-/// in it; else the program comes back with the list. Each function is solved with this counter.
+/// in it; else the program comes back with the list. Each function is solved with this counter: a transfer
+/// takes one step, so there are at most as many as the bounds of `solve` for its functions in all.
 ///
 /// # Errors
 ///
@@ -47,7 +48,8 @@ pub fn check_text<L: Ledger>(
     steps: &mut Steps<L>,
 ) -> Result<Checked, CheckFault>
     requires { length bytes.now < 2 ^ 28 }
-    ensures { Finds (ComesOnlyTo bytes.now) result }
+    ensures finds { Finds (ComesOnlyTo bytes.now) result }
+    ensures ticks { TakesFew (ComesTo bytes.now) steps.old steps.new }
 {
     let tree = parse(alloc, bytes)?;
     trees_have_longs();
@@ -61,7 +63,8 @@ fn check_tree<L: Ledger>(
     steps: &mut Steps<L>,
 ) -> Result<Checked, CheckFault>
     requires { IsRead tree.now }
-    ensures { Finds (ResolvedComesTo (resolved tree.now)) result }
+    ensures finds { Finds (ResolvedComesTo (resolved tree.now)) result }
+    ensures ticks { TakesFew (ResolvedComesTo (resolved tree.now)) steps.old steps.new }
 {
     let typed = resolve(alloc, tree)?;
     resolved_programs_are_as_parsed();
@@ -76,7 +79,8 @@ fn check_typed<L: Ledger>(
     steps: &mut Steps<L>,
 ) -> Result<Checked, CheckFault>
     requires { IsTyped (program_view typed.now) }
-    ensures { Finds (TypedComesTo (program_view typed.now)) result }
+    ensures finds { Finds (TypedComesTo (program_view typed.now)) result }
+    ensures ticks { TakesFew (TypedComesTo (program_view typed.now)) steps.old steps.new }
 {
     if !is_built(typed) {
         return Err(unsupported());
@@ -84,29 +88,11 @@ fn check_typed<L: Ledger>(
     let program = elaborate(alloc, typed)?;
     translations_are_proper();
     translations_are_plain();
-    check_core(alloc, program, steps)
+    translations_have_short_places();
+    check_program(alloc, program, steps)
 }
 
-// A core program that passes no limit: it is served, or not.
-fn check_core<L: Ledger>(
-    alloc: Global,
-    program: CoreProgram,
-    steps: &mut Steps<L>,
-) -> Result<Checked, CheckFault>
-    requires passes { PassesNoLimit (program_of program) }
-    requires proper { IsProperProgram (program_of program) }
-    requires plain { IsPlainProgram (program_of program) }
-    ensures { Finds (CoreComesTo (program_of program)) result }
-{
-    let served = is_served(alloc, &program)?;
-    if served {
-        check_program(alloc, program, steps)
-    } else {
-        Err(unsupported())
-    }
-}
-
-// A program that is served: what is diagnosed in it decides.
+// A core program that passes no limit: what is diagnosed in it decides.
 fn check_program<L: Ledger>(
     alloc: Global,
     program: CoreProgram,
@@ -114,7 +100,8 @@ fn check_program<L: Ledger>(
 ) -> Result<Checked, CheckFault>
     requires whole { IsWholeProgram (program_of program) }
     requires within { IsProgramWithinLimits (program_of program) }
-    ensures { Finds (IsListed (program_of program)) result }
+    ensures finds { Finds (IsListed (program_of program)) result }
+    ensures ticks { TakesFew (IsListed (program_of program)) steps.old steps.new }
 {
     let diagnostics = program_diagnostics(alloc, &program, steps)?;
     Ok(decided(program, diagnostics))

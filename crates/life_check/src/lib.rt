@@ -4,7 +4,6 @@
 
 mod check;
 mod checked;
-mod core_check;
 mod fault;
 
 pub use check::check_text;

@@ -1,5 +1,6 @@
 pub mod LimitCounts
 pub mod LoopWriting
+pub mod NumberedLocals
 pub mod OpenBranches
 pub mod Parameters
 pub mod SeenStatements

@@ -1,3 +1,4 @@
+pub mod Bounds
 pub mod Declarations
 pub mod Elaborated
 pub mod Ends

@@ -1,5 +1,5 @@
 // The core of a function.
-ghost use Rattle.std.specs.Prelude.{◌≡◌, IfOk, OnOk};
+ghost use Rattle.std.specs.Prelude.{◌≡◌, ◌<◌, ◌^◌, IfOk, OnOk, length};
 ghost use Rattle.life_core.specs.Function.{function_of, promise_of};
 ghost use Rattle.life_typed.specs.TypedStatement.{block_view};
 ghost use Rattle.life_writer.specs.Around.{type_of};
@@ -85,10 +85,11 @@ fn promise(promise: &ResultPromise) -> Result<Promise, NoMemory>
     }
 }
 
-// The function of what has been written, and the table.
+// The function of what has been written, and the table. Its locals have numbers of 32 bits.
 #[tactic(auto, unfolding(life_writer::specs::Views::state_of))]
 fn function_from(function: &TypedFunction, writer: Writer) -> Result<(CoreFn, TypeTable), NoMemory>
     ensures function { IfOk result (λ r. function_of r.0 ≡ spec.function_from (function_view function.now) (state_of writer)) }
+    ensures numbered { IfOk result (λ r. length (function_of r.0).locals < 2 ^ 32) }
     ensures types { IfOk result (λ r. r.1 ≡ (state_of writer).types) }
 {
     let Writer {
@@ -97,6 +98,7 @@ fn function_from(function: &TypedFunction, writer: Writer) -> Result<(CoreFn, Ty
         code,
         ..
     } = writer;
+    number(locals.len())?;
     let function = CoreFn {
         name: function.name,
         place: function.place,
@@ -109,17 +111,19 @@ fn function_from(function: &TypedFunction, writer: Writer) -> Result<(CoreFn, Ty
     Ok((function, types))
 }
 
-/// The core of a function, where the table has these types before, and the table behind it.
+/// The core of a function, where the table has these types before, and the table behind it. Its locals
+/// have numbers of 32 bits.
 ///
 /// # Errors
 ///
-/// For want of memory.
+/// For want of memory, which more locals count as.
 pub(crate) fn function(
     alloc: Global,
     a: &Around,
     types: TypeTable,
 ) -> Result<(CoreFn, TypeTable), NoMemory>
     ensures function { IfOk result (λ r. function_of r.0 ≡ spec.function_from (around_of a.now).function (spec.written (around_of a.now) types)) }
+    ensures numbered { IfOk result (λ r. length (function_of r.0).locals < 2 ^ 32) }
     ensures types { IfOk result (λ r. r.1 ≡ (spec.written (around_of a.now) types).types) }
 {
     let mut writer = Writer::new(alloc, types);

@@ -1,6 +1,7 @@
 // The core program of a typed one.
 ghost use Rattle.std.specs.Prelude.{◌≡◌, IfOk, IsTrue, map};
-ghost use Rattle.life_core.specs.Function.{function_of, member_names, name_bytes};
+ghost use Rattle.life_core.specs.Function.{function_of, member_names, name_bytes, program_of};
+ghost use Rattle.life_elab.specs.Bounds.{HaveNumberedLocals};
 ghost use Rattle.life_elab.specs.Elaborated.{Elaborates};
 ghost use Rattle.life_built.specs.Built.{is_built};
 ghost use Rattle.life_elab.specs.Programs as spec;
@@ -66,6 +67,7 @@ fn members_of(alloc: Global, structs: &[TypedStruct]) -> Result<Vec<Vec<NameId>>
 // The functions in their order; the table of types grows from one to the next.
 fn functions(alloc: Global, typed: &Typed) -> Result<(Vec<CoreFn>, TypeTable), NoMemory>
     ensures functions { IfOk result (λ r. map function_of r.0.items ≡ (spec.all_functions (program_view typed.now)).functions) }
+    ensures numbered { IfOk result (λ r. HaveNumberedLocals (map function_of r.0.items)) }
     ensures types { IfOk result (λ r. r.1 ≡ (spec.all_functions (program_view typed.now)).types) }
 {
     let mut types = typed.types.copied(alloc)?;
@@ -83,7 +85,8 @@ fn functions(alloc: Global, typed: &Typed) -> Result<(Vec<CoreFn>, TypeTable), N
 }
 
 /// The core program of a typed one that is built: what each construct does, in the order of
-/// evaluation (ISO/IEC 14882:2017 [intro.execution]; arguments are evaluated from left to right).
+/// evaluation (ISO/IEC 14882:2017 [intro.execution]; arguments are evaluated from left to right). The
+/// locals of each function have numbers of 32 bits.
 ///
 /// # Errors
 ///
@@ -92,7 +95,8 @@ fn functions(alloc: Global, typed: &Typed) -> Result<(Vec<CoreFn>, TypeTable), N
 /// want of memory, which more locals or types than 32 bits number count as.
 pub fn elaborate(alloc: Global, typed: &Typed) -> Result<CoreProgram, ElabFault>
     requires { IsTrue (is_built (program_view typed.now)) }
-    ensures { Elaborates (program_view typed.now) result }
+    ensures program { Elaborates (program_view typed.now) result }
+    ensures numbered { IfOk result (λ core. HaveNumberedLocals (program_of core).functions) }
 {
     let (functions, types) = functions(alloc, typed)?;
     // Where one passes a limit, or isn't asked for want of memory, some may nest deep.

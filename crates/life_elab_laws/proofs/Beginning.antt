@@ -1,11 +1,11 @@
 -- Where the body of a function begins: its parameters live, and no other variable does.
 use Rattle.std.proofs.Common.{◌≡◌, ◌<◌, ◌≤◌, inl, inr, ℕ, zero, suc, true, List, [], ◌∷◌, ◌++◌, length, map, slice_get, Option, Some, option_map, refl, sym, ap, ◌∙◌, subst, unwrap_or, arith, length-append, append_assoc, append-nil}
-use Rattle.std.proofs.lemmas.Bool.{cases_eq, cases_lt, false≢true}
+use Rattle.std.proofs.lemmas.Bool.{and_parts, cases_eq, cases_lt, false≢true}
 use Rattle.std.proofs.lemmas.Option.{none-some, slice_get-map}
 use Rattle.life_types.specs.Types.{Types}
 use Rattle.life_types.specs.declared.ty.Ty.{Ty}
 use Rattle.life_types.specs.declared.ty.Ty.TheVariants as ty
-use Rattle.life_built.specs.Built.{are_built_variables}
+use Rattle.life_built.specs.Built.{are_built_variables, is_built_variable}
 use Rattle.life_typed.specs.BaseTypes.{is_value, type_at}
 use Rattle.life_typed.specs.declared.typed_program.ParameterPromise.{ParameterPromise}
 use Rattle.life_typed.specs.declared.typed_program.TypedLocal.{TypedLocal}
@@ -27,7 +27,8 @@ use Rattle.life_elab_laws.proofs.Exits.{Knows}
 use Rattle.life_elab_laws.proofs.ExpressionKinds.{variable_built}
 use Rattle.life_elab_laws.proofs.Following.{Follows, HasRegister, follows_below, follows_grown}
 use Rattle.life_elab_laws.proofs.Fronts.{IsFront, front_append, front_itself, last_there}
-use Rattle.life_elab_laws.proofs.Growing.{AreShaped, Grows, grows_none, shaped_more}
+use Rattle.life_elab_laws.proofs.Growing.{Grows, grows_none}
+use Rattle.life_elab_laws.proofs.Shaped.{AreShaped, shaped_more}
 
 -- ---- what parameters hold at the entry
 
@@ -102,10 +103,13 @@ module _ (a : Around) where
   code_same (p ∷ ps) [] s = refl
   code_same (p ∷ ps) (u ∷ us) s = code_same ps us (with_new (parameter_local a p u) s)
 
-  shaped_same : (ps : List ParameterPromise) (us : List TypedLocal) (s : State) → AreShaped s.locals → AreShaped (elab.with_parameters a ps us s).locals
-  shaped_same [] us s h = h
-  shaped_same (p ∷ ps) [] s h = h
-  shaped_same (p ∷ ps) (u ∷ us) s h = shaped_same ps us (with_new (parameter_local a p u) s) (shaped_more s.locals (parameter_local a p u) h (λ is. (u.name, refl)))
+  shaped_same : (ps : List ParameterPromise) (us : List TypedLocal) (s : State) → are_built_variables a.program.types us ≡ true → AreShaped a.program.types s.locals → AreShaped a.program.types (elab.with_parameters a ps us s).locals
+  shaped_same [] us s b h = h
+  shaped_same (p ∷ ps) [] s b h = h
+  shaped_same (p ∷ ps) (u ∷ us) s b h =
+      let parts = and_parts (is_built_variable a.program.types u.ty) (are_built_variables a.program.types us) b in
+      shaped_same ps us (with_new (parameter_local a p u) s) parts.1
+      (shaped_more a.program.types s.locals (parameter_local a p u) h (λ is. record { name = u.name; named = refl; built = parts.0 }))
 
   -- all of them live
   abbrev AllLive : State → Type 0
@@ -133,7 +137,7 @@ module _ (a : Around) where
     variables = refl;
     living = refl;
     outside = refl;
-    shaped = λ h. shaped_more s.locals (nameless a a.function.result) h (λ is. absurd (false≢true (sym is)));
+    shaped = λ types h. shaped_more types s.locals (nameless a a.function.result) h (λ is. absurd (false≢true (sym is)));
   }
 
   result_there : (t : Ty) (s : State) → is_value t ≡ true → slice_get (with_result a t s).locals (length s.locals) ≡ Some (nameless a a.function.result)
@@ -167,8 +171,10 @@ module _ (a : Around) where
     pub first_types : (first_state a T).types ≡ T
     first_types = result_types (type_at a.program.types a.function.result) given ∙ types_same a.function.parameters a.function.locals (nothing_written T)
 
-    pub first_shaped : AreShaped (first_state a T).locals
-    first_shaped = (result_grows (type_at a.program.types a.function.result) given).shaped (shaped_same a.function.parameters a.function.locals (nothing_written T) tt)
+    pub first_shaped : are_built_variables a.program.types a.function.locals ≡ true → AreShaped a.program.types (first_state a T).locals
+    first_shaped b =
+        (result_grows (type_at a.program.types a.function.result) given).shaped a.program.types
+        (shaped_same a.function.parameters a.function.locals (nothing_written T) b tt)
 
     pub parameters_front : IsFront (parameter_locals a.function.parameters a.function.locals) (first_state a T).locals
     parameters_front y l at =

@@ -1,5 +1,5 @@
 -- What the core functions of a built program take and give: values.
-use Rattle.std.proofs.Common.{◌≡◌, ◌≤◌, ◌⊎◌, inl, inr, ℕ, zero, suc, true, List, [], ◌∷◌, ◌++◌, length, map, slice_get, take, Option, Some, None, refl, sym, ap, ◌∙◌, subst, unwrap_or, arith}
+use Rattle.std.proofs.Common.{◌≡◌, ◌<◌, ◌≤◌, ◌⊎◌, inl, inr, ℕ, zero, suc, true, List, [], ◌∷◌, ◌++◌, length, map, slice_get, take, Option, Some, None, refl, sym, ap, ◌∙◌, subst, unwrap_or, arith}
 use Rattle.std.proofs.lemmas.Bool.{and_parts, false≢true, or_cases}
 use Rattle.std.proofs.lemmas.Option.{none-some, same_Some}
 use Rattle.life_types.specs.Types.{Types, class, class_at}
@@ -23,6 +23,7 @@ use Rattle.life_elab_laws.proofs.Beginning.{first_types, parameter_locals, param
 use Rattle.life_elab_laws.proofs.Calls.{IsCallee, objects}
 use Rattle.life_elab_laws.proofs.Emitting.{wanted_sort}
 use Rattle.life_elab_laws.proofs.Fronts.{IsFront, front_cut, front_then}
+use Rattle.life_elab_laws.proofs.Shaped.{value_later}
 use Rattle.life_elab_laws.proofs.VariablePlaces.{value_held}
 
 -- what stands in a table is the type there
@@ -88,6 +89,17 @@ module _ (a : Around) (types : Types) (front : IsFront a.program.types.types typ
       ap (λ (h : Holding). h ∷ take (length ps) (given_holdings types (length ps) (parameter_locals a ps us ++ rest))) (held_parameter p u parts.0)
       ∙ ap (λ (hs : List Holding). AnObject ∷ hs) (objects_taken ps us rest (omega (arith, few)) parts.1)
 
+value_taken : (a : Around) (ps : List ParameterPromise) (us : List TypedLocal) (y : ℕ) → length ps ≤ length us → are_values a.program.types (take (length ps) us) ≡ true → y < length ps
+    → (l : Local) × (slice_get (parameter_locals a ps us) y ≡ Some l) × (is_value (type_at a.program.types l.ty) ≡ true)
+value_taken a [] us y few b lt = absurd (omega (arith, lt))
+value_taken a (p ∷ ps) [] y few b lt = absurd (omega (arith, few))
+value_taken a (p ∷ ps) (u ∷ us) zero few b lt =
+    let parts = and_parts (is_value (type_at a.program.types u.ty)) (are_values a.program.types (take (length ps) us)) b in
+    (parameter_local a p u, refl, parts.0)
+value_taken a (p ∷ ps) (u ∷ us) (suc y) few b lt =
+    let parts = and_parts (is_value (type_at a.program.types u.ty)) (are_values a.program.types (take (length ps) us)) b in
+    value_taken a ps us y (omega (arith, few)) parts.1 (omega (arith, lt))
+
 -- ---- what its core function takes and gives, where it begins as it is written
 
 module _ (p : ProgramForm) (of : FunctionForm) (T types : Types) (fs : List Function) (core : Function)
@@ -104,6 +116,12 @@ module _ (p : ProgramForm) (of : FunctionForm) (T types : Types) (fs : List Func
       ap (λ (n : ℕ). take n (given_holdings types n core.locals)) count
       ∙ ap (λ (ls : List Local). take (length of.parameters) (given_holdings types (length of.parameters) ls)) cut.1
       ∙ objects_taken (around p of) types front of.parameters of.locals cut.0 fits built.parameters
+
+  pub takes_values : (y : ℕ) (l : Local) → slice_get core.locals y ≡ Some l → y < core.parameters → is_value (type_at types l.ty) ≡ true
+  takes_values y l at lt =
+      let taken = value_taken (around p of) of.parameters of.locals y fits built.parameters (omega (arith, lt, count)) in
+      let there : slice_get core.locals y ≡ Some taken.0 = locals y taken.0 (parameters_front (around p of) T fits table y taken.0 taken.1) in
+      value_later p.types types front l.ty (subst (λ (u : Local). is_value (type_at p.types u.ty) ≡ true) (same_Some taken.0 l (sym there ∙ at)) taken.2)
 
   result_type : slice_get types.types core.result.0 ≡ Some t
   result_type = ap (λ (id : TyId). slice_get types.types id.0) same ∙ front of.result.0 t result

@@ -27,9 +27,10 @@ use Rattle.life_elab_laws.proofs.Exits.{Knows, Leaves, knows_written}
 use Rattle.life_elab_laws.proofs.Falling.{Falls, falls_append}
 use Rattle.life_elab_laws.proofs.Following.{Adds, Follows, IsLiving, adds_coded, adds_then, begins_added, follows_below, follows_coded, follows_grown, follows_named, grows_adds, knows_alive, same_variable}
 use Rattle.life_elab_laws.proofs.Fronts.{IsFront, front_append, front_itself, front_then, last_there}
-use Rattle.life_elab_laws.proofs.Growing.{Begins, shaped_more}
+use Rattle.life_elab_laws.proofs.Growing.{Begins}
 use Rattle.life_elab_laws.proofs.Knowledge.{at_set, beside_set, set_length}
 use Rattle.life_elab_laws.proofs.Making.{Always, Makes}
+use Rattle.life_elab_laws.proofs.Shaped.{shaped_more, variable_later}
 use Rattle.life_elab_laws.proofs.Shaping.{IsFine}
 use Rattle.life_elab_laws.proofs.VariablePlaces.{IsVariableAt, IsVariableType, a_raw, a_reference, a_value, value_held, variable_type}
 
@@ -151,6 +152,9 @@ module _ (types : Types) (fs : List Function) (f : Function) (a : Around) (front
       sorts = λ b y m. can_end b y (among_either s.living (length s.locals ∷ []) y m);
     }
 
+    its_type : is_built_variable types l.ty ≡ true
+    its_type = ap (is_built_variable types) of.typed ∙ variable_later a.program.types types front u.ty built
+
     pub adds_new : Adds types fs f s (with_new l s)
     adds_new = record {
       locals = front_append s.locals (l ∷ []);
@@ -158,7 +162,7 @@ module _ (types : Types) (fs : List Function) (f : Function) (a : Around) (front
       variables = front_append s.variables (length s.locals ∷ []);
       living = take_before s.living (length s.locals ∷ []);
       outside = refl;
-      shaped = λ are. shaped_more s.locals l are (λ is. (u.name, of.named));
+      shaped = λ are. shaped_more types s.locals l are (λ is. record { name = u.name; named = of.named; built = its_type });
     }
 
     -- ---- what is known

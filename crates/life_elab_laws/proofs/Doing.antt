@@ -163,7 +163,7 @@ module _ (types : Types) (fs : List Function) (f : Function) where
       variables = refl;
       living = refl;
       outside = refl;
-      shaped = λ h. h;
+      shaped = λ types h. h;
     };
     code = Acts place i ∷ [];
     written = refl;

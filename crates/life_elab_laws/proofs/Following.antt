@@ -18,8 +18,9 @@ use Rattle.life_elab_laws.proofs.Emitting.{IsWanted}
 use Rattle.life_elab_laws.proofs.Ending.{CanEnd}
 use Rattle.life_elab_laws.proofs.Exits.{AreNamed, Knows}
 use Rattle.life_elab_laws.proofs.Fronts.{IsFront, front_itself, front_then}
-use Rattle.life_elab_laws.proofs.Growing.{AreShaped, Begins, Grows}
+use Rattle.life_elab_laws.proofs.Growing.{Begins, Grows}
 use Rattle.life_elab_laws.proofs.Making.{Alive}
+use Rattle.life_elab_laws.proofs.Shaped.{AreShaped}
 use Rattle.life_elab_laws.proofs.VariablePlaces.{IsVariableAt, Stands}
 
 -- the local of a living variable: it has a name
@@ -72,7 +73,7 @@ module _ (types : Types) (fs : List Function) (f : Function) where
     pub variables : IsFront s.variables s'.variables
     pub living : take (length s.living) s'.living ≡ s.living
     pub outside : s'.outside ≡ s.outside
-    pub shaped : AreShaped s.locals → AreShaped s'.locals
+    pub shaped : AreShaped types s.locals → AreShaped types s'.locals
 
   pub take_itself : (xs : List ℕ) → take (length xs) xs ≡ xs
   take_itself [] = refl
@@ -121,7 +122,7 @@ module _ (types : Types) (fs : List Function) (f : Function) where
     variables = subst (IsFront s.variables) (sym g.variables) (front_itself s.variables);
     living = ap (take (length s.living)) g.living ∙ take_itself s.living;
     outside = g.outside;
-    shaped = g.shaped;
+    shaped = g.shaped types;
   }
 
   -- .. whatever list is being written

@@ -1,39 +1,17 @@
 -- How what has been written grows, and what the finished function has of it.
-use Rattle.std.proofs.Common.{◌≡◌, ◌<◌, ◌≤◌, ℕ, zero, suc, false, List, [], ◌∷◌, ◌++◌, length, slice_get, Option, Some, None, refl, ap, ◌∙◌, subst, arith, length-append, true≢false}
-use Rattle.std.proofs.lemmas.Option.{none-some}
+use Rattle.std.proofs.Common.{◌≡◌, ◌<◌, ◌≤◌, ℕ, [], ◌∷◌, length, slice_get, Option, Some, None, refl, ap, ◌∙◌, arith, length-append, true≢false}
 use Rattle.life_types.specs.Types.{Types, class}
-use Rattle.life_types.specs.declared.ty.NameId.{NameId}
 use Rattle.life_types.specs.declared.ty.Ty.{Ty}
 use Rattle.life_core.specs.Function.{Function}
 use Rattle.life_core.specs.Proper.{held_by, held_if, sort_of}
 use Rattle.life_core.specs.declared.program.Local.{Local}
 use Rattle.life_core.specs.declared.program.LocalKind.TheVariants.{Register}
-use Rattle.life_proper.specs.Knowing.{is_intermediate}
 use Rattle.life_writer.specs.Around.{Around}
 use Rattle.life_writer.specs.Registers.{nameless, new_register, type_number, typed_with}
 use Rattle.life_writer.specs.Writing.{State}
 use Rattle.life_elab_laws.proofs.Fronts.{IsFront, front_append, front_itself, front_then, last_there}
+use Rattle.life_elab_laws.proofs.Shaped.{AreShaped, shaped_more}
 use Rattle.life_elab_laws.proofs.Types.{type_added, types_before}
-
--- a local without a name is a register
-abbrev pub IsShaped : Local → Type 0
-IsShaped l = is_intermediate l ≡ false → (name : NameId) × (l.name ≡ Some name)
-
-abbrev pub AreShaped : List Local → Type 0
-AreShaped [] = Unit {0}
-AreShaped (l ∷ ls) = IsShaped l × AreShaped ls
-
-pub shaped_more : (ls : List Local) (l : Local) → AreShaped ls → IsShaped l → AreShaped (ls ++ l ∷ [])
-shaped_more [] l h one = (one, tt)
-shaped_more (z ∷ ls) l h one = (h.0, shaped_more ls l h.1 one)
-
-pub shaped_at : (ls : List Local) (y : ℕ) (l : Local) → AreShaped ls → slice_get ls y ≡ Some l → IsShaped l
-shaped_at [] y l h at = absurd (none-some l at)
-shaped_at (z ∷ ls) zero l h at = subst IsShaped (same at) h.0
-  where
-    same : Some z ≡ Some l → z ≡ l
-    same e = cc
-shaped_at (z ∷ ls) (suc y) l h at = shaped_at ls y l h.1 at
 
 -- locals and types are added behind those that there are; the variables stay
 pub record Grows (s s' : State) : Type 0 where
@@ -43,7 +21,7 @@ pub record Grows (s s' : State) : Type 0 where
   pub variables : s'.variables ≡ s.variables
   pub living : s'.living ≡ s.living
   pub outside : s'.outside ≡ s.outside
-  pub shaped : AreShaped s.locals → AreShaped s'.locals
+  pub shaped : (types : Types) → AreShaped types s.locals → AreShaped types s'.locals
 
 pub grows_none : (s : State) → Grows s s
 grows_none s = record {
@@ -53,7 +31,7 @@ grows_none s = record {
   variables = refl;
   living = refl;
   outside = refl;
-  shaped = λ h. h;
+  shaped = λ types h. h;
 }
 
 pub grows_then : (s t u : State) → Grows s t → Grows t u → Grows s u
@@ -64,7 +42,7 @@ grows_then s t u g h = record {
   variables = h.variables ∙ g.variables;
   living = h.living ∙ g.living;
   outside = h.outside ∙ g.outside;
-  shaped = λ are. h.shaped (g.shaped are);
+  shaped = λ types are. h.shaped types (g.shaped types are);
 }
 
 -- ---- the finished function
@@ -100,7 +78,7 @@ register_grows a t s = record {
   variables = refl;
   living = refl;
   outside = refl;
-  shaped = λ h. shaped_more s.locals (added a t s) h (λ is. absurd (true≢false is));
+  shaped = λ types h. shaped_more types s.locals (added a t s) h (λ is. absurd (true≢false is));
 }
 
 pub register_below : (a : Around) (t : Ty) (s : State) → length s.locals < length (new_register a t s).state.locals

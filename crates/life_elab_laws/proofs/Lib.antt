@@ -28,7 +28,9 @@ pub mod Nowhere
 pub mod Programs
 pub mod Returning
 pub mod Setting
+pub mod Shaped
 pub mod Shaping
+pub mod ShortPlaces
 pub mod SimpleStatements
 pub mod SimpleWriting
 pub mod Statements

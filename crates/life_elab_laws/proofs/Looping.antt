@@ -24,7 +24,8 @@ use Rattle.life_elab_laws.proofs.Exits.{AreNamed, Knows, Leaves, MayKnow, MayLea
 use Rattle.life_elab_laws.proofs.Falling.{deciding}
 use Rattle.life_elab_laws.proofs.Following.{Adds, Follows, adds_coded, adds_then, begins_added, follows_again, follows_coded, follows_grown, follows_named, grows_adds, knows_alive, take_itself}
 use Rattle.life_elab_laws.proofs.Fronts.{front_itself}
-use Rattle.life_elab_laws.proofs.Growing.{AreShaped, Begins, shaped_at}
+use Rattle.life_elab_laws.proofs.Growing.{Begins}
+use Rattle.life_elab_laws.proofs.Shaped.{AreShaped, IsVariable, shaped_at}
 use Rattle.life_elab_laws.proofs.Testing.{AsksAll, Tests}
 
 -- ---- at the head nothing is known of intermediate values, and the same of all others
@@ -59,20 +60,20 @@ module _ (types : Types) (fs : List Function) (f : Function) where
   }
 
   -- control comes back with what is known at the head
-  known_again : (living : List ℕ) (k j : List Known) → AreShaped f.locals → Knows types fs f living k → Knows types fs f living j → are_implied (forgotten f.locals k) j ≡ true
+  known_again : (living : List ℕ) (k j : List Known) → AreShaped types f.locals → Knows types fs f living k → Knows types fs f living j → are_implied (forgotten f.locals k) j ≡ true
   known_again living k j shaped a b = forgotten_implied types fs f f.locals k j a.sized b.sized same
     where
       same : (y : ℕ) (l : Local) → slice_get f.locals y ≡ Some l → is_intermediate l ≡ false → known_at j y ≡ known_at k y
       same y l there e = go (among_or y living)
         where
-          named : (name : NameId) × (l.name ≡ Some name)
-          named = shaped_at f.locals y l shaped there e
+          named : IsVariable types l
+          named = shaped_at types f.locals y l shaped there e
 
           go : Among y living ⊎ (Among y living → ⊥) → known_at j y ≡ known_at k y
           go (inl m) = b.alive y m ∙ sym (a.alive y m)
-          go (inr none) = b.blank y l named.0 there named.1 none ∙ sym (a.blank y l named.0 there named.1 none)
+          go (inr none) = b.blank y l named.name there named.named none ∙ sym (a.blank y l named.name there named.named none)
 
-  comes : (living : List ℕ) (k : List Known) (o : Knowing) → AreShaped f.locals → Knows types fs f living k → MayKnow types fs f living o → comes_back (Some (forgotten f.locals k)) o ≡ true
+  comes : (living : List ℕ) (k : List Known) (o : Knowing) → AreShaped types f.locals → Knows types fs f living k → MayKnow types fs f living o → comes_back (Some (forgotten f.locals k)) o ≡ true
   comes living k None shaped a b = refl
   comes living k (Some j) shaped a b = known_again living k j shaped a b
 
@@ -85,7 +86,7 @@ module _ (types : Types) (fs : List Function) (f : Function) where
     body_leaves : (w : Flow) → Leaves types fs f true living living w → Leaves types fs f in_loop living outside (of_body w)
     body_leaves w h = record { fine = h.fine; next = h.on_break; on_break = none_leaves types fs f in_loop outside; on_continue = none_leaves types fs f in_loop outside; on_true = h.on_true; on_false = h.on_false }
 
-    step_leaves : (k : List Known) (w : Flow) → AreShaped f.locals → Knows types fs f living k → Leaves types fs f false living outside w → Leaves types fs f in_loop living outside (of_step (Some (forgotten f.locals k)) w)
+    step_leaves : (k : List Known) (w : Flow) → AreShaped types f.locals → Knows types fs f living k → Leaves types fs f false living outside w → Leaves types fs f in_loop living outside (of_step (Some (forgotten f.locals k)) w)
     step_leaves k w shaped knows h = record {
       fine = and_from w.fine (comes_back (Some (forgotten f.locals k)) w.next) h.fine (comes living k w.next shaped knows h.next);
       next = tt;
@@ -100,7 +101,7 @@ module _ (types : Types) (fs : List Function) (f : Function) where
 
   -- ---- the whole loop
 
-  module _ (a : Around) (v : Visible) (in_loop : Bool) (s : State) (w : Gives Tree) (h : Follows types fs f a v s) (test : Tests types fs f s w) (shaped : AreShaped f.locals) where
+  module _ (a : Around) (v : Visible) (in_loop : Bool) (s : State) (w : Gives Tree) (h : Follows types fs f a v s) (test : Tests types fs f s w) (shaped : AreShaped types f.locals) where
     -- the body is written where all that lives stays outside of the loop
     abbrev pub inside : State
     inside = with_outside (length w.state.living) (with_code [] w.state)

@@ -1,4 +1,4 @@
--- The core program of a well typed program that is built: each of its functions is checked, among all of them.
+-- The core program of a well typed program that is built: each of its functions is checked, among all of them, and has short places.
 use Rattle.std.proofs.Common.{◌≡◌, ◌<◌, ◌⊎◌, ℕ, zero, suc, true, List, [], ◌∷◌, ◌++◌, length, map, slice_get, take, Some, option_map, refl, sym, ap, ◌∙◌, subst, arith, append_assoc, append-nil}
 use Rattle.std.proofs.lemmas.Bool.{and_from, and_parts}
 use Rattle.std.proofs.lemmas.Option.{none-some, same_Some, slice_get-map}
@@ -10,18 +10,22 @@ use Rattle.life_core.specs.Function.{Function}
 use Rattle.life_core.specs.Proper.{ANumber, Blank, result_sort}
 use Rattle.life_proper.specs.Checking.{are_checked, checked, is_checked}
 use Rattle.life_proper.specs.Plain.{are_plain, is_plain, is_plain_tree}
+use Rattle.life_pset.specs.Elements.{AreShort, elements_of}
 use Rattle.life_well_typed.specs.Functions.{AreWellTyped, IsWellTyped, IsWellTypedFunction}
+use Rattle.life_elab.specs.Bounds.{HaveShortPlaces}
 use Rattle.life_elab.specs.Functions.{first_state, function_from, written}
 use Rattle.life_elab.specs.Programs.{Functions, all_functions, around, core_program, functions, with_function}
 use Rattle.life_well_typed.specs.Results.{HasResults, HaveResults}
 use Rattle.life_elab_laws.proofs.Beginning.{first_shaped, first_types}
-use Rattle.life_elab_laws.proofs.Callees.{IsBuiltFunction, built_parts, callee_from, gives_from, values_at}
+use Rattle.life_elab_laws.proofs.Callees.{IsBuiltFunction, built_parts, callee_from, gives_from, takes_values, values_at}
 use Rattle.life_elab_laws.proofs.Calls.{IsCallee}
 use Rattle.life_elab_laws.proofs.ExpressionKinds.{function_built}
 use Rattle.life_elab_laws.proofs.Fronts.{IsFront, front_itself, front_then}
 use Rattle.life_elab_laws.proofs.FunctionWriting.{function_checked, function_finished, function_plain}
-use Rattle.life_elab_laws.proofs.Growing.{AreShaped, Begins}
+use Rattle.life_elab_laws.proofs.Growing.{Begins}
 use Rattle.life_elab_laws.proofs.Setting.{Setting}
+use Rattle.life_elab_laws.proofs.Shaped.{AreShaped, shaped_later}
+use Rattle.life_elab_laws.proofs.ShortPlaces.{short_function}
 
 -- ---- one function among others
 
@@ -44,7 +48,7 @@ result_at types (x ∷ fs) (suc n) f h at = result_at types fs n f h.1 at
 pub record FunctionGrows (p : ProgramForm) (f : FunctionForm) (T : Types) : Type 0 where
   pub locals : IsFront (first_state (around p f) T).locals (written (around p f) T).locals
   pub table : IsFront T.types (written (around p f) T).types.types
-  pub shaped : AreShaped (written (around p f) T).locals
+  pub shaped : AreShaped p.types (written (around p f) T).locals
 
 -- a core function is what is written for a typed one, in a table that the program's ends with
 pub record IsWritten (p : ProgramForm) (types : Types) (f : FunctionForm) (core : Function) : Type 0 where
@@ -90,7 +94,7 @@ module _ (p : ProgramForm) (typed : IsWellTyped p) (built : are_built_functions 
   parts n f at = built_parts p.types f (function_built p.types p.functions n f built at)
 
   setting_of : (types : Types) (fs : List Function) (f : FunctionForm) (core : Function) (n : ℕ) → slice_get p.functions n ≡ Some f → IsFront p.types.types types.types
-      → ((g : ℕ) (of : FunctionForm) → slice_get p.functions g ≡ Some of → IsCallee p.types types fs g of) → (result_sort types core ≡ Blank) ⊎ (result_sort types core ≡ ANumber) → AreShaped core.locals
+      → ((g : ℕ) (of : FunctionForm) → slice_get p.functions g ≡ Some of → IsCallee p.types types fs g of) → (result_sort types core ≡ Blank) ⊎ (result_sort types core ≡ ANumber) → AreShaped types core.locals
       → Setting (around p f) types fs core
   setting_of types fs f core n at front callees gives shaped = record {
     front = front;
@@ -123,7 +127,7 @@ module _ (p : ProgramForm) (typed : IsWellTyped p) (built : are_built_functions 
       let fits = (typed_at p p.functions n f typed at).parameters in
       setting_of p.types (map begun p.functions) f (begun f) n at (front_itself p.types.types) begun_callee
       (gives_from p f p.types p.types (map begun p.functions) (begun f) fits (parts n f at) t.0 t.1 (front_itself p.types.types) (front_itself p.types.types) refl refl (front_itself (first_state (around p f) p.types).locals))
-      (first_shaped (around p f) p.types fits (front_itself p.types.types))
+      (first_shaped (around p f) p.types fits (front_itself p.types.types) (parts n f at).variables)
 
   grows : (n : ℕ) (f : FunctionForm) → slice_get p.functions n ≡ Some f → (T : Types) → IsFront p.types.types T.types → FunctionGrows p f T
   grows n f at T table =
@@ -133,7 +137,7 @@ module _ (p : ProgramForm) (typed : IsWellTyped p) (built : are_built_functions 
       record {
         locals = done.does.adds.locals;
         table = subst (λ (x : Types). IsFront x.types (written (around p f) T).types.types) (first_types (around p f) T is.parameters table) done.does.adds.table;
-        shaped = done.does.adds.shaped (first_shaped (around p f) T is.parameters table);
+        shaped = done.does.adds.shaped (first_shaped (around p f) T is.parameters table (parts n f at).variables);
       }
 
   -- ---- the finished program
@@ -150,6 +154,12 @@ module _ (p : ProgramForm) (typed : IsWellTyped p) (built : are_built_functions 
   module _ (n : ℕ) (f : FunctionForm) (at : slice_get p.functions n ≡ Some f) (core : Function) (w : IsWritten p whole.types f core) where
     later : IsFront w.before.types whole.types.types
     later = front_then w.before.types (written (around p f) w.before).types.types whole.types.types (grows n f at w.before w.table).table w.later
+
+    front : IsFront p.types.types whole.types.types
+    front = front_then p.types.types w.before.types whole.types.types w.table later
+
+    shaped : AreShaped whole.types core.locals
+    shaped = shaped_later p.types whole.types front core.locals (subst (λ (c : Function). AreShaped p.types c.locals) (sym w.is) (grows n f at w.before w.table).shaped)
 
     count : core.parameters ≡ length f.parameters
     count = ap (λ (c : Function). c.parameters) w.is
@@ -181,8 +191,7 @@ module _ (p : ProgramForm) (typed : IsWellTyped p) (built : are_built_functions 
 
   written_setting : (n : ℕ) (f : FunctionForm) (at : slice_get p.functions n ≡ Some f) (core : Function) → IsWritten p whole.types f core → Setting (around p f) whole.types whole.functions core
   written_setting n f at core w =
-      setting_of whole.types whole.functions f core n at (front_then p.types.types w.before.types whole.types.types w.table (later n f at core w)) callee (written_gives n f at core w)
-      (subst (λ (c : Function). AreShaped c.locals) (sym w.is) (grows n f at w.before w.table).shaped)
+      setting_of whole.types whole.functions f core n at (front n f at core w) callee (written_gives n f at core w) (shaped n f at core w)
 
   one_checked : (n : ℕ) (f : FunctionForm) → slice_get p.functions n ≡ Some f → (core : Function) → IsWritten p whole.types f core → is_checked whole.types whole.functions core ≡ true
   one_checked n f at core w =
@@ -198,6 +207,13 @@ module _ (p : ProgramForm) (typed : IsWellTyped p) (built : are_built_functions 
       function_plain p f w.before whole.types whole.functions core (written_setting n f at core w) is.parameters (parts n f at) is.body t.0 t.1 w.table
       (written_begins n f at core w) (count n f at core w) (locals n f at core w) (ap (λ (c : Function). c.body) w.is)
 
+  one_short : (n : ℕ) (f : FunctionForm) → slice_get p.functions n ≡ Some f → (core : Function) → IsWritten p whole.types f core → AreShort (elements_of whole.types core)
+  one_short n f at core w =
+      let t = result_at p.types p.functions n f results at in
+      short_function whole.types core (shaped n f at core w)
+      (takes_values p f w.before whole.types whole.functions core (typed_at p p.functions n f typed at).parameters (parts n f at) t.0 t.1 w.table
+      (later n f at core w) (count n f at core w) (same n f at core w) (locals n f at core w))
+
   all_checked : (fs : List FunctionForm) (cores : List Function) → ((n : ℕ) (f : FunctionForm) → slice_get fs n ≡ Some f → (core : Function) → IsWritten p whole.types f core → is_checked whole.types whole.functions core ≡ true)
       → AreWritten p whole.types fs cores → are_checked whole.types whole.functions cores ≡ true
   all_checked [] [] each h = refl
@@ -212,11 +228,20 @@ module _ (p : ProgramForm) (typed : IsWellTyped p) (built : are_built_functions 
       and_from (is_plain_tree whole.types whole.functions core core.body) (are_plain whole.types whole.functions cores) (each zero f refl core h.0) (all_plain fs cores (λ n. each (suc n)) h.1)
   all_plain _ _ each h = absurd h
 
+  all_short : (fs : List FunctionForm) (cores : List Function) → ((n : ℕ) (f : FunctionForm) → slice_get fs n ≡ Some f → (core : Function) → IsWritten p whole.types f core → AreShort (elements_of whole.types core))
+      → AreWritten p whole.types fs cores → HaveShortPlaces whole.types cores
+  all_short [] [] each h = tt
+  all_short (f ∷ fs) (core ∷ cores) each h = (each zero f refl core h.0, all_short fs cores (λ n. each (suc n)) h.1)
+  all_short _ _ each h = absurd h
+
   pub program_checked : checked (core_program p) ≡ true
   program_checked = all_checked p.functions whole.functions one_checked each_written
 
   pub program_plain : is_plain (core_program p) ≡ true
   program_plain = all_plain p.functions whole.functions one_plain each_written
+
+  pub program_short : HaveShortPlaces whole.types whole.functions
+  program_short = all_short p.functions whole.functions one_short each_written
 
 -- ---- of what is built
 
@@ -228,3 +253,6 @@ translation_checked p typed results b = program_checked p typed (functions_built
 
 pub translation_plain : (p : ProgramForm) → IsWellTyped p → HasResults p → is_built p ≡ true → is_plain (core_program p) ≡ true
 translation_plain p typed results b = program_plain p typed (functions_built p b) results
+
+pub translation_short : (p : ProgramForm) → IsWellTyped p → HasResults p → is_built p ≡ true → HaveShortPlaces (core_program p).types (core_program p).functions
+translation_short p typed results b = program_short p typed (functions_built p b) results

@@ -11,7 +11,7 @@ use Rattle.life_well_typed.specs.Expressions.{parameter_types}
 use Rattle.life_writer.specs.Around.{Around}
 use Rattle.life_elab_laws.proofs.Calls.{IsCallee}
 use Rattle.life_elab_laws.proofs.Fronts.{IsFront}
-use Rattle.life_elab_laws.proofs.Growing.{AreShaped}
+use Rattle.life_elab_laws.proofs.Shaped.{AreShaped}
 
 pub record Setting (a : Around) (types : Types) (fs : List Function) (f : Function) : Type 0 where
   pub front : IsFront a.program.types.types types.types
@@ -20,6 +20,6 @@ pub record Setting (a : Around) (types : Types) (fs : List Function) (f : Functi
   pub result : is_built_result a.program.types a.function.result ≡ true
   pub taken : (g : ℕ) (of : FunctionForm) → slice_get a.program.functions g ≡ Some of → (n : ℕ) (id : TyId) → slice_get (parameter_types (Some of)) n ≡ Some id → is_value (type_at a.program.types id) ≡ true
   pub callees : (g : ℕ) (of : FunctionForm) → slice_get a.program.functions g ≡ Some of → IsCallee a.program.types types fs g of
-  -- the function itself gives a value back, or nothing, and its locals without names are registers
+  -- the function itself gives a value back, or nothing; its locals without names are registers, and the others variables
   pub gives : (result_sort types f ≡ Blank) ⊎ (result_sort types f ≡ ANumber)
-  pub shaped : AreShaped f.locals
+  pub shaped : AreShaped types f.locals

@@ -1,6 +1,7 @@
-// What is translated is proper.
+// What is translated is proper, and has short places.
 ghost use Rattle.life_built.specs.Built.{is_built};
 ghost use Rattle.life_core.specs.Proper.{IsProperProgram};
+ghost use Rattle.life_elab.specs.Bounds.{HaveShortPlaces};
 ghost use Rattle.life_elab.specs.Programs.{core_program};
 ghost use Rattle.life_proper.specs.Checking.{checked};
 ghost use Rattle.life_proper.specs.Plain.{IsPlainProgram};
@@ -22,4 +23,9 @@ pub fn translations_are_proper()
 /// .. and plain: the numbers of its literals are longs, and its calls hand over values alone.
 pub fn translations_are_plain()
     ensures { (p : ProgramForm) → IsWellTyped p → HasResults p → IsTrue (is_built p) → IsPlainProgram (core_program p) }
+{}
+
+/// .. and its places are short, as the rules ask: each has at most eight steps.
+pub fn translations_have_short_places()
+    ensures { (p : ProgramForm) → IsWellTyped p → HasResults p → IsTrue (is_built p) → HaveShortPlaces (core_program p).types (core_program p).functions }
 {}

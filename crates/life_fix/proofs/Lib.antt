@@ -5,6 +5,7 @@ pub mod Listed
 pub mod Logs
 pub mod PointRows
 pub mod ProgramFound
+pub mod ProgramSteps
 pub mod Runs
 pub mod Sizes
 pub mod Solved

@@ -1,8 +1,9 @@
 // The diagnostics of whole programs.
-ghost use Rattle.std.specs.Prelude.{◌↔◌, Contains, IfOk, OnOk, map};
+ghost use Rattle.std.specs.Prelude.{◌↔◌, ◌+◌, ◌≤◌, Contains, IfOk, OnOk, map};
 ghost use Rattle.life_core.specs.Function.{function_of, program_of};
 ghost use Rattle.life_fix.specs.Candidates.{candidate_seen};
-ghost use Rattle.life_fix.specs.Programs.{AddsDiagnosed, IsProgramWithinLimits};
+ghost use Rattle.life_fix.specs.Programs.{AddsDiagnosed, IsProgramWithinLimits, most_program_steps};
+ghost use Rattle.life_fix.specs.Solving.{most_steps};
 ghost use Rattle.life_pset.specs.Elements.{IsWithinLimits};
 ghost use Rattle.life_rules.specs.Diagnosing.{IsDiagnosed};
 ghost use Rattle.life_rules.specs.Listing.{AreProgramDiagnostics};
@@ -23,15 +24,16 @@ use std::sync::ledger::Ledger;
 
 /// The diagnostics of a program: those of its functions, each by its own body, the signatures, the types
 /// and the names alone. They stand in the order of the lines that they print, each line once, by the
-/// least diagnostic that prints it in the order of `Diag`. Each transfer takes one step. The only error
-/// is the want of memory.
+/// least diagnostic that prints it in the order of `Diag`. Each function is solved once, and takes the
+/// steps of that. The only error is the want of memory.
 pub fn program_diagnostics<L: Ledger>(
     alloc: Global,
     program: &CoreProgram,
     steps: &mut Steps<L>,
 ) -> Result<Vec<Diag>, NoMemory>
     requires { IsProgramWithinLimits (program_of program.now) }
-    ensures { IfOk result (λ all. AreProgramDiagnostics (program_of program.now) all.items) }
+    ensures listed { IfOk result (λ all. AreProgramDiagnostics (program_of program.now) all.items) }
+    ensures ticks { steps.new ≤ steps.old + most_program_steps (program_of program.now) }
 {
     let sigs = Signatures::of(alloc, program)?;
     let mut candidates = Vec::new(alloc);
@@ -63,8 +65,9 @@ fn push_diagnosed<L: Ledger>(
     out: &mut Vec<Candidate>,
 ) -> Result<(), NoMemory>
     requires { IsWithinLimits types.now (function_of f.now) }
-    ensures { OnOk result (AddsDiagnosed (naming_of names.now sigs.now) types.now id.0 (function_of f.now)
+    ensures adds { OnOk result (AddsDiagnosed (naming_of names.now sigs.now) types.now id.0 (function_of f.now)
         (map candidate_seen out.old.items) (map candidate_seen out.new.items)) }
+    ensures ticks { steps.new ≤ steps.old + most_steps types.now (function_of f.now) }
 {
     let found = function_found(alloc, id, f, sigs, types, steps)?;
     push_candidates(alloc, names, f, sigs, types, &found, out)
@@ -80,7 +83,8 @@ fn function_found<L: Ledger>(
     steps: &mut Steps<L>,
 ) -> Result<Vec<Diag>, NoMemory>
     requires { IsWithinLimits types.now (function_of f.now) }
-    ensures { IfOk result (λ all. (d : Diag) → Contains all.items d ↔ IsDiagnosed sigs.now types.now id.0 (function_of f.now) d) }
+    ensures found { IfOk result (λ all. (d : Diag) → Contains all.items d ↔ IsDiagnosed sigs.now types.now id.0 (function_of f.now) d) }
+    ensures ticks { steps.new ≤ steps.old + most_steps types.now (function_of f.now) }
 {
     let solution = solve::<SetRows, L>(alloc, f, sigs, types, steps)?;
     found(alloc, f, id, sigs, types, &solution)

@@ -4,14 +4,14 @@ use Rattle.life_core.specs.Function.{program_of}
 use Rattle.life_check.specs.CheckedText.{IsListed}
 use Rattle.life_check.proofs.check.check_program.Goals as goal
 
-pub returns-in_err-diagnostics : goal.returns-in_err-diagnostics
-returns-in_err-diagnostics g c =
+pub returns-in_err-diagnostics-clause-finds : goal.returns-in_err-diagnostics-clause-finds
+returns-in_err-diagnostics-clause-finds g c =
     let e = err_from_is_err_and c.from_residual.result c.from_residual.ensures.1 in
     rw (e.1, e.2) tt
 
-pub returns : goal.returns
-returns g c = (
+pub returns-clause-finds : goal.returns-clause-finds
+returns-clause-finds g c = (
   subst (IsListed (program_of c.args.program)) (sym c.decided.ensures.finding)
-      (record { diagnostics = c.in_ok-diagnostics.diagnostics.items; listed = c.in_ok-diagnostics.ensures; is = refl }),
+      (record { diagnostics = c.in_ok-diagnostics.diagnostics.items; listed = c.in_ok-diagnostics.ensures.listed; is = refl }),
   c.decided.ensures.sound,
 )

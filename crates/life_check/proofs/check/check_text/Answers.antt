@@ -1,9 +1,10 @@
 use Rattle.std.proofs.lemmas.Result.{err_from_is_err_and}
 use Rattle.life_check.proofs.Checking.{tree_finds, unparsed_finds}
+use Rattle.life_check.proofs.OneFinding.{of_only_tree}
 use Rattle.life_check.proofs.check.check_text.Goals as goal
 
-pub returns-in_err-tree : goal.returns-in_err-tree
-returns-in_err-tree g c =
+pub returns-in_err-tree-clause-finds : goal.returns-in_err-tree-clause-finds
+returns-in_err-tree-clause-finds g c =
     let e = err_from_is_err_and c.from_residual.result c.from_residual.ensures.1 in
     rw (e.1, e.2) (unparsed_finds c.args.bytes.now c.in_err-tree.field-0.0 c.in_err-tree.ensures.ends c.in_err-tree.ensures.only)
 
@@ -12,5 +13,8 @@ check_tree-requires g c =
     let source = c.in_ok-tree.ensures.ends.0 in
     let read = c.trees_have_longs.ensures c.args.bytes.now c.in_ok-tree.tree source in record { longs = read.0; fits = read.1 }
 
-pub returns : goal.returns
-returns g c = tree_finds c.args.bytes.now c.in_ok-tree.tree c.check_tree.result c.in_ok-tree.ensures.ends c.check_tree.ensures
+pub returns-clause-finds : goal.returns-clause-finds
+returns-clause-finds g c = tree_finds c.args.bytes.now c.in_ok-tree.tree c.check_tree.result c.in_ok-tree.ensures.ends c.check_tree.ensures.finds
+
+pub returns-clause-ticks : goal.returns-clause-ticks
+returns-clause-ticks g c = λ finding comes. c.check_tree.ensures.ticks finding (of_only_tree c.args.bytes.now c.in_ok-tree.tree finding c.in_ok-tree.ensures.ends comes)

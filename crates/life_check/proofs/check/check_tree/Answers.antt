@@ -3,8 +3,8 @@ use Rattle.life_typed.specs.Programs.{program_view}
 use Rattle.life_check.proofs.Checking.{typed_finds, untyped_finds}
 use Rattle.life_check.proofs.check.check_tree.Goals as goal
 
-pub returns-in_err-typed : goal.returns-in_err-typed
-returns-in_err-typed g c =
+pub returns-in_err-typed-clause-finds : goal.returns-in_err-typed-clause-finds
+returns-in_err-typed-clause-finds g c =
     let e = err_from_is_err_and c.from_residual.result c.from_residual.ensures.1 in
     rw (e.1, e.2) (untyped_finds c.args.tree.now c.in_err-typed.field-0.0 c.in_err-typed.ensures)
 
@@ -18,5 +18,5 @@ check_typed-requires g c =
       results = λ built. c.resolved_programs_are_well_typed.ensures.results tree typed c.in_ok-typed.ensures built parsed;
     }
 
-pub returns : goal.returns
-returns g c = typed_finds c.args.tree.now (program_view c.in_ok-typed.typed) c.check_typed.result c.in_ok-typed.ensures c.check_typed.ensures
+pub returns-clause-finds : goal.returns-clause-finds
+returns-clause-finds g c = typed_finds c.args.tree.now (program_view c.in_ok-typed.typed) c.check_typed.result c.in_ok-typed.ensures c.check_typed.ensures.finds

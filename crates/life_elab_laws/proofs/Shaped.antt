@@ -1,0 +1,69 @@
+-- The locals of a function: one without a name is a register, and one with a name has the type of a variable that is built.
+use Rattle.std.proofs.Common.{◌≡◌, ℕ, zero, suc, true, false, ◌||◌, List, [], ◌∷◌, ◌++◌, slice_get, Option, Some, None, refl, ap, ◌∙◌, subst, unwrap_or}
+use Rattle.std.proofs.lemmas.Bool.{false≢true}
+use Rattle.std.proofs.lemmas.Option.{none-some, same_Some}
+use Rattle.life_types.specs.Types.{Types}
+use Rattle.life_types.specs.declared.ty.NameId.{NameId}
+use Rattle.life_types.specs.declared.ty.Ty.{Ty}
+use Rattle.life_types.specs.declared.ty.Ty.TheVariants as ty
+use Rattle.life_types.specs.declared.ty.TyId.{TyId}
+use Rattle.life_built.specs.Built.{is_built_variable, is_pointing}
+use Rattle.life_typed.specs.BaseTypes.{is_value, type_at}
+use Rattle.life_core.specs.declared.program.Local.{Local}
+use Rattle.life_proper.specs.Knowing.{is_intermediate}
+use Rattle.life_elab_laws.proofs.Fronts.{IsFront}
+
+-- ---- the type of a variable that is built is one in a table with more types too
+
+module _ (few more : Types) (front : IsFront few.types more.types) where
+  pub value_later : (id : TyId) → is_value (type_at few id) ≡ true → is_value (type_at more id) ≡ true
+  value_later id w = go (slice_get few.types id.0) refl w
+    where
+      go : (o : Option Ty) → slice_get few.types id.0 ≡ o → is_value (unwrap_or o ty.Void) ≡ true → is_value (type_at more id) ≡ true
+      go None at w = absurd (false≢true w)
+      go (Some t) at w = ap (λ (o : Option Ty). is_value (unwrap_or o ty.Void)) (front id.0 t at) ∙ w
+
+  type_later : (t : Ty) → (is_value t || is_pointing few t) ≡ true → (is_value t || is_pointing more t) ≡ true
+  type_later (ty.Raw target constant) b = value_later target b
+  type_later (ty.Reference target constant) b = value_later target b
+  type_later _ b = b
+
+  pub variable_later : (id : TyId) → is_built_variable few id ≡ true → is_built_variable more id ≡ true
+  variable_later id b = go (slice_get few.types id.0) refl b
+    where
+      go : (o : Option Ty) → slice_get few.types id.0 ≡ o → (is_value (unwrap_or o ty.Void) || is_pointing few (unwrap_or o ty.Void)) ≡ true → is_built_variable more id ≡ true
+      go None at b = absurd (false≢true b)
+      go (Some t) at b = ap (λ (o : Option Ty). is_value (unwrap_or o ty.Void) || is_pointing more (unwrap_or o ty.Void)) (front id.0 t at) ∙ type_later t b
+
+-- ---- locals
+
+-- a variable or a parameter
+pub record IsVariable (types : Types) (l : Local) : Type 0 where
+  pub name : NameId
+  pub named : l.name ≡ Some name
+  pub built : is_built_variable types l.ty ≡ true
+
+abbrev pub IsShaped : Types → Local → Type 0
+IsShaped types l = is_intermediate l ≡ false → IsVariable types l
+
+abbrev pub AreShaped : Types → List Local → Type 0
+AreShaped types [] = Unit {0}
+AreShaped types (l ∷ ls) = IsShaped types l × AreShaped types ls
+
+module _ (types : Types) where
+  pub shaped_more : (ls : List Local) (l : Local) → AreShaped types ls → IsShaped types l → AreShaped types (ls ++ l ∷ [])
+  shaped_more [] l h one = (one, tt)
+  shaped_more (z ∷ ls) l h one = (h.0, shaped_more ls l h.1 one)
+
+  pub shaped_at : (ls : List Local) (y : ℕ) (l : Local) → AreShaped types ls → slice_get ls y ≡ Some l → IsShaped types l
+  shaped_at [] y l h at = absurd (none-some l at)
+  shaped_at (z ∷ ls) zero l h at = subst (IsShaped types) (same_Some z l at) h.0
+  shaped_at (z ∷ ls) (suc y) l h at = shaped_at ls y l h.1 at
+
+  -- .. in a table with more types too
+  pub shaped_later : (more : Types) → IsFront types.types more.types → (ls : List Local) → AreShaped types ls → AreShaped more ls
+  shaped_later more front [] h = tt
+  shaped_later more front (l ∷ ls) h = (λ not. later (h.0 not), shaped_later more front ls h.1)
+    where
+      later : IsVariable types l → IsVariable more l
+      later is = record { name = is.name; named = is.named; built = variable_later types more front l.ty is.built }

@@ -1,0 +1,180 @@
+-- The places of a function that is translated have no steps: its objects are values, and nothing is behind its parameters.
+use Rattle.std.proofs.Common.{◌≡◌, ◌<◌, ◌+◌, ℕ, zero, suc, Bool, true, false, ◌&&◌, ◌||◌, List, [], ◌∷◌, ◌++◌, if◌then◌else◌, flat_map, map, nat_lt, slice_get, Option, Some, None, is_none, refl, ap, ◌∙◌, subst, sym, unwrap_or, arith}
+use Rattle.std.proofs.lemmas.Bool.{false≢true, or_left}
+use Rattle.std.proofs.lemmas.Bool.Decides.{nat_tests}
+use Rattle.life_types.specs.Trees.{tree_at, tree_of, tree_within}
+use Rattle.life_types.specs.Types.{Types}
+use Rattle.life_types.specs.declared.place.Place.{Place}
+use Rattle.life_types.specs.declared.ty.Ty.{Ty}
+use Rattle.life_types.specs.declared.ty.Ty.TheVariants as ty
+use Rattle.life_types.specs.declared.ty.TyId.{TyId}
+use Rattle.life_built.specs.Built.{is_built_variable, is_pointing}
+use Rattle.life_typed.specs.BaseTypes.{is_value, type_at}
+use Rattle.life_core.specs.Function.{Function}
+use Rattle.life_core.specs.Linked.{Linked, code_of}
+use Rattle.life_core.specs.Step.{Step, Live, End, Copy, Move, Changes, Make, Call}
+use Rattle.life_core.specs.Tree.{Node, Action, Question, Return, Stop}
+use Rattle.life_core.specs.declared.program.Local.{Local}
+use Rattle.life_core.specs.declared.program.LocalKind.{LocalKind}
+use Rattle.life_core.specs.declared.program.LocalKind.TheVariants.{Object, Register, Range}
+use Rattle.life_proper.specs.Knowing.{is_register}
+use Rattle.life_pset.specs.Elements.{AreShort, causes_of_end, caused_at, caused_elements, elements_of, end_elements, input_places, inputs_among, inputs_from, inputs_of, local_inputs, local_place, locations_in, node_elements, object_places, objects_from, places_in, pointers_in, step_elements}
+use Rattle.life_pset.specs.Shapes.{is_variable, or_void, referred, shape, shape_if, ty_of, unslotted}
+use Rattle.life_pset.specs.declared.element.AbsPlace.{AbsPlace}
+use Rattle.life_pset.specs.declared.element.Cause.{Cause}
+use Rattle.life_pset.specs.declared.element.Element.{Element}
+use Rattle.life_pset.specs.declared.element.Element.TheVariants as element
+use Rattle.life_elab_laws.proofs.Shaped.{AreShaped, IsShaped}
+
+-- ---- lists
+
+short_append : (es ds : List Element) → AreShort es → AreShort ds → AreShort (es ++ ds)
+short_append [] ds first second = second
+short_append (e ∷ es) ds first second = (first.0, short_append es ds first.1 second)
+
+short_places : (xs ys : List AbsPlace) → AreShort (map element.At xs) → AreShort (map element.At ys) → AreShort (map element.At (xs ++ ys))
+short_places [] ys first second = second
+short_places (x ∷ xs) ys first second = (first.0, short_places xs ys first.1 second)
+
+short_each : {A : Type 0} (part : A → List Element) → ((x : A) → AreShort (part x)) → (xs : List A) → AreShort (flat_map part xs)
+short_each part each [] = tt
+short_each part each (x ∷ xs) = short_append (part x) (flat_map part xs) (each x) (short_each part each xs)
+
+-- ---- what has a cause is no place
+
+short_causes : (cs : List Cause) → AreShort (map element.Invalid cs)
+short_causes [] = tt
+short_causes (c ∷ cs) = (tt, short_causes cs)
+
+module _ (f : Function) where
+  short_step : (place : Place) (i : Step) → AreShort (step_elements f place i)
+  short_step place (Live x form) = (tt, tt)
+  short_step place (End xs) = short_each (end_elements f place) (λ x. short_causes (causes_of_end f place x)) xs
+  short_step place (Copy to from) = (tt, tt)
+  short_step place (Move to y) = (tt, (tt, (tt, tt)))
+  short_step place (Changes o change) = (tt, tt)
+  short_step place (Make u made) = (tt, tt)
+  short_step place (Call target g xs) = (tt, tt)
+  short_step place _ = tt
+
+  short_node : (place : Place) (n : Node) → AreShort (node_elements f place n)
+  short_node place (Action i) = short_step place i
+  short_node place (Question t) = tt
+  short_node place Return = tt
+  short_node place Stop = tt
+
+  short_caused : AreShort (caused_elements f)
+  short_caused = short_each (caused_at f) (λ (l : Linked). short_node l.spot.place l.spot.node) (code_of f)
+
+-- ---- types of variables
+
+module _ (types : Types) where
+  -- a value or a pointer has no parts
+  no_parts : (id : TyId) → is_built_variable types id ≡ true → (at : AbsPlace) → places_in at (tree_at types id) ≡ at ∷ []
+  unfolding tree_at
+  no_parts id b at = go (slice_get types.types id.0) b
+    where
+      go : (o : Option Ty) → (is_value (unwrap_or o ty.Void) || is_pointing types (unwrap_or o ty.Void)) ≡ true → places_in at (tree_of types (tree_within id.0 types) o) ≡ at ∷ []
+      go (Some ty.Text) b = absurd (false≢true b)
+      go (Some (ty.Vector item)) b = absurd (false≢true b)
+      go (Some (ty.Unique target)) b = absurd (false≢true b)
+      go (Some (ty.Struct number)) b = absurd (false≢true b)
+      go _ b = refl
+
+  -- .. and stands as it is, also where a parameter has it
+  same_shape : (parameter : Bool) (id : TyId) → is_built_variable types id ≡ true → shape_if types parameter id ≡ id
+  same_shape false id b = refl
+  same_shape true id b = go (slice_get types.types id.0) b
+    where
+      to : (target : TyId) (o : Option Ty) → is_value (unwrap_or o ty.Void) ≡ true → referred id target (or_void o) ≡ id
+      to target (Some (ty.Iterator item constant)) w = absurd (false≢true w)
+      to target (Some (ty.Span item constant)) w = absurd (false≢true w)
+      to target (Some ty.View) w = absurd (false≢true w)
+      to target (Some (ty.Unique item)) w = absurd (false≢true w)
+      to target _ w = refl
+
+      go : (o : Option Ty) → (is_value (unwrap_or o ty.Void) || is_pointing types (unwrap_or o ty.Void)) ≡ true → unslotted types id (or_void o) ≡ id
+      go (Some (ty.Reference target false)) b = to target (slice_get types.types target.0) b
+      go _ b = refl
+
+  -- ---- objects
+
+  short_object : (n x : ℕ) (l : Local) → IsShaped types l → AreShort (map element.At (object_places l.kind (tree_at types (shape types n x l)) x))
+  short_object n x l shaped = go l.kind refl
+    where
+      go : (k : LocalKind) → l.kind ≡ k → AreShort (map element.At (object_places k (tree_at types (shape types n x l)) x))
+      go Object is =
+          let built = (shaped (ap (λ (k : LocalKind). is_register k && is_none l.name) is)).built in
+          subst (λ (places : List AbsPlace). AreShort (map element.At places))
+          (sym (ap (λ (id : TyId). places_in (local_place x) (tree_at types id)) (same_shape (nat_lt x n) l.ty built) ∙ no_parts l.ty built (local_place x)))
+          (omega arith, tt)
+      go Register is = tt
+      go Range is = tt
+
+  short_objects : (n x : ℕ) (ls : List Local) → AreShaped types ls → AreShort (map element.At (objects_from types n x ls))
+  short_objects n x [] shaped = tt
+  short_objects n x (l ∷ ls) shaped =
+      short_places (object_places l.kind (tree_at types (shape types n x l)) x) (objects_from types n (x + 1) ls) (short_object n x l shaped.0) (short_objects n (x + 1) ls shaped.1)
+
+  -- ---- what is behind parameters
+
+  value_there : (o : Option Ty) → is_value (unwrap_or o ty.Void) ≡ true → is_value (or_void o) ≡ true
+  value_there None w = w
+  value_there (Some t) w = w
+
+  no_buffer : (k : LocalKind) (t : Ty) → is_value t ≡ true → is_variable k t ≡ false
+  no_buffer Object ty.Text w = absurd (false≢true w)
+  no_buffer Object (ty.Vector item) w = absurd (false≢true w)
+  no_buffer Object _ w = refl
+  no_buffer Register t w = refl
+  no_buffer Range t w = refl
+
+  -- a value has no location
+  no_pointers : (id : TyId) → is_value (type_at types id) ≡ true → (at : AbsPlace) → pointers_in at (tree_at types id) ≡ []
+  unfolding tree_at
+  no_pointers id w at = go (slice_get types.types id.0) w
+    where
+      go : (o : Option Ty) → is_value (unwrap_or o ty.Void) ≡ true → pointers_in at (tree_of types (tree_within id.0 types) o) ≡ []
+      go (Some ty.Bool) w = refl
+      go (Some ty.Char) w = refl
+      go (Some ty.Int) w = refl
+      go (Some ty.Long) w = refl
+      go (Some ty.Size) w = refl
+      go _ w = absurd (false≢true w)
+
+  no_locations : (k : LocalKind) (id : TyId) → is_value (type_at types id) ≡ true → (at : AbsPlace) → locations_in types k id at ≡ []
+  no_locations k id w at =
+      ap (λ (b : Bool). if b then at ∷ [] else pointers_in at (tree_at types id)) (no_buffer k (ty_of types id) (value_there (slice_get types.types id.0) w))
+      ∙ no_pointers id w at
+
+  no_local_inputs : (n x : ℕ) (l : Local) → (x < n → is_value (type_at types l.ty) ≡ true) → local_inputs types n x l ≡ []
+  no_local_inputs n x l value = go (nat_lt x n) refl
+    where
+      lt_of : (a b : ℕ) → nat_lt a b ≡ true → a < b
+      lt_of a b h = grind (arith, nat_tests)
+
+      go : (b : Bool) → nat_lt x n ≡ b → (if b then inputs_among types x (shape_if types b l.ty) 0 (locations_in types l.kind (shape_if types b l.ty) (local_place x)) else []) ≡ []
+      go false is = refl
+      go true is =
+          let w = value (lt_of x n is) in
+          let same : shape_if types true l.ty ≡ l.ty = same_shape true l.ty (or_left (is_value (type_at types l.ty)) _ w) in
+          ap (inputs_among types x (shape_if types true l.ty) 0) (ap (λ (id : TyId). locations_in types l.kind id (local_place x)) same ∙ no_locations l.kind l.ty w (local_place x))
+
+  no_inputs : (n x : ℕ) (ls : List Local) → ((y : ℕ) (l : Local) → slice_get ls y ≡ Some l → x + y < n → is_value (type_at types l.ty) ≡ true) → inputs_from types n x ls ≡ []
+  no_inputs n x [] values = refl
+  no_inputs n x (l ∷ ls) values =
+      ap (λ is. is ++ inputs_from types n (x + 1) ls) (no_local_inputs n x l (λ lt. values zero l refl (omega (arith, lt))))
+      ∙ no_inputs n (x + 1) ls (λ y u at lt. values (suc y) u at (omega (arith, lt)))
+
+  -- ---- the whole
+
+  pub short_function : (f : Function) → AreShaped types f.locals → ((y : ℕ) (l : Local) → slice_get f.locals y ≡ Some l → y < f.parameters → is_value (type_at types l.ty) ≡ true) → AreShort (elements_of types f)
+  short_function f shaped values =
+      let none : inputs_of types f ≡ [] = no_inputs f.parameters 0 f.locals (λ y l at lt. values y l at (omega (arith, lt))) in
+      let behind : AreShort (map element.At (flat_map (input_places types) (inputs_of types f))) =
+      subst (λ is. AreShort (map element.At (flat_map (input_places types) is))) (sym none) tt in
+      let beside = short_append (map element.At (flat_map (input_places types) (inputs_of types f))) (caused_elements f) behind (short_caused f) in
+      let places =
+      short_append (map element.At (objects_from types f.parameters 0 f.locals)) (map element.At (flat_map (input_places types) (inputs_of types f)) ++ caused_elements f)
+      (short_objects f.parameters 0 f.locals shaped) beside in
+      (tt, (tt, (tt, places)))
