@@ -115,6 +115,21 @@ def moving_file(pointers, objects):
     return "\n".join(lines).encode() + b"\n"
 
 
+def dense_file(pointers, objects, turns):
+    """Pointers in a chain, objects in a loop, and so many ways on to its next turn: each end of each object is a reason of its own, and
+    comes to each pointer."""
+    lines = ["int main() {"]
+    lines += [f"  int* p{n} = nullptr;" for n in range(pointers)]
+    lines += ["  while (life::input()) {"]
+    lines += [f"    int x{n} = 0;" for n in range(objects)]
+    lines += [f"    if (life::input()) {{ p0 = &x{n}; }}" for n in range(objects)]
+    lines += [f"    p{n} = p{n - 1};" for n in range(pointers - 1, 0, -1)]
+    lines += [f"    if (life::input()) {{ p0 = p{pointers - 1}; }}"]
+    lines += ["    if (life::input()) { continue; }"] * turns
+    lines += ["  }", "  return 0;", "}"]
+    return "\n".join(lines).encode() + b"\n"
+
+
 FILES = [
     ("200 small functions", functions_file),
     ("one comment, 1 MiB", comment_file),
@@ -125,6 +140,7 @@ FILES = [
     ("250 diagnostics", faults_file),
     ("60 pointers that move on", partial(moving_file, 60, 60)),
     ("250 pointers, 100 objects", partial(moving_file, 250, 100)),
+    ("60 pointers, 450 reasons", partial(dense_file, 60, 15, 30)),
 ]
 
 # What is timed beside lifecheck, with the words before the file.
