@@ -9,6 +9,8 @@ mod fix_tests;
 #[cfg(test)]
 mod owner_tests;
 #[cfg(test)]
+mod row_tests;
+#[cfg(test)]
 mod solving;
 #[cfg(test)]
 mod text_tests;

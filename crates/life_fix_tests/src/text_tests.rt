@@ -1,8 +1,10 @@
-// Texts of places with members and of what lies behind them.
-use crate::solving::{add, add_struct, function, local, no_signatures, pointer_to};
+// Texts of places with members, of what lies behind them, and of the elements of sets.
+use crate::solving::{
+    add, add_struct, because, function, invalid, local, no_signatures, of, pointer_to,
+};
 use life_core::{CoreFn, LocalKind, Names};
-use life_pset::{AbsPlace, Root};
-use life_rules::place_text;
+use life_pset::{AbsPlace, CauseKind, Element, Root};
+use life_rules::{element_text, place_text};
 use life_types::{NameId, NoMemory, Ty, TypeTable};
 use std::alloc::Global;
 use std::process::Abort;
@@ -49,6 +51,37 @@ fn texts_of_members(rt: HostRuntime) -> Result<(), Fail> {
     ];
     for (place, want) in places {
         let text = place_text(rt.alloc(), &names, &f, &sigs, &types, &place)?;
+        assert_eq!(rt; text.as_slice(), want.as_bytes());
+    }
+    Ok(())
+}
+
+#[test]
+fn texts_of_elements(rt: HostRuntime) -> Result<(), Fail> {
+    let names = names(rt.alloc())?;
+    let mut types = TypeTable::new(rt.alloc());
+    let f = with_members(&rt, rt.alloc(), &mut types)?;
+    let sigs = no_signatures(rt.alloc())?;
+    let elements = [
+        (Element::Null, "null"),
+        (Element::Own, "own"),
+        (Element::Static, "static"),
+        (Element::At(of(2).member(0)), "x1.x1"),
+        (
+            invalid(CauseKind::Changed, 3, 2),
+            "invalid(x1 changed at 3:1)",
+        ),
+        (
+            invalid(CauseKind::OwnerChanged, 4, 0),
+            "invalid(owner changed at 4:1)",
+        ),
+        (
+            Element::Moved(because(CauseKind::Moved, 5, 0)),
+            "moved(p moved at 5:1)",
+        ),
+    ];
+    for (element, want) in elements {
+        let text = element_text(rt.alloc(), &names, &f, &sigs, &types, &element)?;
         assert_eq!(rt; text.as_slice(), want.as_bytes());
     }
     Ok(())
