@@ -3,7 +3,7 @@
 use crate::solving::{
     AT_HAND, add, aim, at, because, begin, derives, fact, first, function, inside, invalid, live,
     local, no_names, no_signatures, object, of, pointer_to, read, reference_to, register,
-    signatures, tells, told,
+    signatures, tells, told, wrong,
 };
 use life_contract::Signatures;
 use life_core::{
@@ -199,17 +199,6 @@ fn wrong_argument(line: u32, kind: DiagKind, callee: u32, why: Why) -> Diag {
         kind,
         name: of(0),
         called: Some(callee),
-        why,
-    }
-}
-
-fn wrong(line: u32, kind: DiagKind, name: AbsPlace, why: Why) -> Diag {
-    Diag {
-        function: AT_HAND,
-        place: at(line, 1),
-        kind,
-        name,
-        called: None,
         why,
     }
 }

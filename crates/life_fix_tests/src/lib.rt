@@ -14,3 +14,5 @@ mod row_tests;
 mod solving;
 #[cfg(test)]
 mod text_tests;
+#[cfg(test)]
+mod view_tests;

@@ -1,8 +1,8 @@
 // The facts of functions with owners, worked out by hand, and what they make wrong.
 use crate::solving::{
-    add, add_struct, aim, at, because, begin, derives, fact, first, function, inside, invalid,
-    live, no_names, no_signatures, object, of, pointer_to, read, reference_to, register, tells,
-    told,
+    add, add_struct, aim, at, because, begin, change, copy, derives, element, fact, first,
+    function, inside, invalid, live, make, member, move_to, no_names, no_signatures, object, of,
+    pointer_to, read, reference_to, register, tells, told,
 };
 use life_core::{
     Base, Change, Condition, CoreFn, Instr, Location, Made, Operand, Source, Stmt, Test, Which,
@@ -13,24 +13,6 @@ use life_types::{NoMemory, Ty, TypeTable};
 use std::alloc::Global;
 use std::process::Abort;
 use std::test::Fail;
-
-fn change(line: u32, place: Operand, change: Change) -> Stmt {
-    Stmt::Do(at(line, 1), Instr::Change { place, change })
-}
-
-fn copy(line: u32, to: Operand, from: Operand) -> Stmt {
-    Stmt::Do(at(line, 1), Instr::Copy { to, from })
-}
-
-fn move_to(line: u32, to: Operand, from: u32) -> Stmt {
-    Stmt::Do(at(line, 1), Instr::Move { to, from })
-}
-
-// The member with this number of a local.
-fn member(alloc: Global, local: u32, number: u32) -> Result<Location, NoMemory> {
-    let members = vec![in alloc; number]?;
-    Ok(Location { local, members })
-}
 
 // ---- changes by name, erase, moves and copies of whole vectors
 
@@ -312,23 +294,11 @@ fn with_unique(rt: &impl Abort, alloc: Global, types: &mut TypeTable) -> Result<
         register(int),
         register(pointer),
     ]?;
-    let take = Stmt::Do(
-        at(8, 1),
-        Instr::Element {
-            pointer: Location::whole(alloc, TAKEN),
-            base: Base::Owner(Operand::name(alloc, U)),
-            which: Which::Target,
-        },
-    );
+    let unique = Base::Owner(Operand::name(alloc, U));
+    let take = element(Location::whole(alloc, TAKEN), 8, unique, Which::Target);
     let body = vec![in alloc;
         live(1, U),
-        Stmt::Do(
-            at(2, 1),
-            Instr::Make {
-                owner: Location::whole(alloc, U),
-                made: Made::Of(VALUE)
-            }
-        ),
+        make(Location::whole(alloc, U), 2, Made::Of(VALUE)),
         aim(alloc, 3, TARGET, Source::Get(Location::whole(alloc, U))),
         live(4, OTHER),
         move_to(5, Operand::name(alloc, OTHER), U),

@@ -8,8 +8,8 @@ ghost use Rattle.life_types.specs.Types.{HasParts, HasType, HasTypes};
 use life_base::Steps;
 use life_contract::Signatures;
 use life_core::{
-    Base, CoreFn, CoreProgram, FnId, Form, Instr, Local, LocalKind, Location, Names, Operand,
-    Point, Promise, RangeEnd, Source, Stmt, Which,
+    Base, Change, CoreFn, CoreProgram, FnId, Form, Instr, Local, LocalKind, Location, Made, Names,
+    Operand, Point, Promise, RangeEnd, Source, Stmt, Which,
 };
 use life_fix::{Solution, diagnostics, solve};
 use life_pset::{AbsPlace, BitRows, Cause, CauseKind, Element, Fact, Rows, SetRows};
@@ -61,46 +61,66 @@ pub fn function(parameters: u32, gives: TyId, locals: Vec<Local>, body: Vec<Stmt
     }
 }
 
+/// The member with this number of a local.
+pub fn member(alloc: Global, local: u32, number: u32) -> Result<Location, NoMemory> {
+    let members = vec![in alloc; number]?;
+    Ok(Location { local, members })
+}
+
 pub fn live(line: u32, local: u32) -> Stmt {
-    Stmt::Do(
-        at(line, 1),
-        Instr::Live {
-            local,
-            form: Form::Plain,
-        },
-    )
+    born(line, local, Form::Plain)
+}
+
+pub fn born(line: u32, local: u32, form: Form) -> Stmt {
+    Stmt::Do(at(line, 1), Instr::Live { local, form })
 }
 
 pub fn aim(alloc: Global, line: u32, pointer: u32, source: Source) -> Stmt {
-    Stmt::Do(
-        at(line, 1),
-        Instr::Aim {
-            pointer: Location::whole(alloc, pointer),
-            source,
-        },
-    )
+    aim_at(Location::whole(alloc, pointer), line, source)
+}
+
+pub fn aim_at(pointer: Location, line: u32, source: Source) -> Stmt {
+    Stmt::Do(at(line, 1), Instr::Aim { pointer, source })
 }
 
 pub fn begin(alloc: Global, line: u32, pointer: u32, owner: u32) -> Stmt {
-    Stmt::Do(
-        at(line, 1),
-        Instr::Cursor {
-            pointer: Location::whole(alloc, pointer),
-            base: Base::Owner(Operand::name(alloc, owner)),
-            end: RangeEnd::Begin,
-        },
-    )
+    let base = Base::Owner(Operand::name(alloc, owner));
+    cursor(Location::whole(alloc, pointer), line, base, RangeEnd::Begin)
+}
+
+pub fn cursor(pointer: Location, line: u32, base: Base, end: RangeEnd) -> Stmt {
+    Stmt::Do(at(line, 1), Instr::Cursor { pointer, base, end })
 }
 
 pub fn first(pointer: Location, line: u32, owner: Operand) -> Stmt {
+    element(pointer, line, Base::Owner(owner), Which::First)
+}
+
+pub fn element(pointer: Location, line: u32, base: Base, which: Which) -> Stmt {
     Stmt::Do(
         at(line, 1),
         Instr::Element {
             pointer,
-            base: Base::Owner(owner),
-            which: Which::First,
+            base,
+            which,
         },
     )
+}
+
+pub fn change(line: u32, place: Operand, change: Change) -> Stmt {
+    Stmt::Do(at(line, 1), Instr::Change { place, change })
+}
+
+pub fn make(owner: Location, line: u32, made: Made) -> Stmt {
+    Stmt::Do(at(line, 1), Instr::Make { owner, made })
+}
+
+pub fn copy(line: u32, to: Operand, from: Operand) -> Stmt {
+    Stmt::Do(at(line, 1), Instr::Copy { to, from })
+}
+
+pub fn move_to(line: u32, to: Operand, from: u32) -> Stmt {
+    Stmt::Do(at(line, 1), Instr::Move { to, from })
 }
 
 pub fn read(line: u32, into: u32, from: Operand) -> Stmt {
@@ -214,13 +234,17 @@ pub fn invalid(kind: CauseKind, line: u32, root: u32) -> Element {
 // ---- diagnostics
 
 pub fn told(line: u32, kind: DiagKind, name: AbsPlace, cause: Cause) -> Diag {
+    wrong(line, kind, name, Why::Cause(cause))
+}
+
+pub fn wrong(line: u32, kind: DiagKind, name: AbsPlace, why: Why) -> Diag {
     Diag {
         function: AT_HAND,
         place: at(line, 1),
         kind,
         name,
         called: None,
-        why: Why::Cause(cause),
+        why,
     }
 }
 
@@ -396,5 +420,43 @@ pub fn tells(
     assert_eq!(rt; by_sets.as_slice(), want);
     let by_bits = wrong_by_bits(alloc, f, sigs, types, names)?;
     assert_eq!(rt; by_bits.as_slice(), want);
+    Ok(())
+}
+
+/// The fact is derived from the first of these points to the last.
+pub fn during(from: u32, to: u32, location: AbsPlace, element: Element) -> (u32, u32, Fact) {
+    (from, to, fact(location, element))
+}
+
+/// Each of these facts is derived at those of the points that lie in its stretch, and no other is derived
+/// there. At no point may a fact stand before one that the function's table has earlier.
+pub fn derives_during(
+    rt: &impl Abort,
+    alloc: Global,
+    f: &CoreFn,
+    sigs: &Signatures,
+    types: &TypeTable,
+    points: &[u32],
+    stretches: &[(u32, u32, Fact)],
+) -> Result<(), NoMemory>
+    requires { IsWithinLimits types.now (function_of f.now) }
+{
+    let mut want = Vec::new(alloc);
+    for point in points {
+        push_wanted(*point, stretches, &mut want)?;
+    }
+    derives(rt, alloc, f, sigs, types, points, &want)
+}
+
+fn push_wanted(
+    point: u32,
+    stretches: &[(u32, u32, Fact)],
+    want: &mut Vec<(u32, Fact)>,
+) -> Result<(), NoMemory> {
+    for stretch in stretches {
+        if stretch.0 <= point && point <= stretch.1 {
+            want.push((point, stretch.2))?;
+        }
+    }
     Ok(())
 }
