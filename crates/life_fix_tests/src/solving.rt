@@ -428,8 +428,8 @@ pub fn during(from: u32, to: u32, location: AbsPlace, element: Element) -> (u32,
     (from, to, fact(location, element))
 }
 
-/// Each of these facts is derived at those of the points that lie in its stretch, and no other is derived
-/// there. At no point may a fact stand before one that the function's table has earlier.
+/// At each of the points those facts are derived in whose stretches it lies, and no other, by rows of either
+/// kind. The stretches of one point stand in the order in which the function's table numbers their facts.
 pub fn derives_during(
     rt: &impl Abort,
     alloc: Global,
