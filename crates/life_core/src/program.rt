@@ -27,7 +27,8 @@ pub struct Local {
     pub name: Option<NameId>,
     pub ty: TyId,
     pub kind: LocalKind,
-    /// Where its name stands where it is declared, or the function's name for a local without one.
+    /// Where its name stands where it is declared; for the result where the function's name does, and for
+    /// any other local without a name where the first point stands that brings it to life or writes it.
     pub place: Place,
     /// Whether it is a parameter that bears `[[life::nonnull]]`: a raw pointer that is never null.
     pub nonnull: bool,

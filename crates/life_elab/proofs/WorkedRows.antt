@@ -22,6 +22,7 @@ use Rattle.life_core.specs.Tree.{Tree, Skip, Then, Acts, Asks, Either, Negated, 
 use Rattle.life_core.specs.declared.instr.Form.TheVariants.{Plain}
 use Rattle.life_core.specs.declared.operation.Operation.TheVariants.{Binary, Number}
 use Rattle.life_core.specs.declared.operation.Operator.TheVariants.{Add, Less}
+use Rattle.life_core.specs.declared.program.Local.{Local}
 use Rattle.life_elab.specs.Over.{over}
 use Rattle.life_types.specs.Trees.{tree_at}
 use Rattle.life_elab.specs.Programs.{core_program}
@@ -86,6 +87,10 @@ program = record {
 abbrev bodies : Program → List Tree
 bodies p = map (λ (f : Function). f.body) p.functions
 
+-- where the locals of each function stand
+abbrev places : Program → List (List Place)
+places p = map (λ (f : Function). map (λ (l : Local). l.place) f.locals) p.functions
+
 -- local 0 is the result, 1 the register of the 4, 2 is x and 3 is p
 abbrev core : Tree
 core =
@@ -99,6 +104,10 @@ core =
 
 worked : bodies (core_program program) ≡ core ∷ []
 worked = refl
+
+-- the result stands where the function's name does, and the register where the 4 is written to it
+located : places (core_program program) ≡ (at 5 ∷ at 22 ∷ at 18 ∷ at 30 ∷ []) ∷ []
+located = refl
 
 within : over program (core_program program) ≡ None
 unfolding tree_at
@@ -179,3 +188,7 @@ loop_core = trees (
 
 looped : bodies (core_program loop_program) ≡ loop_core ∷ []
 looped = refl
+
+-- the variables stand where they are declared, and each register where its instruction does
+loop_located : places (core_program loop_program) ≡ (at 13 ∷ at 31 ∷ at 27 ∷ at 34 ∷ at 38 ∷ at 36 ∷ at 50 ∷ at 56 ∷ at 43 ∷ at 41 ∷ at 41 ∷ []) ∷ []
+loop_located = refl

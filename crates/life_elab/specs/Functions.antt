@@ -29,10 +29,10 @@ abbrev pub with_parameters : Around → List ParameterPromise → List TypedLoca
 with_parameters a (p ∷ ps) (v ∷ vs) s = with_parameters a ps vs (with_variable (parameter_local a p v) s).state
 with_parameters a _ _ s = s
 
--- then the result, where it isn't void
+-- then the result, where it isn't void: it stands where the function's name does
 abbrev pub with_result : Around → Ty → State → State
 with_result a ty.Void s = s
-with_result a _ s = record s { locals = s.locals ++ nameless a a.function.result ∷ [] }
+with_result a _ s = record s { locals = s.locals ++ nameless a.function.place a.function.result ∷ [] }
 
 abbrev pub first_state : Around → Types → State
 first_state a types =

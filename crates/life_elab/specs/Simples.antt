@@ -46,14 +46,14 @@ assigned a target equals (several list) s = s
 -- ---- assignments that compute, and steps
 
 -- what a place holds, as a value of a type
-abbrev pub held : Around → (target : Typed) → Operand → Ty → State → Gives ℕ
-held a target at t s = as_type a (type_in target) t target.place (read a (type_in target) target.place (gives at)) None s
+abbrev pub held : (target : Typed) → Operand → Ty → State → Gives ℕ
+held target at t s = as_type (type_in target) t target.place (read (type_in target) target.place (gives at)) None s
 
 -- the operator's answer goes back to the place
-abbrev pub put_back : Around → (target : Typed) → Operand → Ty → Place → Operation → State → State
-put_back a target at t place operation s =
-    computed a None t place (eval operation) s >> λ x s.
-    converted a t (type_in target) place x s >> λ y s. emit place (Save at y) s
+abbrev pub put_back : (target : Typed) → Operand → Ty → Place → Operation → State → State
+put_back target at t place operation s =
+    computed None t place (eval operation) s >> λ x s.
+    converted t (type_in target) place x s >> λ y s. emit place (Save at y) s
 
 abbrev pub compound_operator : CompoundOperator → Operator
 compound_operator compound.Add = core.Add
@@ -66,7 +66,7 @@ compound_operator compound.Remainder = core.Remainder
 abbrev pub combined : Around → (target : Typed) → CompoundOperator → Place → Typed → Ty → State → State
 combined a target operator place e t s =
     value a (whole e) t None s >> λ r s. operand a (whole target) s >> λ at s.
-    held a target at t s >> λ l s. put_back a target at t place (operation.Binary (compound_operator operator) l r) s
+    held target at t s >> λ l s. put_back target at t place (operation.Binary (compound_operator operator) l r) s
 
 abbrev pub step_operator : StepOperator → Operator
 step_operator step.Increment = core.Add
@@ -75,8 +75,8 @@ step_operator step.Decrement = core.Subtract
 -- the place, what it holds, 1, and the operator
 abbrev pub stepped : Around → (target : Typed) → StepOperator → Place → Ty → State → State
 stepped a target operator place t s =
-    operand a (whole target) s >> λ at s. held a target at t s >> λ l s.
-    computed a None t place (constant 1) s >> λ r s. put_back a target at t place (operation.Binary (step_operator operator) l r) s
+    operand a (whole target) s >> λ at s. held target at t s >> λ l s.
+    computed None t place (constant 1) s >> λ r s. put_back target at t place (operation.Binary (step_operator operator) l r) s
 
 -- ---- calls whose answer is thrown away
 

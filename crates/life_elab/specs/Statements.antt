@@ -31,7 +31,7 @@ looped test body step s =
 
 -- a condition that is left out always holds
 abbrev pub condition_or_true : Around → (keyword : Place) → Option Typed → State → Gives Tree
-condition_or_true a keyword None s = non_zero keyword (computed a None ty.Bool keyword (constant 1)) s
+condition_or_true a keyword None s = non_zero keyword (computed None ty.Bool keyword (constant 1)) s
 condition_or_true a keyword (Some e) s = condition a (form.whole e) s
 
 abbrev pub started : Around → Option ForStartForm → State → State
@@ -58,7 +58,7 @@ end_line a = length a.program.texts
 abbrev pub item : Around → ItemForm → State → State
 item a (printed e) s = value a (form.whole e) (own_type e.ty) None s >> λ r s. emit e.place (Ports (Writes r)) s
 item a (line_end place) s =
-    new_register a ty.View s >> λ r s. emit place (Ports (WritesView (whole r))) (emit place (Aim (whole r) (Text (end_line a))) s)
+    new_register place ty.View s >> λ r s. emit place (Ports (WritesView (whole r))) (emit place (Aim (whole r) (Text (end_line a))) s)
 
 abbrev pub items : Around → List ItemForm → State → State
 items a [] s = s

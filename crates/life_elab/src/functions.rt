@@ -41,7 +41,7 @@ fn add_parameters(writer: &mut Writer, a: &Around) -> Result<(), NoMemory>
     Ok(())
 }
 
-// The result is a local where it isn't void.
+// The result is a local where it isn't void, which stands where the function's name does.
 #[tactic(auto, unfolding(life_writer::specs::Views::state_of))]
 fn add_result(writer: &mut Writer, a: &Around) -> Result<(), NoMemory>
     ensures { OnOk result (state_of writer.new ≡ spec.with_result (around_of a.now) (type_of (around_of a.now) (around_of a.now).function.result) (state_of writer.old)) }
@@ -49,7 +49,7 @@ fn add_result(writer: &mut Writer, a: &Around) -> Result<(), NoMemory>
     match a.type_of(a.function.result) {
         Ty::Void => Ok(()),
         _ => {
-            writer.add_local(nameless(a, a.function.result))?;
+            writer.add_local(nameless(a.function.place, a.function.result))?;
             Ok(())
         }
     }

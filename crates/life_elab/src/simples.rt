@@ -61,34 +61,27 @@ fn assigned(
 }
 
 // What a place holds, as a value of a type.
-fn held(
-    writer: &mut Writer,
-    a: &Around,
-    target: &TypedExpr,
-    from: Operand,
-    ty: Ty,
-) -> Result<u32, NoMemory>
-    ensures { Answers (λ x. x) result (spec.held (around_of a.now) (typed_view target.now) (operand_of from) ty (state_of writer.old)) (state_of writer.new) }
+fn held(writer: &mut Writer, target: &TypedExpr, from: Operand, ty: Ty) -> Result<u32, NoMemory>
+    ensures { Answers (λ x. x) result (spec.held (typed_view target.now) (operand_of from) ty (state_of writer.old)) (state_of writer.new) }
 {
     let own = own_type(target.ty);
-    let register = writer.load(a, None, own, target.place, from)?;
-    writer.converted(a, own, ty, target.place, register)
+    let register = writer.load(None, own, target.place, from)?;
+    writer.converted(own, ty, target.place, register)
 }
 
 // The operator's answer goes back to the place.
 fn put_back(
     writer: &mut Writer,
-    a: &Around,
     target: &TypedExpr,
     to: Operand,
     ty: Ty,
     place: Place,
     operation: Operation,
 ) -> Result<(), NoMemory>
-    ensures { OnOk result (state_of writer.new ≡ spec.put_back (around_of a.now) (typed_view target.now) (operand_of to) ty place operation (state_of writer.old)) }
+    ensures { OnOk result (state_of writer.new ≡ spec.put_back (typed_view target.now) (operand_of to) ty place operation (state_of writer.old)) }
 {
-    let answer = writer.eval(a, None, ty, place, operation)?;
-    let from = writer.converted(a, ty, own_type(target.ty), place, answer)?;
+    let answer = writer.eval(None, ty, place, operation)?;
+    let from = writer.converted(ty, own_type(target.ty), place, answer)?;
     writer.emit(place, Instr::Save { to, from })
 }
 
@@ -107,13 +100,13 @@ fn combined(
     let right = writer.value(a, value, common, None)?;
     let to = writer.operand(a, target)?;
     let from = copied_operand(&to)?;
-    let left = held(writer, a, target, from, common)?;
+    let left = held(writer, target, from, common)?;
     let operation = Operation::Binary {
         operator: compound_operator(operator),
         left,
         right,
     };
-    put_back(writer, a, target, to, common, place, operation)
+    put_back(writer, target, to, common, place, operation)
 }
 
 // The place, what it holds, 1, and the operator ([expr.pre.incr], [expr.post.incr]).
@@ -130,14 +123,14 @@ fn stepped(
     let common = promoted(own, own);
     let to = writer.operand(a, target)?;
     let from = copied_operand(&to)?;
-    let left = held(writer, a, target, from, common)?;
-    let right = writer.eval(a, None, common, place, Operation::Number(1))?;
+    let left = held(writer, target, from, common)?;
+    let right = writer.eval(None, common, place, Operation::Number(1))?;
     let operation = Operation::Binary {
         operator: step_operator(operator),
         left,
         right,
     };
-    put_back(writer, a, target, to, common, place, operation)
+    put_back(writer, target, to, common, place, operation)
 }
 
 // A call of a function without a result.

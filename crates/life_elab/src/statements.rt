@@ -55,7 +55,7 @@ fn condition_or_true(
         Some(condition) => writer.condition(a, condition),
         None => {
             let before = writer.begin_list();
-            let register = writer.eval(a, None, Ty::Bool, keyword, Operation::Number(1))?;
+            let register = writer.eval(None, Ty::Bool, keyword, Operation::Number(1))?;
             writer.behind_code(before, keyword, Test::NonZero(register))
         }
     }
@@ -138,7 +138,7 @@ fn write_item(writer: &mut Writer, a: &Around, item: &TypedItem) -> Result<(), N
 fn end_line(writer: &mut Writer, a: &Around, place: Place) -> Result<(), NoMemory>
     ensures { OnOk result (state_of writer.new ≡ spec.item (around_of a.now) (line_end place) (state_of writer.old)) }
 {
-    let register = writer.new_register(a, Ty::View)?;
+    let register = writer.new_register(place, Ty::View)?;
     let pointer = Location::whole(writer.alloc, register);
     let source = Source::Text(number(a.program.texts.len())?);
     writer.emit(place, Instr::Aim { pointer, source })?;

@@ -131,21 +131,21 @@ module _ (a : Around) where
   pub result_grows : (t : Ty) (s : State) → Grows s (with_result a t s)
   result_grows ty.Void s = grows_none s
   result_grows _ s = record {
-    locals = front_append s.locals (nameless a a.function.result ∷ []);
+    locals = front_append s.locals (nameless a.function.place a.function.result ∷ []);
     types = front_itself s.types.types;
-    count = omega (arith, length-append s.locals (nameless a a.function.result ∷ []));
+    count = omega (arith, length-append s.locals (nameless a.function.place a.function.result ∷ []));
     variables = refl;
     living = refl;
     outside = refl;
-    shaped = λ types h. shaped_more types s.locals (nameless a a.function.result) h (λ is. absurd (false≢true (sym is)));
+    shaped = λ types h. shaped_more types s.locals (nameless a.function.place a.function.result) h (λ is. absurd (false≢true (sym is)));
   }
 
-  result_there : (t : Ty) (s : State) → is_value t ≡ true → slice_get (with_result a t s).locals (length s.locals) ≡ Some (nameless a a.function.result)
-  result_there ty.Bool s w = last_there s.locals (nameless a a.function.result)
-  result_there ty.Char s w = last_there s.locals (nameless a a.function.result)
-  result_there ty.Int s w = last_there s.locals (nameless a a.function.result)
-  result_there ty.Long s w = last_there s.locals (nameless a a.function.result)
-  result_there ty.Size s w = last_there s.locals (nameless a a.function.result)
+  result_there : (t : Ty) (s : State) → is_value t ≡ true → slice_get (with_result a t s).locals (length s.locals) ≡ Some (nameless a.function.place a.function.result)
+  result_there ty.Bool s w = last_there s.locals (nameless a.function.place a.function.result)
+  result_there ty.Char s w = last_there s.locals (nameless a.function.place a.function.result)
+  result_there ty.Int s w = last_there s.locals (nameless a.function.place a.function.result)
+  result_there ty.Long s w = last_there s.locals (nameless a.function.place a.function.result)
+  result_there ty.Size s w = last_there s.locals (nameless a.function.place a.function.result)
   result_there _ s w = absurd (false≢true w)
 
   result_code : (t : Ty) (s : State) → (with_result a t s).code ≡ s.code
@@ -183,7 +183,7 @@ module _ (a : Around) where
 
     pub register_there : (t : Ty) → slice_get a.program.types.types a.function.result.0 ≡ Some t → HasRegister a (first_state a T)
     register_there t at worth = record {
-      local = nameless a a.function.result;
+      local = nameless a.function.place a.function.result;
       there = ap (slice_get (first_state a T).locals) (sym given_count) ∙ result_there (type_at a.program.types a.function.result) given worth;
       nameless = refl;
       kind = refl;

@@ -18,7 +18,6 @@ use Rattle.life_proper.specs.declared.known.Known.TheVariants as known
 use Rattle.life_proper.specs.Knowing.{known_as, known_at, same}
 use Rattle.life_proper.specs.Plain.{is_plain_step}
 use Rattle.life_proper.specs.ReadyKnown.{are_arguments_ready, holds, is_call_ready, is_local, is_sort, is_step_ready, is_target_ready}
-use Rattle.life_writer.specs.Around.{Around}
 use Rattle.life_writer.specs.Calls.{called, called_alone, handed}
 use Rattle.life_writer.specs.Registers.{computed}
 use Rattle.life_writer.specs.Writing.{State, Gives, mapped}
@@ -105,10 +104,10 @@ module _ (types : Types) (fs : List Function) (f : Function) where
       (ap (λ (hs : List Holding). are_arguments_ready k (map known_as hs) xs) callee.takes ∙ numbers_ready (parameter_types (Some of)) xs n k numbers)
       (ap (λ (h : Holding). is_target_ready types f k (known_as h) (Some (whole r))) (callee.number v) ∙ or_left (is_local types f (whole r) ANumber) _ (number_sort (sort_of types f r) e))
 
-  pub call_made : (a : Around) (into : Option ℕ) (t : Ty) (place : Place) (g : ℕ) (xs : List Argument) (n : ℕ) (table : Types) (of : FunctionForm) (s : State) → IsCallee table types fs g of → is_value (type_at table of.result) ≡ true
-      → is_value t ≡ true → IsInto s into → Makes types fs f into s (computed a into t place (called g xs) s) (AreNumbersFor (parameter_types (Some of)) xs n) IsNumber
-  call_made a into t place g xs n table of s callee value v wanted =
-      computed_made types fs f a into t place (called g xs) s (AreNumbersFor (parameter_types (Some of)) xs n) v wanted
+  pub call_made : (into : Option ℕ) (t : Ty) (place : Place) (g : ℕ) (xs : List Argument) (n : ℕ) (table : Types) (of : FunctionForm) (s : State) → IsCallee table types fs g of → is_value (type_at table of.result) ≡ true
+      → is_value t ≡ true → IsInto s into → Makes types fs f into s (computed into t place (called g xs) s) (AreNumbersFor (parameter_types (Some of)) xs n) IsNumber
+  call_made into t place g xs n table of s callee value v wanted =
+      computed_made types fs f into t place (called g xs) s (AreNumbersFor (parameter_types (Some of)) xs n) v wanted
       (λ r e k alive p. call_ready g xs n table of r k callee value p e)
       (λ r e k. ap (λ (h : Holding). slice_set k r (known_as h)) e)
       (λ r e. call_plain g xs table of r callee (ap is_pointer e))

@@ -38,30 +38,30 @@ use Rattle.life_elab_laws.proofs.Setting.{Setting}
 use Rattle.life_elab_laws.proofs.SimpleWriting.{Done}
 use Rattle.life_elab_laws.proofs.VariablePlaces.{Stands, stands_later}
 
-module _ (types : Types) (fs : List Function) (f : Function) (a : Around) where
+module _ (types : Types) (fs : List Function) (f : Function) where
   -- what a place holds, as a value of a type
   held_made : (target : Typed) (at : Operand) (n : ℕ) (t : Ty) (s : State) → is_value (own_type target.ty) ≡ true → is_value t ≡ true → IsOpen types fs f s
-      → Makes types fs f None s (held a target at t s) (IsPlace at n) IsNumber
+      → Makes types fs f None s (held target at t s) (IsPlace at n) IsNumber
   held_made target at n t s v w opened = go (compared.eq (own_type target.ty) t)
     where
-      loaded : Makes types fs f None s (computed a None (own_type target.ty) target.place (load at) s) (IsPlace at n) IsNumber
-      loaded = load_made types fs f a None (own_type target.ty) target.place at n s v tt
+      loaded : Makes types fs f None s (computed None (own_type target.ty) target.place (load at) s) (IsPlace at n) IsNumber
+      loaded = load_made types fs f None (own_type target.ty) target.place at n s v tt
 
-      go : (b : Bool) → Makes types fs f None s (cond b (computed a None (own_type target.ty) target.place (load at) s) (computed a None t target.place (conversion (computed a None (own_type target.ty) target.place (load at) s).given) (computed a None (own_type target.ty) target.place (load at) s).state)) (IsPlace at n) IsNumber
+      go : (b : Bool) → Makes types fs f None s (cond b (computed None (own_type target.ty) target.place (load at) s) (computed None t target.place (conversion (computed None (own_type target.ty) target.place (load at) s).given) (computed None (own_type target.ty) target.place (load at) s).state)) (IsPlace at n) IsNumber
       go true = loaded
       go false =
-          let r = computed a None (own_type target.ty) target.place (load at) s in
+          let r = computed None (own_type target.ty) target.place (load at) s in
           and_given types fs f None s r _ (IsPlace at n) (λ k. known_at k r.given ≡ known.Number) IsNumber IsNumber opened loaded
-          (conversion_made types fs f a None t target.place r.given r.state w tt)
+          (conversion_made types fs f None t target.place r.given r.state w tt)
           (λ k j alive p keeps q. q.1)
 
-  converted_made : (from to : Ty) (place : Place) (r : ℕ) (s : State) → is_value to ≡ true → Makes types fs f None s (converted a from to place r s) (IsNumber r (length s.locals)) IsNumber
+  converted_made : (from to : Ty) (place : Place) (r : ℕ) (s : State) → is_value to ≡ true → Makes types fs f None s (converted from to place r s) (IsNumber r (length s.locals)) IsNumber
   converted_made from to place r s v = go (compared.eq from to)
     where
-      other : Makes types fs f None s (computed a None to place (conversion r) s) (IsNumber r (length s.locals)) IsNumber
-      other = under types fs f None s (computed a None to place (conversion r) s) (λ k. known_at k r ≡ known.Number) (IsNumber r (length s.locals)) IsNumber (conversion_made types fs f a None to place r s v tt) (λ k p. p.1)
+      other : Makes types fs f None s (computed None to place (conversion r) s) (IsNumber r (length s.locals)) IsNumber
+      other = under types fs f None s (computed None to place (conversion r) s) (λ k. known_at k r ≡ known.Number) (IsNumber r (length s.locals)) IsNumber (conversion_made types fs f None to place r s v tt) (λ k p. p.1)
 
-      go : (b : Bool) → Makes types fs f None s (cond b (gives r s) (computed a None to place (conversion r) s)) (IsNumber r (length s.locals)) IsNumber
+      go : (b : Bool) → Makes types fs f None s (cond b (gives r s) (computed None to place (conversion r) s)) (IsNumber r (length s.locals)) IsNumber
       go true = nothing_made types fs f r s (IsNumber r (length s.locals)) IsNumber (λ b k alive p. p)
       go false = other
 
@@ -70,12 +70,12 @@ module _ (types : Types) (fs : List Function) (f : Function) (a : Around) where
 
   -- the answer goes back
   put_back_made : (target : Typed) (at : Operand) (n : ℕ) (t : Ty) (place : Place) (o : Operator) (l r : ℕ) (s : State) → is_value (own_type target.ty) ≡ true → is_value t ≡ true → IsOpen types fs f s → n ≤ length s.locals
-      → Makes types fs f None s (gives tt (put_back a target at t place (operation.Binary o l r) s)) (λ k. AreBoth types fs f l r k × IsPlace at n k) Done
+      → Makes types fs f None s (gives tt (put_back target at t place (operation.Binary o l r) s)) (λ k. AreBoth types fs f l r k × IsPlace at n k) Done
   put_back_made target at n t place o l r s v w opened few =
-      let x = computed a None t place (eval (operation.Binary o l r)) s in
-      let made = operator_made types fs f a None t place o l r s w tt in
+      let x = computed None t place (eval (operation.Binary o l r)) s in
+      let made = operator_made types fs f None t place o l r s w tt in
       let later = opened_later s x.state opened made.grown in
-      let y = converted a t (own_type target.ty) place x.given x.state in
+      let y = converted t (own_type target.ty) place x.given x.state in
       let second = converted_made t (own_type target.ty) place x.given x.state v in
       and_given types fs f None s x _ (λ k. AreBoth types fs f l r k × IsPlace at n k) (λ k. IsNumber x.given (length x.state.locals) k × IsPlace at (length x.state.locals) k) IsNumber Done opened
       (under types fs f None s x (AreBoth types fs f l r) (λ k. AreBoth types fs f l r k × IsPlace at n k) IsNumber made (λ k p. p.0))
@@ -91,7 +91,7 @@ module _ (types : Types) (fs : List Function) (f : Function) (a : Around) where
       place_more : (o : Operand) (n m : ℕ) (k : List Known) → n ≤ m → IsPlace o n k → IsPlace o m k
       place_more o n m k h p = place_stays types fs f o n m k k h p (keeps_all types fs f n None k)
 
-  module _ (visible : List ℕ) (setting : Setting a types fs f) where
+  module _ (a : Around) (visible : List ℕ) (setting : Setting a types fs f) where
     abbrev Whole : Typed → Type 0
     Whole e = IsExpression a.program a.function.locals visible (whole_form e)
 
@@ -109,7 +109,7 @@ module _ (types : Types) (fs : List Function) (f : Function) (a : Around) where
         let u = operand a (whole_form target) w.state in
         let second = place_made a visible types fs f setting (whole_form target) bt ht id constant at w.state standing in
         let opened = opened_later w.state u.state standing.opened second.grown in
-        let x = held a target u.given t u.state in
+        let x = held target u.given t u.state in
         let third = held_made target u.given (length u.state.locals) t u.state (own_value target.ty n) v opened in
         let P : List Known → Type 0 = λ k. IsNumber w.given (length u.state.locals) k × IsPlace u.given (length u.state.locals) k in
         and_then types fs f None s w _ Always (IsNumber w.given (length w.state.locals)) IsNumber Done stands.opened first
@@ -129,11 +129,11 @@ module _ (types : Types) (fs : List Function) (f : Function) (a : Around) where
         let u = operand a (whole_form target) s in
         let first = place_made a visible types fs f setting (whole_form target) bt ht id constant at s stands in
         let opened = opened_later s u.state stands.opened first.grown in
-        let x = held a target u.given t u.state in
+        let x = held target u.given t u.state in
         let second = held_made target u.given (length u.state.locals) t u.state (own_value target.ty n) v opened in
         let later = opened_later u.state x.state opened second.grown in
-        let y = computed a None t place (constant_step 1) x.state in
-        let third = constant_made types fs f a None t place 1 x.state v tt (omega arith) in
+        let y = computed None t place (constant_step 1) x.state in
+        let third = constant_made types fs f None t place 1 x.state v tt (omega arith) in
         let P : List Known → Type 0 = λ k. IsNumber x.given (length x.state.locals) k × IsPlace u.given (length x.state.locals) k in
         and_then types fs f None s u _ Always (IsPlace u.given (length u.state.locals)) IsPlace Done stands.opened first
         (and_given types fs f None u.state x _ (IsPlace u.given (length u.state.locals)) P IsNumber Done opened second

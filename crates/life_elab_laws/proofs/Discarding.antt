@@ -118,11 +118,11 @@ module _ (a : Around) (visible : List ℕ) (types : Types) (fs : List Function) 
       refl)
       (λ k j alive p keeps q. q.1)
   item_made result (line_end place) s b h stands =
-      let r = new_register a ty.View s in
+      let r = new_register place ty.View s in
       let aimed : State = emit place (Aim (whole r.given) (Text (end_line a))) r.state in
       and_then types fs f None s (gives r.given aimed) _ Always (λ k. known_at k r.given ≡ known.View) (λ x n k. known_at k x ≡ known.View) Done stands.opened
       (emitted types fs f None s r AView place (λ x. Aim (whole x) (Text (end_line a))) r.given Always (λ x n k. known_at k x ≡ known.View)
-      (new_targeted types fs f a ty.View AView s refl)
+      (new_targeted types fs f place ty.View AView s refl)
       (λ x e k alive p. ap (λ (h : Holding). is_source_ready k (known_as h) (Text (end_line a))) e)
       (λ x e k. ap (λ (h : Holding). slice_set k x (known_as h)) e)
       (λ x e. refl)

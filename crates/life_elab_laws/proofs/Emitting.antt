@@ -17,7 +17,6 @@ use Rattle.life_proper.specs.declared.known.Known.{Known}
 use Rattle.life_proper.specs.Knowing.{known_as, known_at}
 use Rattle.life_proper.specs.Plain.{is_plain_step}
 use Rattle.life_proper.specs.ReadyKnown.{is_step_ready, known_after}
-use Rattle.life_writer.specs.Around.{Around}
 use Rattle.life_writer.specs.Registers.{new_register, target}
 use Rattle.life_writer.specs.Writing.{State, Gives, emit, gives}
 use Rattle.life_elab_laws.proofs.Falling.{falling, falls_acts}
@@ -69,13 +68,13 @@ module _ (types : Types) (fs : List Function) (f : Function) where
     pub there : Begins types f w.state → IsNameless h w.given
     pub beside : (y : ℕ) → y < length s.locals → IsBeside into y → w.given ≡ y → ⊥
 
-  pub new_targeted : (a : Around) (t : Ty) (h : Holding) (s : State) → held_if (class (Some t)) Register (Some t) ≡ h → Targets h None s (new_register a t s)
-  new_targeted a t h s sort = record {
-    grown = register_grows a t s;
+  pub new_targeted : (place : Place) (t : Ty) (h : Holding) (s : State) → held_if (class (Some t)) Register (Some t) ≡ h → Targets h None s (new_register place t s)
+  new_targeted place t h s sort = record {
+    grown = register_grows place t s;
     unwritten = refl;
-    below = register_below a t s;
-    there = λ b. let here = register_there a t s types f b in record {
-      sort = register_sort a t s types f b ∙ sort;
+    below = register_below place t s;
+    there = λ b. let here = register_there place t s types f b in record {
+      sort = register_sort place t s types f b ∙ sort;
       local = here.0;
       there = here.1;
       nameless = here.2;
@@ -89,9 +88,9 @@ module _ (types : Types) (fs : List Function) (f : Function) where
       ∙ ap (λ (k : LocalKind). held_if (class (Some w.ty)) k (Some w.ty)) w.kind
       ∙ value_register w.ty w.value
 
-  pub targeted : (a : Around) (t : Ty) (s : State) (into : Option ℕ) → is_value t ≡ true → IsInto s into → Targets ANumber into s (target a into t s)
-  targeted a t s None e h = new_targeted a t ANumber s (value_register t e)
-  targeted a t s (Some r) e h = record {
+  pub targeted : (place : Place) (t : Ty) (s : State) (into : Option ℕ) → is_value t ≡ true → IsInto s into → Targets ANumber into s (target place into t s)
+  targeted place t s None e h = new_targeted place t ANumber s (value_register t e)
+  targeted place t s (Some r) e h = record {
     grown = grows_none s;
     unwritten = refl;
     below = slice_get_within s.locals r h.local h.there;

@@ -138,24 +138,24 @@ module _ (a : Around) (visible : List ℕ) (types : Types) (fs : List Function) 
       → ((w : State → Gives Tree) → d ≡ Some w → Decided s (w s))
       → (d ≡ None → c ≡ category.Value → Valued into s (make into s))
       → ((id : TyId) (constant : Bool) → c ≡ category.Place id constant → Placed s (at s))
-      → Valued into s (values.value_from a t place c d at make into s)
-  value_from (Some w) t place c at make into s v wanted stands decides makes places = by_branch_made types fs f a into t place w s v wanted stands.opened (decides w refl)
+      → Valued into s (values.value_from t place c d at make into s)
+  value_from (Some w) t place c at make into s v wanted stands decides makes places = by_branch_made types fs f into t place w s v wanted stands.opened (decides w refl)
   value_from None t place category.Value at make into s v wanted stands decides makes places = makes refl refl
-  value_from None t place (category.Place id constant) at make into s v wanted stands decides makes places = read_made types fs f a t place at into s v wanted stands.opened (places id constant refl)
+  value_from None t place (category.Place id constant) at make into s v wanted stands decides makes places = read_made types fs f t place at into s v wanted stands.opened (places id constant refl)
 
   read_or_made : (t : Ty) (place : Place) (c : Category) (at : State → Gives Operand) (make : Option ℕ → State → Gives ℕ) (s : State)
       → is_value t ≡ true → Standing s
       → (c ≡ category.Value → Valued None s (make None s))
       → ((id : TyId) (constant : Bool) → c ≡ category.Place id constant → Placed s (at s))
-      → Valued None s (values.read_or_made a t place c at make None s)
+      → Valued None s (values.read_or_made t place c at make None s)
   read_or_made t place category.Value at make s v stands makes places = makes refl
-  read_or_made t place (category.Place id constant) at make s v stands makes places = read_made types fs f a t place at None s v tt stands.opened (places id constant refl)
+  read_or_made t place (category.Place id constant) at make s v stands makes places = read_made types fs f t place at None s v tt stands.opened (places id constant refl)
 
-  located_made : (pt : Pointing) (t : Ty) (place : Place) (s : State) → is_raw t ≡ true → Makes types fs f None s (located a place t pt s) (IsPointing types f pt (length s.locals)) (IsPointer types f)
+  located_made : (pt : Pointing) (t : Ty) (place : Place) (s : State) → is_raw t ≡ true → Makes types fs f None s (located place t pt s) (IsPointing types f pt (length s.locals)) (IsPointer types f)
   located_made (As l) t place s raw = nothing_made types fs f l s (IsPointing types f (As l) (length s.locals)) (IsPointer types f) (λ b k alive p. p)
-  located_made (At source) t place s raw = aimed_made types fs f a place t source (length s.locals) s raw
+  located_made (At source) t place s raw = aimed_made types fs f place t source (length s.locals) s raw
 
-  pointer_from : (w : State → Gives Pointing) (t : Ty) (place : Place) (s : State) → is_raw t ≡ true → Standing s → Points s (w s) → Pointed s (located a place t (w s).given (w s).state)
+  pointer_from : (w : State → Gives Pointing) (t : Ty) (place : Place) (s : State) → is_raw t ≡ true → Standing s → Points s (w s) → Pointed s (located place t (w s).given (w s).state)
   pointer_from w t place s raw stands first =
       and_then types fs f None s (w s) _ Always (IsPointing types f (w s).given (length (w s).state.locals)) (IsPointing types f) (IsPointer types f) stands.opened first
       (located_made (w s).given t place (w s).state raw)
@@ -344,11 +344,11 @@ module _ (a : Around) (visible : List ℕ) (types : Types) (fs : List Function) 
           let w = handed_over a arguments (parameter_types (Some of)) s in
           let first = handed of at in
           let v = result_number (type_at a.program.types of.result) a.program.types e (result_built a.program.types of (function_built a.program.types a.program.functions g of functions at)) h n in
-          let main : Valued into s (computed a into (own_type e.ty) place (called g w.given) w.state) =
+          let main : Valued into s (computed into (own_type e.ty) place (called g w.given) w.state) =
           and_then types fs f into s w _ Always (AreNumbersFor (parameter_types (Some of)) w.given (length w.state.locals)) (AreNumbersFor (parameter_types (Some of))) IsNumber stands.opened first
-          (call_made types fs f a into (own_type e.ty) place g w.given (length w.state.locals) a.program.types of w.state (setting.callees g of at) v (own_value e.ty n) (into_later s w.state into first.grown wanted))
+          (call_made types fs f into (own_type e.ty) place g w.given (length w.state.locals) a.program.types of w.state (setting.callees g of at) v (own_value e.ty n) (into_later s w.state into first.grown wanted))
           (λ k j alive p keeps q. q) in
-          subst (λ (ids : List TyId). Valued into s (computed a into (own_type e.ty) place (called g (handed_over a arguments ids s).given) (handed_over a arguments ids s).state)) (sym (ap parameters_of at)) main
+          subst (λ (ids : List TyId). Valued into s (computed into (own_type e.ty) place (called g (handed_over a arguments ids s).given) (handed_over a arguments ids s).state)) (sym (ap parameters_of at)) main
 
   pub given_number : (t : Ty) (e : ExprType) → is_value t ≡ true → is_given t e ≡ true → is_number e ≡ true
   given_number t e v g = rw v at g
@@ -366,10 +366,10 @@ module _ (a : Around) (visible : List ℕ) (types : Types) (fs : List Function) 
   few false = omega arith
 
   negated_made : (place : Place) (t : Ty) (first : State → Gives ℕ) (into : Option ℕ) (s : State) → is_value t ≡ true → IsInto s into → Standing s → Valued None s (first s)
-      → Valued into s (computed a into t place (values.negated (first s).given) (first s).state)
+      → Valued into s (computed into t place (values.negated (first s).given) (first s).state)
   negated_made place t first into s v wanted stands made =
       and_then types fs f into s (first s) _ Always (λ k. known_at k (first s).given ≡ known.Number) IsNumber IsNumber stands.opened made
-      (negation_made types fs f a into t place (first s).given (first s).state v (into_later s (first s).state into made.grown wanted))
+      (negation_made types fs f into t place (first s).given (first s).state v (into_later s (first s).state into made.grown wanted))
       (λ k j alive p keeps q. q.1)
 
   variable_points : (x : ℕ) (e : Typed) (s : State) → Standing s → MadeOf e (local x) → is_pointer e.ty ≡ true → Points s (gives (As (whole (variable s x))) s)
@@ -387,7 +387,7 @@ module _ (a : Around) (visible : List ℕ) (types : Types) (fs : List Function) 
         → Valued into s (value a form to into s)
     value_made (typed place t c form) b h n to v into s wanted stands =
         let e : Typed = record { place = place; ty = t; category = c; form = form } in
-        as_type_made types fs f a (own_type t) to place (values.value_from a (own_type t) place c (decision a form place) (operand a form) (made a form place (own_type t))) into s v wanted stands.opened
+        as_type_made types fs f (own_type t) to place (values.value_from (own_type t) place c (decision a form place) (operand a form) (made a form place (own_type t))) into s v wanted stands.opened
         (value_from (decision a form place) (own_type t) place c (operand a form) (made a form place (own_type t)) into s (own_value t n) wanted stands
         (λ w is. decision_made form e b h place w is s stands)
         (λ none is. made_made form e b h is n place none into s wanted stands)
@@ -400,9 +400,9 @@ module _ (a : Around) (visible : List ℕ) (types : Types) (fs : List Function) 
 
     made_made : (form : Form) (e : Typed) → is_built_form form ≡ true → MadeOf e form → e.category ≡ category.Value → is_number e.ty ≡ true → (place : Place) → decision a form place ≡ None → (into : Option ℕ) (s : State) → IsInto s into → Standing s
         → Valued into s (made a form place (own_type e.ty) into s)
-    made_made (number m) e b h is n place none into s wanted stands = constant_made types fs f a into (own_type e.ty) place m s (own_value e.ty n) wanted h.1
-    made_made (character c) e b h is n place none into s wanted stands = constant_made types fs f a into (own_type e.ty) place c s (own_value e.ty n) wanted h.1
-    made_made (boolean x) e b h is n place none into s wanted stands = constant_made types fs f a into (own_type e.ty) place (values.truth x) s (own_value e.ty n) wanted (few x)
+    made_made (number m) e b h is n place none into s wanted stands = constant_made types fs f into (own_type e.ty) place m s (own_value e.ty n) wanted h.1
+    made_made (character c) e b h is n place none into s wanted stands = constant_made types fs f into (own_type e.ty) place c s (own_value e.ty n) wanted h.1
+    made_made (boolean x) e b h is n place none into s wanted stands = constant_made types fs f into (own_type e.ty) place (values.truth x) s (own_value e.ty n) wanted (few x)
     made_made null e b h is n place none into s wanted stands = absurd (false≢true (sym (ap is_number h.0) ∙ n))
     made_made (local x) e b h is n place none into s wanted stands = absurd (variable_category x e (slice_get a.function.locals x) h.1 is)
     made_made (call g arguments closing) e b h is n place none into s wanted stands =
@@ -410,7 +410,7 @@ module _ (a : Around) (visible : List ℕ) (types : Types) (fs : List Function) 
         (λ of at. handed_over_made arguments b h.2 (parameter_types (Some of)) (subst (λ (o : Option FunctionForm). are_given a.program.types (parameter_types o) arguments ≡ true) at h.1) (setting.taken g of at) s stands)
     made_made (paren inner closing) e b h is n place none into s wanted stands =
         value_made inner b h.1 (ap (λ (y : Typed). is_number y.ty) (ok_same h.0) ∙ n) (own_type e.ty) (own_value e.ty n) into s wanted stands
-    made_made input e b h is n place none into s wanted stands = input_made types fs f a into (own_type e.ty) place s (own_value e.ty n) wanted
+    made_made input e b h is n place none into s wanted stands = input_made types fs f into (own_type e.ty) place s (own_value e.ty n) wanted
     made_made (dereference inner) e b h is n place none into s wanted stands =
         absurd (value_place (sym is ∙ ap (λ (y : Typed). y.category) (dereferenced_as a.program.types (typed_in inner) e (kind_of a.program a.function.locals visible variables functions inner b h.1) h.0).is))
     made_made (negate inner) e b h is n place none into s wanted stands =
@@ -430,7 +430,7 @@ module _ (a : Around) (visible : List ℕ) (types : Types) (fs : List Function) 
         let v = promoted_value (around.type_in left) (around.type_in right) in
         let first = value_made left parts.0 h.1 both.0 t v None s tt stands in
         let later = stands_later types fs f a visible s (value a left t None s).state first.grown stands in
-        operated_made types fs f a into (own_type e.ty) place (values.operator_of o) (value a left t None) (value a right t None) s (own_value e.ty n) wanted stands.opened first later.opened
+        operated_made types fs f into (own_type e.ty) place (values.operator_of o) (value a left t None) (value a right t None) s (own_value e.ty n) wanted stands.opened first later.opened
         (value_made right parts.1 h.2 both.1 t v None (value a left t None s).state tt later)
     made_made (text id) e b h is n place none into s wanted stands = absurd (false≢true b)
     made_made (construct structure elements closing) e b h is n place none into s wanted stands = absurd (false≢true b)
@@ -521,7 +521,7 @@ module _ (a : Around) (visible : List ℕ) (types : Types) (fs : List Function) 
     condition_whole (typed place t c form) b h is s stands =
         let e : Typed = record { place = place; ty = t; category = c; form = form } in
         let apart = stands_apart types fs f a visible s stands in
-        condition_made types fs f (decision a form place) (own_type t) place (pointer a (typed place t c form)) (values.read_or_made a (own_type t) place c (operand a form) (made a form place (own_type t)) None) s
+        condition_made types fs f (decision a form place) (own_type t) place (pointer a (typed place t c form)) (values.read_or_made (own_type t) place c (operand a form) (made a form place (own_type t)) None) s
         (λ w at. decision_made form e b h place w at s stands)
         (λ none raw. let u = raw_own t raw in pointer_from (pointing a form) (own_type t) place (with_code [] s) raw apart (pointing_made form e b h (ap is_pointer u.1 ∙ u.2) (with_code [] s) apart))
         (λ none raw.

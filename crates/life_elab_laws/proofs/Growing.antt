@@ -1,12 +1,12 @@
 -- How what has been written grows, and what the finished function has of it.
 use Rattle.std.proofs.Common.{◌≡◌, ◌<◌, ◌≤◌, ℕ, [], ◌∷◌, length, slice_get, Option, Some, None, refl, ap, ◌∙◌, arith, length-append, true≢false}
 use Rattle.life_types.specs.Types.{Types, class}
+use Rattle.life_types.specs.declared.place.Place.{Place}
 use Rattle.life_types.specs.declared.ty.Ty.{Ty}
 use Rattle.life_core.specs.Function.{Function}
 use Rattle.life_core.specs.Proper.{held_by, held_if, sort_of}
 use Rattle.life_core.specs.declared.program.Local.{Local}
 use Rattle.life_core.specs.declared.program.LocalKind.TheVariants.{Register}
-use Rattle.life_writer.specs.Around.{Around}
 use Rattle.life_writer.specs.Registers.{nameless, new_register, type_number, typed_with}
 use Rattle.life_writer.specs.Writing.{State}
 use Rattle.life_elab_laws.proofs.Fronts.{IsFront, front_append, front_itself, front_then, last_there}
@@ -67,29 +67,29 @@ sort_there types f s x l t b there is =
 -- ---- a new register
 
 -- the local that is added
-abbrev pub added : Around → Ty → State → Local
-added a t s = nameless a (type_number t (typed_with t s))
+abbrev pub added : Place → Ty → State → Local
+added place t s = nameless place (type_number t (typed_with t s))
 
-pub register_grows : (a : Around) (t : Ty) (s : State) → Grows s (new_register a t s).state
-register_grows a t s = record {
-  locals = front_append s.locals (added a t s ∷ []);
+pub register_grows : (place : Place) (t : Ty) (s : State) → Grows s (new_register place t s).state
+register_grows place t s = record {
+  locals = front_append s.locals (added place t s ∷ []);
   types = types_before s.types.types t;
-  count = omega (arith, length-append s.locals (added a t s ∷ []));
+  count = omega (arith, length-append s.locals (added place t s ∷ []));
   variables = refl;
   living = refl;
   outside = refl;
-  shaped = λ types h. shaped_more types s.locals (added a t s) h (λ is. absurd (true≢false is));
+  shaped = λ types h. shaped_more types s.locals (added place t s) h (λ is. absurd (true≢false is));
 }
 
-pub register_below : (a : Around) (t : Ty) (s : State) → length s.locals < length (new_register a t s).state.locals
-register_below a t s = omega (arith, length-append s.locals (added a t s ∷ []))
+pub register_below : (place : Place) (t : Ty) (s : State) → length s.locals < length (new_register place t s).state.locals
+register_below place t s = omega (arith, length-append s.locals (added place t s ∷ []))
 
 -- .. it has no name, and holds what a register of its type holds
-pub register_there : (a : Around) (t : Ty) (s : State) (types : Types) (f : Function) → Begins types f (new_register a t s).state
+pub register_there : (place : Place) (t : Ty) (s : State) (types : Types) (f : Function) → Begins types f (new_register place t s).state
     → (l : Local) × (slice_get f.locals (length s.locals) ≡ Some l) × (l.name ≡ None)
-register_there a t s types f b = (added a t s, b.locals (length s.locals) (added a t s) (last_there s.locals (added a t s)), refl)
+register_there place t s types f b = (added place t s, b.locals (length s.locals) (added place t s) (last_there s.locals (added place t s)), refl)
 
-pub register_sort : (a : Around) (t : Ty) (s : State) (types : Types) (f : Function) → Begins types f (new_register a t s).state
+pub register_sort : (place : Place) (t : Ty) (s : State) (types : Types) (f : Function) → Begins types f (new_register place t s).state
     → sort_of types f (length s.locals) ≡ held_if (class (Some t)) Register (Some t)
-register_sort a t s types f b =
-    sort_there types f (new_register a t s).state (length s.locals) (added a t s) t b (last_there s.locals (added a t s)) (type_added s.types.types t)
+register_sort place t s types f b =
+    sort_there types f (new_register place t s).state (length s.locals) (added place t s) t b (last_there s.locals (added place t s)) (type_added s.types.types t)

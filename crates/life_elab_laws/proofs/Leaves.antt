@@ -16,7 +16,6 @@ use Rattle.life_proper.specs.declared.known.Known.TheVariants as known
 use Rattle.life_proper.specs.Knowing.{known_as, known_at, same}
 use Rattle.life_proper.specs.Plain.{is_plain_step}
 use Rattle.life_proper.specs.ReadyKnown.{holds, is_operand_ready, is_sort, is_source_ready, is_step_ready, known_after}
-use Rattle.life_writer.specs.Around.{Around}
 use Rattle.life_writer.specs.Pointers.{At, located}
 use Rattle.life_writer.specs.Registers.{as_type, computed, constant, conversion, load, new_register, target}
 use Rattle.life_writer.specs.Values as values
@@ -57,39 +56,39 @@ module _ (types : Types) (fs : List Function) (f : Function) where
 
   -- ---- instructions that compute
 
-  pub computed_made : (a : Around) (into : Option ℕ) (t : Ty) (place : Place) (step : ℕ → Step) (s : State) (P : List Known → Type 0) → is_value t ≡ true → IsInto s into
+  pub computed_made : (into : Option ℕ) (t : Ty) (place : Place) (step : ℕ → Step) (s : State) (P : List Known → Type 0) → is_value t ≡ true → IsInto s into
       → ((r : ℕ) → sort_of types f r ≡ ANumber → (k : List Known) → Alive types fs f s k → P k → is_step_ready types fs f k (step r) ≡ true)
       → ((r : ℕ) → sort_of types f r ≡ ANumber → (k : List Known) → known_after types f (step r) k ≡ slice_set k r known.Number)
       → ((r : ℕ) → sort_of types f r ≡ ANumber → is_plain_step types fs f (step r) ≡ true)
-      → Makes types fs f into s (computed a into t place step s) P IsNumber
-  computed_made a into t place step s P v wanted ready after plain =
-      emitted types fs f into s (target a into t s) ANumber place step (target a into t s).given P IsNumber (targeted types fs f a t s into v wanted) ready after plain (λ k lt e sort. (lt, e))
+      → Makes types fs f into s (computed into t place step s) P IsNumber
+  computed_made into t place step s P v wanted ready after plain =
+      emitted types fs f into s (target place into t s) ANumber place step (target place into t s).given P IsNumber (targeted types fs f place t s into v wanted) ready after plain (λ k lt e sort. (lt, e))
 
-  pub constant_made : (a : Around) (into : Option ℕ) (t : Ty) (place : Place) (n : ℕ) (s : State) → is_value t ≡ true → IsInto s into → n < 2 ^ 63
-      → Makes types fs f into s (computed a into t place (constant n) s) Always IsNumber
-  constant_made a into t place n s v wanted few =
-      computed_made a into t place (constant n) s Always v wanted
+  pub constant_made : (into : Option ℕ) (t : Ty) (place : Place) (n : ℕ) (s : State) → is_value t ≡ true → IsInto s into → n < 2 ^ 63
+      → Makes types fs f into s (computed into t place (constant n) s) Always IsNumber
+  constant_made into t place n s v wanted few =
+      computed_made into t place (constant n) s Always v wanted
       (λ r e k alive p. and_from (is_sort (sort_of types f r) ANumber) true (number_sort (sort_of types f r) e) refl)
       (λ r e k. refl)
       (λ r e. and_from _ true (lt-ltb n (2 ^ 63) few) refl)
 
-  pub input_made : (a : Around) (into : Option ℕ) (t : Ty) (place : Place) (s : State) → is_value t ≡ true → IsInto s into
-      → Makes types fs f into s (computed a into t place values.input s) Always IsNumber
-  input_made a into t place s v wanted = computed_made a into t place values.input s Always v wanted (λ r e k alive p. number_sort (sort_of types f r) e) (λ r e k. refl) (λ r e. refl)
+  pub input_made : (into : Option ℕ) (t : Ty) (place : Place) (s : State) → is_value t ≡ true → IsInto s into
+      → Makes types fs f into s (computed into t place values.input s) Always IsNumber
+  input_made into t place s v wanted = computed_made into t place values.input s Always v wanted (λ r e k alive p. number_sort (sort_of types f r) e) (λ r e k. refl) (λ r e. refl)
 
   -- from one register
-  pub conversion_made : (a : Around) (into : Option ℕ) (t : Ty) (place : Place) (from : ℕ) (s : State) → is_value t ≡ true → IsInto s into
-      → Makes types fs f into s (computed a into t place (conversion from) s) (λ k. known_at k from ≡ known.Number) IsNumber
-  conversion_made a into t place from s v wanted =
-      computed_made a into t place (conversion from) s (λ k. known_at k from ≡ known.Number) v wanted
+  pub conversion_made : (into : Option ℕ) (t : Ty) (place : Place) (from : ℕ) (s : State) → is_value t ≡ true → IsInto s into
+      → Makes types fs f into s (computed into t place (conversion from) s) (λ k. known_at k from ≡ known.Number) IsNumber
+  conversion_made into t place from s v wanted =
+      computed_made into t place (conversion from) s (λ k. known_at k from ≡ known.Number) v wanted
       (λ r e k alive p. and_from (is_sort (sort_of types f r) ANumber) (holds k from ANumber) (number_sort (sort_of types f r) e) (number_held k from p))
       (λ r e k. refl)
       (λ r e. refl)
 
-  pub negation_made : (a : Around) (into : Option ℕ) (t : Ty) (place : Place) (from : ℕ) (s : State) → is_value t ≡ true → IsInto s into
-      → Makes types fs f into s (computed a into t place (values.negated from) s) (λ k. known_at k from ≡ known.Number) IsNumber
-  negation_made a into t place from s v wanted =
-      computed_made a into t place (values.negated from) s (λ k. known_at k from ≡ known.Number) v wanted
+  pub negation_made : (into : Option ℕ) (t : Ty) (place : Place) (from : ℕ) (s : State) → is_value t ≡ true → IsInto s into
+      → Makes types fs f into s (computed into t place (values.negated from) s) (λ k. known_at k from ≡ known.Number) IsNumber
+  negation_made into t place from s v wanted =
+      computed_made into t place (values.negated from) s (λ k. known_at k from ≡ known.Number) v wanted
       (λ r e k alive p. and_from (is_sort (sort_of types f r) ANumber) (holds k from ANumber) (number_sort (sort_of types f r) e) (number_held k from p))
       (λ r e k. refl)
       (λ r e. refl)
@@ -98,19 +97,19 @@ module _ (types : Types) (fs : List Function) (f : Function) where
   abbrev pub AreBoth : ℕ → ℕ → List Known → Type 0
   AreBoth x y k = (known_at k x ≡ known.Number) × (known_at k y ≡ known.Number)
 
-  pub operator_made : (a : Around) (into : Option ℕ) (t : Ty) (place : Place) (o : Operator) (x y : ℕ) (s : State) → is_value t ≡ true → IsInto s into
-      → Makes types fs f into s (computed a into t place (values.binary o x y) s) (AreBoth x y) IsNumber
-  operator_made a into t place o x y s v wanted =
-      computed_made a into t place (values.binary o x y) s (AreBoth x y) v wanted
+  pub operator_made : (into : Option ℕ) (t : Ty) (place : Place) (o : Operator) (x y : ℕ) (s : State) → is_value t ≡ true → IsInto s into
+      → Makes types fs f into s (computed into t place (values.binary o x y) s) (AreBoth x y) IsNumber
+  operator_made into t place o x y s v wanted =
+      computed_made into t place (values.binary o x y) s (AreBoth x y) v wanted
       (λ r e k alive p. and_from (is_sort (sort_of types f r) ANumber) (holds k x ANumber && holds k y ANumber) (number_sort (sort_of types f r) e) (and_from (holds k x ANumber) (holds k y ANumber) (number_held k x p.0) (number_held k y p.1)))
       (λ r e k. refl)
       (λ r e. refl)
 
   -- .. from a place
-  pub load_made : (a : Around) (into : Option ℕ) (t : Ty) (place : Place) (o : Operand) (n : ℕ) (s : State) → is_value t ≡ true → IsInto s into
-      → Makes types fs f into s (computed a into t place (load o) s) (IsPlace o n) IsNumber
-  load_made a into t place o n s v wanted =
-      computed_made a into t place (load o) s (IsPlace o n) v wanted
+  pub load_made : (into : Option ℕ) (t : Ty) (place : Place) (o : Operand) (n : ℕ) (s : State) → is_value t ≡ true → IsInto s into
+      → Makes types fs f into s (computed into t place (load o) s) (IsPlace o n) IsNumber
+  load_made into t place o n s v wanted =
+      computed_made into t place (load o) s (IsPlace o n) v wanted
       (λ r e k alive p. and_from (is_sort (sort_of types f r) ANumber) (is_operand_ready k o) (number_sort (sort_of types f r) e) (place_ready o n k p))
       (λ r e k. refl)
       (λ r e. refl)
@@ -118,39 +117,39 @@ module _ (types : Types) (fs : List Function) (f : Function) where
   -- ---- behind other parts
 
   -- what is read from a place
-  pub read_made : (a : Around) (t : Ty) (place : Place) (at : State → Gives Operand) (into : Option ℕ) (s : State) → is_value t ≡ true → IsInto s into → IsOpen types fs f s
-      → Makes types fs f None s (at s) Always IsPlace → Makes types fs f into s (values.read a t place at into s) Always IsNumber
-  read_made a t place at into s v wanted opened first =
+  pub read_made : (t : Ty) (place : Place) (at : State → Gives Operand) (into : Option ℕ) (s : State) → is_value t ≡ true → IsInto s into → IsOpen types fs f s
+      → Makes types fs f None s (at s) Always IsPlace → Makes types fs f into s (values.read t place at into s) Always IsNumber
+  read_made t place at into s v wanted opened first =
       and_then types fs f into s (at s) _ Always (IsPlace (at s).given (length (at s).state.locals)) IsPlace IsNumber opened first
-      (load_made a into t place (at s).given (length (at s).state.locals) (at s).state v (into_later s (at s).state into first.grown wanted))
+      (load_made into t place (at s).given (length (at s).state.locals) (at s).state v (into_later s (at s).state into first.grown wanted))
       (λ k j alive p keeps q. q)
 
   -- a value as one of another type
-  pub as_type_made : (a : Around) (from to : Ty) (place : Place) (given : Option ℕ → State → Gives ℕ) (into : Option ℕ) (s : State) → is_value to ≡ true → IsInto s into → IsOpen types fs f s
+  pub as_type_made : (from to : Ty) (place : Place) (given : Option ℕ → State → Gives ℕ) (into : Option ℕ) (s : State) → is_value to ≡ true → IsInto s into → IsOpen types fs f s
       → Makes types fs f into s (given into s) Always IsNumber → Makes types fs f None s (given None s) Always IsNumber
-      → Makes types fs f into s (as_type a from to place given into s) Always IsNumber
-  as_type_made a from to place given into s v wanted opened here first = go (compared.eq from to)
+      → Makes types fs f into s (as_type from to place given into s) Always IsNumber
+  as_type_made from to place given into s v wanted opened here first = go (compared.eq from to)
     where
-      other : Makes types fs f into s (computed a into to place (conversion (given None s).given) (given None s).state) Always IsNumber
+      other : Makes types fs f into s (computed into to place (conversion (given None s).given) (given None s).state) Always IsNumber
       other =
           and_then types fs f into s (given None s) _ Always (λ k. known_at k (given None s).given ≡ known.Number) IsNumber IsNumber opened first
-          (conversion_made a into to place (given None s).given (given None s).state v (into_later s (given None s).state into first.grown wanted))
+          (conversion_made into to place (given None s).given (given None s).state v (into_later s (given None s).state into first.grown wanted))
           (λ k j alive p keeps q. q.1)
 
-      go : (b : Bool) → Makes types fs f into s (cond b (given into s) (computed a into to place (conversion (given None s).given) (given None s).state)) Always IsNumber
+      go : (b : Bool) → Makes types fs f into s (cond b (given into s) (computed into to place (conversion (given None s).given) (given None s).state)) Always IsNumber
       go true = here
       go false = other
 
   -- an operator between two
-  pub operated_made : (a : Around) (into : Option ℕ) (t : Ty) (place : Place) (o : Operator) (left right : State → Gives ℕ) (s : State) → is_value t ≡ true → IsInto s into → IsOpen types fs f s
+  pub operated_made : (into : Option ℕ) (t : Ty) (place : Place) (o : Operator) (left right : State → Gives ℕ) (s : State) → is_value t ≡ true → IsInto s into → IsOpen types fs f s
       → Makes types fs f None s (left s) Always IsNumber → IsOpen types fs f (left s).state → Makes types fs f None (left s).state (right (left s).state) Always IsNumber
-      → Makes types fs f into s (values.operated a into t place o left right s) Always IsNumber
-  operated_made a into t place o left right s v wanted opened first opened_later second =
+      → Makes types fs f into s (values.operated into t place o left right s) Always IsNumber
+  operated_made into t place o left right s v wanted opened first opened_later second =
       let l = left s in
       let r = right l.state in
       and_then types fs f into s l _ Always (λ k. IsNumber l.given (length l.state.locals) k) IsNumber IsNumber opened first
       (and_then types fs f into l.state r _ (λ k. IsNumber l.given (length l.state.locals) k) (AreBoth l.given r.given) IsNumber IsNumber opened_later second
-      (operator_made a into t place o l.given r.given r.state v (into_later l.state r.state into second.grown (into_later s l.state into first.grown wanted)))
+      (operator_made into t place o l.given r.given r.state v (into_later l.state r.state into second.grown (into_later s l.state into first.grown wanted)))
       (λ k j alive p keeps q. (number_stays l.given (length l.state.locals) k j p keeps, q.1)))
       (λ k j alive p keeps q. q)
 
@@ -165,12 +164,12 @@ module _ (types : Types) (fs : List Function) (f : Function) where
       go _ p = absurd p
 
   -- a pointer in a register of its own
-  pub aimed_made : (a : Around) (place : Place) (t : Ty) (source : Source) (n : ℕ) (s : State) → is_raw t ≡ true
-      → Makes types fs f None s (located a place t (At source) s) (IsPointing types f (At source) n) (IsPointer types f)
-  aimed_made a place t source n s raw =
-      emitted types fs f None s (new_register a t s) APointer place (λ r. Aim (whole r) source) (whole (new_register a t s).given) (IsPointing types f (At source) n) (IsPointer types f)
-      (new_targeted types fs f a t APointer s (raw_register t raw))
+  pub aimed_made : (place : Place) (t : Ty) (source : Source) (n : ℕ) (s : State) → is_raw t ≡ true
+      → Makes types fs f None s (located place t (At source) s) (IsPointing types f (At source) n) (IsPointer types f)
+  aimed_made place t source n s raw =
+      emitted types fs f None s (new_register place t s) APointer place (λ r. Aim (whole r) source) (whole (new_register place t s).given) (IsPointing types f (At source) n) (IsPointer types f)
+      (new_targeted types fs f place t APointer s (raw_register t raw))
       (λ r e k alive p. source_ready k (sort_of types f r) source n e p)
       (λ r e k. ap (λ (h : Holding). slice_set k r (known_as h)) e)
       (λ r e. refl)
-      (λ k lt e sort. record { local = (new_register a t s).given; is = refl; below = lt; held = e; sort = sort })
+      (λ k lt e sort. record { local = (new_register place t s).given; is = refl; below = lt; held = e; sort = sort })

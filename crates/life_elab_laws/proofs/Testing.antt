@@ -15,7 +15,6 @@ use Rattle.life_proper.specs.declared.known.Known.{Known}
 use Rattle.life_proper.specs.declared.known.Known.TheVariants as known
 use Rattle.life_proper.specs.Knowing.{agreed_all}
 use Rattle.life_proper.specs.ReadyKnown.{holds_at, is_sort, is_test_ready}
-use Rattle.life_writer.specs.Around.{Around}
 use Rattle.life_writer.specs.Conditions.{answer, branched, by_branch, condition_from, joined, negation, non_zero, not_null, tested}
 use Rattle.life_writer.specs.Registers.{constant, target}
 use Rattle.life_writer.specs.Writing.{State, Gives, mapped, with_code}
@@ -182,10 +181,10 @@ module _ (types : Types) (fs : List Function) (f : Function) where
   answered : (place : Place) (n : ℕ) (r : ℕ) (k : List Known) → sort_of types f r ≡ ANumber → Falls types fs f (Acts place (constant n r) ∷ []) k (slice_set k r known.Number)
   answered place n r k e = falls_acts types fs f place (constant n r) k (and_from (is_sort (sort_of types f r) ANumber) true (number_sort (sort_of types f r) e) refl)
 
-  pub by_branch_made : (a : Around) (into : Option ℕ) (t : Ty) (place : Place) (condition : State → Gives Tree) (s : State) → is_value t ≡ true → IsInto s into → IsOpen types fs f s
-      → Tests s (condition s) → Makes types fs f into s (by_branch a into t place condition s) Always IsNumber
-  by_branch_made a into t place condition s v wanted opened test =
-      made (target a into t (condition s).state) (targeted types fs f a t (condition s).state into v (into_later s (condition s).state into test.grown wanted))
+  pub by_branch_made : (into : Option ℕ) (t : Ty) (place : Place) (condition : State → Gives Tree) (s : State) → is_value t ≡ true → IsInto s into → IsOpen types fs f s
+      → Tests s (condition s) → Makes types fs f into s (by_branch into t place condition s) Always IsNumber
+  by_branch_made into t place condition s v wanted opened test =
+      made (target place into t (condition s).state) (targeted types fs f place t (condition s).state into v (into_later s (condition s).state into test.grown wanted))
     where
       chosen : ℕ → Tree
       chosen r = Choice (condition s).given (answer place 1 r) (answer place 0 r)

@@ -11,7 +11,6 @@ use Rattle.life_core.specs.Step.{Test}
 use Rattle.life_core.specs.Tree.{Tree, condition_tree, trees}
 use Rattle.life_core.specs.declared.stmt.Condition.{Condition}
 use Rattle.life_writer.specs.Answers.{Answered, Answers, AnswersIf}
-use Rattle.life_writer.specs.Around.{Around}
 use Rattle.life_writer.specs.Conditions.{behind_code, branched, by_branch, condition_from, non_zero, not_null, tested}
 use Rattle.life_writer.specs.Registers.{target}
 use Rattle.life_writer.specs.Values as values
@@ -54,23 +53,23 @@ condition_value d t place pointer value s s1 none same raw = condition_else fals
 
 -- ---- values
 
-pub value_decided : {X : Type 0} (view : X → Tree) (x : X) (a : Around) (into : Option ℕ) (u t : Ty) (place : Place) (category : Category) (d : Option (State → Gives Tree)) (at : State → Gives Operand)
+pub value_decided : {X : Type 0} (view : X → Tree) (x : X) (into : Option ℕ) (u t : Ty) (place : Place) (category : Category) (d : Option (State → Gives Tree)) (at : State → Gives Operand)
     (made : Option ℕ → State → Gives ℕ) (s s1 now : State) (r : Result ℕ NoMemory)
-    → u ≡ t → Answered view x d s s1 → Answers (λ n. n) r (by_branch a into u place (gives (view x)) s1) now → Answers (λ n. n) r (values.value_from a t place category d at made into s) now
-value_decided view x a into u t place category None at made s s1 now r same h given = absurd h
-value_decided view x a into u t place category (Some g) at made s s1 now r same h given =
+    → u ≡ t → Answered view x d s s1 → Answers (λ n. n) r (by_branch into u place (gives (view x)) s1) now → Answers (λ n. n) r (values.value_from t place category d at made into s) now
+value_decided view x into u t place category None at made s s1 now r same h given = absurd h
+value_decided view x into u t place category (Some g) at made s s1 now r same h given =
     answers_as (λ n. n) r _ _ now
-    (ap (λ (w : Gives Tree). w >> λ test s. target a into t s >> λ x s. branched place test x s) h
-    ∙ ap (λ (y : Ty). by_branch a into y place (gives (view x)) s1) (sym same))
+    (ap (λ (w : Gives Tree). w >> λ test s. target place into t s >> λ x s. branched place test x s) h
+    ∙ ap (λ (y : Ty). by_branch into y place (gives (view x)) s1) (sym same))
     given
 
-pub value_undecided : (a : Around) (into : Option ℕ) (t : Ty) (place : Place) (category : Category) (d : Option (State → Gives Tree)) (at : State → Gives Operand)
+pub value_undecided : (into : Option ℕ) (t : Ty) (place : Place) (category : Category) (d : Option (State → Gives Tree)) (at : State → Gives Operand)
     (made : Option ℕ → State → Gives ℕ) (s s1 now : State) (r : Result ℕ NoMemory)
-    → d ≡ None → s1 ≡ s → Answers (λ n. n) r (values.read_or_made a t place category at made into s1) now → Answers (λ n. n) r (values.value_from a t place category d at made into s) now
-value_undecided a into t place category d at made s s1 now r none same given =
+    → d ≡ None → s1 ≡ s → Answers (λ n. n) r (values.read_or_made t place category at made into s1) now → Answers (λ n. n) r (values.value_from t place category d at made into s) now
+value_undecided into t place category d at made s s1 now r none same given =
     answers_as (λ n. n) r _ _ now
-    (ap (λ (x : Option (State → Gives Tree)). values.value_from a t place category x at made into s) none
-    ∙ ap (λ (x : State). values.read_or_made a t place category at made into x) (sym same))
+    (ap (λ (x : Option (State → Gives Tree)). values.value_from t place category x at made into s) none
+    ∙ ap (λ (x : State). values.read_or_made t place category at made into x) (sym same))
     given
 
 -- ---- single tests

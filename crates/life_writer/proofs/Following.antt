@@ -122,17 +122,17 @@ runs_more which operands n m next here runs = λ k after within. go k within (eq
 -- ---- values
 
 -- a value as one of a type is its own, converted behind it
-as_type_behind : (a : Around) (from to : Ty) (place : Place) (of : Option ℕ → State → Gives ℕ) (s : State)
-    → as_type a from to place of None s ≡ (of None s >> λ r s. converted a from to place r s)
-as_type_behind a from to place of s = go (compared.eq from to)
+as_type_behind : (from to : Ty) (place : Place) (of : Option ℕ → State → Gives ℕ) (s : State)
+    → as_type from to place of None s ≡ (of None s >> λ r s. converted from to place r s)
+as_type_behind from to place of s = go (compared.eq from to)
   where
-    go : (b : Bool) → (if b then of None s else (of None s >> λ r s. computed a None to place (conversion r) s))
-        ≡ (of None s >> λ r s. if b then gives r s else computed a None to place (conversion r) s)
+    go : (b : Bool) → (if b then of None s else (of None s >> λ r s. computed None to place (conversion r) s))
+        ≡ (of None s >> λ r s. if b then gives r s else computed None to place (conversion r) s)
     go true = refl
     go false = refl
 
-operand_value : (a : Around) (e : Form) (to : Ty) (s : State) → value a e to None s ≡ (own_of a e None s >> λ r s. converted_in a e to r s)
-operand_value a (typed place t category form) to s = as_type_behind a (own_type t) to place (own_of a (typed place t category form)) s
+operand_value : (a : Around) (e : Form) (to : Ty) (s : State) → value a e to None s ≡ (own_of a e None s >> λ r s. converted_in e to r s)
+operand_value a (typed place t category form) to s = as_type_behind (own_type t) to place (own_of a (typed place t category form)) s
 operand_value a (number n) to s = refl
 operand_value a (character c) to s = refl
 operand_value a (boolean b) to s = refl
@@ -191,9 +191,9 @@ value_between : (a : Around) (place : Place) (t : ExprType) (category : Category
     → own_of a (typed place t category (binary o left right)) into s ≡ (own_of a left None s >> λ r s. operated_on a (typed place t category (binary o left right)) r into s)
 value_between a place t (category.Place ty constant) o left right into s h = absurd (true≢false (sym h))
 value_between a place t category.Value o left right into s h =
-    ap (λ (d : Option (State → Gives Tree)). values.value_from a (own_type t) place category.Value d (operand a (binary o left right)) (made a (binary o left right) place (own_type t)) into s)
+    ap (λ (d : Option (State → Gives Tree)). values.value_from (own_type t) place category.Value d (operand a (binary o left right)) (made a (binary o left right) place (own_type t)) into s)
     (undecided o place left right (condition a left) (condition a right) (pointer a left) (pointer a right) (not_true (is_decided o left right) h))
-    ∙ ap (λ (w : Gives ℕ). w >> λ x s. value a right (common left right) None s >> λ y s. computed a into (own_type t) place (values.binary (values.operator_of o) x y) s)
+    ∙ ap (λ (w : Gives ℕ). w >> λ x s. value a right (common left right) None s >> λ y s. computed into (own_type t) place (values.binary (values.operator_of o) x y) s)
     (operand_value a left (common left right) s)
 
 pub next_value : (a : Around) (first second : Form) (into : Option ℕ) (s0 s : State) (r : ℕ) → Follows chain.Computed first second → own_of a first None s0 ≡ gives r s

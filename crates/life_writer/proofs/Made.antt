@@ -38,21 +38,21 @@ pub made_as : (a : Around) (shape known : Shape) (place : Place) (t : Ty) (into 
 made_as a shape known place t into s now r is given = subst (λ (x : Shape). Answers (λ n. n) r (made a (shape_form x) place t into s) now) (sym is) given
 
 -- a register that an instruction writes
-pub computed_as : (a : Around) (into : Option ℕ) (u t : Ty) (place : Place) (step : ℕ → Step) (s now : State) (r : Result ℕ NoMemory) → u ≡ t
-    → Answers (λ n. n) r (computed a into u place step s) now → Answers (λ n. n) r (computed a into t place step s) now
-computed_as a into u t place step s now r same given = subst (λ (x : Ty). Answers (λ n. n) r (computed a into x place step s) now) same given
+pub computed_as : (into : Option ℕ) (u t : Ty) (place : Place) (step : ℕ → Step) (s now : State) (r : Result ℕ NoMemory) → u ≡ t
+    → Answers (λ n. n) r (computed into u place step s) now → Answers (λ n. n) r (computed into t place step s) now
+computed_as into u t place step s now r same given = subst (λ (x : Ty). Answers (λ n. n) r (computed into x place step s) now) same given
 
 pub made_called : (a : Around) (f : Form) (function : ℕ) (arguments : Form) (closing place : Place) (t : Ty) (into : Option ℕ) (s s1 s2 now : State) (types : List TyId) (given : List Argument) (r : ℕ)
-    → f ≡ call function arguments closing → types ≡ parameter_types a function → handed_over a arguments types s ≡ gives given s1 → target a into t s1 ≡ gives r s2
+    → f ≡ call function arguments closing → types ≡ parameter_types a function → handed_over a arguments types s ≡ gives given s1 → target place into t s1 ≡ gives r s2
     → now ≡ emit place (called function given r) s2 → made a f place t into s ≡ gives r now
 made_called a f function arguments closing place t into s s1 s2 now types given r is as_declared first second written =
     ap (λ (g : Form). made a g place t into s) is
-    ∙ ap (λ (ts : List TyId). handed_over a arguments ts s >> λ xs s. computed a into t place (called function xs) s) (sym as_declared)
-    ∙ ap (λ (w : Gives (List Argument)). computed a into t place (called function w.given) w.state) first
+    ∙ ap (λ (ts : List TyId). handed_over a arguments ts s >> λ xs s. computed into t place (called function xs) s) (sym as_declared)
+    ∙ ap (λ (w : Gives (List Argument)). computed into t place (called function w.given) w.state) first
     ∙ ap (λ (w : Gives ℕ). gives w.given (emit place (called function given w.given) w.state)) second
     ∙ ap (λ (x : State). gives r x) (sym written)
 
-pub made_taken : (a : Around) (f : Form) (place : Place) (t : Ty) (into : Option ℕ) (s s1 now : State) (r : ℕ) → f ≡ input → target a into t s ≡ gives r s1
+pub made_taken : (a : Around) (f : Form) (place : Place) (t : Ty) (into : Option ℕ) (s s1 now : State) (r : ℕ) → f ≡ input → target place into t s ≡ gives r s1
     → now ≡ emit place (Ports (Takes r)) s1 → made a f place t into s ≡ gives r now
 made_taken a f place t into s s1 now r is first written =
     ap (λ (g : Form). made a g place t into s) is
@@ -65,49 +65,49 @@ pub is_made : (a : Around) (e : Typed) (u : Ty) (into : Option ℕ) (s now : Sta
     → Answers (λ n. n) r (made a e.form e.place u into s) now → Answers (λ n. n) r (read_or_made a e into s) now
 is_made a e u into s now r is same given =
     answers_as (λ n. n) r _ _ now
-    (ap (λ (c : Category). values.read_or_made a (own_type e.ty) e.place c (operand a e.form) (made a e.form e.place (own_type e.ty)) into s) is
+    (ap (λ (c : Category). values.read_or_made (own_type e.ty) e.place c (operand a e.form) (made a e.form e.place (own_type e.ty)) into s) is
     ∙ ap (λ (x : Ty). made a e.form e.place x into s) (sym same))
     given
 
 pub is_read : (a : Around) (e : Typed) (u : Ty) (ty : TyId) (constant : Bool) (into : Option ℕ) (s s1 now : State) (from : Operand) (r : Result ℕ NoMemory) → e.category ≡ category.Place ty constant → u ≡ own_type e.ty
-    → operand a e.form s ≡ gives from s1 → Answers (λ n. n) r (computed a into u e.place (load from) s1) now → Answers (λ n. n) r (read_or_made a e into s) now
+    → operand a e.form s ≡ gives from s1 → Answers (λ n. n) r (computed into u e.place (load from) s1) now → Answers (λ n. n) r (read_or_made a e into s) now
 is_read a e u ty constant into s s1 now from r is same at given =
     answers_as (λ n. n) r _ _ now
-    (ap (λ (c : Category). values.read_or_made a (own_type e.ty) e.place c (operand a e.form) (made a e.form e.place (own_type e.ty)) into s) is
-    ∙ ap (λ (w : Gives Operand). computed a into (own_type e.ty) e.place (load w.given) w.state) at
-    ∙ ap (λ (x : Ty). computed a into x e.place (load from) s1) (sym same))
+    (ap (λ (c : Category). values.read_or_made (own_type e.ty) e.place c (operand a e.form) (made a e.form e.place (own_type e.ty)) into s) is
+    ∙ ap (λ (w : Gives Operand). computed into (own_type e.ty) e.place (load w.given) w.state) at
+    ∙ ap (λ (x : Ty). computed into x e.place (load from) s1) (sym same))
     given
 
 -- ---- operators
 
 pub made_negated : (a : Around) (f e : Form) (place : Place) (t : Ty) (into : Option ℕ) (s : State) (r : ℕ) (behind : State) → f ≡ negate e
-    → value a e t None s ≡ gives r behind → made a f place t into s ≡ computed a into t place (λ (n : ℕ). Eval n (operation.Negate r)) behind
+    → value a e t None s ≡ gives r behind → made a f place t into s ≡ computed into t place (λ (n : ℕ). Eval n (operation.Negate r)) behind
 made_negated a f e place t into s r behind is given =
-    ap (λ (g : Form). made a g place t into s) is ∙ ap (λ (w : Gives ℕ). computed a into t place (λ (n : ℕ). Eval n (operation.Negate w.given)) w.state) given
+    ap (λ (g : Form). made a g place t into s) is ∙ ap (λ (w : Gives ℕ). computed into t place (λ (n : ℕ). Eval n (operation.Negate w.given)) w.state) given
 
 module _ (a : Around) (o : BinaryOperator) (left right : Form) (place : Place) (into : Option ℕ) (c : Ty) (l : ℕ) (between : State) (r : ℕ) (behind : State) (by : Operator)
     (types : c ≡ common left right) (is_by : by ≡ operator_of o) (second : value a right c None between ≡ gives r behind) where
   abbrev rest : Ty → Ty → Operator → Gives ℕ → Gives ℕ
-  rest t d p w = (let v = value a right d None w.state in computed a into t place (λ (n : ℕ). Eval n (operation.Binary p w.given v.given)) v.state)
+  rest t d p w = (let v = value a right d None w.state in computed into t place (λ (n : ℕ). Eval n (operation.Binary p w.given v.given)) v.state)
 
-  behind_left : (t : Ty) → rest t c (operator_of o) (gives l between) ≡ computed a into t place (λ (n : ℕ). Eval n (operation.Binary by l r)) behind
+  behind_left : (t : Ty) → rest t c (operator_of o) (gives l between) ≡ computed into t place (λ (n : ℕ). Eval n (operation.Binary by l r)) behind
   behind_left t =
-      ap (λ (v : Gives ℕ). computed a into t place (λ (n : ℕ). Eval n (operation.Binary (operator_of o) l v.given)) v.state) second
-      ∙ ap (λ (p : Operator). computed a into t place (λ (n : ℕ). Eval n (operation.Binary p l r)) behind) (sym is_by)
+      ap (λ (v : Gives ℕ). computed into t place (λ (n : ℕ). Eval n (operation.Binary (operator_of o) l v.given)) v.state) second
+      ∙ ap (λ (p : Operator). computed into t place (λ (n : ℕ). Eval n (operation.Binary p l r)) behind) (sym is_by)
 
   pub made_binary : (f : Form) (t : Ty) (s : State) → f ≡ binary o left right → value a left c None s ≡ gives l between
-      → made a f place t into s ≡ computed a into t place (λ (n : ℕ). Eval n (operation.Binary by l r)) behind
+      → made a f place t into s ≡ computed into t place (λ (n : ℕ). Eval n (operation.Binary by l r)) behind
   made_binary f t s is first =
       ap (λ (g : Form). made a g place t into s) is
       ∙ ap (λ (d : Ty). rest t d (operator_of o) (value a left d None s)) (sym types)
       ∙ ap (rest t c (operator_of o)) first
       ∙ behind_left t
 
-  pub operated_binary : (f : Form) (t : ExprType) (category : Category) (register : ℕ) (s : State) → f ≡ binary o left right → converted_in a left c register s ≡ gives l between
-      → operated_on a (typed place t category f) register into s ≡ computed a into (own_type t) place (λ (n : ℕ). Eval n (operation.Binary by l r)) behind
+  pub operated_binary : (f : Form) (t : ExprType) (category : Category) (register : ℕ) (s : State) → f ≡ binary o left right → converted_in left c register s ≡ gives l between
+      → operated_on a (typed place t category f) register into s ≡ computed into (own_type t) place (λ (n : ℕ). Eval n (operation.Binary by l r)) behind
   operated_binary f t category register s is first =
       ap (λ (g : Form). operated_on a (typed place t category g) register into s) is
-      ∙ ap (λ (d : Ty). rest (own_type t) d (operator_of o) (converted_in a left d register s)) (sym types)
+      ∙ ap (λ (d : Ty). rest (own_type t) d (operator_of o) (converted_in left d register s)) (sym types)
       ∙ ap (rest (own_type t) c (operator_of o)) first
       ∙ behind_left (own_type t)
 

@@ -35,18 +35,18 @@ pub value_same : (a : Around) (operand : Option Part) (p : Part) (t to : Ty) (in
 value_same a operand p t to into s now r is own same given =
     subst (λ (o : Option Part). Answers (λ n. n) r (value a (part_form o) to into s) now) (sym is)
     (answers_as (λ n. n) r _ _ now
-    (ap (λ (b : Bool). if b then own_of a (whole (part_view p)) into s else (own_of a (whole (part_view p)) None s >> λ x s. computed a into to p.place (conversion x) s))
+    (ap (λ (b : Bool). if b then own_of a (whole (part_view p)) into s else (own_of a (whole (part_view p)) None s >> λ x s. computed into to p.place (conversion x) s))
     (ap (λ (u : Ty). compared.eq u to) (sym own) ∙ same))
     (subst (λ (o : Option Part). Answers (λ n. n) r (own_of a (part_form o) into s) now) is given))
 
 -- .. or another
 pub value_converted : (a : Around) (operand : Option Part) (p : Part) (t to : Ty) (into : Option ℕ) (s s1 now : State) (x : ℕ) (r : Result ℕ NoMemory)
     → operand ≡ Some p → t ≡ own_type p.ty → compared.eq t to ≡ false → own_of a (part_form operand) None s ≡ gives x s1
-    → Answers (λ n. n) r (computed a into to p.place (conversion x) s1) now → Answers (λ n. n) r (value a (part_form operand) to into s) now
+    → Answers (λ n. n) r (computed into to p.place (conversion x) s1) now → Answers (λ n. n) r (value a (part_form operand) to into s) now
 value_converted a operand p t to into s s1 now x r is own other first given =
     subst (λ (o : Option Part). Answers (λ n. n) r (value a (part_form o) to into s) now) (sym is)
     (answers_as (λ n. n) r _ _ now
-    (ap (λ (b : Bool). if b then own_of a (whole (part_view p)) into s else (own_of a (whole (part_view p)) None s >> λ x s. computed a into to p.place (conversion x) s))
+    (ap (λ (b : Bool). if b then own_of a (whole (part_view p)) into s else (own_of a (whole (part_view p)) None s >> λ x s. computed into to p.place (conversion x) s))
     (ap (λ (u : Ty). compared.eq u to) (sym own) ∙ other)
-    ∙ ap (λ (w : Gives ℕ). computed a into to p.place (conversion w.given) w.state) (ap (λ (o : Option Part). own_of a (part_form o) None s) (sym is) ∙ first))
+    ∙ ap (λ (w : Gives ℕ). computed into to p.place (conversion w.given) w.state) (ap (λ (o : Option Part). own_of a (part_form o) None s) (sym is) ∙ first))
     given)

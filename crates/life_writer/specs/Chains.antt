@@ -83,24 +83,24 @@ abbrev pub joined_with : BinaryOperator → Tree → Tree → Tree
 joined_with operator.And left right = Both left right
 joined_with _ left right = Either left right
 
+-- an operand's value in a register as one of a type
+abbrev pub converted_in : Form → Ty → ℕ → State → Gives ℕ
+converted_in (typed place t category form) to r s = converted (own_type t) to place r s
+converted_in _ to r s = gives r s
+
 module _ (a : Around) where
   -- the value of an expression, of its own type
   abbrev pub own_of : Form → Option ℕ → State → Gives ℕ
   own_of (typed place t category form) into s =
-      values.value_from a (own_type t) place category (decision a form place) (operand a form) (made a form place (own_type t)) into s
+      values.value_from (own_type t) place category (decision a form place) (operand a form) (made a form place (own_type t)) into s
   own_of _ into s = gives 0 s
-
-  -- an operand's value in a register as one of a type
-  abbrev pub converted_in : Form → Ty → ℕ → State → Gives ℕ
-  converted_in (typed place t category form) to r s = converted a (own_type t) to place r s
-  converted_in _ to r s = gives r s
 
   -- an operator whose left operand is in a register
   abbrev pub operated_on : Form → ℕ → Option ℕ → State → Gives ℕ
   operated_on (typed place t category (binary o left right)) r into s =
       converted_in left (common left right) r s >> λ x s.
       value a right (common left right) None s >> λ y s.
-      computed a into (own_type t) place (values.binary (values.operator_of o) x y) s
+      computed into (own_type t) place (values.binary (values.operator_of o) x y) s
   operated_on _ r into s = gives 0 s
 
   -- a condition with the one to its right

@@ -11,7 +11,6 @@ use Rattle.life_typed.specs.declared.typed_expr.ExprType.TheVariants as expr_typ
 use Rattle.life_core.specs.Operands.{Location}
 use Rattle.life_core.specs.Step.{Test, NonZero, NotNull}
 use Rattle.life_core.specs.Tree.{Tree, Skip, Then, Acts, Asks, Both, Either, Negated, Choice}
-use Rattle.life_writer.specs.Around.{Around}
 use Rattle.life_writer.specs.Registers.{constant, target}
 use Rattle.life_writer.specs.Writing.{State, Gives, gives, ◌>>◌, mapped, taken, with_code, write}
 
@@ -79,8 +78,8 @@ answer place n r = Then (Acts place (constant n r)) Skip
 abbrev pub branched : Place → Tree → ℕ → State → Gives ℕ
 branched place test r s = gives r (write (Choice test (answer place 1 r) (answer place 0 r)) s)
 
-abbrev pub by_branch : Around → Option ℕ → Ty → Place → (State → Gives Tree) → State → Gives ℕ
-by_branch a into t place condition s = condition s >> λ test s. target a into t s >> λ r s. branched place test r s
+abbrev pub by_branch : Option ℕ → Ty → Place → (State → Gives Tree) → State → Gives ℕ
+by_branch into t place condition s = condition s >> λ test s. target place into t s >> λ r s. branched place test r s
 
 -- ---- any condition
 

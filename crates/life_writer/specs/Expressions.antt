@@ -32,23 +32,23 @@ module _ (a : Around) where
     -- the value of an expression as one of a type, in the register that is wanted or one of its own
     pub value : Form → Ty → Option ℕ → State → Gives ℕ
     value (typed place t category form) to into s =
-        as_type a (own_type t) to place
-        (values.value_from a (own_type t) place category (decision form place) (operand form) (made form place (own_type t)))
+        as_type (own_type t) to place
+        (values.value_from (own_type t) place category (decision form place) (operand form) (made form place (own_type t)))
         into s
     value _ to into s = gives 0 s
 
     -- .. of its own type, where it is neither a place nor decided by tests
     pub made : Form → Place → Ty → Option ℕ → State → Gives ℕ
-    made (number n) place t into s = computed a into t place (constant n) s
-    made (character c) place t into s = computed a into t place (constant c) s
-    made (boolean b) place t into s = computed a into t place (constant (values.truth b)) s
+    made (number n) place t into s = computed into t place (constant n) s
+    made (character c) place t into s = computed into t place (constant c) s
+    made (boolean b) place t into s = computed into t place (constant (values.truth b)) s
     made (call f arguments closing) place t into s =
-        handed_over arguments (parameter_types a f) s >> λ given s. computed a into t place (called f given) s
+        handed_over arguments (parameter_types a f) s >> λ given s. computed into t place (called f given) s
     made (paren inner closing) place t into s = value inner t into s
-    made input place t into s = computed a into t place values.input s
-    made (negate e) place t into s = value e t None s >> λ r s. computed a into t place (values.negated r) s
+    made input place t into s = computed into t place values.input s
+    made (negate e) place t into s = value e t None s >> λ r s. computed into t place (values.negated r) s
     made (binary operator left right) place t into s =
-        values.operated a into t place (values.operator_of operator)
+        values.operated into t place (values.operator_of operator)
         (value left (common left right) None)
         (value right (common left right) None)
         s
@@ -78,15 +78,15 @@ module _ (a : Around) where
 
     -- the location of the pointer that an expression is
     pub pointer : Form → State → Gives Location
-    pointer (typed place t category form) s = pointing form s >> λ p s. located a place (own_type t) p s
+    pointer (typed place t category form) s = pointing form s >> λ p s. located place (own_type t) p s
     pointer _ s = gives (whole 0) s
 
     -- an expression as a condition
     pub condition : Form → State → Gives Tree
     condition (typed place t category form) s =
         condition_from (decision form place) (own_type t) place
-        (λ s. pointing form s >> λ p s. located a place (own_type t) p s)
-        (values.read_or_made a (own_type t) place category (operand form) (made form place (own_type t)) None)
+        (λ s. pointing form s >> λ p s. located place (own_type t) p s)
+        (values.read_or_made (own_type t) place category (operand form) (made form place (own_type t)) None)
         s
     condition _ s = gives (Asks nowhere (NonZero 0)) s
 
@@ -104,13 +104,13 @@ module _ (a : Around) where
 -- its own value, also where that is decided by tests
 abbrev pub own_value : Around → Typed → Option ℕ → State → Gives ℕ
 own_value a e =
-    values.value_from a (own_type e.ty) e.place e.category
+    values.value_from (own_type e.ty) e.place e.category
     (decision a e.form e.place)
     (operand a e.form)
     (made a e.form e.place (own_type e.ty))
 
 abbrev pub read_or_made : Around → Typed → Option ℕ → State → Gives ℕ
-read_or_made a e = values.read_or_made a (own_type e.ty) e.place e.category (operand a e.form) (made a e.form e.place (own_type e.ty))
+read_or_made a e = values.read_or_made (own_type e.ty) e.place e.category (operand a e.form) (made a e.form e.place (own_type e.ty))
 
 -- the pointer that is compared with nullptr, if one operand is that
 abbrev pub pointer_beside_null : Around → (left right : Form) → Option (State → Gives Location)

@@ -3,7 +3,6 @@ use Rattle.life_types.specs.declared.place.Place.{Place}
 use Rattle.life_types.specs.declared.ty.Ty.{Ty}
 use Rattle.life_core.specs.Operands.{Location, Source, whole}
 use Rattle.life_core.specs.Step.{Step, Aim, Repoint}
-use Rattle.life_writer.specs.Around.{Around}
 use Rattle.life_writer.specs.Registers.{new_register}
 use Rattle.life_writer.specs.Writing.{State, Gives, gives, ◌>>◌, emit}
 
@@ -18,6 +17,6 @@ pointed p (At source) = Aim p source
 pointed p (As q) = Repoint p q
 
 -- a variable is its own location; anything else goes to a register
-abbrev pub located : Around → Place → Ty → Pointing → State → Gives Location
-located a place t (As q) s = gives q s
-located a place t (At source) s = new_register a t s >> λ r s. gives (whole r) (emit place (Aim (whole r) source) s)
+abbrev pub located : Place → Ty → Pointing → State → Gives Location
+located place t (As q) s = gives q s
+located place t (At source) s = new_register place t s >> λ r s. gives (whole r) (emit place (Aim (whole r) source) s)

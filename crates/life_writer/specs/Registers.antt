@@ -11,7 +11,6 @@ use Rattle.life_core.specs.declared.operation.Operation.{Operation}
 use Rattle.life_core.specs.declared.operation.Operation.TheVariants as operation
 use Rattle.life_core.specs.declared.program.Local.{Local}
 use Rattle.life_core.specs.declared.program.LocalKind.TheVariants.{Register}
-use Rattle.life_writer.specs.Around.{Around}
 use Rattle.life_writer.specs.Writing.{State, Gives, gives, ◌>>◌, emit}
 
 -- ---- types
@@ -34,26 +33,27 @@ type_number t s = record { 0 = number_of s.types.types t }
 abbrev pub with_local : Local → State → Gives ℕ
 with_local l s = gives (length s.locals) (record s { locals = s.locals ++ l ∷ [] })
 
--- a local without a name stands where the function's name does
-abbrev pub nameless : Around → TyId → Local
-nameless a ty = record { name = None; ty = ty; kind = Register; place = a.function.place; nonnull = false; keeps = false }
+-- a local without a name
+abbrev pub nameless : Place → TyId → Local
+nameless place ty = record { name = None; ty = ty; kind = Register; place = place; nonnull = false; keeps = false }
 
-abbrev pub with_nameless : Around → Ty → State → Gives ℕ
-with_nameless a t s = with_local (nameless a (type_number t s)) s
+abbrev pub with_nameless : Place → Ty → State → Gives ℕ
+with_nameless place t s = with_local (nameless place (type_number t s)) s
 
-abbrev pub new_register : Around → Ty → State → Gives ℕ
-new_register a t s = with_nameless a t (typed_with t s)
+-- a register stands where the first point that writes it does
+abbrev pub new_register : Place → Ty → State → Gives ℕ
+new_register place t s = with_nameless place t (typed_with t s)
 
 -- ---- values in registers
 
--- the register that a value goes to: the one that is wanted, or a new one
-abbrev pub target : Around → Option ℕ → Ty → State → Gives ℕ
-target a (Some r) t s = gives r s
-target a None t s = new_register a t s
+-- the register that a value goes to: the one that is wanted, or a new one, which is written first here
+abbrev pub target : Place → Option ℕ → Ty → State → Gives ℕ
+target place (Some r) t s = gives r s
+target place None t s = new_register place t s
 
 -- a register that an instruction writes
-abbrev pub computed : Around → Option ℕ → Ty → Place → (ℕ → Step) → State → Gives ℕ
-computed a into t place step s = target a into t s >> λ r s. gives r (emit place (step r) s)
+abbrev pub computed : Option ℕ → Ty → Place → (ℕ → Step) → State → Gives ℕ
+computed into t place step s = target place into t s >> λ r s. gives r (emit place (step r) s)
 
 abbrev pub eval : Operation → ℕ → Step
 eval operation r = Eval r operation
@@ -70,10 +70,10 @@ load from r = Load r from
 -- ---- conversions
 
 -- a register's value as one of another type
-abbrev pub converted : Around → (from to : Ty) → Place → ℕ → State → Gives ℕ
-converted a from to place r s = if compared.eq from to then gives r s else computed a None to place (conversion r) s
+abbrev pub converted : (from to : Ty) → Place → ℕ → State → Gives ℕ
+converted from to place r s = if compared.eq from to then gives r s else computed None to place (conversion r) s
 
 -- .. where the value is yet to be written, to the register that is wanted
-abbrev pub as_type : Around → (from to : Ty) → Place → (Option ℕ → State → Gives ℕ) → Option ℕ → State → Gives ℕ
-as_type a from to place value into s =
-    if compared.eq from to then value into s else (value None s >> λ r s. computed a into to place (conversion r) s)
+abbrev pub as_type : (from to : Ty) → Place → (Option ℕ → State → Gives ℕ) → Option ℕ → State → Gives ℕ
+as_type from to place value into s =
+    if compared.eq from to then value into s else (value None s >> λ r s. computed into to place (conversion r) s)

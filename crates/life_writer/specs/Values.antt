@@ -12,7 +12,6 @@ use Rattle.life_core.specs.Tree.{Tree}
 use Rattle.life_core.specs.declared.operation.Operation.TheVariants as operation
 use Rattle.life_core.specs.declared.operation.Operator.{Operator}
 use Rattle.life_core.specs.declared.operation.Operator.TheVariants as core
-use Rattle.life_writer.specs.Around.{Around}
 use Rattle.life_writer.specs.Conditions.{by_branch}
 use Rattle.life_writer.specs.Registers.{computed, eval, load}
 use Rattle.life_writer.specs.Writing.{State, Gives, ◌>>◌}
@@ -47,22 +46,22 @@ operator_of typed.Divide = core.Divide
 operator_of typed.Remainder = core.Remainder
 
 -- both operands, the left one first, and then the operator
-abbrev pub operated : Around → Option ℕ → Ty → Place → Operator → (left right : State → Gives ℕ) → State → Gives ℕ
-operated a into t place operator left right s =
-    left s >> λ x s. right s >> λ y s. computed a into t place (binary operator x y) s
+abbrev pub operated : Option ℕ → Ty → Place → Operator → (left right : State → Gives ℕ) → State → Gives ℕ
+operated into t place operator left right s =
+    left s >> λ x s. right s >> λ y s. computed into t place (binary operator x y) s
 
 -- ---- a value of its own type
 
 -- a place is read where it stands
-abbrev pub read : Around → Ty → Place → (State → Gives Operand) → Option ℕ → State → Gives ℕ
-read a t place at into s = at s >> λ from s. computed a into t place (load from) s
+abbrev pub read : Ty → Place → (State → Gives Operand) → Option ℕ → State → Gives ℕ
+read t place at into s = at s >> λ from s. computed into t place (load from) s
 
-abbrev pub read_or_made : Around → Ty → Place → Category → (State → Gives Operand) → (Option ℕ → State → Gives ℕ) → Option ℕ → State → Gives ℕ
-read_or_made a t place category.Value at made into s = made into s
-read_or_made a t place (category.Place ty constant) at made into s = read a t place at into s
+abbrev pub read_or_made : Ty → Place → Category → (State → Gives Operand) → (Option ℕ → State → Gives ℕ) → Option ℕ → State → Gives ℕ
+read_or_made t place category.Value at made into s = made into s
+read_or_made t place (category.Place ty constant) at made into s = read t place at into s
 
 -- what is decided by tests is a branch, with an answer on each side
 abbrev pub value_from :
-    Around → Ty → Place → Category → Option (State → Gives Tree) → (State → Gives Operand) → (Option ℕ → State → Gives ℕ) → Option ℕ → State → Gives ℕ
-value_from a t place category (Some decision) at made into s = by_branch a into t place decision s
-value_from a t place category None at made into s = read_or_made a t place category at made into s
+    Ty → Place → Category → Option (State → Gives Tree) → (State → Gives Operand) → (Option ℕ → State → Gives ℕ) → Option ℕ → State → Gives ℕ
+value_from t place category (Some decision) at made into s = by_branch into t place decision s
+value_from t place category None at made into s = read_or_made t place category at made into s

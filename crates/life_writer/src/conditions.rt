@@ -6,10 +6,9 @@ ghost use Rattle.life_writer.specs.Answers.{Answers};
 ghost use Rattle.life_writer.specs.Chains.{joined_with};
 ghost use Rattle.life_writer.specs.Conditions as spec;
 ghost use Rattle.life_writer.specs.Parts.{part_form};
-ghost use Rattle.life_writer.specs.Views.{around_of, state_of};
+ghost use Rattle.life_writer.specs.Views.{state_of};
 ghost use Rattle.life_writer.specs.Writing.{gives, taken, with_code};
 
-use crate::around::Around;
 use crate::parts::Part;
 use crate::writer::Writer;
 use life_core::{Condition, Instr, Operation, Stmt, Test};
@@ -116,15 +115,14 @@ impl Writer {
     /// A condition as a value.
     pub(crate) fn by_branch(
         &mut self,
-        a: &Around,
         into: Option<u32>,
         ty: Ty,
         place: Place,
         condition: Condition,
     ) -> Result<u32, NoMemory>
-        ensures { Answers (λ x. x) result (spec.by_branch (around_of a.now) into ty place (gives (condition_tree condition)) (state_of self.old)) (state_of self.new) }
+        ensures { Answers (λ x. x) result (spec.by_branch into ty place (gives (condition_tree condition)) (state_of self.old)) (state_of self.new) }
     {
-        let into = self.target(a, into, ty)?;
+        let into = self.target(place, into, ty)?;
         self.branch(place, condition, into)
     }
 }

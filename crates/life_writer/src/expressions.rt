@@ -61,7 +61,7 @@ impl Writer {
             return self.own_value(a, part, into);
         }
         let register = self.own_value(a, part, None)?;
-        self.eval(a, into, to, found.place, Operation::Convert(register))
+        self.eval(into, to, found.place, Operation::Convert(register))
     }
 
     // .. of its own type. A chain of operators is written from its innermost operand on.
@@ -98,7 +98,7 @@ impl Writer {
     {
         if let Some(condition) = self.decision(a, node)? {
             let ty = own_type(node.ty);
-            return self.by_branch(a, into, ty, node.place, condition);
+            return self.by_branch(into, ty, node.place, condition);
         }
         self.read_or_made(a, node, into)
     }
@@ -124,14 +124,14 @@ impl Writer {
                 right,
             } => {
                 let common = promoted(type_in(left), own_type(right.ty));
-                let left = self.converted_in(a, left, common, register)?;
+                let left = self.converted_in(left, common, register)?;
                 let right = self.part_value(a, Some(right), common, None)?;
                 let operation = Operation::Binary {
                     operator: operator_of(operator),
                     left,
                     right,
                 };
-                self.eval(a, into, own_type(node.ty), node.place, operation)
+                self.eval(into, own_type(node.ty), node.place, operation)
             }
             _ => Ok(0),
         }
@@ -140,15 +140,14 @@ impl Writer {
     // An operand's value in a register as one of a type.
     fn converted_in(
         &mut self,
-        a: &Around,
         operand: Option<Part<'_>>,
         to: Ty,
         register: u32,
     ) -> Result<u32, NoMemory>
-        ensures { Answers (λ x. x) result (converted_in (around_of a.now) (part_form operand.entry) to register (state_of self.old)) (state_of self.new) }
+        ensures { Answers (λ x. x) result (converted_in (part_form operand.entry) to register (state_of self.old)) (state_of self.new) }
     {
         match operand {
-            Some(part) => self.converted(a, own_type(part.ty), to, part.place, register),
+            Some(part) => self.converted(own_type(part.ty), to, part.place, register),
             None => Ok(register),
         }
     }
@@ -168,7 +167,7 @@ impl Writer {
             Category::Value => self.made(a, node, ty, into),
             Category::Place { .. } => {
                 let from = self.node_operand(a, node)?;
-                self.load(a, into, ty, node.place, from)
+                self.load(into, ty, node.place, from)
             }
         }
     }
@@ -186,30 +185,28 @@ impl Writer {
     {
         let place = node.place;
         match node.shape {
-            Shape::Number(number) => self.eval(a, into, ty, place, Operation::Number(number)),
-            Shape::Char(code) => {
-                self.eval(a, into, ty, place, Operation::Number(u64::from(code)))
-            }
-            Shape::Bool(value) => { self.eval(a, into, ty, place, Operation::Number(truth(value))) }
+            Shape::Number(number) => self.eval(into, ty, place, Operation::Number(number)),
+            Shape::Char(code) => { self.eval(into, ty, place, Operation::Number(u64::from(code))) }
+            Shape::Bool(value) => { self.eval(into, ty, place, Operation::Number(truth(value))) }
             Shape::Call {
                 function,
                 arguments,
                 ..
             } => {
                 let arguments = self.handed_over(a, arguments, a.parameters(function))?;
-                let into = self.target(a, into, ty)?;
+                let into = self.target(place, into, ty)?;
                 self.call_into(place, into, function, arguments)?;
                 Ok(into)
             }
             Shape::Paren { inner, .. } => self.part_value(a, inner, ty, into),
             Shape::Input => {
-                let into = self.target(a, into, ty)?;
+                let into = self.target(place, into, ty)?;
                 self.emit(place, Instr::Port(Port::Take(into)))?;
                 Ok(into)
             }
             Shape::Negate(operand) => {
                 let register = self.part_value(a, operand, ty, None)?;
-                self.eval(a, into, ty, place, Operation::Negate(register))
+                self.eval(into, ty, place, Operation::Negate(register))
             }
             Shape::Binary {
                 operator,
@@ -224,7 +221,7 @@ impl Writer {
                     left,
                     right,
                 };
-                self.eval(a, into, ty, place, operation)
+                self.eval(into, ty, place, operation)
             }
             _ => Ok(0),
         }
@@ -370,7 +367,7 @@ impl Writer {
         ensures { Answers location_of result (spec.pointer (around_of a.now) (whole (node_view node.entry)) (state_of self.old)) (state_of self.new) }
     {
         let pointing = self.node_pointing(a, node)?;
-        self.located(a, node.place, own_type(node.ty), pointing)
+        self.located(node.place, own_type(node.ty), pointing)
     }
 
     /// An expression as a condition ([stmt.select], [conv.bool]).

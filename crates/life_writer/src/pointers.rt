@@ -4,10 +4,9 @@ ghost use Rattle.life_core.specs.Operands.{location_of};
 ghost use Rattle.life_core.specs.Step.{step_of};
 ghost use Rattle.life_writer.specs.Answers.{Answers};
 ghost use Rattle.life_writer.specs.Pointers as spec;
-ghost use Rattle.life_writer.specs.Views.{around_of, pointing_of, state_of};
+ghost use Rattle.life_writer.specs.Views.{pointing_of, state_of};
 ghost use Rattle.life_writer.specs.Writing.{emit};
 
-use crate::around::Around;
 use crate::writer::Writer;
 use life_core::{Instr, Location, Source};
 use life_types::{NoMemory, Place, Ty};
@@ -47,17 +46,16 @@ impl Writer {
     /// The location of a pointer: a variable is its own, and anything else goes to a register.
     pub(crate) fn located(
         &mut self,
-        a: &Around,
         place: Place,
         ty: Ty,
         pointing: Pointing,
     ) -> Result<Location, NoMemory>
-        ensures { Answers location_of result (spec.located (around_of a.now) place ty (pointing_of pointing) (state_of self.old)) (state_of self.new) }
+        ensures { Answers location_of result (spec.located place ty (pointing_of pointing) (state_of self.old)) (state_of self.new) }
     {
         match pointing {
             Pointing::As(location) => Ok(location),
             Pointing::At(source) => {
-                let register = self.new_register(a, ty)?;
+                let register = self.new_register(place, ty)?;
                 let pointer = Location::whole(self.alloc, register);
                 self.emit(place, Instr::Aim { pointer, source })?;
                 Ok(Location::whole(self.alloc, register))

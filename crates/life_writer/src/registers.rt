@@ -4,10 +4,9 @@ ghost use Rattle.life_core.specs.Operands.{operand_of};
 ghost use Rattle.life_core.specs.Step.{Eval};
 ghost use Rattle.life_writer.specs.Answers.{Answers};
 ghost use Rattle.life_writer.specs.Registers as spec;
-ghost use Rattle.life_writer.specs.Views.{around_of, state_of};
+ghost use Rattle.life_writer.specs.Views.{state_of};
 ghost use Rattle.life_writer.specs.Writing.{gives};
 
-use crate::around::Around;
 use crate::numbers::number;
 use crate::types::add_type;
 use crate::writer::Writer;
@@ -34,36 +33,41 @@ impl Writer {
         add_type(&mut self.types, ty)
     }
 
-    /// A new register.
-    pub fn new_register(&mut self, a: &Around, ty: Ty) -> Result<u32, NoMemory>
-        ensures { Answers (λ x. x) result (spec.new_register (around_of a.now) ty (state_of self.old)) (state_of self.new) }
+    /// A new register, where the first point that writes it stands here.
+    pub fn new_register(&mut self, place: Place, ty: Ty) -> Result<u32, NoMemory>
+        ensures { Answers (λ x. x) result (spec.new_register place ty (state_of self.old)) (state_of self.new) }
     {
         let ty = self.type_number(ty)?;
-        self.add_local(nameless(a, ty))
+        self.add_local(nameless(place, ty))
     }
 
-    /// The register that a value goes to: the one that is wanted, or a new one.
-    pub(crate) fn target(&mut self, a: &Around, into: Option<u32>, ty: Ty) -> Result<u32, NoMemory>
-        ensures { Answers (λ x. x) result (spec.target (around_of a.now) into ty (state_of self.old)) (state_of self.new) }
+    /// The register that a value goes to: the one that is wanted, or a new one, which the point that
+    /// stands here writes first.
+    pub(crate) fn target(
+        &mut self,
+        place: Place,
+        into: Option<u32>,
+        ty: Ty,
+    ) -> Result<u32, NoMemory>
+        ensures { Answers (λ x. x) result (spec.target place into ty (state_of self.old)) (state_of self.new) }
     {
         match into {
             Some(register) => Ok(register),
-            None => self.new_register(a, ty),
+            None => self.new_register(place, ty),
         }
     }
 
     /// A register that is given a value.
     pub fn eval(
         &mut self,
-        a: &Around,
         into: Option<u32>,
         ty: Ty,
         place: Place,
         operation: Operation,
     ) -> Result<u32, NoMemory>
-        ensures { Answers (λ x. x) result (spec.computed (around_of a.now) into ty place (λ r. Eval r operation) (state_of self.old)) (state_of self.new) }
+        ensures { Answers (λ x. x) result (spec.computed into ty place (λ r. Eval r operation) (state_of self.old)) (state_of self.new) }
     {
-        let into = self.target(a, into, ty)?;
+        let into = self.target(place, into, ty)?;
         self.emit(place, Instr::Eval { into, operation })?;
         Ok(into)
     }
@@ -71,15 +75,14 @@ impl Writer {
     /// A register into which a place is read.
     pub fn load(
         &mut self,
-        a: &Around,
         into: Option<u32>,
         ty: Ty,
         place: Place,
         from: Operand,
     ) -> Result<u32, NoMemory>
-        ensures { Answers (λ x. x) result (spec.computed (around_of a.now) into ty place (spec.load (operand_of from)) (state_of self.old)) (state_of self.new) }
+        ensures { Answers (λ x. x) result (spec.computed into ty place (spec.load (operand_of from)) (state_of self.old)) (state_of self.new) }
     {
-        let into = self.target(a, into, ty)?;
+        let into = self.target(place, into, ty)?;
         self.emit(place, Instr::Load { into, from })?;
         Ok(into)
     }
@@ -87,31 +90,30 @@ impl Writer {
     /// A register's value as one of another type (ISO/IEC 14882:2017 [conv.integral], [conv.bool]).
     pub fn converted(
         &mut self,
-        a: &Around,
         from: Ty,
         to: Ty,
         place: Place,
         register: u32,
     ) -> Result<u32, NoMemory>
-        ensures { Answers (λ x. x) result (spec.converted (around_of a.now) from to place register (state_of self.old)) (state_of self.new) }
+        ensures { Answers (λ x. x) result (spec.converted from to place register (state_of self.old)) (state_of self.new) }
     {
         if from == to {
             Ok(register)
         } else {
-            self.eval(a, None, to, place, Operation::Convert(register))
+            self.eval(None, to, place, Operation::Convert(register))
         }
     }
 }
 
-/// A local without a name, which stands where the function's name does.
-pub fn nameless(a: &Around, ty: TyId) -> Local
-    ensures { result ≡ spec.nameless (around_of a.now) ty }
+/// A local without a name.
+pub fn nameless(place: Place, ty: TyId) -> Local
+    ensures { result ≡ spec.nameless place ty }
 {
     Local {
         name: None,
         ty,
         kind: LocalKind::Register,
-        place: a.function.place,
+        place,
         nonnull: false,
         keeps: false,
     }

@@ -82,7 +82,7 @@ own_value-returns t c =
 pub lone_value-returns-in-Some : goal.lone_value-returns-in-Some
 lone_value-returns-in-Some t c =
     let a = around_of c.args.a.now in let e = node_view c.args.node in
-    value_decided condition_tree c.in-Some.condition a c.args.into c.own_type-ty.result (own_type e.ty) e.place e.category (decision a e.form e.place) (operand a e.form) (made a e.form e.place (own_type e.ty))
+    value_decided condition_tree c.in-Some.condition c.args.into c.own_type-ty.result (own_type e.ty) e.place e.category (decision a e.form e.place) (operand a e.form) (made a e.form e.place (own_type e.ty))
     (state_of c.args.self.now) (state_of c.decision.new.self) (state_of c.by_branch.new.self) c.by_branch.result c.own_type-ty.ensures
     (decides condition_tree c.in_ok-condition.field-0 c.in-Some.condition (decision a e.form e.place) (state_of c.args.self.now) (state_of c.decision.new.self) c.in-Some.is c.in_ok-condition.ensures)
     c.by_branch.ensures
@@ -92,7 +92,7 @@ lone_value-returns t c =
     let a = around_of c.args.a.now in let e = node_view c.args.node in
     let none = leaves condition_tree c.in_ok-condition.field-0 (decision a e.form e.place) (state_of c.args.self.now) (state_of c.decision.new.self)
     (nothing_there c.in_ok-condition.field-0 c.in_default.not-Some) c.in_ok-condition.ensures in
-    value_undecided a c.args.into (own_type e.ty) e.place e.category (decision a e.form e.place) (operand a e.form) (made a e.form e.place (own_type e.ty))
+    value_undecided c.args.into (own_type e.ty) e.place e.category (decision a e.form e.place) (operand a e.form) (made a e.form e.place (own_type e.ty))
     (state_of c.args.self.now) (state_of c.decision.new.self) (state_of c.read_or_made.new.self) c.read_or_made.result none.0 none.1 c.read_or_made.ensures
 
 pub operated-returns-in_ok-right-in-Binary : goal.operated-returns-in_ok-right-in-Binary
@@ -105,7 +105,7 @@ operated-returns-in_ok-right-in-Binary t c =
     c.in_ok-right-in-Binary.right (state_of c.part_value.new.self) c.operator_of.result
     (common_of left right c.type_in.result c.own_type.result c.promoted-common.result c.promoted-common.ensures c.type_in.ensures c.own_type.ensures) c.operator_of.ensures c.in_ok-right-in-Binary.ensures
     (shape_form node.shape) node.ty node.category c.args.register (state_of c.args.self.now) (ap shape_form c.in-Binary.is) c.in_ok-left-in-Binary.ensures)
-    (computed_as a c.args.into c.own_type-in-Binary.result (own_type node.ty) node.place
+    (computed_as c.args.into c.own_type-in-Binary.result (own_type node.ty) node.place
     (λ (n : ℕ). Eval n (operation.Binary c.operator_of.result c.in_ok-left-in-Binary.left c.in_ok-right-in-Binary.right)) (state_of c.part_value.new.self) (state_of c.eval.new.self) c.eval.result c.own_type-in-Binary.ensures c.eval.ensures)
 
 pub read_or_made-returns-in-Value : goal.read_or_made-returns-in-Value
