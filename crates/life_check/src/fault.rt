@@ -27,7 +27,7 @@ pub enum CheckFault {
     },
     /// The first rule of names and types that is broken. A form that is not checked yet is `Unsupported` at
     /// line 1, column 1.
-    #[error("{}:{}: ill-formed: {kind:?}", .place.line, .place.column)]
+    #[error("{}:{}: ill-formed: {kind}", .place.line, .place.column)]
     Ill {
         /// The rule.
         kind: IllKind,
@@ -35,7 +35,7 @@ pub enum CheckFault {
         place: Place,
     },
     /// The first limit that is passed.
-    #[error("limit: {}", .0.name)]
+    #[error("{0}")]
     Limit(LimitFault),
     /// Memory was wanted and not had. It says nothing of the text.
     #[error("no memory")]

@@ -5,13 +5,16 @@ ghost use Rattle.life_elab.specs.declared.fault.ElabFault.TheVariants as fault;
 use life_tree::LimitFault;
 use life_types::NoMemory;
 use std::alloc::{AllocError, AllocFailed};
+use thiserror::Error;
 
 /// Why a typed program has no core program.
-#[derive(Clone, Copy, Debug, PartialEq, Eq)]
+#[derive(Clone, Copy, Debug, PartialEq, Eq, Error)]
 pub enum ElabFault {
     /// It passes a limit: the first one that it passes.
+    #[error("{0}")]
     Limit(LimitFault),
     /// Memory was wanted and not had.
+    #[error("no memory")]
     NoMemory,
 }
 

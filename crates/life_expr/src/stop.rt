@@ -4,12 +4,16 @@ ghost use Rattle.life_expr.specs.declared.stop.Stop.TheVariants.{Memory};
 
 use life_tree::TreeToken;
 use std::alloc::{AllocError, AllocFailed};
+use thiserror::Error;
 
 /// Reading stopped: memory ran out, or the first of these tokens is refused, or opens too much.
-#[derive(Debug, Drop)]
+#[derive(Debug, Drop, Error)]
 pub enum Stop<'a> {
+    #[error("no memory")]
     Memory,
+    #[error("a token is refused")]
     Refused(&'a [TreeToken]),
+    #[error("too many constructs are open")]
     Deep(&'a [TreeToken]),
 }
 

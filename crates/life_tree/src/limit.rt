@@ -1,5 +1,6 @@
 // The limits of a program, by their names.
 use life_types::Place;
+use std::fmt;
 use thiserror::Error;
 
 /// What a program can have too much of.
@@ -38,10 +39,24 @@ pub enum LimitName {
 }
 
 /// A limit that is passed.
-#[derive(Clone, Copy, Debug, PartialEq, Eq)]
+#[derive(Clone, Copy, Debug, PartialEq, Eq, Error)]
+#[error("{}limit: {name}", Front(.place))]
 pub struct LimitFault {
     /// Which.
     pub name: LimitName,
     /// Where it is passed: of nesting, the token that opens the 65th construct.
     pub place: Option<Place>,
+}
+
+// What stands before the message of a limit: its place, if it has one.
+#[derive(Clone, Copy)]
+struct Front<'a>(&'a Option<Place>);
+
+impl<'a> fmt::Display for Front<'a> {
+    fn fmt<W: fmt::Write>(&self, f: &mut fmt::Formatter<W>) -> fmt::Result {
+        match self.0 {
+            Some(place) => write!(f, "{}:{}: ", place.line, place.column),
+            None => Ok(()),
+        }
+    }
 }
