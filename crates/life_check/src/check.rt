@@ -34,8 +34,8 @@ use std::alloc::Global;
 use std::sync::ledger::Ledger;
 
 /// Checks the text of a file of fewer than 2^28 bytes. Its program is accepted where nothing is diagnosed
-/// in it; else the program comes back with the list. Each function is solved with this counter: a transfer
-/// takes one step, so there are at most as many as the bounds of `solve` for its functions in all.
+/// in it; else the program comes back with the list. Each function is solved with this counter: a run of an
+/// edge takes one step, so there are at most as many as the bounds of `solve` for its functions in all.
 ///
 /// # Errors
 ///

@@ -20,8 +20,8 @@ use life_types::{NoMemory, TypeTable};
 use std::alloc::Global;
 use std::sync::ledger::Ledger;
 
-/// The derived facts at each point of the function. Each transfer takes one step, and each edge is run once
-/// and then at most once for each pair of a location and an element.
+/// The derived facts at each point of the function. Each run of an edge takes one step, and each edge is run
+/// once and then at most once for each pair of a location and an element.
 pub fn solve<R: Rows, L: Ledger>(
     alloc: Global,
     f: &CoreFn,

@@ -13,7 +13,8 @@ use life_types::TypeTable;
 
 /// Whether the number of each literal is a long, and no raw pointer and no reference goes through a
 /// call. It takes no memory, and goes once over the text and, at each call, once over what the called
-/// function takes.
+/// function takes. It is for programs that are made by hand, as those of tests: a translation is plain by a
+/// law, and isn't asked.
 pub fn is_plain_program(p: &CoreProgram) -> bool
     ensures { Decides result (IsPlainProgram (program_of p.now)) }
 {

@@ -23,7 +23,8 @@ pub const ELEMENT_LIMIT: usize = 2048;
 /// How many steps a place of a function may have.
 pub const STEP_LIMIT: u8 = 8;
 
-/// Whether the function passes none of its limits, so that it has an `ElementTable`.
+/// Whether the function passes none of its limits, so that it has an `ElementTable`. It is for functions that
+/// are made by hand, as those of tests: a translation passes none, and isn't asked.
 pub fn is_within_limits(alloc: Global, f: &CoreFn, types: &TypeTable) -> Result<bool, NoMemory>
     ensures { IfOk result (λ within. IsTrue within ↔ IsWithinLimits types.now (function_of f.now)) }
 {

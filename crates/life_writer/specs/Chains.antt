@@ -43,15 +43,17 @@ abbrev pub is_computed : Category → BinaryOperator → (left right : Form) →
 is_computed category.Value o left right = negated (is_decided o left right)
 is_computed (category.Place ty constant) o left right = false
 
+-- an operator of this kind, between these operands, is one of the chain
 abbrev pub is_between : Chain → Category → BinaryOperator → (left right : Form) → Bool
 is_between chain.Computed kind o left right = is_computed kind o left right
 is_between chain.Joined kind o left right = joins o
 
+-- a node of this shape is an operator of the chain
 abbrev pub is_link : Chain → Category → Shape → Bool
 is_link which kind (shape.Binary o left right) = is_between which kind o (part_form left) (whole (part_view right))
 is_link which kind _ = false
 
--- .. of an expression
+-- what an expression is made by is an operator of the chain
 abbrev pub links : Chain → Form → Bool
 links which (typed place ty kind (binary by left right)) = is_between which kind by left right
 links which _ = false
