@@ -81,7 +81,7 @@ module _ (text : List ℕ) (g : Given) (p : Few (Some g)) where
       go (Some name) = tt
 
   input_few : Few (with_input text g)
-  input_few = few_cond (is_file_name text) (input_once g.input g text) None (go g.input) tt
+  input_few = go g.input
     where
       go : (before : Option (List ℕ)) → Few (input_once before g text)
       go None = p

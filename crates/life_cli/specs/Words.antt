@@ -40,7 +40,7 @@ command_seen (words.Run run) = Run (run_seen run)
 abbrev pub job_seen : JobWords → Job
 job_seen job = record { command = command_seen job.command; file = job.file.now }
 
--- a file's name has a byte, and doesn't begin as an option does, with `-`
+-- the program's file has a name of a byte or more, which doesn't begin as an option does, with `-`
 abbrev pub is_file_name : List ℕ → Bool
 is_file_name [] = false
 is_file_name (first ∷ rest) = not (first == 45)
@@ -139,12 +139,12 @@ with_depth text g = option_and_then (depth_once g.depth g) (number_between 1 mos
 abbrev pub with_growth : List ℕ → Given → Option Given
 with_growth text g = option_and_then (growth_once g.growth g) (growth_named text)
 
--- any word may be the name of a function
+-- any word may be the name of a function, or that of the input's file
 abbrev pub with_entry : List ℕ → Given → Option Given
 with_entry text g = entry_once g.function g text
 
 abbrev pub with_input : List ℕ → Given → Option Given
-with_input text g = if is_file_name text then input_once g.input g text else None
+with_input text g = input_once g.input g text
 
 -- an option that has a value, with its value: a word or a number
 abbrev pub with_word : List ℕ → List ℕ → Given → Option Given

@@ -4,7 +4,6 @@ ghost use Rattle.life_cli.specs.Words as spec;
 
 use crate::job::{Given, RunJob, RunOptions};
 use crate::number::{number_between, number_up_to};
-use crate::words::is_file_name;
 use life_interp::Growth;
 
 /// The most steps of a run.
@@ -174,12 +173,10 @@ fn with_entry<'a>(value: &'a str, given: Given<'a>) -> Option<Given<'a>>
     }
 }
 
+// Any word may be the name of the input's file, too.
 fn with_input<'a>(value: &'a str, given: Given<'a>) -> Option<Given<'a>>
     ensures { option_map spec.given_seen result ≡ spec.with_input value.now (spec.given_seen given.entry) }
 {
-    if !is_file_name(value.as_bytes()) {
-        return None;
-    }
     match given.input {
         None => Some(Given {
             input: Some(value),

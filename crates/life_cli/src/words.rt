@@ -23,8 +23,8 @@ pub fn read_words(words: &[String]) -> Option<Job>
     })
 }
 
-/// Whether the word may be a file's name: it isn't empty and doesn't begin as an option does.
-pub fn is_file_name(word: &[u8]) -> bool
+// Whether the word may be the name of the program's file: it isn't empty and doesn't begin as an option does.
+fn is_file_name(word: &[u8]) -> bool
     ensures { result ≡ spec.is_file_name word.now }
 {
     match word {

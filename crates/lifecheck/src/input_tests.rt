@@ -72,6 +72,15 @@ const RUNS: &[(&str, &str, &str, Status, &str)] = &[
         Status::NoFile,
         "no file no",
     ),
+    // The next word is the name of the file, whatever it is.
+    ("--input -", FOUR, "", Status::NoFile, "no file -"),
+    (
+        "--input --entry",
+        FOUR,
+        "",
+        Status::NoFile,
+        "no file --entry",
+    ),
     // What is wrong with the program comes first.
     (
         "--input no",
@@ -96,7 +105,6 @@ const RUNS: &[(&str, &str, &str, Status, &str)] = &[
     ),
     // Words that are no options, values out of their range, and options that stand twice.
     ("--input", FOUR, "", Status::Usage, USAGE),
-    ("--input -", FOUR, "", Status::Usage, USAGE),
     ("--entry", FOUR, "", Status::Usage, USAGE),
     ("--growth", FOUR, "", Status::Usage, USAGE),
     ("--growth doubled", FOUR, "", Status::Usage, USAGE),
