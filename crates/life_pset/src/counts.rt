@@ -85,7 +85,7 @@ fn room_after_pointers(types: &TypeTable, id: TyId, room: usize) -> usize
 // ---- elements
 
 /// Whether a function has no more elements than it may: an element is counted as often as something
-/// may give it. The locations of each parameter are listed on the way, so let them be few.
+/// may give it. Where the objects leave room, the locations of each parameter are listed on the way.
 #[tactic(auto, using(crate::proofs::CountLemmas::elements_counted, crate::proofs::CountLemmas::room_after_both))]
 pub fn has_few_elements(alloc: Global, f: &CoreFn, types: &TypeTable) -> Result<bool, NoMemory>
     ensures { IfOk result (λ few. IsTrue few ↔ length (elements_of types.now (function_of f.now)) ≤ 2048) }
@@ -136,7 +136,8 @@ fn room_after_all_inputs(
     Ok(left)
 }
 
-// A local that is no parameter has none.
+// A local that is no parameter has none. Without room nothing is listed.
+#[tactic(auto, using(crate::proofs::CountLemmas::no_room))]
 fn room_after_local_inputs(
     alloc: Global,
     types: &TypeTable,
@@ -147,6 +148,9 @@ fn room_after_local_inputs(
 ) -> Result<usize, NoMemory>
     ensures { IfOk result (λ left. left ≡ room - input_place_count types.now (local_inputs types.now parameters number local.now)) }
 {
+    if room == 0 {
+        return Ok(0);
+    }
     if number >= parameters as usize {
         return Ok(room);
     }
