@@ -2,12 +2,12 @@
 use Rattle.std.specs.Prelude.{◌≡◌, true}
 use Rattle.life_built.specs.Built.{is_built}
 use Rattle.life_tree.specs.Grammar.{Fits}
+use Rattle.life_tree.specs.LongTokens.{are_longs}
 use Rattle.life_tree.specs.Tree.{tokens_of}
 use Rattle.life_tree.specs.Views.{program_tree}
 use Rattle.life_tree.specs.declared.program.Program.{Program}
 use Rattle.life_typed.specs.Programs.{ProgramForm}
 use Rattle.life_well_typed.specs.Functions.{IsWellTyped}
-use Rattle.life_well_typed.specs.LongTokens.{are_longs}
 use Rattle.life_well_typed.specs.Results.{HasResults}
 
 -- a tree that was read from a text: its literals are longs, and it has the forms of the grammar

@@ -15,7 +15,7 @@ use Rattle.life_lex.specs.declared.token.TokenKind.{TokenKind}
 use Rattle.life_lex.specs.declared.token.TokenKind.TheVariants as kind
 use Rattle.life_parse.specs.Ends.{IsSource}
 use Rattle.life_parse_laws.proofs.CharactersFit.{CharacterFits, characters_fit}
-use Rattle.life_well_typed.specs.LongTokens.{is_long_key, are_longs}
+use Rattle.life_tree.specs.LongTokens.{is_long_key, are_longs}
 use Rattle.life_tree.specs.Tree.{tokens_of}
 use Rattle.life_tree.specs.Views.{program_tree}
 use Rattle.life_tree.specs.declared.program.Program.{Program}

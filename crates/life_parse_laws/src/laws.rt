@@ -2,7 +2,7 @@
 ghost use Rattle.std.specs.Prelude.{◌≡◌, ℕ, List, true};
 ghost use Rattle.life_parse.specs.Ends.{IsSource};
 ghost use Rattle.life_tree.specs.Grammar.{Fits};
-ghost use Rattle.life_well_typed.specs.LongTokens.{are_longs};
+ghost use Rattle.life_tree.specs.LongTokens.{are_longs};
 ghost use Rattle.life_tree.specs.Tree.{tokens_of};
 ghost use Rattle.life_tree.specs.Views.{program_tree};
 ghost use Rattle.life_tree.specs.declared.program.Program.{Program};

@@ -1,5 +1,6 @@
 pub mod Branches
 pub mod Grammar
+pub mod LongTokens
 pub mod Rules
 pub mod Separated
 pub mod Tree

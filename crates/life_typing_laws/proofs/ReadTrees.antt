@@ -3,10 +3,10 @@ use Rattle.std.proofs.Common.{◌≡◌, ℕ, Bool, true, false, inl, inr, refl,
 use Rattle.std.proofs.lemmas.Bool.{and_parts}
 use Rattle.std.proofs.lemmas.List.Folds.{list_all-append}
 use Rattle.life_tree.specs.Grammar.{Form, none, ◌then◌, ◌decides◌, ◌or◌, many, opens, rule, form_of, Conforms, NothingFits, PartsFit, ConstructFits, NodeFits, assignment, step, ending, ends_in_arguments, is_starred}
+use Rattle.life_tree.specs.LongTokens.{are_longs, is_long, is_long_key}
 use Rattle.life_tree.specs.Rules as rules
 use Rattle.life_tree.specs.Rules.{Rule}
 use Rattle.life_tree.specs.Tree.{Tree, nothing, without_else, token, ◌⨾◌, construct, node, tokens_of}
-use Rattle.life_well_typed.specs.LongTokens.{are_longs, is_long, is_long_key}
 
 -- ---- such trees
 

@@ -2,7 +2,6 @@ pub mod AsParsed
 pub mod Expressions
 pub mod Functions
 pub mod Given
-pub mod LongTokens
 pub mod Results
 pub mod Statements
 pub mod Visible
