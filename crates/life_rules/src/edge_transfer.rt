@@ -22,7 +22,7 @@ use std::sync::ledger::Ledger;
 
 /// All that the edge gives from the facts of a row, where `spot` is what stands at its first point.
 /// Facts that aren't the function's may be among them.
-pub fn given_facts<R: Rows>(
+pub(crate) fn given_facts<R: Rows>(
     alloc: Global,
     f: &CoreFn,
     sigs: &Signatures,

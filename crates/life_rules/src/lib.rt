@@ -27,11 +27,11 @@ mod wrong;
 mod wrong_two;
 
 pub use diag::{Diag, DiagKind, DiagText, Why};
-pub use edge_transfer::{given_facts, transfer};
+pub use edge_transfer::transfer;
 pub use entry::entry_facts;
 pub use laws::{one_function_is_the_program, value_calls_are_right, value_calls_make_nothing};
 pub use new_facts::given_by_new;
-pub use row_facts::{add_facts, facts_in};
+pub use row_facts::facts_in;
 pub use spot::spot_in;
 pub use texts::{element_text, kind_name, place_text, texts_of};
 pub use wrong::push_diags;

@@ -64,7 +64,7 @@ fn push_named(
 
 /// Adds to a row those facts that are the function's, and says whether the row gained one. After
 /// `NoMemory` it has some of them.
-pub fn add_facts<R: Rows>(
+pub(crate) fn add_facts<R: Rows>(
     table: &ElementTable,
     facts: &[Fact],
     row: &mut R,
