@@ -41,7 +41,7 @@ module _ (c d : Content) (rows new : Rows) (later : Later c d rows new) where
   pointer_later leads.Null h = tt
   pointer_later leads.Wild h = tt
   pointer_later (leads.Static characters) h = tt
-  pointer_later (leads.To object index moment) h = ref_later object h
+  pointer_later (leads.To index object moment) h = ref_later object h
 
   cell_later : (v : Cell) → CellFits c rows v → CellFits d new v
   cell_later held.Empty h = tt

@@ -116,9 +116,9 @@ pub born_fits : (form : Form) (p : Pointer) (c : Content) (rows : Rows) → poin
 born_fits form leads.Null c rows e = tt
 born_fits form leads.Wild c rows e = tt
 born_fits form (leads.Static characters) c rows e = tt
-born_fits form (leads.To object index moment) c rows e = absurd (clash form e)
+born_fits form (leads.To index object moment) c rows e = absurd (clash form e)
   where
-    clash : (given : Form) → pointer_seen (leads.To object index moment) ≡ born_pointer given → ⊥
+    clash : (given : Form) → pointer_seen (leads.To index object moment) ≡ born_pointer given → ⊥
     clash forms.Plain h = cc
     clash forms.Zero h = cc
 
@@ -126,7 +126,7 @@ pub static_fits : (p : Pointer) (v : state.Characters) (c : Content) (rows : Row
 static_fits leads.Null v c rows e = tt
 static_fits leads.Wild v c rows e = tt
 static_fits (leads.Static characters) v c rows e = tt
-static_fits (leads.To object index moment) v c rows e = absurd (clash v e)
+static_fits (leads.To index object moment) v c rows e = absurd (clash v e)
   where
-    clash : (given : state.Characters) → pointer_seen (leads.To object index moment) ≡ state.Static given → ⊥
+    clash : (given : state.Characters) → pointer_seen (leads.To index object moment) ≡ state.Static given → ⊥
     clash given h = cc

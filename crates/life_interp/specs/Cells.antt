@@ -25,7 +25,7 @@ characters_seen c = record { text = c.text; index = c.index; count = c.count }
 abbrev pub pointer_seen : Pointer → state.Pointer
 pointer_seen leads.Null = state.Null
 pointer_seen leads.Wild = state.Wild
-pointer_seen (leads.To object index moment) = state.To (record { object = object.birth; index = index; word = 0; count = 1; moment = moment })
+pointer_seen (leads.To index object moment) = state.To (record { object = object.birth; index = index; word = 0; count = 1; moment = moment })
 pointer_seen (leads.Static c) = state.Static (characters_seen c)
 
 abbrev pub cell_seen : Cell → state.Cell

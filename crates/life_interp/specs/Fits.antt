@@ -22,7 +22,7 @@ pub record IsRef (c : Content) (rows : Rows) (r : ObjRef) : Type 0 where
 abbrev pub PointerFits : Content → Rows → Pointer → Type 0
 PointerFits c rows leads.Null = Unit {0}
 PointerFits c rows leads.Wild = Unit {0}
-PointerFits c rows (leads.To object index moment) = IsRef c rows object
+PointerFits c rows (leads.To index object moment) = IsRef c rows object
 PointerFits c rows (leads.Static characters) = Unit {0}
 
 abbrev pub CellFits : Content → Rows → Cell → Type 0

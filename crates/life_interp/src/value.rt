@@ -15,10 +15,11 @@ pub(crate) enum Pointer {
     Null,
     /// It never pointed to anything.
     Wild,
-    /// To a position of an object; the moment is the store's clock when the pointer was made.
+    /// To a position of an object; the moment is the store's clock when the pointer was made. The index
+    /// stands first, where the variant's number leaves room.
     To {
-        object: ObjRef,
         index: u32,
+        object: ObjRef,
         moment: u64,
     },
     /// To characters that never end.
@@ -37,3 +38,6 @@ pub(crate) enum Cell {
     /// A pointer.
     Points(Pointer),
 }
+
+// A frame has a cell for each local, so ten thousand of them have millions.
+const _: () = prove!(size_of::<Cell>() == 40);

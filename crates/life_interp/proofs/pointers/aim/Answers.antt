@@ -49,7 +49,7 @@ returns-in-Ok-clause-step g c = λ set texts output input.
     ap (λ s. aimed set c.args.pointer (source_of s) st) c.in-Place.is
     ∙ place_found (operand_of c.in-Place.operand) content rows c.args.cells.now.items p _ output input there
     ∙ ap (λ m. Next (put_cell c.args.pointer (state.Points (state.To (record { object = p.object.birth; index = p.index; word = 0; count = 1; moment = m }))) st)) (sym c.now.ensures)
-    ∙ ap Next (put_now content c.args.cells.now.items c.put_cell-in-Ok.new.cells.items c.args.pointer (held.Points (leads.To p.object p.index c.now.result)) output input c.put_cell-in-Ok.ensures)
+    ∙ ap Next (put_now content c.args.cells.now.items c.put_cell-in-Ok.new.cells.items c.args.pointer (held.Points (leads.To p.index p.object c.now.result)) output input c.put_cell-in-Ok.ensures)
 
 pub returns-in-Ok-clause-fits : goal.returns-in-Ok-clause-fits
 returns-in-Ok-clause-fits g c =
@@ -58,7 +58,7 @@ returns-in-Ok-clause-fits g c =
     let p = c.in-Ok.position in
     record {
       housed = c.requires.housed;
-      held = subst (CellsFit content rows) (sym c.put_cell-in-Ok.ensures) (set_fits content rows c.args.cells.now.items c.args.pointer (held.Points (leads.To p.object p.index c.now.result)) c.requires.held c.in-Ok.ensures.fits);
+      held = subst (CellsFit content rows) (sym c.put_cell-in-Ok.ensures) (set_fits content rows c.args.cells.now.items c.args.pointer (held.Points (leads.To p.index p.object c.now.result)) c.requires.held c.in-Ok.ensures.fits);
     }
 
 pub returns-in-Text-clause-fits : goal.returns-in-Text-clause-fits
