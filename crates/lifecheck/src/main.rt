@@ -25,6 +25,8 @@ mod asked;
 #[cfg(test)]
 mod check_tests;
 #[cfg(test)]
+mod elaborate_tests;
+#[cfg(test)]
 mod ill_tests;
 #[cfg(test)]
 mod input_tests;
