@@ -37,7 +37,6 @@ fn texts_of_members(rt: HostRuntime) -> Result<(), Fail> {
     let names = names(rt.alloc())?;
     let mut types = TypeTable::new(rt.alloc());
     let f = with_members(&rt, rt.alloc(), &mut types)?;
-    let sigs = no_signatures(rt.alloc())?;
     let behind = AbsPlace::of_root(Root::Input {
         parameter: 0,
         member: Some(0),
@@ -50,7 +49,7 @@ fn texts_of_members(rt: HostRuntime) -> Result<(), Fail> {
         (behind.owned(), "in(p.p)'"),
     ];
     for (place, want) in places {
-        let text = place_text(rt.alloc(), &names, &f, &sigs, &types, &place)?;
+        let text = place_text(rt.alloc(), &names, &f, &types, &place)?;
         assert_eq!(rt; text.as_slice(), want.as_bytes());
     }
     Ok(())

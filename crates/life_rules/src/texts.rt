@@ -5,7 +5,7 @@ ghost use Rattle.life_core.specs.Function.{function_of, member_name, member_name
 ghost use Rattle.life_types.specs.Places.{position_text};
 ghost use Rattle.life_pset.specs.Inputs.{input_seen};
 ghost use Rattle.life_rules.specs.Lines.{kind_text};
-ghost use Rattle.life_rules.specs.Texts.{behind_type, called_text, cause_subject, cause_text, diag_name, element_text, function_text, input_number, input_of, input_text, inputs_at, is_result, local_text, member_text, name_if, name_text, named, nameless, naming_of, parameter_at, parameter_text, part_text, place_text, points_text, step_text, steps_text, why_text};
+ghost use Rattle.life_rules.specs.Texts.{behind_type, called_text, cause_subject, cause_text, diag_name, element_text, function_text, input_number, input_of, input_text, inputs_at, is_result, local_text, member_text, name_if, name_text, named, nameless, naming_of, parameter_at, parameter_text, part_text, place_text, points_text, spelling_of, step_text, steps_text, why_text};
 
 use crate::diag::{Diag, DiagKind, DiagText, Why};
 use life_contract::{Param, Signature, Signatures, parameter_in, pointee, step_type};
@@ -38,25 +38,25 @@ pub fn kind_name(kind: DiagKind) -> &'static str
 /// name for each member, and a `'` for each step from an owner to what it owns. The local that holds a
 /// function's result prints as `result`, the hidden range or iterator of a loop over a range as `range`,
 /// any other without a name as `temporary`, and what the caller passed for a parameter P as `in(P)`, for
-/// a member `in(P.m)`. A local that the function doesn't have has an empty text. `sigs` are the
-/// signatures of the program's functions. The only error is the want of memory.
+/// a member `in(P.m)`. A local that the function doesn't have has an empty text. The only error is the
+/// want of memory.
 pub fn place_text(
     alloc: Global,
     names: &Names,
     f: &CoreFn,
-    sigs: &Signatures,
     types: &TypeTable,
     place: &AbsPlace,
 ) -> Result<Vec<u8>, NoMemory>
     ensures { IfOk result (λ text.
-        text.items ≡ place_text (naming_of names.now sigs.now) types.now (function_of f.now) place.now) }
+        text.items ≡ place_text (spelling_of names.now) types.now (function_of f.now) place.now) }
 {
     let mut text = Vec::new(alloc);
-    push_place(alloc, names, f, sigs, types, place, &mut text)?;
+    push_place(alloc, names, f, types, place, &mut text)?;
     Ok(text)
 }
 
-/// The text of an element of a points-to set. The only error is the want of memory.
+/// The text of an element of a points-to set. `sigs` are the signatures of the program's functions. The only
+/// error is the want of memory.
 pub fn element_text(
     alloc: Global,
     names: &Names,
@@ -111,14 +111,9 @@ fn push_position(alloc: Global, place: Place, out: &mut Vec<u8>) -> Result<(), N
     Ok(())
 }
 
-fn push_name(
-    names: &Names,
-    sigs: &Signatures,
-    name: NameId,
-    out: &mut Vec<u8>,
-) -> Result<(), NoMemory>
+fn push_name(names: &Names, name: NameId, out: &mut Vec<u8>) -> Result<(), NoMemory>
     ensures { OnOk result
-        (out.new.items ≡ out.old.items ++ name_text (naming_of names.now sigs.now) name) }
+        (out.new.items ≡ out.old.items ++ name_text (spelling_of names.now) name) }
 {
     if let Some(text) = names.texts.get(name.0 as usize) {
         out.extend_from_slice(text)?;
@@ -126,18 +121,13 @@ fn push_name(
     Ok(())
 }
 
-fn push_name_if(
-    names: &Names,
-    sigs: &Signatures,
-    name: Option<NameId>,
-    out: &mut Vec<u8>,
-) -> Result<(), NoMemory>
+fn push_name_if(names: &Names, name: Option<NameId>, out: &mut Vec<u8>) -> Result<(), NoMemory>
     ensures { OnOk result
-        (out.new.items ≡ out.old.items ++ name_if (naming_of names.now sigs.now) name) }
+        (out.new.items ≡ out.old.items ++ name_if (spelling_of names.now) name) }
 {
     match name {
         None => Ok(()),
-        Some(id) => push_name(names, sigs, id, out),
+        Some(id) => push_name(names, id, out),
     }
 }
 
@@ -163,38 +153,35 @@ fn push_nameless(is_result: bool, kind: LocalKind, out: &mut Vec<u8>) -> Result<
 
 fn push_named(
     names: &Names,
-    sigs: &Signatures,
     is_result: bool,
     kind: LocalKind,
     name: Option<NameId>,
     out: &mut Vec<u8>,
 ) -> Result<(), NoMemory>
     ensures { OnOk result
-        (out.new.items ≡ out.old.items ++ named (naming_of names.now sigs.now) is_result kind name) }
+        (out.new.items ≡ out.old.items ++ named (spelling_of names.now) is_result kind name) }
 {
     match name {
         None => push_nameless(is_result, kind, out),
-        Some(name) => push_name(names, sigs, name, out),
+        Some(name) => push_name(names, name, out),
     }
 }
 
 fn push_local(
     names: &Names,
     f: &CoreFn,
-    sigs: &Signatures,
     types: &TypeTable,
     local: u32,
     out: &mut Vec<u8>,
 ) -> Result<(), NoMemory>
     ensures { OnOk result
         (out.new.items
-        ≡ out.old.items ++ local_text (naming_of names.now sigs.now) types.now (function_of f.now) local) }
+        ≡ out.old.items ++ local_text (spelling_of names.now) types.now (function_of f.now) local) }
 {
     match f.locals.get(local as usize) {
         None => Ok(()),
         Some(found) => push_named(
             names,
-            sigs,
             is_result(f, types, local),
             found.kind,
             found.name,
@@ -215,58 +202,45 @@ fn member_name(names: &Names, number: u32, member: usize) -> Option<NameId>
     }
 }
 
-fn push_member(
-    names: &Names,
-    sigs: &Signatures,
-    ty: Ty,
-    member: usize,
-    out: &mut Vec<u8>,
-) -> Result<(), NoMemory>
+fn push_member(names: &Names, ty: Ty, member: usize, out: &mut Vec<u8>) -> Result<(), NoMemory>
     ensures { OnOk result
-        (out.new.items ≡ out.old.items ++ member_text (naming_of names.now sigs.now) ty member) }
+        (out.new.items ≡ out.old.items ++ member_text (spelling_of names.now) ty member) }
 {
     match ty {
         Ty::Struct(number) => {
             out.extend_from_slice(b".")?;
-            push_name_if(names, sigs, member_name(names, number, member), out)?;
+            push_name_if(names, member_name(names, number, member), out)?;
         }
         _ => {}
     }
     Ok(())
 }
 
-fn push_step(
-    names: &Names,
-    sigs: &Signatures,
-    ty: Ty,
-    step: u8,
-    out: &mut Vec<u8>,
-) -> Result<(), NoMemory>
+fn push_step(names: &Names, ty: Ty, step: u8, out: &mut Vec<u8>) -> Result<(), NoMemory>
     ensures { OnOk result
-        (out.new.items ≡ out.old.items ++ step_text (naming_of names.now sigs.now) ty step) }
+        (out.new.items ≡ out.old.items ++ step_text (spelling_of names.now) ty step) }
 {
     if step == OWNED_STEP {
         out.extend_from_slice(b"'")?;
         Ok(())
     } else {
-        push_member(names, sigs, ty, step as usize, out)
+        push_member(names, ty, step as usize, out)
     }
 }
 
 fn push_steps(
     names: &Names,
-    sigs: &Signatures,
     types: &TypeTable,
     ty: Ty,
     steps: &[u8],
     out: &mut Vec<u8>,
 ) -> Result<(), NoMemory>
     ensures { OnOk result
-        (out.new.items ≡ out.old.items ++ steps_text (naming_of names.now sigs.now) types.now ty steps.now) }
+        (out.new.items ≡ out.old.items ++ steps_text (spelling_of names.now) types.now ty steps.now) }
 {
     let mut here = ty;
     for step in steps {
-        push_step(names, sigs, here, *step, out)?;
+        push_step(names, here, *step, out)?;
         here = step_type(types, here, *step);
     }
     Ok(())
@@ -278,7 +252,6 @@ fn push_steps(
 fn push_part(
     names: &Names,
     f: &CoreFn,
-    sigs: &Signatures,
     types: &TypeTable,
     local: u32,
     steps: &[u8],
@@ -286,12 +259,11 @@ fn push_part(
 ) -> Result<(), NoMemory>
     ensures { OnOk result
         (out.new.items
-        ≡ out.old.items ++ part_text (naming_of names.now sigs.now) types.now (function_of f.now) local steps.now) }
+        ≡ out.old.items ++ part_text (spelling_of names.now) types.now (function_of f.now) local steps.now) }
 {
-    push_local(names, f, sigs, types, local, out)?;
+    push_local(names, f, types, local, out)?;
     push_steps(
         names,
-        sigs,
         types,
         ty_if(types, local_type(types, f, local)),
         steps,
@@ -351,7 +323,6 @@ fn input_number(member: Option<u8>) -> usize
 fn push_input(
     names: &Names,
     f: &CoreFn,
-    sigs: &Signatures,
     types: &TypeTable,
     parameter: u32,
     input: Option<InputPointer>,
@@ -359,12 +330,12 @@ fn push_input(
 ) -> Result<(), NoMemory>
     ensures { OnOk result
         (out.new.items
-        ≡ out.old.items ++ input_text (naming_of names.now sigs.now) types.now (function_of f.now) parameter (option_map input_seen input)) }
+        ≡ out.old.items ++ input_text (spelling_of names.now) types.now (function_of f.now) parameter (option_map input_seen input)) }
 {
     out.extend_from_slice(b"in(")?;
     match input {
-        None => push_local(names, f, sigs, types, parameter, out)?,
-        Some(input) => push_part(names, f, sigs, types, parameter, input.pointer.path(), out)?,
+        None => push_local(names, f, types, parameter, out)?,
+        Some(input) => push_part(names, f, types, parameter, input.pointer.path(), out)?,
     }
     out.extend_from_slice(b")")?;
     Ok(())
@@ -383,20 +354,19 @@ fn push_place(
     alloc: Global,
     names: &Names,
     f: &CoreFn,
-    sigs: &Signatures,
     types: &TypeTable,
     place: &AbsPlace,
     out: &mut Vec<u8>,
 ) -> Result<(), NoMemory>
     ensures { OnOk result
         (out.new.items
-        ≡ out.old.items ++ place_text (naming_of names.now sigs.now) types.now (function_of f.now) place.now) }
+        ≡ out.old.items ++ place_text (spelling_of names.now) types.now (function_of f.now) place.now) }
 {
     match place.root {
-        Root::Local(local) => push_part(names, f, sigs, types, local, place.path(), out),
+        Root::Local(local) => push_part(names, f, types, local, place.path(), out),
         Root::Input { parameter, member } => {
             let input = input_of(alloc, f, types, parameter, member)?;
-            push_behind(names, f, sigs, types, parameter, input, place.path(), out)
+            push_behind(names, f, types, parameter, input, place.path(), out)
         }
     }
 }
@@ -405,7 +375,6 @@ fn push_place(
 fn push_behind(
     names: &Names,
     f: &CoreFn,
-    sigs: &Signatures,
     types: &TypeTable,
     parameter: u32,
     input: Option<InputPointer>,
@@ -414,26 +383,21 @@ fn push_behind(
 ) -> Result<(), NoMemory>
     ensures { OnOk result
         (out.new.items
-        ≡ out.old.items ++ (input_text (naming_of names.now sigs.now) types.now (function_of f.now) parameter (option_map input_seen input) ++ steps_text (naming_of names.now sigs.now) types.now (behind_type types.now (option_map input_seen input)) steps.now)) }
+        ≡ out.old.items ++ (input_text (spelling_of names.now) types.now (function_of f.now) parameter (option_map input_seen input) ++ steps_text (spelling_of names.now) types.now (behind_type types.now (option_map input_seen input)) steps.now)) }
 {
-    push_input(names, f, sigs, types, parameter, input, out)?;
-    push_steps(names, sigs, types, behind_type(types, input), steps, out)
+    push_input(names, f, types, parameter, input, out)?;
+    push_steps(names, types, behind_type(types, input), steps, out)
 }
 
 // ---- called functions
 
-fn push_called(
-    names: &Names,
-    sigs: &Signatures,
-    sig: Option<&Signature>,
-    out: &mut Vec<u8>,
-) -> Result<(), NoMemory>
+fn push_called(names: &Names, sig: Option<&Signature>, out: &mut Vec<u8>) -> Result<(), NoMemory>
     ensures { OnOk result
-        (out.new.items ≡ out.old.items ++ called_text (naming_of names.now sigs.now) (option_copied sig.entry)) }
+        (out.new.items ≡ out.old.items ++ called_text (spelling_of names.now) (option_copied sig.entry)) }
 {
     match sig {
         None => Ok(()),
-        Some(sig) => push_name(names, sigs, sig.name, out),
+        Some(sig) => push_name(names, sig.name, out),
     }
 }
 
@@ -446,13 +410,12 @@ fn push_function(
     ensures { OnOk result
         (out.new.items ≡ out.old.items ++ function_text (naming_of names.now sigs.now) number) }
 {
-    push_called(names, sigs, sigs.get(FnId(number)), out)
+    push_called(names, sigs.get(FnId(number)), out)
 }
 
 // Adds the text of a location of a parameter.
 fn push_parameter(
     names: &Names,
-    sigs: &Signatures,
     types: &TypeTable,
     parameter: Option<&Param>,
     steps: &[u8],
@@ -460,18 +423,17 @@ fn push_parameter(
 ) -> Result<(), NoMemory>
     ensures { OnOk result
         (out.new.items
-        ≡ out.old.items ++ parameter_text (naming_of names.now sigs.now) types.now (option_copied parameter.entry) steps.now) }
+        ≡ out.old.items ++ parameter_text (spelling_of names.now) types.now (option_copied parameter.entry) steps.now) }
 {
     match parameter {
         None => Ok(()),
-        Some(parameter) => push_parameter_part(names, sigs, types, *parameter, steps, out),
+        Some(parameter) => push_parameter_part(names, types, *parameter, steps, out),
     }
 }
 
 #[tactic(auto, using(std::proofs::Common::append_assoc))]
 fn push_parameter_part(
     names: &Names,
-    sigs: &Signatures,
     types: &TypeTable,
     parameter: Param,
     steps: &[u8],
@@ -479,10 +441,10 @@ fn push_parameter_part(
 ) -> Result<(), NoMemory>
     ensures { OnOk result
         (out.new.items
-        ≡ out.old.items ++ parameter_text (naming_of names.now sigs.now) types.now (Some parameter) steps.now) }
+        ≡ out.old.items ++ parameter_text (spelling_of names.now) types.now (Some parameter) steps.now) }
 {
-    push_name_if(names, sigs, parameter.name, out)?;
-    push_steps(names, sigs, types, ty_at(types, parameter.ty), steps, out)
+    push_name_if(names, parameter.name, out)?;
+    push_steps(names, types, ty_at(types, parameter.ty), steps, out)
 }
 
 fn parameter_at(sig: Option<&Signature>, root: Root) -> Option<&Param>
@@ -510,10 +472,9 @@ fn push_diag_name(
         ≡ out.old.items ++ diag_name (naming_of names.now sigs.now) types.now (function_of f.now) called location.now) }
 {
     match called {
-        None => push_place(alloc, names, f, sigs, types, location, out),
+        None => push_place(alloc, names, f, types, location, out),
         Some(number) => push_parameter(
             names,
-            sigs,
             types,
             parameter_at(sigs.get(FnId(number)), location.root),
             location.path(),
@@ -541,21 +502,21 @@ fn push_subject(
 {
     match kind {
         CauseKind::Uninitialised => {
-            push_local(names, f, sigs, types, root, out)?;
+            push_local(names, f, types, root, out)?;
             out.extend_from_slice(b" uninitialised at ")?;
         }
         CauseKind::Ended => {
-            push_local(names, f, sigs, types, root, out)?;
+            push_local(names, f, types, root, out)?;
             out.extend_from_slice(b" ended at ")?;
         }
         CauseKind::TemporaryEnded => out.extend_from_slice(b"temporary ended at ")?,
         CauseKind::Changed => {
-            push_local(names, f, sigs, types, root, out)?;
+            push_local(names, f, types, root, out)?;
             out.extend_from_slice(b" changed at ")?;
         }
         CauseKind::OwnerChanged => out.extend_from_slice(b"owner changed at ")?,
         CauseKind::Moved => {
-            push_local(names, f, sigs, types, root, out)?;
+            push_local(names, f, types, root, out)?;
             out.extend_from_slice(b" moved at ")?;
         }
         CauseKind::Called => {
@@ -613,7 +574,7 @@ fn push_element(
         }
         Element::Own => out.extend_from_slice(b"own")?,
         Element::Static => out.extend_from_slice(b"static")?,
-        Element::At(place) => push_place(alloc, names, f, sigs, types, &place, out)?,
+        Element::At(place) => push_place(alloc, names, f, types, &place, out)?,
     }
     Ok(())
 }
@@ -664,7 +625,7 @@ fn push_why(
         Why::Cause(cause) => push_cause(alloc, names, f, sigs, types, cause, out)?,
         Why::Overlap(name) => {
             out.extend_from_slice(b"overlaps ")?;
-            push_name(names, sigs, name, out)?;
+            push_name(names, name, out)?;
         }
         Why::Points(element) => push_points(alloc, names, f, sigs, types, element, out)?,
     }

@@ -113,7 +113,7 @@ fn texts_of_a_function(rt: HostRuntime) -> Result<(), Fail> {
         ),
     ];
     for (root, want) in places {
-        let text = place_text(rt.alloc(), &p.names, f, &sigs, &p.types, &rooted(root))?;
+        let text = place_text(rt.alloc(), &p.names, f, &p.types, &rooted(root))?;
         assert_eq!(rt; text.as_slice(), want.as_bytes());
     }
 

@@ -12,5 +12,5 @@ returns-in_ok-extend_from_slice-in-Changed c =
     let out = c.args.out.now.items in
     c.in_ok-extend_from_slice-in-Changed.ensures.items
     ∙ ap (λ (text : List ℕ). text ++ codes " changed at ") c.in_ok-push_local-in-Changed.ensures
-    ∙ append_assoc out (local_text names c.args.types.now f c.args.root) (codes " changed at ")
+    ∙ append_assoc out (local_text names.spelling c.args.types.now f c.args.root) (codes " changed at ")
     ∙ ap (λ (kind : CauseKind). out ++ cause_subject names c.args.types.now f c.args.root kind) (sym c.in-Changed.is)
