@@ -21,6 +21,8 @@ use Rattle.life_elab.specs.Programs.{Functions as Written, around, core_program,
 use Rattle.life_typed.specs.Programs.{FunctionForm, ProgramForm}
 use Rattle.life_fix.specs.Programs.{IsProgramWithinLimits}
 use Rattle.life_proper.specs.Plain.{IsPlainProgram}
+use Rattle.life_proper.specs.ResultsWritten.{WritesResults}
+use Rattle.life_proper.specs.WellFormedPrograms.{IsWellFormedProgram}
 use Rattle.life_pset.specs.Elements.{AreShort, IsWithinLimits, elements_of, locations_of}
 use Rattle.life_check.specs.WholeProgram.{IsWholeProgram}
 
@@ -100,11 +102,13 @@ module _ (p : ProgramForm) (core : Program) (is : core ≡ core_program p) (none
   translated_within = subst IsProgramWithinLimits (sym is) its_limits
 
   -- so it is whole
-  pub translated_whole : IsProperProgram (core_program p) → IsPlainProgram (core_program p) → IsWholeProgram core
-  translated_whole proper plain = subst IsWholeProgram (sym is) (record {
+  pub translated_whole : IsProperProgram (core_program p) → IsWellFormedProgram (core_program p) → WritesResults (core_program p) → IsPlainProgram (core_program p) → IsWholeProgram core
+  translated_whole proper formed written plain = subst IsWholeProgram (sym is) (record {
     few = omega (arith, its_limits.few);
     points = few_points (core_program p).types (core_program p).functions its_limits.each;
     proper = proper;
+    well_formed = formed;
+    results_written = written;
     longs = plain.longs;
     by_value = plain.by_value;
   })

@@ -1,6 +1,7 @@
 -- What is known of each part of a check by laws, so that the check needn't look for it.
-use Rattle.std.specs.Prelude.{◌≡◌, true}
+use Rattle.std.specs.Prelude.{◌≡◌, length, true}
 use Rattle.life_built.specs.Built.{is_built}
+use Rattle.life_keys.specs.NamedTokens.{are_named}
 use Rattle.life_tree.specs.Grammar.{Fits}
 use Rattle.life_tree.specs.LongTokens.{are_longs}
 use Rattle.life_tree.specs.Tree.{tokens_of}
@@ -8,14 +9,20 @@ use Rattle.life_tree.specs.Views.{program_tree}
 use Rattle.life_tree.specs.declared.program.Program.{Program}
 use Rattle.life_typed.specs.Programs.{ProgramForm}
 use Rattle.life_well_typed.specs.Functions.{IsWellTyped}
-use Rattle.life_well_typed.specs.Results.{HasResults}
+use Rattle.life_well_typed.specs.Mains.{HasIntMain}
+use Rattle.life_well_typed.specs.Names.{HasNames}
+use Rattle.life_well_typed.specs.Results.{HasResults, HasTable}
 
--- a tree that was read from a text: its literals are longs, and it has the forms of the grammar
+-- a tree that was read from a text: its literals are longs, its names are in its table, and it has the forms of the grammar
 pub record IsRead (tree : Program) : Type 0 where
   pub longs : are_longs (tokens_of (program_tree tree)) ≡ true
+  pub named : are_named (length tree.names.items) (tokens_of (program_tree tree)) ≡ true
   pub fits : Fits (program_tree tree)
 
--- a typed program of such a tree: it is well typed, as far as it is built
+-- a typed program of such a tree: its names are in its table, and no two functions have one; as far as it is built it is well typed
 pub record IsTyped (p : ProgramForm) : Type 0 where
   pub well_typed : is_built p ≡ true → IsWellTyped p
   pub results : is_built p ≡ true → HasResults p
+  pub mains : is_built p ≡ true → HasIntMain p
+  pub table : is_built p ≡ true → HasTable p
+  pub names : HasNames p

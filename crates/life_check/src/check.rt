@@ -18,18 +18,21 @@ use life_base::Steps;
 use life_core::CoreProgram;
 use life_elab::{elaborate, is_built};
 use life_elab_laws::{
-    translations_are_plain, translations_are_proper, translations_have_short_places,
+    translations_are_plain, translations_are_proper, translations_are_well_formed,
+    translations_have_short_places, translations_write_results,
 };
 use life_fix::program_diagnostics;
 use life_parse::parse;
-use life_parse_laws::trees_have_longs;
+use life_parse_laws::{trees_have_longs, trees_have_names};
 use life_rules::Diag;
 use life_sound::accept;
 use life_tree::Program;
 use life_typed::Typed;
 use life_types::Place;
 use life_typing::{IllKind, resolve};
-use life_typing_laws::{resolved_programs_are_as_parsed, resolved_programs_are_well_typed};
+use life_typing_laws::{
+    resolved_programs_are_as_parsed, resolved_programs_are_well_typed, resolved_programs_have_names,
+};
 use std::alloc::Global;
 use std::sync::ledger::Ledger;
 
@@ -53,6 +56,7 @@ pub fn check_text<L: Ledger>(
 {
     let tree = parse(alloc, bytes)?;
     trees_have_longs();
+    trees_have_names();
     check_tree(alloc, &tree, steps)
 }
 
@@ -69,6 +73,7 @@ fn check_tree<L: Ledger>(
     let typed = resolve(alloc, tree)?;
     resolved_programs_are_as_parsed();
     resolved_programs_are_well_typed();
+    resolved_programs_have_names();
     check_typed(alloc, &typed, steps)
 }
 
@@ -87,6 +92,8 @@ fn check_typed<L: Ledger>(
     }
     let program = elaborate(alloc, typed)?;
     translations_are_proper();
+    translations_are_well_formed();
+    translations_write_results();
     translations_are_plain();
     translations_have_short_places();
     check_program(alloc, program, steps)

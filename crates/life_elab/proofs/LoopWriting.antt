@@ -8,7 +8,7 @@ use Rattle.life_writer.specs.Writing.{State, Gives, gives, ◌>>◌, apart, writ
 use Rattle.life_writer.specs.Around.{Around}
 use Rattle.life_writer.specs.Expressions.{condition}
 use Rattle.life_writer.specs.Variables.{end_since}
-use Rattle.life_elab.specs.Ends.{last_token}
+use Rattle.life_elab.specs.LastTokens.{last_token}
 use Rattle.life_elab.specs.Simples.{simple_if}
 use Rattle.life_elab.specs.Statements.{body_of_loop, condition_or_true, looped, started, statement}
 

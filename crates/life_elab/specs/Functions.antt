@@ -12,7 +12,7 @@ use Rattle.life_core.specs.Function as core
 use Rattle.life_core.specs.Tree.{Returns, trees}
 use Rattle.life_core.specs.declared.program.Local.{Local}
 use Rattle.life_writer.specs.Around.{Around, type_of}
-use Rattle.life_elab.specs.Ends.{ends}
+use Rattle.life_typed.specs.Ends.{ends}
 use Rattle.life_writer.specs.Registers.{nameless}
 use Rattle.life_elab.specs.Statements.{left, statement}
 use Rattle.life_typed.specs.Programs.{FunctionForm, PromiseForm, default, listed}

@@ -1,8 +1,8 @@
 pub mod Bounds
 pub mod Declarations
 pub mod Elaborated
-pub mod Ends
 pub mod Functions
+pub mod LastTokens
 pub mod OpenedViews
 pub mod Over
 pub mod Programs

@@ -11,7 +11,7 @@ use Rattle.life_core.specs.Tree.{Tree, Skip, Breaks, Choice, Continues, Returns,
 use Rattle.life_writer.specs.Around.{Around, own_type, result_local, type_of}
 use Rattle.life_writer.specs.Conditions.{non_zero}
 use Rattle.life_elab.specs.Declarations.{declared}
-use Rattle.life_elab.specs.Ends.{last_token}
+use Rattle.life_elab.specs.LastTokens.{last_token}
 use Rattle.life_writer.specs.Expressions.{condition, value}
 use Rattle.life_writer.specs.Registers.{computed, constant, new_register}
 use Rattle.life_elab.specs.Simples.{simple, simple_if}

@@ -1,7 +1,8 @@
 // Where statements end in the text, and which of them control can't run past by what their text says.
 ghost use Rattle.std.specs.Prelude.{◌≡◌, map};
+ghost use Rattle.life_typed.specs.Ends as spec;
 ghost use Rattle.life_typed.specs.TypedStatement.{block_view, block_item_view, branch_view, stmt_forms, stmt_view};
-ghost use Rattle.life_elab.specs.Ends as spec;
+ghost use Rattle.life_elab.specs.LastTokens as tokens;
 ghost use Rattle.life_built.specs.Last.{last_view};
 
 use life_typed::{TypedBlock, TypedBlockItem, TypedBranch, TypedStmt};
@@ -67,7 +68,7 @@ fn last_ends(last: &Option<Box<TypedStmt>>) -> bool
 /// The last token of a statement.
 #[cycle(last_token)]
 pub(crate) fn last_token(statement: &TypedStmt, before: Place) -> Place
-    ensures { result ≡ spec.last_token (stmt_view statement.now) before }
+    ensures { result ≡ tokens.last_token (stmt_view statement.now) before }
 {
     match statement {
         TypedStmt::Block(block) => block.closing,
@@ -88,7 +89,7 @@ pub(crate) fn last_token(statement: &TypedStmt, before: Place) -> Place
 // .. of what stands behind the last `else`, if anything does.
 #[cycle(last_token)]
 fn last_of_last(last: &Option<Box<TypedStmt>>, before: Place) -> Place
-    ensures { result ≡ spec.last_token (last_view last.now) before }
+    ensures { result ≡ tokens.last_token (last_view last.now) before }
 {
     match last {
         Some(last) => last_token(last, before),
@@ -98,7 +99,7 @@ fn last_of_last(last: &Option<Box<TypedStmt>>, before: Place) -> Place
 
 #[cycle(last_token)]
 fn last_of_branches(branches: &[TypedBranch], before: Place) -> Place
-    ensures { result ≡ spec.last_token (stmt_forms (map branch_view branches.now)) before }
+    ensures { result ≡ tokens.last_token (stmt_forms (map branch_view branches.now)) before }
 {
     let mut token = before;
     'branches: for branch in branches {

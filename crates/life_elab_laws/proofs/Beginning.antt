@@ -1,11 +1,11 @@
 -- Where the body of a function begins: its parameters live, and no other variable does.
-use Rattle.std.proofs.Common.{◌≡◌, ◌<◌, ◌≤◌, inl, inr, ℕ, zero, suc, true, List, [], ◌∷◌, ◌++◌, length, map, slice_get, Option, Some, option_map, refl, sym, ap, ◌∙◌, subst, unwrap_or, arith, length-append, append_assoc, append-nil}
+use Rattle.std.proofs.Common.{◌≡◌, ◌<◌, ◌≤◌, ◌⊎◌, inl, inr, ℕ, zero, suc, true, ◌||◌, List, [], ◌∷◌, ◌++◌, length, map, slice_get, Option, Some, option_map, refl, sym, ap, ◌∙◌, subst, unwrap_or, arith, length-append, append_assoc, append-nil}
 use Rattle.std.proofs.lemmas.Bool.{and_parts, cases_eq, cases_lt, false≢true}
 use Rattle.std.proofs.lemmas.Option.{none-some, slice_get-map}
 use Rattle.life_types.specs.Types.{Types}
 use Rattle.life_types.specs.declared.ty.Ty.{Ty}
 use Rattle.life_types.specs.declared.ty.Ty.TheVariants as ty
-use Rattle.life_built.specs.Built.{are_built_variables, is_built_variable}
+use Rattle.life_built.specs.Built.{are_built_variables, is_built_result, is_built_variable, is_void}
 use Rattle.life_typed.specs.BaseTypes.{is_value, type_at}
 use Rattle.life_typed.specs.declared.typed_program.ParameterPromise.{ParameterPromise}
 use Rattle.life_typed.specs.declared.typed_program.TypedLocal.{TypedLocal}
@@ -28,7 +28,9 @@ use Rattle.life_elab_laws.proofs.ExpressionKinds.{variable_built}
 use Rattle.life_elab_laws.proofs.Following.{Follows, HasRegister, follows_below, follows_grown}
 use Rattle.life_elab_laws.proofs.Fronts.{IsFront, front_append, front_itself, last_there}
 use Rattle.life_elab_laws.proofs.Growing.{Grows, grows_none}
+use Rattle.life_elab_laws.proofs.OrderedTypes.{order_none}
 use Rattle.life_elab_laws.proofs.Shaped.{AreShaped, shaped_more}
+use Rattle.life_elab_laws.proofs.WrittenLocals.{AddsRegisters, AreWrittenLocals, IsIntermediate, locals_added, own_added, register_pushed, registers_none, value_fits}
 
 -- ---- what parameters hold at the entry
 
@@ -111,6 +113,14 @@ module _ (a : Around) where
       shaped_same ps us (with_new (parameter_local a p u) s) parts.1
       (shaped_more a.program.types s.locals (parameter_local a p u) h (λ is. record { name = u.name; named = refl; built = parts.0 }))
 
+  own_parameters : (types : Types) (ps : List ParameterPromise) (done us : List TypedLocal) (s : State) → done ++ us ≡ a.function.locals → AreWrittenLocals types a s → AreWrittenLocals types a (elab.with_parameters a ps us s)
+  own_parameters types [] done us s e h = h
+  own_parameters types (p ∷ ps) done [] s e h = h
+  own_parameters types (p ∷ ps) done (u ∷ us) s e h =
+      let at : slice_get a.function.locals (length done) ≡ Some u = subst (λ (xs : List TypedLocal). slice_get xs (length done) ≡ Some u) e (middle_there done u us) in
+      own_parameters types ps (done ++ u ∷ []) us (with_new (parameter_local a p u) s) (append_assoc done (u ∷ []) us ∙ e)
+      (own_added types a s (parameter_local a p u) (record { number = length done; variable = u; there = at; of = record { named = refl; typed = refl; kind = refl } }) h)
+
   -- all of them live
   abbrev AllLive : State → Type 0
   AllLive s = (y : ℕ) → y < length s.locals → Among y s.living
@@ -128,6 +138,11 @@ module _ (a : Around) where
 
   -- ---- the result behind them
 
+  one_register : (types : Types) (t : Ty) (s : State) → is_value t ≡ true → slice_get s.types.types a.function.result.0 ≡ Some t
+      → (y : ℕ) (l : Local) → slice_get (s.locals ++ nameless a.function.place a.function.result ∷ []) y ≡ Some l → (slice_get s.locals y ≡ Some l) ⊎ IsIntermediate types s.types l
+  one_register types t s v at =
+      register_pushed types s.types s.locals (nameless a.function.place a.function.result) (record { nameless = refl; kind = refl; ty = t; typed = at; fits = value_fits types t v })
+
   pub result_grows : (t : Ty) (s : State) → Grows s (with_result a t s)
   result_grows ty.Void s = grows_none s
   result_grows _ s = record {
@@ -139,6 +154,16 @@ module _ (a : Around) where
     outside = refl;
     shaped = λ types h. shaped_more types s.locals (nameless a.function.place a.function.result) h (λ is. absurd (false≢true (sym is)));
   }
+
+  -- .. a register
+  result_registers : (types : Types) (t : Ty) (s : State) → (is_void t || is_value t) ≡ true → slice_get s.types.types a.function.result.0 ≡ Some t → AddsRegisters types s (with_result a t s)
+  result_registers types ty.Void s b at = registers_none types s
+  result_registers types ty.Bool s b at = (one_register types ty.Bool s refl at, order_none s.types)
+  result_registers types ty.Char s b at = (one_register types ty.Char s refl at, order_none s.types)
+  result_registers types ty.Int s b at = (one_register types ty.Int s refl at, order_none s.types)
+  result_registers types ty.Long s b at = (one_register types ty.Long s refl at, order_none s.types)
+  result_registers types ty.Size s b at = (one_register types ty.Size s refl at, order_none s.types)
+  result_registers types _ s b at = absurd (false≢true b)
 
   result_there : (t : Ty) (s : State) → is_value t ≡ true → slice_get (with_result a t s).locals (length s.locals) ≡ Some (nameless a.function.place a.function.result)
   result_there ty.Bool s w = last_there s.locals (nameless a.function.place a.function.result)
@@ -176,28 +201,44 @@ module _ (a : Around) where
         (result_grows (type_at a.program.types a.function.result) given).shaped a.program.types
         (shaped_same a.function.parameters a.function.locals (nothing_written T) b tt)
 
+    -- the parameters, and the register of the result
+    pub first_locals : (types : Types) (t : Ty) → slice_get a.program.types.types a.function.result.0 ≡ Some t → is_built_result a.program.types a.function.result ≡ true → AreWrittenLocals types a (first_state a T)
+    first_locals types t at b =
+        let found : type_at a.program.types a.function.result ≡ t = ap (λ (o : Option Ty). unwrap_or o ty.Void) at in
+        let there : slice_get given.types.types a.function.result.0 ≡ Some t =
+        ap (λ (x : Types). slice_get x.types a.function.result.0) (types_same a.function.parameters a.function.locals (nothing_written T)) ∙ table a.function.result.0 t at in
+        locals_added types a given (first_state a T) (result_grows (type_at a.program.types a.function.result) given).types
+        (result_registers types (type_at a.program.types a.function.result) given b (there ∙ ap Some (sym found)))
+        (own_parameters types a.function.parameters [] a.function.locals (nothing_written T) refl (λ y l none. absurd (none-some l none)))
+
+    pub result_first : is_value (type_at a.program.types a.function.result) ≡ true → slice_get (first_state a T).locals (length a.function.parameters) ≡ Some (nameless a.function.place a.function.result)
+    result_first worth = ap (slice_get (first_state a T).locals) (sym given_count) ∙ result_there (type_at a.program.types a.function.result) given worth
+
     pub parameters_front : IsFront (parameter_locals a.function.parameters a.function.locals) (first_state a T).locals
     parameters_front y l at =
         (result_grows (type_at a.program.types a.function.result) given).locals y l
         (subst (λ (ls : List Local). slice_get ls y ≡ Some l) (sym (locals_written a.function.parameters a.function.locals (nothing_written T))) at)
 
     pub register_there : (t : Ty) → slice_get a.program.types.types a.function.result.0 ≡ Some t → HasRegister a (first_state a T)
-    register_there t at worth = record {
-      local = nameless a.function.place a.function.result;
-      there = ap (slice_get (first_state a T).locals) (sym given_count) ∙ result_there (type_at a.program.types a.function.result) given worth;
-      nameless = refl;
-      kind = refl;
-      ty = t;
-      typed = ap (λ (x : Types). slice_get x.types a.function.result.0) first_types ∙ table a.function.result.0 t at;
-      value = subst (λ (o : Option Ty). is_value (unwrap_or o ty.Void) ≡ true) at worth;
-    }
+    register_there t at worth = (
+      record {
+        local = nameless a.function.place a.function.result;
+        there = result_first worth;
+        nameless = refl;
+        kind = refl;
+        ty = t;
+        typed = ap (λ (x : Types). slice_get x.types a.function.result.0) first_types ∙ table a.function.result.0 t at;
+        value = subst (λ (o : Option Ty). is_value (unwrap_or o ty.Void) ≡ true) at worth;
+      },
+      sym (ap (λ (o : Option Ty). unwrap_or o ty.Void) at),
+    )
 
     module _ (types : Types) (fs : List Function) (f : Function) (front : IsFront a.program.types.types types.types) (variables : are_built_variables a.program.types a.function.locals ≡ true) where
       nothing_follows : Follows types fs f a (with_parameters 0) (nothing_written T)
       nothing_follows = record {
         count = refl;
         visible = λ x c. absurd (contains_among [] x c);
-        stands = record { opened = λ y c. absurd (contains_among [] y c); seen = λ x u c at. absurd (contains_among [] x c) };
+        stands = record { table = table; opened = λ y c. absurd (contains_among [] y c); seen = λ x u c at. absurd (contains_among [] x c) };
         ascend = tt;
         outside = omega arith;
         living = λ y m. absurd m;

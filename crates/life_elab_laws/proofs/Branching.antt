@@ -8,17 +8,22 @@ use Rattle.life_core.specs.Shape.{is_condition, is_statement, test_straight, tes
 use Rattle.life_core.specs.Tree.{Tree, Skip, Choice, Stops, trees}
 use Rattle.life_proper.specs.declared.known.Known.{Known}
 use Rattle.life_proper.specs.Checking.{Flow, before_both, flow, joined}
+use Rattle.life_proper.specs.Knowing.{State as Knowing}
 use Rattle.life_proper.specs.Plain.{is_plain_tree}
+use Rattle.life_proper.specs.ResultsKnown.{ReturnsKnown}
 use Rattle.life_proper.proofs.Joining.{joined_end}
 use Rattle.life_well_typed.specs.Visible.{Visible, behind}
-use Rattle.life_writer.specs.Around.{Around}
+use Rattle.life_writer.specs.Around.{Around, result_local}
 use Rattle.life_writer.specs.Writing.{State, Gives, with_code, write}
 use Rattle.life_elab_laws.proofs.Doing.{Acting, DoesLevel, leaves_falling, leaves_may}
-use Rattle.life_elab_laws.proofs.Exits.{Knows, Leaves, knows_written, leaves_joined}
+use Rattle.life_elab_laws.proofs.Exits.{Knows, Leaves, MayKnow, knows_written, leaves_joined}
 use Rattle.life_elab_laws.proofs.Following.{Adds, Follows, adds_coded, adds_then, begins_added, follows_again, follows_coded, follows_grown, follows_named, grows_adds, knows_alive}
 use Rattle.life_elab_laws.proofs.Fronts.{front_length}
+use Rattle.life_elab_laws.proofs.GivingBack.{GivesValue, asks_known, known_may}
 use Rattle.life_elab_laws.proofs.Growing.{Begins}
+use Rattle.life_elab_laws.proofs.OrderedTypes.{order_then}
 use Rattle.life_elab_laws.proofs.Testing.{Asked, AsksAll, Tests}
+use Rattle.life_elab_laws.proofs.WrittenLocals.{locals_added}
 
 module _ (types : Types) (fs : List Function) (f : Function) where
   -- ---- lists of their own
@@ -69,40 +74,40 @@ module _ (types : Types) (fs : List Function) (f : Function) where
       branched_level : r.living ≡ s.living
       branched_level = second.level ∙ first.level ∙ test.grown.living
 
-      branched_acts : Begins types f r → Acting types fs f in_loop s both (chosen ∷ [])
-      branched_acts b = record {
-        stated = record {
-          statement = and_from _ true (and_from (is_condition w.given) _ asks.fine.condition (and_from (is_statement (trees first.does.code)) (is_statement (trees second.does.code)) one.stated.statement other.stated.statement)) refl;
-          tests = and_from _ true (and_from (test_straight w.given) _ asks.fine.straight (and_from (tests_straight (trees first.does.code)) (tests_straight (trees second.does.code)) one.stated.tests other.stated.tests)) refl;
-          plain = and_from _ true (and_from (is_plain_tree types fs f w.given) _ asks.fine.plain (and_from (is_plain_tree types fs f (trees first.does.code)) (is_plain_tree types fs f (trees second.does.code)) one.stated.plain other.stated.plain)) refl;
-        };
-        ways = leaves_may types fs f in_loop s.living r.living (take s.outside s.living) (trees (chosen ∷ [])) went;
-      }
-        where
-          begun : Begins types f t
-          begun = begins_added types fs f t r (adds_uncoded t r [] second.does.adds) b
+      module _ (b : Begins types f r) where
+        begun : Begins types f t
+        begun = begins_added types fs f t r (adds_uncoded t r [] second.does.adds) b
 
-          tested : Begins types f w.state
-          tested = begins_added types fs f w.state t (adds_uncoded w.state t [] first.does.adds) begun
+        tested : Begins types f w.state
+        tested = begins_added types fs f w.state t (adds_uncoded w.state t [] first.does.adds) begun
 
-          asks : AsksAll types fs f s w.given
-          asks = test.runs tested
+        asks : AsksAll types fs f s w.given
+        asks = test.runs tested
 
-          one : Acting types fs f in_loop (with_code [] w.state) t first.does.code
-          one = first.does.acts begun
+        one : Acting types fs f in_loop (with_code [] w.state) t first.does.code
+        one = first.does.acts begun
 
-          other : Acting types fs f in_loop (with_code [] t) r second.does.code
-          other = second.does.acts b
+        other : Acting types fs f in_loop (with_code [] t) r second.does.code
+        other = second.does.acts b
 
-          outside_second : take t.outside t.living ≡ take s.outside s.living
-          outside_second = ap (λ (n : ℕ). take n t.living) first.does.adds.outside ∙ ap (take w.state.outside) first.level ∙ same_outside
+        outside_second : take t.outside t.living ≡ take s.outside s.living
+        outside_second = ap (λ (n : ℕ). take n t.living) first.does.adds.outside ∙ ap (take w.state.outside) first.level ∙ same_outside
 
-          went : (k : List Known) → Knows types fs f s.living k → Leaves types fs f in_loop r.living (take s.outside s.living) (flow types fs f (trees (chosen ∷ [])) (Some k))
-          went k knows =
-              let g = asks.goes k (knows_alive types fs f a v s k knows) in
-              let both_known = known_behind tested k g knows in
-              let on = one.ways (Some g.on) (subst (λ (xs : List ℕ). Knows types fs f xs g.on) (sym test.grown.living) both_known.0) in
-              let off = other.ways (Some g.off) (subst (λ (xs : List ℕ). Knows types fs f xs g.off) (sym (first.level ∙ test.grown.living)) both_known.1) in
+        -- .. on each of both ways
+        module _ (k : List Known) (knows : Knows types fs f s.living k) where
+          abbrev g : Asked types fs f s w.given k
+          g = asks.goes k (knows_alive types fs f a v s k knows)
+
+          known_on : Knows types fs f w.state.living g.on
+          known_on = subst (λ (xs : List ℕ). Knows types fs f xs g.on) (sym test.grown.living) (known_behind tested k g knows).0
+
+          known_off : Knows types fs f t.living g.off
+          known_off = subst (λ (xs : List ℕ). Knows types fs f xs g.off) (sym (first.level ∙ test.grown.living)) (known_behind tested k g knows).1
+
+          went : Leaves types fs f in_loop r.living (take s.outside s.living) (flow types fs f (trees (chosen ∷ [])) (Some k))
+          went =
+              let on = one.ways (Some g.on) known_on in
+              let off = other.ways (Some g.off) known_off in
               let after = leaves_joined types fs f in_loop r.living (take s.outside s.living) (flow types fs f (trees first.does.code) (Some g.on)) (flow types fs f (trees second.does.code) (Some g.off))
               (leaves_same in_loop t.living r.living (take w.state.outside w.state.living) (take s.outside s.living) (flow types fs f (trees first.does.code) (Some g.on)) (sym second.level) same_outside on)
               (leaves_same in_loop r.living r.living (take t.outside t.living) (take s.outside s.living) (flow types fs f (trees second.does.code) (Some g.off)) refl outside_second off) in
@@ -111,10 +116,31 @@ module _ (types : Types) (fs : List Function) (f : Function) where
               ∙ ap (λ (q : Flow). joined (before_both q) (joined (flow types fs f (trees first.does.code) q.on_true) (flow types fs f (trees second.does.code) q.on_false))) g.decides))
               after
 
+          returned : GivesValue a → ReturnsKnown types fs f (result_local a) (trees (chosen ∷ [])) (Some k)
+          returned gives =
+              let behind = subst (λ (q : Flow). ReturnsKnown types fs f (result_local a) (trees first.does.code) q.on_true × ReturnsKnown types fs f (result_local a) (trees second.does.code) q.on_false) (sym g.decides)
+              (first.does.returns begun gives (Some g.on) known_on, second.does.returns b gives (Some g.off) known_off) in
+              ((asks_known types fs f (result_local a) w.given asks.fine (Some k), behind), tt)
+
+        branched_acts : Acting types fs f in_loop s both (chosen ∷ [])
+        branched_acts = record {
+          stated = record {
+            statement = and_from _ true (and_from (is_condition w.given) _ asks.fine.condition (and_from (is_statement (trees first.does.code)) (is_statement (trees second.does.code)) one.stated.statement other.stated.statement)) refl;
+            tests = and_from _ true (and_from (test_straight w.given) _ asks.fine.straight (and_from (tests_straight (trees first.does.code)) (tests_straight (trees second.does.code)) one.stated.tests other.stated.tests)) refl;
+            plain = and_from _ true (and_from (is_plain_tree types fs f w.given) _ asks.fine.plain (and_from (is_plain_tree types fs f (trees first.does.code)) (is_plain_tree types fs f (trees second.does.code)) one.stated.plain other.stated.plain)) refl;
+          };
+          ways = leaves_may types fs f in_loop s.living r.living (take s.outside s.living) (trees (chosen ∷ [])) went;
+        }
+
+        branched_returns : GivesValue a → (o : Knowing) → MayKnow types fs f s.living o → ReturnsKnown types fs f (result_local a) (trees (chosen ∷ [])) o
+        branched_returns gives = known_may types fs f (result_local a) s.living (trees (chosen ∷ [])) (λ k knows. returned k knows gives)
+
       pub branched_does : DoesLevel types fs f a x in_loop s both
       branched_does = record {
         does = record {
           adds = branched_adds;
+          locals = λ are. second.does.locals (first.does.locals (locals_added types a s w.state test.grown.types test.registers are));
+          order = order_then s.types w.state.types r.types test.registers.1 (order_then w.state.types t.types r.types first.does.order second.does.order);
           follows = follows_coded types fs f a x r (w.state.code ++ Choice w.given (trees t.code) (trees r.code) ∷ []) second.does.follows;
           code = chosen ∷ [];
           written =
@@ -122,6 +148,7 @@ module _ (types : Types) (fs : List Function) (f : Function) where
               ∙ ap (λ (c : List Tree). s.code ++ Choice w.given (trees c) (trees r.code) ∷ []) first.does.written
               ∙ ap (λ (c : List Tree). s.code ++ Choice w.given (trees first.does.code) (trees c) ∷ []) second.does.written;
           acts = λ b. branched_acts (record { locals = b.locals; table = b.table });
+          returns = λ b gives o k. branched_returns (record { locals = b.locals; table = b.table }) gives o k;
         };
         level = branched_level;
       }
@@ -153,10 +180,13 @@ module _ (types : Types) (fs : List Function) (f : Function) where
     asserted_does keyword = record {
       does = record {
         adds = adds_coded types fs f s w.state (w.state.code ++ Choice w.given Skip (Stops keyword) ∷ []) (grows_adds types fs f s w.state test.grown);
+        locals = locals_added types a s w.state test.grown.types test.registers;
+        order = test.registers.1;
         follows = follows_coded types fs f a v w.state (w.state.code ++ Choice w.given Skip (Stops keyword) ∷ []) (follows_grown types fs f a v s w.state test.grown h);
         code = Choice w.given Skip (Stops keyword) ∷ [];
         written = ap (λ (c : List Tree). c ++ Choice w.given Skip (Stops keyword) ∷ []) test.unwritten;
         acts = λ b. asserted_acts keyword (record { locals = b.locals; table = b.table });
+        returns = λ b gives o k. ((asks_known types fs f (result_local a) w.given (test.runs (record { locals = b.locals; table = b.table })).fine o, (tt, tt)), tt);
       };
       level = test.grown.living;
     }

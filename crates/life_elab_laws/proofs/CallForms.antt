@@ -20,13 +20,14 @@ use Rattle.life_elab_laws.proofs.ExpressionKinds.{function_built, inverted_as, k
 use Rattle.life_elab_laws.proofs.TypedKinds.{answer_value, combined_as, none_some, ok_same, operand_kind, some_same}
 
 -- what a call gives
-result_kind : (t : Ty) (types : Types) (e : Typed) → (is_void t || is_value t) ≡ true → e ≡ answer_of t types e.place e.form → ((e.ty ≡ Of ty.Void) ⊎ (is_number e.ty ≡ true)) × (is_number e.ty ≡ true → is_value t ≡ true)
-result_kind ty.Void types e b is = (inl (ap (λ (x : Typed). x.ty) is), λ n. absurd (false≢true (sym (ap (λ (x : Typed). is_number x.ty) is) ∙ n)))
-result_kind ty.Bool types e b is = (inr (ap (λ (x : Typed). is_number x.ty) is), λ n. refl)
-result_kind ty.Char types e b is = (inr (ap (λ (x : Typed). is_number x.ty) is), λ n. refl)
-result_kind ty.Int types e b is = (inr (ap (λ (x : Typed). is_number x.ty) is), λ n. refl)
-result_kind ty.Long types e b is = (inr (ap (λ (x : Typed). is_number x.ty) is), λ n. refl)
-result_kind ty.Size types e b is = (inr (ap (λ (x : Typed). is_number x.ty) is), λ n. refl)
+result_kind : (t : Ty) (types : Types) (e : Typed) → (is_void t || is_value t) ≡ true → e ≡ answer_of t types e.place e.form
+    → ((e.ty ≡ Of ty.Void) ⊎ (is_number e.ty ≡ true)) × (is_number e.ty ≡ true → is_value t ≡ true) × (e.ty ≡ Of t)
+result_kind ty.Void types e b is = (inl (ap (λ (x : Typed). x.ty) is), (λ n. absurd (false≢true (sym (ap (λ (x : Typed). is_number x.ty) is) ∙ n))), ap (λ (x : Typed). x.ty) is)
+result_kind ty.Bool types e b is = (inr (ap (λ (x : Typed). is_number x.ty) is), (λ n. refl), ap (λ (x : Typed). x.ty) is)
+result_kind ty.Char types e b is = (inr (ap (λ (x : Typed). is_number x.ty) is), (λ n. refl), ap (λ (x : Typed). x.ty) is)
+result_kind ty.Int types e b is = (inr (ap (λ (x : Typed). is_number x.ty) is), (λ n. refl), ap (λ (x : Typed). x.ty) is)
+result_kind ty.Long types e b is = (inr (ap (λ (x : Typed). is_number x.ty) is), (λ n. refl), ap (λ (x : Typed). x.ty) is)
+result_kind ty.Size types e b is = (inr (ap (λ (x : Typed). is_number x.ty) is), (λ n. refl), ap (λ (x : Typed). x.ty) is)
 result_kind _ types e b is = absurd (false≢true b)
 
 module _ (p : ProgramForm) (locals : List TypedLocal) (visible : List ℕ) (variables : are_built_variables p.types locals ≡ true) (functions : are_built_functions p.types p.functions ≡ true) where
@@ -38,6 +39,7 @@ module _ (p : ProgramForm) (locals : List TypedLocal) (visible : List ℕ) (vari
     pub given : are_given p.types (parameter_types (Some of)) c.arguments ≡ true
     pub kind : (t ≡ Of ty.Void) ⊎ (is_number t ≡ true)
     pub worth : is_number t ≡ true → is_value (type_at p.types of.result) ≡ true
+    pub own : t ≡ Of (type_at p.types of.result)
 
   mutual
     pub call_whole : (form : Form) → is_built_form form ≡ true → IsExpression p locals visible form → (c : Called) → call_of form ≡ Some c → IsCall c (typed_in form).ty
@@ -51,7 +53,7 @@ module _ (p : ProgramForm) (locals : List TypedLocal) (visible : List ℕ) (vari
         go None at r given = absurd r
         go (Some of) at r given =
             let k = result_kind (type_at p.types of.result) p.types e (result_built p.types of (function_built p.types p.functions g of functions at)) r in
-            record { of = of; there = at; built = b; arguments = h.2; given = given; kind = k.0; worth = k.1 }
+            record { of = of; there = at; built = b; arguments = h.2; given = given; kind = k.0; worth = k.1; own = k.2 }
     call_made (paren inner closing) e b h c is = subst (IsCall c) (ap (λ (x : Typed). x.ty) (ok_same h.0)) (call_whole inner b h.1 c is)
     call_made (typed place t category form) e b h c is = absurd h
     call_made _ e b h c is = absurd (none_some is)

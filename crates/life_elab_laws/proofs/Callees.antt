@@ -55,6 +55,7 @@ pub record IsBuiltFunction (types : Types) (f : FunctionForm) : Type 0 where
   pub result : is_built_result types f.result ≡ true
   pub parameters : are_values types (take (length f.parameters) f.locals) ≡ true
   pub variables : are_built_variables types f.locals ≡ true
+  pub promise : is_default f.promise ≡ true
   pub body : is_built_statement types f.locals f.body ≡ true
 
 pub built_parts : (types : Types) (f : FunctionForm) → is_built_function types f ≡ true → IsBuiltFunction types f
@@ -63,7 +64,7 @@ built_parts types f b =
     let two = and_parts (are_values types (take (length f.parameters) f.locals)) _ one.1 in
     let three = and_parts (are_built_variables types f.locals) _ two.1 in
     let four = and_parts (is_default f.promise) (is_built_statement types f.locals f.body) three.1 in
-    record { result = one.0; parameters = two.0; variables = three.0; body = four.1 }
+    record { result = one.0; parameters = two.0; variables = three.0; promise = four.0; body = four.1 }
 
 pub values_at : (types : Types) (us : List TypedLocal) → are_values types us ≡ true → (n : ℕ) (id : TyId) → slice_get (map type_of us) n ≡ Some id → is_value (type_at types id) ≡ true
 values_at types [] b n id at = absurd (none-some id at)
@@ -136,7 +137,7 @@ module _ (p : ProgramForm) (of : FunctionForm) (T types : Types) (fs : List Func
       ap (λ (o : Option Ty). result_if o (sort_of types core core.parameters)) result_type
       ∙ result_kept t (sort_of types core core.parameters) (subst (λ (x : Ty). is_value x ≡ true) (type_found p.types of.result t result) w)
       ∙ ap (sort_of types core) count
-      ∙ wanted_sort types fs core (first_state (around p of) T) (length of.parameters) (register_there (around p of) T fits table t result w)
+      ∙ wanted_sort types fs core (first_state (around p of) T) (length of.parameters) (register_there (around p of) T fits table t result w).0
       (record { locals = locals; table = subst (λ (x : Types). IsFront x.types types.types) (sym (first_types (around p of) T fits table)) later })
 
   pub callee_from : (g : ℕ) → slice_get fs g ≡ Some core → IsCallee p.types types fs g of

@@ -75,6 +75,7 @@ module _ (types : Types) (fs : List Function) (f : Function) where
       behind : Makes types fs f None (first s).state (mapped (λ given. Value (first s).given ∷ given) (others (first s).state)) (IsNumber (first s).given (length (first s).state.locals)) (AreNumbersFor (id ∷ ids))
       behind = record {
         grown = more.grown;
+        registers = more.registers;
         code = more.code;
         written = more.written;
         runs = λ b. let r = more.runs b in record {

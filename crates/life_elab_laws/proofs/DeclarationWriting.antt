@@ -42,7 +42,8 @@ use Rattle.life_elab_laws.proofs.Calls.{AreNumbersFor, born_plain, born_ready}
 use Rattle.life_elab_laws.proofs.Declaring.{declared_does, its_local, new_below, new_ends, new_sort, with_new}
 use Rattle.life_elab_laws.proofs.Doing.{Does}
 use Rattle.life_elab_laws.proofs.ExpressionKinds.{variable_built}
-use Rattle.life_elab_laws.proofs.ExpressionWriting.{given_number, handed_over_made, place_made, pointing_whole, value_made}
+use Rattle.life_elab_laws.proofs.ExpressionWriting.{handed_over_made, place_made, pointing_whole, value_made}
+use Rattle.life_elab_laws.proofs.GivenKinds.{given_number, given_pointer}
 use Rattle.life_elab_laws.proofs.Falling.{Falls, falling, falls_acts, falls_append}
 use Rattle.life_elab_laws.proofs.Following.{Follows, follows_grown}
 use Rattle.life_elab_laws.proofs.Growing.{Begins, Grows}
@@ -51,7 +52,7 @@ use Rattle.life_elab_laws.proofs.Leaves.{number_held, object_held}
 use Rattle.life_elab_laws.proofs.Making.{Always, IsNumber, IsPlace, IsPointing, Makes, nothing_made, seen}
 use Rattle.life_elab_laws.proofs.Setting.{Setting}
 use Rattle.life_elab_laws.proofs.Shaping.{fine_acts, fine_append}
-use Rattle.life_elab_laws.proofs.SimpleWriting.{Done, aimed_after, aimed_ready, given_pointer, pointed_plain}
+use Rattle.life_elab_laws.proofs.SimpleWriting.{Done, aimed_after, aimed_ready, pointed_plain}
 use Rattle.life_elab_laws.proofs.VariablePlaces.{IsVariableType, a_raw, a_reference, a_value, value_held, variable_type}
 
 a_place : (c : Category) (target : TyId) → is_place_of c target ≡ true → (id : TyId) × (constant : Bool) × (c ≡ category.Place id constant)
@@ -174,7 +175,7 @@ module _ (a : Around) (types : Types) (fs : List Function) (f : Function) (setti
             go true = given_by_call_does c found
             go false = given_value_does
 
-      value_given : (t : Ty) → is_value t ≡ true → given_one a u e t s ≡ object_given a u e (call_of (whole_form e)) s
+      pub value_given : (t : Ty) → is_value t ≡ true → given_one a u e t s ≡ object_given a u e (call_of (whole_form e)) s
       value_given ty.Bool w = refl
       value_given ty.Char w = refl
       value_given ty.Int w = refl
@@ -182,18 +183,18 @@ module _ (a : Around) (types : Types) (fs : List Function) (f : Function) (setti
       value_given ty.Size w = refl
       value_given _ w = absurd (false≢true w)
 
-      one_does : needs_no_temporary (type_at a.program.types u.ty) e ≡ true → is_given (type_at a.program.types u.ty) e.ty ≡ true → Born (given_one a u e (type_of a u.ty) s)
+      one_does : needs_no_temporary (type_at a.program.types u.ty) e ≡ true → is_given a.program.types (type_at a.program.types u.ty) e ≡ true → Born (given_one a u e (type_of a u.ty) s)
       one_does temporary given = go (variable_type a.program.types u.ty built)
         where
           go : IsVariableType a.program.types u.ty → Born (given_one a u e (type_of a u.ty) s)
           go (a_value t is w) =
               subst (λ (x : Ty). Born (given_one a u e x s)) (sym (type_is t is))
-              (subst Born (sym (value_given t w)) (object_does t is w (given_number a v.visible types fs f setting t e.ty w (subst (λ (x : Ty). is_given x e.ty ≡ true) (type_is t is) given)) (call_of e.form) refl))
+              (subst Born (sym (value_given t w)) (object_does t is w (given_number a.program.types t e w (subst (λ (x : Ty). is_given a.program.types x e ≡ true) (type_is t is) given)) (call_of e.form) refl))
           go (a_raw target constant is) =
               subst (λ (x : Ty). Born (given_one a u e x s)) (sym (type_is (ty.Raw target constant) is))
               (aimed_does (ty.Raw target constant) is refl e.place (pointing a (whole_form e) s)
               (pointing_whole a v.visible types fs f setting (whole_form e) b he
-              (given_pointer (ty.Raw target constant) e.ty refl (subst (λ (x : Ty). is_given x e.ty ≡ true) (type_is (ty.Raw target constant) is) given)) s h.stands))
+              (given_pointer a.program.types (ty.Raw target constant) e refl (subst (λ (x : Ty). is_given a.program.types x e ≡ true) (type_is (ty.Raw target constant) is) given)) s h.stands))
           go (a_reference target constant is w) =
               let p = a_place e.category target (subst (λ (x : Ty). needs_no_temporary x e ≡ true) (type_is (ty.Reference target constant) is) temporary) in
               subst (λ (x : Ty). Born (given_one a u e x s)) (sym (type_is (ty.Reference target constant) is))

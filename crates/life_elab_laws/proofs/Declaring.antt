@@ -16,9 +16,10 @@ use Rattle.life_core.specs.declared.program.LocalKind.{LocalKind}
 use Rattle.life_proper.specs.declared.known.Known.{Known}
 use Rattle.life_proper.specs.declared.known.Known.TheVariants as known
 use Rattle.life_proper.specs.Checking.{flow}
-use Rattle.life_proper.specs.Knowing.{known_as, known_at}
+use Rattle.life_proper.specs.Knowing.{State as Knowing, known_as, known_at}
+use Rattle.life_proper.specs.ResultsKnown.{ReturnsKnown}
 use Rattle.life_well_typed.specs.Visible.{Visible, with_next}
-use Rattle.life_writer.specs.Around.{Around}
+use Rattle.life_writer.specs.Around.{Around, result_local}
 use Rattle.life_writer.specs.Variables.{kind, variable, variable_local, with_variable}
 use Rattle.life_writer.specs.Writing.{State, Gives, with_code}
 use Rattle.life_elab_laws.proofs.Among.{Among, among_either, among_left, among_right, ascend_more}
@@ -27,22 +28,18 @@ use Rattle.life_elab_laws.proofs.Exits.{Knows, Leaves, knows_written}
 use Rattle.life_elab_laws.proofs.Falling.{Falls, falls_append}
 use Rattle.life_elab_laws.proofs.Following.{Adds, Follows, IsLiving, adds_coded, adds_then, begins_added, follows_below, follows_coded, follows_grown, follows_named, grows_adds, knows_alive, same_variable}
 use Rattle.life_elab_laws.proofs.Fronts.{IsFront, front_append, front_itself, front_then, last_there}
+use Rattle.life_elab_laws.proofs.GivingBack.{fine_known, known_append}
 use Rattle.life_elab_laws.proofs.Growing.{Begins}
 use Rattle.life_elab_laws.proofs.Knowledge.{at_set, beside_set, set_length}
 use Rattle.life_elab_laws.proofs.Making.{Always, Makes}
 use Rattle.life_elab_laws.proofs.Shaped.{shaped_more, variable_later}
 use Rattle.life_elab_laws.proofs.Shaping.{IsFine}
 use Rattle.life_elab_laws.proofs.VariablePlaces.{IsVariableAt, IsVariableType, a_raw, a_reference, a_value, value_held, variable_type}
+use Rattle.life_elab_laws.proofs.WrittenLocals.{IsLocalOf, locals_added, own_added}
 
 take_before : (xs ys : List ℕ) → take (length xs) (xs ++ ys) ≡ xs
 take_before [] ys = refl
 take_before (x ∷ xs) ys = ap (λ (zs : List ℕ). x ∷ zs) (take_before xs ys)
-
--- the local of a variable or parameter
-pub record IsLocalOf (a : Around) (u : TypedLocal) (l : Local) : Type 0 where
-  pub named : l.name ≡ Some u.name
-  pub typed : l.ty ≡ u.ty
-  pub kind : l.kind ≡ kind (class_at a.program.types u.ty)
 
 pub its_local : (a : Around) (u : TypedLocal) → IsLocalOf a u (variable_local a u)
 its_local a u = record { named = refl; typed = refl; kind = refl }
@@ -143,6 +140,7 @@ module _ (types : Types) (fs : List Function) (f : Function) (a : Around) (front
       count = omega (arith, length-append s.variables (length s.locals ∷ []), h.count);
       visible = λ x c. elim (Contains-push_cases v.visible v.declared x c) [ inl old ↦ omega (arith, h.visible x old) | inr e ↦ omega (arith, e) ];
       stands = record {
+        table = h.stands.table;
         opened = opened;
         seen = λ x w c there. elim (Contains-push_cases v.visible v.declared x c) [ inl old ↦ moved x w (h.visible x old) (h.stands.seen x w old there) | inr e ↦ fresh x w e there ];
       };
@@ -211,6 +209,13 @@ module _ (types : Types) (fs : List Function) (f : Function) (a : Around) (front
     abbrev done : State
     done = with_code (w.state.code ++ code) (with_new (variable_local a u) w.state)
 
+    -- nothing returns there
+    no_returns : Begins types f (with_new (variable_local a u) w.state) → (o : Knowing) → ReturnsKnown types fs f (result_local a) (trees (made.code ++ code)) o
+    no_returns b o =
+        let first = (made.runs (begins_old v u (variable_local a u) (its_local a u) w.state later at built b)).fine in
+        known_append types fs f (result_local a) made.code code o (fine_known types fs f (result_local a) made.code first o)
+        (fine_known types fs f (result_local a) code (fine b) (flow types fs f (trees made.code) o).next)
+
     acting : Begins types f (with_new (variable_local a u) w.state) → Acting types fs f in_loop s done (made.code ++ code)
     acting b = record {
       stated = stated_append types fs f made.code code (fine_stated types fs f made.code (made.runs before).fine) (fine_stated types fs f code (fine b));
@@ -237,8 +242,13 @@ module _ (types : Types) (fs : List Function) (f : Function) (a : Around) (front
     pub declared_does : Does types fs f a (with_next v) in_loop s done
     declared_does = record {
       adds = adds_coded types fs f s (with_new (variable_local a u) w.state) (w.state.code ++ code) adds;
+      locals = λ are.
+          own_added types a w.state (variable_local a u) (record { number = v.declared; variable = u; there = at; of = its_local a u })
+          (locals_added types a s w.state made.grown.types made.registers are);
+      order = made.registers.1;
       follows = follows_coded types fs f a (with_next v) (with_new (variable_local a u) w.state) (w.state.code ++ code) (follows_new v u (variable_local a u) (its_local a u) w.state later at built);
       code = made.code ++ code;
       written = ap (λ (c : List Tree). c ++ code) made.written ∙ append_assoc s.code made.code code;
       acts = λ b. acting (record { locals = b.locals; table = b.table });
+      returns = λ b gives o k. no_returns (record { locals = b.locals; table = b.table }) o;
     }

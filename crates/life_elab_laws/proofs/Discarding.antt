@@ -45,7 +45,7 @@ use Rattle.life_elab_laws.proofs.TypedKinds.{HasKind, a_null, a_number, a_pointe
 use Rattle.life_elab_laws.proofs.VariablePlaces.{Stands}
 
 -- what is printed is a number
-printed_number : (types : Types) (e : Typed) → HasKind types e → is_printed e.ty ≡ true → is_number e.ty ≡ true
+pub printed_number : (types : Types) (e : Typed) → HasKind types e → is_printed e.ty ≡ true → is_number e.ty ≡ true
 printed_number types e (a_number t is v) h = ap is_number is ∙ v
 printed_number types e (a_pointer target constant is v) h = absurd (false≢true (sym (ap is_printed is) ∙ h))
 printed_number types e (no_value is v) h = absurd (false≢true (sym (ap is_printed is) ∙ h))
@@ -82,7 +82,7 @@ module _ (a : Around) (visible : List ℕ) (types : Types) (fs : List Function) 
       seen types fs f None s (value a (whole_form e) (own_type e.ty) None s) (λ (r : ℕ). tt) Always IsNumber Done
       (value_made a visible types fs f setting (whole_form e) b h n (own_type e.ty) (own_value e.ty n) None s tt stands) (λ r n k q. tt)
 
-  not_void : (e : Typed) (c : Called) (t : Ty) (s : State) → is_value t ≡ true → discarded_as a e (Some c) t s ≡ (value a (whole_form e) t None s).state
+  pub not_void : (e : Typed) (c : Called) (t : Ty) (s : State) → is_value t ≡ true → discarded_as a e (Some c) t s ≡ (value a (whole_form e) t None s).state
   not_void e c ty.Bool s v = refl
   not_void e c ty.Char s v = refl
   not_void e c ty.Int s v = refl
@@ -122,7 +122,7 @@ module _ (a : Around) (visible : List ℕ) (types : Types) (fs : List Function) 
       let aimed : State = emit place (Aim (whole r.given) (Text (end_line a))) r.state in
       and_then types fs f None s (gives r.given aimed) _ Always (λ k. known_at k r.given ≡ known.View) (λ x n k. known_at k x ≡ known.View) Done stands.opened
       (emitted types fs f None s r AView place (λ x. Aim (whole x) (Text (end_line a))) r.given Always (λ x n k. known_at k x ≡ known.View)
-      (new_targeted types fs f place ty.View AView s refl)
+      (new_targeted types fs f place ty.View AView s refl refl tt)
       (λ x e k alive p. ap (λ (h : Holding). is_source_ready k (known_as h) (Text (end_line a))) e)
       (λ x e k. ap (λ (h : Holding). slice_set k x (known_as h)) e)
       (λ x e. refl)

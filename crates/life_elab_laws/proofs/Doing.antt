@@ -11,17 +11,21 @@ use Rattle.life_proper.specs.Checking.{Flow, flow}
 use Rattle.life_proper.specs.Knowing.{State as Knowing}
 use Rattle.life_proper.specs.Plain.{is_plain_step, is_plain_tree}
 use Rattle.life_proper.specs.ReadyKnown.{is_step_ready, known_after}
+use Rattle.life_proper.specs.ResultsKnown.{ReturnsKnown}
 use Rattle.life_well_typed.specs.Visible.{Visible}
-use Rattle.life_writer.specs.Around.{Around}
+use Rattle.life_writer.specs.Around.{Around, result_local}
 use Rattle.life_writer.specs.Writing.{State, Gives, emit, gives}
 use Rattle.life_elab_laws.proofs.Exits.{Knows, Leaves, MayKnow, MayLeave, knows_written, leaves_then}
 use Rattle.life_elab_laws.proofs.Falling.{falling, falls_acts, flow_append}
 use Rattle.life_elab_laws.proofs.Following.{Adds, Follows, adds_none, adds_then, begins_added, follows_grown, follows_named, grows_adds, knows_alive, take_front, take_itself}
 use Rattle.life_elab_laws.proofs.Fronts.{front_itself}
+use Rattle.life_elab_laws.proofs.GivingBack.{GivesValue, fine_known, known_append}
 use Rattle.life_elab_laws.proofs.Growing.{Begins}
-use Rattle.life_elab_laws.proofs.Making.{Alive, Always, Keeps, Makes, Runs}
+use Rattle.life_elab_laws.proofs.Making.{Alive, Always, Goes, Keeps, Makes}
 use Rattle.life_elab_laws.proofs.Nowhere.{IsNowhere, nowhere_flows}
+use Rattle.life_elab_laws.proofs.OrderedTypes.{KeepsOrder, order_none, order_then}
 use Rattle.life_elab_laws.proofs.Shaping.{IsFine, all_append, fine_acts}
+use Rattle.life_elab_laws.proofs.WrittenLocals.{AreWrittenLocals, locals_added, registers_none}
 
 module _ (types : Types) (fs : List Function) (f : Function) where
   -- ---- statements and lists of them
@@ -47,10 +51,14 @@ module _ (types : Types) (fs : List Function) (f : Function) where
 
   pub record Does (a : Around) (v : Visible) (in_loop : Bool) (s s' : State) : Type 0 where
     pub adds : Adds types fs f s s'
+    pub locals : AreWrittenLocals types a s → AreWrittenLocals types a s'
+    pub order : KeepsOrder s.types s'.types
     pub follows : Follows types fs f a v s'
     pub code : List Tree
     pub written : s'.code ≡ s.code ++ code
     pub acts : Begins types f s' → Acting in_loop s s' code
+    -- where a value must be given back, each return stands behind it
+    pub returns : Begins types f s' → GivesValue a → (o : Knowing) → MayKnow types fs f s.living o → ReturnsKnown types fs f (result_local a) (trees code) o
 
   -- what stays outside of the innermost loop is the same
   take_less : (n m : ℕ) (xs ys : List ℕ) → n ≤ m → take m ys ≡ take m xs → take n ys ≡ take n xs
@@ -73,31 +81,40 @@ module _ (types : Types) (fs : List Function) (f : Function) where
   pub does_nothing : (a : Around) (v : Visible) (in_loop : Bool) (s : State) → Follows types fs f a v s → Does a v in_loop s s
   does_nothing a v in_loop s h = record {
     adds = adds_none types fs f s;
+    locals = λ are. are;
+    order = order_none s.types;
     follows = h;
     code = [];
     written = sym (append-nil s.code);
     acts = λ b. record { stated = record { statement = refl; tests = refl; plain = refl }; ways = λ o k. record { fine = refl; next = k; on_break = none_leaves in_loop (take s.outside s.living); on_continue = none_leaves in_loop (take s.outside s.living); on_true = refl; on_false = refl } };
+    returns = λ b gives o k. tt;
+  }
+
+  pub acts_then : (in_loop : Bool) (s t r : State) (c d : List Tree) → s.outside ≤ length s.living → Adds types fs f s t → Acting in_loop s t c → Acting in_loop t r d → Acting in_loop s r (c ++ d)
+  acts_then in_loop s t r c d h adds p q = record {
+    stated = stated_append c d p.stated q.stated;
+    ways = λ o k.
+        let w = p.ways o k in
+        subst (λ (x : Flow). Leaves types fs f in_loop r.living (take s.outside s.living) x) (sym (flow_append types fs f c d o))
+        (leaves_then types fs f in_loop t.living r.living (take s.outside s.living) (flow types fs f (trees c) o) (flow types fs f (trees d) (flow types fs f (trees c) o).next) w
+        (subst (λ (ys : List ℕ). Leaves types fs f in_loop r.living ys (flow types fs f (trees d) (flow types fs f (trees c) o).next)) (outside_stays s t adds h) (q.ways (flow types fs f (trees c) o).next w.next)));
   }
 
   -- one and then another
   pub does_then : (a : Around) (v u : Visible) (in_loop : Bool) (s t r : State) → s.outside ≤ length s.living → Does a v in_loop s t → Does a u in_loop t r → Does a u in_loop s r
   does_then a v u in_loop s t r h first second = record {
     adds = adds_then types fs f s t r first.adds second.adds;
+    locals = λ are. second.locals (first.locals are);
+    order = order_then s.types t.types r.types first.order second.order;
     follows = second.follows;
     code = first.code ++ second.code;
     written = second.written ∙ ap (λ (c : List Tree). c ++ second.code) first.written ∙ append_assoc s.code first.code second.code;
-    acts = λ b. both (first.acts (begins_added types fs f t r second.adds b)) (second.acts b);
+    acts = λ b. acts_then in_loop s t r first.code second.code h first.adds (first.acts (begins_added types fs f t r second.adds b)) (second.acts b);
+    returns = λ b gives o k.
+        let before = begins_added types fs f t r second.adds b in
+        known_append types fs f (result_local a) first.code second.code o (first.returns before gives o k)
+        (second.returns b gives (flow types fs f (trees first.code) o).next ((first.acts before).ways o k).next);
   }
-    where
-      both : Acting in_loop s t first.code → Acting in_loop t r second.code → Acting in_loop s r (first.code ++ second.code)
-      both p q = record {
-        stated = stated_append first.code second.code p.stated q.stated;
-        ways = λ o k.
-            let w = p.ways o k in
-            subst (λ (x : Flow). Leaves types fs f in_loop r.living (take s.outside s.living) x) (sym (flow_append types fs f first.code second.code o))
-            (leaves_then types fs f in_loop t.living r.living (take s.outside s.living) (flow types fs f (trees first.code) o) (flow types fs f (trees second.code) (flow types fs f (trees first.code) o).next) w
-            (subst (λ (ys : List ℕ). Leaves types fs f in_loop r.living ys (flow types fs f (trees second.code) (flow types fs f (trees first.code) o).next)) (outside_stays s t first.adds h) (q.ways (flow types fs f (trees first.code) o).next w.next)));
-      }
 
   -- ---- what an expression writes, as a statement
 
@@ -124,30 +141,39 @@ module _ (types : Types) (fs : List Function) (f : Function) where
   leaves_may in_loop before after outside t some None h = leaves_nowhere in_loop after outside (flow types fs f t None) (nowhere_flows types fs f t None refl)
   leaves_may in_loop before after outside t some (Some k) h = some k h
 
+  module _ {A : Type 0} (a : Around) (v : Visible) (in_loop : Bool) (into : Option ℕ) (s : State) (w : Gives A) (Q : A → ℕ → List Known → Type 0) (h : Follows types fs f a v s) (made : Makes types fs f into s w Always Q) where
+    begun : Begins types f w.state → Begins types f s
+    begun b = begins_added types fs f s w.state (grows_adds types fs f s w.state made.grown) b
+
+    -- behind it the same variables live
+    pub made_knows : Begins types f w.state → (k : List Known) → Knows types fs f s.living k → (g : Goes types fs f into s w Q made.code k) → Knows types fs f w.state.living g.after
+    made_knows b k known g =
+        subst (λ (ys : List ℕ). Knows types fs f ys g.after) (sym made.grown.living)
+        (knows_written types fs f s.living (length s.locals) into k g.after (follows_named types fs f a v s h (begun b)) known g.keeps)
+
+    pub made_acts : Begins types f w.state → Acting in_loop s w.state made.code
+    made_acts b = record {
+      stated = fine_stated made.code (made.runs b).fine;
+      ways = leaves_may in_loop s.living w.state.living (take s.outside s.living) (trees made.code) went;
+    }
+      where
+        went : (k : List Known) → Knows types fs f s.living k → Leaves types fs f in_loop w.state.living (take s.outside s.living) (flow types fs f (trees made.code) (Some k))
+        went k known =
+            let g = (made.runs b).goes k (knows_alive types fs f a v s k known) tt in
+            subst (Leaves types fs f in_loop w.state.living (take s.outside s.living)) (sym g.falls)
+            (leaves_falling in_loop w.state.living (take s.outside s.living) g.after (made_knows b k known g))
+
   pub does_made : {A : Type 0} (a : Around) (v : Visible) (in_loop : Bool) (into : Option ℕ) (s : State) (w : Gives A) (Q : A → ℕ → List Known → Type 0) → Follows types fs f a v s → Makes types fs f into s w Always Q → Does a v in_loop s w.state
   does_made a v in_loop into s w Q h made = record {
     adds = grows_adds types fs f s w.state made.grown;
+    locals = locals_added types a s w.state made.grown.types made.registers;
+    order = made.registers.1;
     follows = follows_grown types fs f a v s w.state made.grown h;
     code = made.code;
     written = made.written;
-    acts = λ b. acting b (made.runs b);
+    acts = made_acts a v in_loop into s w Q h made;
+    returns = λ b gives o k. fine_known types fs f (result_local a) made.code (made.runs b).fine o;
   }
-    where
-      begun : Begins types f w.state → Begins types f s
-      begun b = begins_added types fs f s w.state (grows_adds types fs f s w.state made.grown) b
-
-      acting : Begins types f w.state → Runs types fs f into s w Always Q made.code → Acting in_loop s w.state made.code
-      acting b r = record {
-        stated = fine_stated made.code r.fine;
-        ways = leaves_may in_loop s.living w.state.living (take s.outside s.living) (trees made.code) went;
-      }
-        where
-          went : (k : List Known) → Knows types fs f s.living k → Leaves types fs f in_loop w.state.living (take s.outside s.living) (flow types fs f (trees made.code) (Some k))
-          went k known =
-              let g = r.goes k (knows_alive types fs f a v s k known) tt in
-              subst (Leaves types fs f in_loop w.state.living (take s.outside s.living)) (sym g.falls)
-              (leaves_falling in_loop w.state.living (take s.outside s.living) g.after
-              (subst (λ (ys : List ℕ). Knows types fs f ys g.after) (sym made.grown.living) (knows_written types fs f s.living (length s.locals) into k g.after (follows_named types fs f a v s h (begun b)) known g.keeps)))
 
   -- ---- an instruction that leaves all that is known
 
@@ -165,6 +191,7 @@ module _ (types : Types) (fs : List Function) (f : Function) where
       outside = refl;
       shaped = λ types h. h;
     };
+    registers = registers_none types s;
     code = Acts place i ∷ [];
     written = refl;
     runs = λ b. record {

@@ -1,6 +1,7 @@
 -- A register that an instruction writes.
 use Rattle.std.proofs.Common.{◌≡◌, ◌<◌, ℕ, true, List, [], ◌∷◌, ◌++◌, length, slice_get, slice_set, Option, Some, None, refl, sym, ap, ◌∙◌, arith}
 use Rattle.std.proofs.lemmas.Option.{none-some, same_Some, slice_get_within}
+use Rattle.life_types.specs.Trees.{HasPartsBelow}
 use Rattle.life_types.specs.Types.{Types, class}
 use Rattle.life_types.specs.declared.place.Place.{Place}
 use Rattle.life_types.specs.declared.ty.NameId.{NameId}
@@ -20,11 +21,13 @@ use Rattle.life_proper.specs.ReadyKnown.{is_step_ready, known_after}
 use Rattle.life_writer.specs.Registers.{new_register, target}
 use Rattle.life_writer.specs.Writing.{State, Gives, emit, gives}
 use Rattle.life_elab_laws.proofs.Falling.{falling, falls_acts}
-use Rattle.life_elab_laws.proofs.Growing.{Begins, Grows, grows_none, register_below, register_grows, register_sort, register_there, sort_there}
+use Rattle.life_elab_laws.proofs.Growing.{Begins, Grows, added, grows_none, register_below, register_grows, register_sort, register_there, sort_there}
 use Rattle.life_elab_laws.proofs.Knowledge.{at_set, beside_set, set_length}
 use Rattle.life_elab_laws.proofs.Making.{Alive, IsBeside, Keeps, Makes, Runs}
+use Rattle.life_elab_laws.proofs.OrderedTypes.{type_ordered}
 use Rattle.life_elab_laws.proofs.Shaping.{fine_acts}
-use Rattle.life_elab_laws.proofs.Types.{value_register}
+use Rattle.life_elab_laws.proofs.Types.{type_added, value_register}
+use Rattle.life_elab_laws.proofs.WrittenLocals.{AddsRegisters, fits_below, fits_register, register_pushed, registers_none, value_fits}
 
 -- a register without a name that is there already, of a value type
 pub record IsWanted (s : State) (r : ℕ) : Type 0 where
@@ -63,14 +66,23 @@ module _ (types : Types) (fs : List Function) (f : Function) where
   -- the register that is written, where a part has begun
   pub record Targets (h : Holding) (into : Option ℕ) (s : State) (w : Gives ℕ) : Type 0 where
     pub grown : Grows s w.state
+    pub registers : AddsRegisters types s w.state
     pub unwritten : w.state.code ≡ s.code
     pub below : w.given < length w.state.locals
     pub there : Begins types f w.state → IsNameless h w.given
     pub beside : (y : ℕ) → y < length s.locals → IsBeside into y → w.given ≡ y → ⊥
 
-  pub new_targeted : (place : Place) (t : Ty) (h : Holding) (s : State) → held_if (class (Some t)) Register (Some t) ≡ h → Targets h None s (new_register place t s)
-  new_targeted place t h s sort = record {
+  register_new : (place : Place) (t : Ty) (s : State) → fits_register types t ≡ true → HasPartsBelow s.types (length s.types.types) t → AddsRegisters types s (new_register place t s).state
+  register_new place t s fits below = (
+    register_pushed types (new_register place t s).state.types s.locals (added place t s) (record { nameless = refl; kind = refl; ty = t; typed = type_added s.types.types t; fits = fits }),
+    type_ordered s.types t below,
+  )
+
+  pub new_targeted : (place : Place) (t : Ty) (h : Holding) (s : State) → held_if (class (Some t)) Register (Some t) ≡ h → fits_register types t ≡ true → HasPartsBelow s.types (length s.types.types) t
+      → Targets h None s (new_register place t s)
+  new_targeted place t h s sort fits below = record {
     grown = register_grows place t s;
+    registers = register_new place t s fits below;
     unwritten = refl;
     below = register_below place t s;
     there = λ b. let here = register_there place t s types f b in record {
@@ -89,9 +101,10 @@ module _ (types : Types) (fs : List Function) (f : Function) where
       ∙ value_register w.ty w.value
 
   pub targeted : (place : Place) (t : Ty) (s : State) (into : Option ℕ) → is_value t ≡ true → IsInto s into → Targets ANumber into s (target place into t s)
-  targeted place t s None e h = new_targeted place t ANumber s (value_register t e)
+  targeted place t s None e h = new_targeted place t ANumber s (value_register t e) (value_fits types t e) (fits_below s.types s.types (omega arith) t (value_fits s.types t e))
   targeted place t s (Some r) e h = record {
     grown = grows_none s;
+    registers = registers_none types s;
     unwritten = refl;
     below = slice_get_within s.locals r h.local h.there;
     there = λ b. record { sort = wanted_sort s r h b; local = h.local; there = b.locals r h.local h.there; nameless = h.nameless };
@@ -129,6 +142,7 @@ module _ (types : Types) (fs : List Function) (f : Function) where
       outside = t.grown.outside;
       shaped = t.grown.shaped;
     };
+    registers = t.registers;
     code = Acts place (step w.given) ∷ [];
     written = ap (λ c. c ++ Acts place (step w.given) ∷ []) t.unwritten;
     runs = λ b. runs (t.there (record { locals = b.locals; table = b.table }));

@@ -1,6 +1,7 @@
 -- What is written for a well typed expression is ready: its value, its place, what it gives a pointer, and its condition.
 use Rattle.std.proofs.Common.{◌≡◌, ◌<◌, ◌^◌, ◌⊎◌, inl, inr, ℕ, zero, suc, Bool, true, false, ◌||◌, cond, List, [], ◌∷◌, Contains, length, slice_get, Option, Some, None, refl, sym, ap, ◌∙◌, subst, arith, true≢false}
 use Rattle.std.proofs.lemmas.Bool.{and_parts, false≢true}
+use Rattle.life_types.specs.Trees.{HasPartsBelow}
 use Rattle.life_types.specs.Types.{Types}
 use Rattle.life_types.specs.declared.place.Place.{Place}
 use Rattle.life_types.specs.declared.ty.Ty.{Ty}
@@ -26,7 +27,7 @@ use Rattle.life_proper.specs.declared.known.Known.TheVariants as known
 use Rattle.life_proper.specs.Knowing.{known_at}
 use Rattle.life_well_typed.specs.Expressions.{AreExpressions, HasResult, IsExpression, IsMadeOf, IsVariable, are_given, parameter_types, typed_in}
 use Rattle.life_well_typed.specs.Given.{is_given, is_number, is_pointer}
-use Rattle.life_writer.specs.Around.{Around, own_type, parameters_of, type_of}
+use Rattle.life_writer.specs.Around.{Around, own_type, parameters_of}
 use Rattle.life_writer.specs.Around as around
 use Rattle.life_writer.specs.Calls.{called}
 use Rattle.life_writer.specs.Conditions.{beside_null, decided, is_null, not_null, null_compared, stands_for_null}
@@ -39,13 +40,15 @@ use Rattle.life_writer.specs.Writing.{State, Gives, gives, with_code}
 use Rattle.life_elab_laws.proofs.Calls.{AreNumbersFor, call_made, handed_made}
 use Rattle.life_elab_laws.proofs.Emitting.{IsInto, into_later}
 use Rattle.life_elab_laws.proofs.ExpressionKinds.{addressed_as, dereferenced_as, function_built, inverted_as, kind_made, kind_of, negated_as, result_built, variable_built}
-use Rattle.life_elab_laws.proofs.Fronts.{IsFront}
+use Rattle.life_elab_laws.proofs.Fronts.{IsFront, front_length, front_then}
 use Rattle.life_elab_laws.proofs.Leaves.{aimed_made, as_type_made, constant_made, input_made, negation_made, operated_made, read_made}
 use Rattle.life_elab_laws.proofs.Making.{Always, IsNumber, IsPlace, IsPointer, IsPointing, Makes, a_target, and_then, nothing_made, seen}
 use Rattle.life_elab_laws.proofs.Setting.{Setting}
 use Rattle.life_elab_laws.proofs.Testing.{Tests, both_made, by_branch_made, condition_made, either_made, negation_made as inversion_made, not_null_made}
 use Rattle.life_elab_laws.proofs.TypedKinds.{AreEquated, HasKind, IsCombined, IsOperand, a_null, a_number, a_pointer, as_numbers, combined_as, computed_numbers, equated_kinds, joined_kinds, no_value, none_some, null_left, null_right, ok_same, operand_kind, promoted_value, some_same, value_place}
 use Rattle.life_elab_laws.proofs.VariablePlaces.{Stands, named_raw, pointer_there, stands_apart, stands_later, variable_there}
+use Rattle.life_elab_laws.proofs.GivenKinds.{given_number}
+use Rattle.life_elab_laws.proofs.WrittenLocals.{fits_below, fits_later, fits_register, value_fits}
 
 -- ---- types of expressions
 
@@ -63,23 +66,30 @@ raw_own NullPointer e = absurd (false≢true e)
 raw_own TextLiteral e = absurd (false≢true e)
 
 -- a condition that is no pointer is a number
-condition_number : (types : Types) (e : Typed) → HasKind types e → is_condition e.ty ≡ true → is_raw (own_type e.ty) ≡ false → is_number e.ty ≡ true
+pub condition_number : (types : Types) (e : Typed) → HasKind types e → is_condition e.ty ≡ true → is_raw (own_type e.ty) ≡ false → is_number e.ty ≡ true
 condition_number types e (a_number t is v) c r = ap is_number is ∙ v
 condition_number types e (a_pointer target constant is v) c r = absurd (true≢false (sym (ap (λ (x : ExprType). is_raw (own_type x)) is) ∙ r))
 condition_number types e (no_value is v) c r = absurd (false≢true (sym (ap is_condition is) ∙ c))
 condition_number types e (a_null is v) c r = absurd (false≢true (sym (ap is_condition is) ∙ c))
 
-null_stands : (p : ProgramForm) (locals : List TypedLocal) (visible : List ℕ) (form : Form) → IsExpression p locals visible form → stands_for_null form ≡ is_null (typed_in form).ty
+-- a pointer is one to a value
+pub pointer_fits : (types : Types) (e : Typed) → HasKind types e → is_raw (own_type e.ty) ≡ true → fits_register types (own_type e.ty) ≡ true
+pointer_fits types e (a_number t is v) r = ap (λ (x : ExprType). fits_register types (own_type x)) is ∙ value_fits types t v
+pointer_fits types e (a_pointer target constant is v) r = ap (λ (x : ExprType). fits_register types (own_type x)) is ∙ v
+pointer_fits types e (no_value is v) r = absurd (false≢true (sym (ap (λ (x : ExprType). is_raw (own_type x)) is) ∙ r))
+pointer_fits types e (a_null is v) r = absurd (false≢true (sym (ap (λ (x : ExprType). is_raw (own_type x)) is) ∙ r))
+
+pub null_stands : (p : ProgramForm) (locals : List TypedLocal) (visible : List ℕ) (form : Form) → IsExpression p locals visible form → stands_for_null form ≡ is_null (typed_in form).ty
 null_stands p locals visible (typed place t c form) h = refl
 null_stands p locals visible _ h = absurd h
 
-null_type : (t : ExprType) → is_null t ≡ true → t ≡ NullPointer
+pub null_type : (t : ExprType) → is_null t ≡ true → t ≡ NullPointer
 null_type (Of u) e = absurd (false≢true e)
 null_type NullPointer e = refl
 null_type TextLiteral e = absurd (false≢true e)
 
 -- what a call gives is no place
-result_value : (t : Ty) (types : Types) (e : Typed) → (is_void t || is_value t) ≡ true → e ≡ answer_of t types e.place e.form → e.category ≡ category.Value
+pub result_value : (t : Ty) (types : Types) (e : Typed) → (is_void t || is_value t) ≡ true → e ≡ answer_of t types e.place e.form → e.category ≡ category.Value
 result_value ty.Void types e b is = ap (λ (x : Typed). x.category) is
 result_value ty.Bool types e b is = ap (λ (x : Typed). x.category) is
 result_value ty.Char types e b is = ap (λ (x : Typed). x.category) is
@@ -88,7 +98,7 @@ result_value ty.Long types e b is = ap (λ (x : Typed). x.category) is
 result_value ty.Size types e b is = ap (λ (x : Typed). x.category) is
 result_value _ types e b is = absurd (false≢true b)
 
-result_number : (t : Ty) (types : Types) (e : Typed) → (is_void t || is_value t) ≡ true → e ≡ answer_of t types e.place e.form → is_number e.ty ≡ true → is_value t ≡ true
+pub result_number : (t : Ty) (types : Types) (e : Typed) → (is_void t || is_value t) ≡ true → e ≡ answer_of t types e.place e.form → is_number e.ty ≡ true → is_value t ≡ true
 result_number ty.Void types e b is n = absurd (false≢true (sym (ap (λ (x : Typed). is_number x.ty) is) ∙ n))
 result_number ty.Bool types e b is n = refl
 result_number ty.Char types e b is n = refl
@@ -151,14 +161,16 @@ module _ (a : Around) (visible : List ℕ) (types : Types) (fs : List Function) 
   read_or_made t place category.Value at make s v stands makes places = makes refl
   read_or_made t place (category.Place id constant) at make s v stands makes places = read_made types fs f t place at None s v tt stands.opened (places id constant refl)
 
-  located_made : (pt : Pointing) (t : Ty) (place : Place) (s : State) → is_raw t ≡ true → Makes types fs f None s (located place t pt s) (IsPointing types f pt (length s.locals)) (IsPointer types f)
-  located_made (As l) t place s raw = nothing_made types fs f l s (IsPointing types f (As l) (length s.locals)) (IsPointer types f) (λ b k alive p. p)
-  located_made (At source) t place s raw = aimed_made types fs f place t source (length s.locals) s raw
+  located_made : (pt : Pointing) (t : Ty) (place : Place) (s : State) → is_raw t ≡ true → fits_register types t ≡ true → HasPartsBelow s.types (length s.types.types) t
+      → Makes types fs f None s (located place t pt s) (IsPointing types f pt (length s.locals)) (IsPointer types f)
+  located_made (As l) t place s raw fits below = nothing_made types fs f l s (IsPointing types f (As l) (length s.locals)) (IsPointer types f) (λ b k alive p. p)
+  located_made (At source) t place s raw fits below = aimed_made types fs f place t source (length s.locals) s raw fits below
 
-  pointer_from : (w : State → Gives Pointing) (t : Ty) (place : Place) (s : State) → is_raw t ≡ true → Standing s → Points s (w s) → Pointed s (located place t (w s).given (w s).state)
-  pointer_from w t place s raw stands first =
+  pointer_from : (w : State → Gives Pointing) (t : Ty) (place : Place) (s : State) → is_raw t ≡ true → fits_register a.program.types t ≡ true → Standing s → Points s (w s) → Pointed s (located place t (w s).given (w s).state)
+  pointer_from w t place s raw fits stands first =
       and_then types fs f None s (w s) _ Always (IsPointing types f (w s).given (length (w s).state.locals)) (IsPointing types f) (IsPointer types f) stands.opened first
-      (located_made (w s).given t place (w s).state raw)
+      (located_made (w s).given t place (w s).state raw (fits_later a.program.types types front t fits)
+      (fits_below a.program.types (w s).state.types (front_length a.program.types.types (w s).state.types.types (front_then a.program.types.types s.types.types (w s).state.types.types stands.table first.grown.types)) t fits))
       (λ k j alive p keeps q. q)
 
   null_pointing : (s : State) → Points s (gives (At Null) s)
@@ -186,13 +198,13 @@ module _ (a : Around) (visible : List ℕ) (types : Types) (fs : List Function) 
           (λ b k alive p. pointer_there types fs f a front s b x v (stands.seen x v c at) n.0 n.1 n.2 k alive)
 
   -- a pointer's type, or nullptr
-  pointer_type : (t : ExprType) → is_pointer t ≡ true → ((u : Ty) × (t ≡ Of u) × (is_raw u ≡ true)) ⊎ (t ≡ NullPointer)
+  pub pointer_type : (t : ExprType) → is_pointer t ≡ true → ((u : Ty) × (t ≡ Of u) × (is_raw u ≡ true)) ⊎ (t ≡ NullPointer)
   pointer_type (Of u) e = inl (u, refl, e)
   pointer_type NullPointer e = inr refl
   pointer_type TextLiteral e = absurd (false≢true e)
 
   -- a variable isn't nullptr
-  variable_type : (x : ℕ) (e : Typed) → IsVariable a.program.types x (slice_get a.function.locals x) e → MadeOf e (local x) → e.ty ≡ NullPointer → ⊥
+  pub variable_type : (x : ℕ) (e : Typed) → IsVariable a.program.types x (slice_get a.function.locals x) e → MadeOf e (local x) → e.ty ≡ NullPointer → ⊥
   variable_type x e h made is = go (kind_made a.program a.function.locals visible variables functions (local x) e refl made).kind
     where
       of_null : (t : Ty) → e.ty ≡ Of t → ⊥
@@ -264,7 +276,7 @@ module _ (a : Around) (visible : List ℕ) (types : Types) (fs : List Function) 
       go false false bs cs e = absurd (none equal e)
 
   -- .. and none is, where there is no decision
-  none_compared : (equal : Bool) (place : Place) (left right : Form) → AreEquated (typed_in left).ty (typed_in right).ty → Whole left → Whole right
+  pub none_compared : (equal : Bool) (place : Place) (left right : Form) → AreEquated (typed_in left).ty (typed_in right).ty → Whole left → Whole right
       → null_compared equal place (beside_null left right (pointer a left) (pointer a right)) ≡ None → (is_number (typed_in left).ty ≡ true) × (is_number (typed_in right).ty ≡ true)
   none_compared equal place left right (as_numbers x y) l r is = (x, y)
   none_compared equal place left right (null_right u at raw other) l r is = absurd (go (stands_for_null left) is)
@@ -308,7 +320,7 @@ module _ (a : Around) (visible : List ℕ) (types : Types) (fs : List Function) 
   binary_decided _ place left right e c l r lo ro lc rc lp rp w s stands is = absurd (none_some is)
 
   -- .. and where it is none, both operands are numbers
-  binary_numbers : (o : BinaryOperator) (place : Place) (left right : Form) (e : Typed) → IsCombined o (typed_in left) (typed_in right) e → Whole left → Whole right → IsOperand (typed_in left).ty → IsOperand (typed_in right).ty
+  pub binary_numbers : (o : BinaryOperator) (place : Place) (left right : Form) (e : Typed) → IsCombined o (typed_in left) (typed_in right) e → Whole left → Whole right → IsOperand (typed_in left).ty → IsOperand (typed_in right).ty
       → decided o place (condition a left) (condition a right) (beside_null left right (pointer a left) (pointer a right)) ≡ None → (is_number (typed_in left).ty ≡ true) × (is_number (typed_in right).ty ≡ true)
   binary_numbers operator.And place left right e c l r lo ro is = absurd (none_some (sym is))
   binary_numbers operator.Or place left right e c l r lo ro is = absurd (none_some (sym is))
@@ -326,7 +338,7 @@ module _ (a : Around) (visible : List ℕ) (types : Types) (fs : List Function) 
 
   -- ---- calls
 
-  called_value : (g : ℕ) (e : Typed) → HasResult a.program.types (slice_get a.program.functions g) e → e.category ≡ category.Value
+  pub called_value : (g : ℕ) (e : Typed) → HasResult a.program.types (slice_get a.program.functions g) e → e.category ≡ category.Value
   called_value g e h = go (slice_get a.program.functions g) refl h
     where
       go : (o : Option FunctionForm) → slice_get a.program.functions g ≡ o → HasResult a.program.types o e → e.category ≡ category.Value
@@ -350,10 +362,7 @@ module _ (a : Around) (visible : List ℕ) (types : Types) (fs : List Function) 
           (λ k j alive p keeps q. q) in
           subst (λ (ids : List TyId). Valued into s (computed into (own_type e.ty) place (called g (handed_over a arguments ids s).given) (handed_over a arguments ids s).state)) (sym (ap parameters_of at)) main
 
-  pub given_number : (t : Ty) (e : ExprType) → is_value t ≡ true → is_given t e ≡ true → is_number e ≡ true
-  given_number t e v g = rw v at g
-
-  variable_category : (x : ℕ) (e : Typed) (o : Option TypedLocal) → IsVariable a.program.types x o e → e.category ≡ category.Value → ⊥
+  pub variable_category : (x : ℕ) (e : Typed) (o : Option TypedLocal) → IsVariable a.program.types x o e → e.category ≡ category.Value → ⊥
   variable_category x e None h v = h
   variable_category x e (Some l) h v = named (type_at a.program.types l.ty) h
     where
@@ -453,9 +462,9 @@ module _ (a : Around) (visible : List ℕ) (types : Types) (fs : List Function) 
     handed_over_made (e ⨟ es) b h [] g v s stands = absurd (false≢true g)
     handed_over_made (e ⨟ es) b h (id ∷ ids) g v s stands =
         let parts = and_parts (is_built_form e) (is_built_form es) b in
-        let given = and_parts (is_given (type_at a.program.types id) (typed_in e).ty) (are_given a.program.types ids es) g in
+        let given = and_parts (is_given a.program.types (type_at a.program.types id) (typed_in e)) (are_given a.program.types ids es) g in
         let worth = v zero id refl in
-        let first = value_made e parts.0 h.0 (given_number (type_at a.program.types id) (typed_in e).ty worth given.0) (type_at a.program.types id) worth None s tt stands in
+        let first = value_made e parts.0 h.0 (given_number a.program.types (type_at a.program.types id) (typed_in e) worth given.0) (type_at a.program.types id) worth None s tt stands in
         handed_made types fs f id ids (value a e (type_at a.program.types id) None) (handed_over a es ids) s stands.opened first
         (handed_over_made es parts.1 h.1 ids given.1 (λ n. v (suc n)) (value a e (type_at a.program.types id) None s).state (stands_later types fs f a visible s (value a e (type_at a.program.types id) None s).state first.grown stands))
     handed_over_made _ b h ids g v s stands = absurd h
@@ -513,7 +522,9 @@ module _ (a : Around) (visible : List ℕ) (types : Types) (fs : List Function) 
     -- the pointer that it is
     pub pointer_made : (form : Form) → is_built_form form ≡ true → Whole form → (u : Ty) → (typed_in form).ty ≡ Of u → is_raw u ≡ true → (s : State) → Standing s → Pointed s (pointer a form s)
     pointer_made (typed place t c form) b h u is raw s stands =
-        pointer_from (pointing a form) (own_type t) place s (own_raw t u is raw) stands (pointing_made form (record { place = place; ty = t; category = c; form = form }) b h (ap is_pointer is ∙ raw) s stands)
+        let e : Typed = record { place = place; ty = t; category = c; form = form } in
+        pointer_from (pointing a form) (own_type t) place s (own_raw t u is raw) (pointer_fits a.program.types e (kind_made a.program a.function.locals visible variables functions form e b h).kind (own_raw t u is raw)) stands
+        (pointing_made form e b h (ap is_pointer is ∙ raw) s stands)
     pointer_made _ b h u is raw s stands = absurd h
 
     -- a condition
@@ -523,7 +534,9 @@ module _ (a : Around) (visible : List ℕ) (types : Types) (fs : List Function) 
         let apart = stands_apart types fs f a visible s stands in
         condition_made types fs f (decision a form place) (own_type t) place (pointer a (typed place t c form)) (values.read_or_made (own_type t) place c (operand a form) (made a form place (own_type t)) None) s
         (λ w at. decision_made form e b h place w at s stands)
-        (λ none raw. let u = raw_own t raw in pointer_from (pointing a form) (own_type t) place (with_code [] s) raw apart (pointing_made form e b h (ap is_pointer u.1 ∙ u.2) (with_code [] s) apart))
+        (λ none raw.
+        let u = raw_own t raw in
+        pointer_from (pointing a form) (own_type t) place (with_code [] s) raw (pointer_fits a.program.types e (kind_made a.program a.function.locals visible variables functions form e b h).kind raw) apart (pointing_made form e b h (ap is_pointer u.1 ∙ u.2) (with_code [] s) apart))
         (λ none raw.
         let n = condition_number a.program.types e (kind_made a.program a.function.locals visible variables functions form e b h).kind is raw in
         read_or_made (own_type t) place c (operand a form) (made a form place (own_type t)) (with_code [] s) (own_value t n) apart

@@ -30,20 +30,23 @@ pub record IsLiving (s : State) (y : ℕ) : Type 0 where
   pub name : NameId
   pub named : local.name ≡ Some name
 
--- the register of the result is there, where the function gives a value back
+-- the register of the result is there, of its type, where the function gives a value back
 abbrev pub HasRegister : Around → State → Type 0
-HasRegister a s = is_value (type_at a.program.types a.function.result) ≡ true → IsWanted s (result_local a)
+HasRegister a s = is_value (type_at a.program.types a.function.result) ≡ true → (is : IsWanted s (result_local a)) × (is.ty ≡ type_at a.program.types a.function.result)
 
 pub register_later : (a : Around) (s s' : State) → IsFront s.locals s'.locals → IsFront s.types.types s'.types.types → HasRegister a s → HasRegister a s'
-register_later a s s' locals table h worth = let is = h worth in record {
-  local = is.local;
-  there = locals (result_local a) is.local is.there;
-  nameless = is.nameless;
-  kind = is.kind;
-  ty = is.ty;
-  typed = table is.local.ty.0 is.ty is.typed;
-  value = is.value;
-}
+register_later a s s' locals table h worth = let is = (h worth).0 in (
+  record {
+    local = is.local;
+    there = locals (result_local a) is.local is.there;
+    nameless = is.nameless;
+    kind = is.kind;
+    ty = is.ty;
+    typed = table is.local.ty.0 is.ty is.typed;
+    value = is.value;
+  },
+  (h worth).1,
+)
 
 module _ (types : Types) (fs : List Function) (f : Function) where
   pub record Follows (a : Around) (v : Visible) (s : State) : Type 0 where
@@ -158,6 +161,7 @@ module _ (types : Types) (fs : List Function) (f : Function) where
     count = count;
     visible = λ x c. omega (arith, h.visible x c, more);
     stands = record {
+      table = front_then a.program.types.types s.types.types s'.types.types h.stands.table table;
       opened = λ y c. let is = later y (contains_among s.living y (subst (λ (ys : List ℕ). Contains ys y) living c)) in slice_get_within s'.locals y is.local is.there;
       seen = λ x u c at. moved x u c (h.stands.seen x u c at);
     };

@@ -1,5 +1,5 @@
 -- What is written for a whole function: all is ready on every way, and no way runs past the end.
-use Rattle.std.proofs.Common.{◌≡◌, ◌≤◌, Bool, true, false, List, [], ◌∷◌, ◌++◌, length, slice_get, take, Some, None, is_none, refl, sym, ap, ◌∙◌}
+use Rattle.std.proofs.Common.{◌≡◌, ◌≤◌, ℕ, Bool, true, false, List, [], ◌∷◌, ◌++◌, length, slice_get, take, Some, None, is_none, refl, sym, ap, ◌∙◌, subst}
 use Rattle.std.proofs.lemmas.Bool.{and_from, false≢true}
 use Rattle.life_types.specs.Types.{Types}
 use Rattle.life_types.specs.declared.ty.Ty.{Ty}
@@ -12,11 +12,12 @@ use Rattle.life_core.specs.Tree.{Tree, Returns, trees}
 use Rattle.life_proper.specs.Checking.{Flow, body_flow, flow, is_checked, is_over}
 use Rattle.life_proper.specs.Knowing.{State as Knowing, entry_known}
 use Rattle.life_proper.specs.Plain.{is_plain_tree}
+use Rattle.life_proper.specs.ResultsKnown.{ReturnsKnown}
 use Rattle.life_well_typed.specs.Functions.{IsBody}
 use Rattle.life_well_typed.specs.Visible.{Visible, after, with_parameters}
 use Rattle.life_writer.specs.Variables.{end_past}
 use Rattle.life_writer.specs.Writing.{State}
-use Rattle.life_elab.specs.Ends.{ends}
+use Rattle.life_typed.specs.Ends.{ends}
 use Rattle.life_elab.specs.Functions.{body, first_state, returned_at_end, written}
 use Rattle.life_elab.specs.Programs.{around}
 use Rattle.life_elab.specs.Statements.{left, statement}
@@ -26,6 +27,7 @@ use Rattle.life_elab_laws.proofs.Doing.{Acting, Does, does_then}
 use Rattle.life_elab_laws.proofs.Exits.{Leaves}
 use Rattle.life_elab_laws.proofs.Following.{Follows, HasRegister}
 use Rattle.life_elab_laws.proofs.Fronts.{IsFront}
+use Rattle.life_elab_laws.proofs.GivingBack.{GivesValue}
 use Rattle.life_elab_laws.proofs.Growing.{Begins}
 use Rattle.life_elab_laws.proofs.Returning.{return_does}
 use Rattle.life_elab_laws.proofs.Setting.{Setting}
@@ -39,9 +41,9 @@ module _ (p : ProgramForm) (form : FunctionForm) (T types : Types) (fs : List Fu
     pub does : Does types fs f (around p form) behind false s s'
     pub stopped : stops (trees s'.code) ≡ true
 
-  finished : (it : StmtForm) (s : State) → IsBody p form it → is_built_statement p.types form.locals it ≡ true → Follows types fs f (around p form) (with_parameters (length form.parameters)) s → HasRegister (around p form) s
+  finished : (it : StmtForm) (s : State) → ends form.body ≡ ends it → IsBody p form it → is_built_statement p.types form.locals it ≡ true → Follows types fs f (around p form) (with_parameters (length form.parameters)) s → HasRegister (around p form) s
       → IsFinished s (body (around p form) it s)
-  finished (block items closing) s h b follows register = go (ends (block items closing)) refl
+  finished (block items closing) s same h b follows register = go (ends (block items closing)) refl
     where
       go : (e : Bool) → ends (block items closing) ≡ e → IsFinished s (returned_at_end e closing (statement (around p form) items s))
       go true e =
@@ -51,18 +53,18 @@ module _ (p : ProgramForm) (form : FunctionForm) (T types : Types) (fs : List Fu
           let u = after items (with_parameters (length form.parameters)) in
           let t = statement (around p form) items s in
           let inner = statement_does (around p form) types fs f setting items false (with_parameters (length form.parameters)) s b h follows register in
-          let last = return_does (around p form) types fs f setting u false t inner.does.follows closing in
+          let last = return_does (around p form) types fs f setting u false t inner.does.follows (λ gives. false≢true (sym e ∙ sym same ∙ gives.1)) closing in
           record {
             behind = u;
             does = does_then types fs f (around p form) u u false s t (left 0 closing (Returns closing) t) follows.outside inner.does last.does;
             stopped = stops_right (end_past 0 closing t).code (Returns closing ∷ []) refl;
           }
-  finished _ s h b follows register = absurd h
+  finished _ s same h b follows register = absurd h
 
   module _ (fits : length form.parameters ≤ length form.locals) (built : IsBuiltFunction p.types form) (typed : IsBody p form form.body) (t : Ty) (result : slice_get p.types.types form.result.0 ≡ Some t) (table : IsFront p.types.types T.types) where
     pub function_finished : IsFinished (first_state (around p form) T) (written (around p form) T)
     function_finished =
-        finished form.body (first_state (around p form) T) typed built.body (first_follows (around p form) T fits table types fs f setting.front built.variables) (register_there (around p form) T fits table t result)
+        finished form.body (first_state (around p form) T) refl typed built.body (first_follows (around p form) T fits table types fs f setting.front built.variables) (register_there (around p form) T fits table t result)
 
     -- ---- in the finished function
 
@@ -105,3 +107,10 @@ module _ (p : ProgramForm) (form : FunctionForm) (T types : Types) (fs : List Fu
 
       pub function_plain : is_plain_tree types fs f f.body ≡ true
       function_plain = ap (is_plain_tree types fs f) body_is ∙ acting.stated.plain
+
+      -- where it gives a value back and control doesn't run past its text, each return stands behind that
+      pub function_returns : GivesValue (around p form) → ReturnsKnown types fs f f.parameters f.body (Some (entry_known types f))
+      function_returns gives =
+          subst (λ (r : ℕ). ReturnsKnown types fs f r f.body (Some (entry_known types f))) (sym count)
+          (subst (λ (t : Tree). ReturnsKnown types fs f (length form.parameters) t (Some (entry_known types f))) (sym body_is)
+          (function_finished.does.returns begins gives (Some (entry_known types f)) (entry_knows (around p form) T fits table types fs f setting.front built.variables count locals)))

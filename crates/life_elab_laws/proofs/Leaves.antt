@@ -1,6 +1,7 @@
 -- Single instructions that write a register, and what reads and converts.
 use Rattle.std.proofs.Common.{◌≡◌, ◌<◌, ◌^◌, ◌≤◌, ℕ, Bool, true, false, ◌&&◌, cond, List, length, slice_set, Option, None, refl, ap, ◌∙◌, arith}
 use Rattle.std.proofs.lemmas.Bool.{and_from, lt-ltb}
+use Rattle.life_types.specs.Trees.{HasPartsBelow}
 use Rattle.life_types.specs.Types.{Types}
 use Rattle.life_types.specs.contracts.ty.TyPartialEq.TheImpl.{ghosts as compared}
 use Rattle.life_types.specs.declared.place.Place.{Place}
@@ -23,6 +24,7 @@ use Rattle.life_writer.specs.Writing.{State, Gives}
 use Rattle.life_elab_laws.proofs.Emitting.{IsInto, emitted, into_later, new_targeted, targeted}
 use Rattle.life_elab_laws.proofs.Making.{Alive, Always, IsNumber, IsOpen, IsPlace, IsPointer, IsPointing, Keeps, Makes, a_target, an_object, and_then}
 use Rattle.life_elab_laws.proofs.Types.{raw_register}
+use Rattle.life_elab_laws.proofs.WrittenLocals.{fits_register}
 
 -- ---- what is ready
 
@@ -164,11 +166,11 @@ module _ (types : Types) (fs : List Function) (f : Function) where
       go _ p = absurd p
 
   -- a pointer in a register of its own
-  pub aimed_made : (place : Place) (t : Ty) (source : Source) (n : ℕ) (s : State) → is_raw t ≡ true
+  pub aimed_made : (place : Place) (t : Ty) (source : Source) (n : ℕ) (s : State) → is_raw t ≡ true → fits_register types t ≡ true → HasPartsBelow s.types (length s.types.types) t
       → Makes types fs f None s (located place t (At source) s) (IsPointing types f (At source) n) (IsPointer types f)
-  aimed_made place t source n s raw =
+  aimed_made place t source n s raw fits below =
       emitted types fs f None s (new_register place t s) APointer place (λ r. Aim (whole r) source) (whole (new_register place t s).given) (IsPointing types f (At source) n) (IsPointer types f)
-      (new_targeted types fs f place t APointer s (raw_register t raw))
+      (new_targeted types fs f place t APointer s (raw_register t raw) fits below)
       (λ r e k alive p. source_ready k (sort_of types f r) source n e p)
       (λ r e k. ap (λ (h : Holding). slice_set k r (known_as h)) e)
       (λ r e. refl)

@@ -10,8 +10,9 @@ use Rattle.life_proper.specs.declared.known.Known.{Known}
 use Rattle.life_proper.specs.Checking.{Flow, before_next, flow, joined}
 use Rattle.life_proper.specs.Knowing.{State as Knowing}
 use Rattle.life_proper.specs.ReadyKnown.{can_end, known_blank}
+use Rattle.life_proper.specs.ResultsKnown.{ReturnsKnown}
 use Rattle.life_well_typed.specs.Visible.{Visible, behind}
-use Rattle.life_writer.specs.Around.{Around}
+use Rattle.life_writer.specs.Around.{Around, result_local}
 use Rattle.life_writer.specs.Variables.{end, end_since, with_living_of}
 use Rattle.life_writer.specs.Writing.{State, with_code, write}
 use Rattle.life_elab.specs.Statements.{left}
@@ -20,9 +21,11 @@ use Rattle.life_elab_laws.proofs.Doing.{Acting, Does, IsStated, fine_stated, lea
 use Rattle.life_elab_laws.proofs.Ending.{end_knows, end_ready}
 use Rattle.life_elab_laws.proofs.Exits.{Knows, Leaves, MayKnow, leaves_then}
 use Rattle.life_elab_laws.proofs.Falling.{Falls, falling, falls_acts, flow_append}
-use Rattle.life_elab_laws.proofs.Following.{Follows, adds_coded, adds_none, follows_again, follows_coded, take_itself}
+use Rattle.life_elab_laws.proofs.Following.{Adds, Follows, adds_coded, adds_none, follows_again, follows_coded, take_itself}
 use Rattle.life_elab_laws.proofs.Fronts.{front_length}
+use Rattle.life_elab_laws.proofs.GivingBack.{GivesValue, fine_known, known_append}
 use Rattle.life_elab_laws.proofs.Growing.{Begins}
+use Rattle.life_elab_laws.proofs.OrderedTypes.{order_none}
 use Rattle.life_elab_laws.proofs.Shaping.{IsFine, fine_acts, fine_none}
 
 module _ (types : Types) (fs : List Function) (f : Function) where
@@ -104,12 +107,17 @@ module _ (types : Types) (fs : List Function) (f : Function) where
         outside = inner.adds.outside;
         shaped = inner.adds.shaped;
       };
+      locals = inner.locals;
+      order = inner.order;
       follows = follows_again types fs f a v s (behind_block e.code) u.declared h inner.adds.locals inner.adds.table inner.adds.variables inner.adds.living
           (omega (arith, inner.adds.outside, ap length inner.adds.living, h.outside)) inner.follows.count
           (omega (arith, h.count, inner.follows.count, front_length s.variables t.variables inner.adds.variables));
       code = inner.code ++ e.code;
       written = ap (λ (c : List Tree). c ++ e.code) inner.written ∙ append_assoc s.code inner.code e.code;
       acts = λ b. ended_acts e (record { locals = b.locals; table = b.table });
+      returns = λ b gives o k.
+          known_append types fs f (result_local a) inner.code e.code o (inner.returns (record { locals = b.locals; table = b.table }) gives o k)
+          (fine_known types fs f (result_local a) e.code e.fine (flow types fs f (trees inner.code) o).next);
     }
 
     pub block_does : Does types fs f a (behind v u) in_loop s (end_since place (length s.living) t)
@@ -122,7 +130,7 @@ module _ (types : Types) (fs : List Function) (f : Function) where
 
   module _ (a : Around) (v : Visible) (in_loop : Bool) (s : State) (h : Follows types fs f a v s) (n : ℕ) (place : Place) (t : Tree) (stated : IsStated types fs f (t ∷ []))
       (leaves : (k : List Known) → Knows types fs f (take n s.living) k → Leaves types fs f in_loop s.living (take s.outside s.living) (flow types fs f (trees (t ∷ [])) (Some k))) where
-    left_acts : (e : IsEnded (reverse (drop n s.living)) place s) → Begins types f s → Acting types fs f in_loop s (write t (with_code (s.code ++ e.code) s)) (e.code ++ t ∷ [])
+    pub left_acts : (e : IsEnded (reverse (drop n s.living)) place s) → Begins types f s → Acting types fs f in_loop s (write t (with_code (s.code ++ e.code) s)) (e.code ++ t ∷ [])
     left_acts e b = record {
       stated = stated_append types fs f e.code (t ∷ []) (fine_stated types fs f e.code e.fine) stated;
       ways = leaves_may types fs f in_loop s.living s.living (take s.outside s.living) (trees (e.code ++ t ∷ [])) went;
@@ -137,17 +145,29 @@ module _ (types : Types) (fs : List Function) (f : Function) where
             (leaves_then types fs f in_loop (take n s.living) s.living (take s.outside s.living) (falling j) (flow types fs f (trees (t ∷ [])) (Some j))
             (leaves_falling types fs f in_loop (take n s.living) (take s.outside s.living) j ends) (leaves j ends))
 
-    left_from : (e : IsEnded (reverse (drop n s.living)) place s) → Does types fs f a v in_loop s (write t (with_code (s.code ++ e.code) s))
-    left_from e = record {
+    -- .. and where that is a return, no value has to be given back
+    left_from : (GivesValue a → (o : Knowing) → ReturnsKnown types fs f (result_local a) (trees (t ∷ [])) o) → (e : IsEnded (reverse (drop n s.living)) place s)
+        → Does types fs f a v in_loop s (write t (with_code (s.code ++ e.code) s))
+    left_from back e = record {
       adds = adds_coded types fs f s s ((s.code ++ e.code) ++ t ∷ []) (adds_none types fs f s);
+      locals = λ are. are;
+      order = order_none s.types;
       follows = follows_coded types fs f a v s ((s.code ++ e.code) ++ t ∷ []) h;
       code = e.code ++ t ∷ [];
       written = append_assoc s.code e.code (t ∷ []);
       acts = λ b. left_acts e (record { locals = b.locals; table = b.table });
+      returns = λ b gives o k.
+          let ends : Knowing = (flow types fs f (trees e.code) o).next in
+          known_append types fs f (result_local a) e.code (t ∷ []) o (fine_known types fs f (result_local a) e.code e.fine o) (back gives ends);
     }
 
-    pub left_does : Does types fs f a v in_loop s (left n place t s)
-    left_does = subst (λ (r : State). Does types fs f a v in_loop s (write t r)) (sym (ended (reverse (drop n s.living)) place s).written) (left_from (ended (reverse (drop n s.living)) place s))
+    pub left_does : (GivesValue a → (o : Knowing) → ReturnsKnown types fs f (result_local a) (trees (t ∷ [])) o) → Does types fs f a v in_loop s (left n place t s)
+    left_does back = subst (λ (r : State). Does types fs f a v in_loop s (write t r)) (sym (ended (reverse (drop n s.living)) place s).written) (left_from back (ended (reverse (drop n s.living)) place s))
 
   pub left_level : (s : State) (n : ℕ) (place : Place) (t : Tree) → (left n place t s).living ≡ s.living
   left_level s n place t = end_living (reverse (drop n s.living)) place s
+
+  pub left_adds : (s : State) (n : ℕ) (place : Place) (t : Tree) → Adds types fs f s (left n place t s)
+  left_adds s n place t =
+      let e = ended (reverse (drop n s.living)) place s in
+      subst (λ (r : State). Adds types fs f s (write t r)) (sym e.written) (adds_coded types fs f s s ((s.code ++ e.code) ++ t ∷ []) (adds_none types fs f s))

@@ -12,9 +12,10 @@ use Rattle.life_proper.specs.declared.known.Known.{Known}
 use Rattle.life_proper.specs.Checking.{Flow, flow, joined, of_body, of_step, of_test}
 use Rattle.life_proper.specs.Knowing.{State as Knowing, are_implied, comes_back, forgotten, is_intermediate, is_register, known_at, met}
 use Rattle.life_proper.specs.Plain.{is_plain_tree}
+use Rattle.life_proper.specs.ResultsKnown.{ReturnsKnown}
 use Rattle.life_proper.proofs.Joining.{joined_end}
 use Rattle.life_well_typed.specs.Visible.{Visible, behind}
-use Rattle.life_writer.specs.Around.{Around}
+use Rattle.life_writer.specs.Around.{Around, result_local}
 use Rattle.life_writer.specs.Variables.{with_outside}
 use Rattle.life_writer.specs.Writing.{State, Gives, with_code, write}
 use Rattle.life_elab_laws.proofs.Among.{Among, among_or}
@@ -24,9 +25,12 @@ use Rattle.life_elab_laws.proofs.Exits.{AreNamed, Knows, Leaves, MayKnow, MayLea
 use Rattle.life_elab_laws.proofs.Falling.{deciding}
 use Rattle.life_elab_laws.proofs.Following.{Adds, Follows, adds_coded, adds_then, begins_added, follows_again, follows_coded, follows_grown, follows_named, grows_adds, knows_alive, take_itself}
 use Rattle.life_elab_laws.proofs.Fronts.{front_itself}
+use Rattle.life_elab_laws.proofs.GivingBack.{GivesValue, asks_known, known_may}
 use Rattle.life_elab_laws.proofs.Growing.{Begins}
+use Rattle.life_elab_laws.proofs.OrderedTypes.{order_then}
 use Rattle.life_elab_laws.proofs.Shaped.{AreShaped, IsVariable, shaped_at}
-use Rattle.life_elab_laws.proofs.Testing.{AsksAll, Tests}
+use Rattle.life_elab_laws.proofs.Testing.{Asked, AsksAll, Tests}
+use Rattle.life_elab_laws.proofs.WrittenLocals.{locals_added}
 
 -- ---- at the head nothing is known of intermediate values, and the same of all others
 
@@ -141,71 +145,108 @@ module _ (types : Types) (fs : List Function) (f : Function) where
       to_step : Adds types fs f (past t) r
       to_step = adds_uncoded types fs f (past t) r [] step.does.adds
 
-      loop_acts : Begins types f r → Acting types fs f in_loop s whole (turns ∷ [])
-      loop_acts b = record {
-        stated = record {
-          statement = and_from _ true (and_from (is_condition w.given) _ asks.fine.condition (and_from (is_statement (trees body.does.code)) (is_statement (trees step.does.code)) one.stated.statement other.stated.statement)) refl;
-          tests = and_from _ true (and_from (test_straight w.given) _ asks.fine.straight (and_from (tests_straight (trees body.does.code)) (tests_straight (trees step.does.code)) one.stated.tests other.stated.tests)) refl;
-          plain = and_from _ true (and_from (is_plain_tree types fs f w.given) _ asks.fine.plain (and_from (is_plain_tree types fs f (trees body.does.code)) (is_plain_tree types fs f (trees step.does.code)) one.stated.plain other.stated.plain)) refl;
-        };
-        ways = leaves_may types fs f in_loop s.living r.living (take s.outside s.living) (trees (turns ∷ [])) went;
-      }
-        where
-          begun : Begins types f (past t)
-          begun = begins_added types fs f (past t) r to_step b
+      module _ (b : Begins types f r) where
+        begun : Begins types f (past t)
+        begun = begins_added types fs f (past t) r to_step b
 
-          tested : Begins types f w.state
-          tested = begins_added types fs f w.state (past t) to_body begun
+        tested : Begins types f w.state
+        tested = begins_added types fs f w.state (past t) to_body begun
 
-          asks : AsksAll types fs f s w.given
-          asks = test.runs tested
+        asks : AsksAll types fs f s w.given
+        asks = test.runs tested
 
-          one : Acting types fs f true inside t body.does.code
-          one = body.does.acts (record { locals = begun.locals; table = begun.table })
+        begun_inside : Begins types f t
+        begun_inside = record { locals = begun.locals; table = begun.table }
 
-          other : Acting types fs f false (with_code [] (past t)) r step.does.code
-          other = step.does.acts b
+        one : Acting types fs f true inside t body.does.code
+        one = body.does.acts begun_inside
 
-          body_living : t.living ≡ s.living
-          body_living = body.level ∙ test.grown.living
+        other : Acting types fs f false (with_code [] (past t)) r step.does.code
+        other = step.does.acts b
 
-          step_living : r.living ≡ s.living
-          step_living = step.level ∙ body_living
+        body_living : t.living ≡ s.living
+        body_living = body.level ∙ test.grown.living
 
-          body_outside : take (length w.state.living) w.state.living ≡ s.living
-          body_outside = take_itself types fs f w.state.living ∙ test.grown.living
+        step_living : r.living ≡ s.living
+        step_living = step.level ∙ body_living
 
-          step_outside : take w.state.outside t.living ≡ take s.outside s.living
-          step_outside = ap (take w.state.outside) body_living ∙ ap (λ (n : ℕ). take n s.living) test.grown.outside
+        body_outside : take (length w.state.living) w.state.living ≡ s.living
+        body_outside = take_itself types fs f w.state.living ∙ test.grown.living
 
-          names : AreNamed types fs f s.living
-          names = follows_named types fs f a v s h (begins_added types fs f s w.state (grows_adds types fs f s w.state test.grown) tested)
+        step_outside : take w.state.outside t.living ≡ take s.outside s.living
+        step_outside = ap (take w.state.outside) body_living ∙ ap (λ (n : ℕ). take n s.living) test.grown.outside
 
-          went : (k : List Known) → Knows types fs f s.living k → Leaves types fs f in_loop r.living (take s.outside s.living) (flow types fs f (trees (turns ∷ [])) (Some k))
-          went k knows =
-              let head : List Known = forgotten f.locals k in
-              let at_head = knows_forgotten s.living k names knows in
-              let g = asks.goes head (knows_alive types fs f a v s head at_head) in
-              let both = known_behind types fs f a v in_loop s w h test tested head g at_head in
-              let inner : Flow = flow types fs f (trees body.does.code) (Some g.on) in
-              let on = leaves_same types fs f true t.living s.living (take (length w.state.living) w.state.living) s.living inner body_living body_outside
-              (one.ways (Some g.on) (subst (λ (xs : List ℕ). Knows types fs f xs g.on) (sym test.grown.living) both.0)) in
-              let back : Knowing = met inner.next inner.on_continue in
+        names : AreNamed types fs f s.living
+        names = follows_named types fs f a v s h (begins_added types fs f s w.state (grows_adds types fs f s w.state test.grown) tested)
+
+        -- what is known at the head, in the body and in the step
+        module _ (k : List Known) (knows : Knows types fs f s.living k) where
+          abbrev head : List Known
+          head = forgotten f.locals k
+
+          at_head : Knows types fs f s.living head
+          at_head = knows_forgotten s.living k names knows
+
+          abbrev g : Asked types fs f s w.given head
+          g = asks.goes head (knows_alive types fs f a v s head at_head)
+
+          both : Knows types fs f s.living g.on × Knows types fs f s.living g.off
+          both = known_behind types fs f a v in_loop s w h test tested head g at_head
+
+          known_on : Knows types fs f w.state.living g.on
+          known_on = subst (λ (xs : List ℕ). Knows types fs f xs g.on) (sym test.grown.living) both.0
+
+          abbrev inner : Flow
+          inner = flow types fs f (trees body.does.code) (Some g.on)
+
+          on : Leaves types fs f true s.living s.living inner
+          on = leaves_same types fs f true t.living s.living (take (length w.state.living) w.state.living) s.living inner body_living body_outside (one.ways (Some g.on) known_on)
+
+          abbrev back : Knowing
+          back = met inner.next inner.on_continue
+
+          known_back : MayKnow types fs f t.living back
+          known_back = subst (λ (xs : List ℕ). MayKnow types fs f xs back) (sym body_living) (may_met types fs f s.living inner.next inner.on_continue on.next on.on_continue)
+
+          went : Leaves types fs f in_loop r.living (take s.outside s.living) (flow types fs f (trees (turns ∷ [])) (Some k))
+          went =
               let last : Flow = flow types fs f (trees step.does.code) back in
-              let stepped = leaves_same types fs f false r.living s.living (take w.state.outside t.living) (take s.outside s.living) last step_living step_outside
-              (other.ways back (subst (λ (xs : List ℕ). MayKnow types fs f xs back) (sym body_living) (may_met types fs f s.living inner.next inner.on_continue on.next on.on_continue))) in
+              let stepped = leaves_same types fs f false r.living s.living (take w.state.outside t.living) (take s.outside s.living) last step_living step_outside (other.ways back known_back) in
               let out = leaves_joined types fs f in_loop s.living (take s.outside s.living) (of_test (deciding g.on g.off)) (joined (of_body inner) (of_step (Some head) last))
               (test_leaves in_loop s.living (take s.outside s.living) g.off both.1 g.on)
               (leaves_joined types fs f in_loop s.living (take s.outside s.living) (of_body inner) (of_step (Some head) last)
               (body_leaves in_loop s.living (take s.outside s.living) inner on)
               (step_leaves in_loop s.living (take s.outside s.living) k last shaped knows stepped)) in
               leaves_same types fs f in_loop s.living r.living (take s.outside s.living) (take s.outside s.living) (flow types fs f (trees (turns ∷ [])) (Some k)) (sym step_living) refl
-              (subst (Leaves types fs f in_loop s.living (take s.outside s.living)) (sym (joined_end (flow types fs f turns (Some k)) ∙ ap (ways_of head) g.decides)) out)
+              (subst (Leaves types fs f in_loop s.living (take s.outside s.living)) (sym (joined_end (flow types fs f turns (Some k)) ∙ ap ways_of g.decides)) out)
             where
-              ways_of : List Known → Flow → Flow
-              ways_of head q =
+              ways_of : Flow → Flow
+              ways_of q =
                   let v = flow types fs f (trees body.does.code) q.on_true in
                   joined (of_test q) (joined (of_body v) (of_step (Some head) (flow types fs f (trees step.does.code) (met v.next v.on_continue))))
+
+          abbrev ReturnBehind : Flow → Type 0
+          ReturnBehind q =
+              let v = flow types fs f (trees body.does.code) q.on_true in
+              ReturnsKnown types fs f (result_local a) (trees body.does.code) q.on_true × ReturnsKnown types fs f (result_local a) (trees step.does.code) (met v.next v.on_continue)
+
+          returned : GivesValue a → ReturnsKnown types fs f (result_local a) (trees (turns ∷ [])) (Some k)
+          returned gives =
+              let behind = subst ReturnBehind (sym g.decides) (body.does.returns begun_inside gives (Some g.on) known_on, step.does.returns b gives back known_back) in
+              ((asks_known types fs f (result_local a) w.given asks.fine (Some head), behind), tt)
+
+        loop_acts : Acting types fs f in_loop s whole (turns ∷ [])
+        loop_acts = record {
+          stated = record {
+            statement = and_from _ true (and_from (is_condition w.given) _ asks.fine.condition (and_from (is_statement (trees body.does.code)) (is_statement (trees step.does.code)) one.stated.statement other.stated.statement)) refl;
+            tests = and_from _ true (and_from (test_straight w.given) _ asks.fine.straight (and_from (tests_straight (trees body.does.code)) (tests_straight (trees step.does.code)) one.stated.tests other.stated.tests)) refl;
+            plain = and_from _ true (and_from (is_plain_tree types fs f w.given) _ asks.fine.plain (and_from (is_plain_tree types fs f (trees body.does.code)) (is_plain_tree types fs f (trees step.does.code)) one.stated.plain other.stated.plain)) refl;
+          };
+          ways = leaves_may types fs f in_loop s.living r.living (take s.outside s.living) (trees (turns ∷ [])) went;
+        }
+
+        loop_returns : GivesValue a → (o : Knowing) → MayKnow types fs f s.living o → ReturnsKnown types fs f (result_local a) (trees (turns ∷ [])) o
+        loop_returns gives = known_may types fs f (result_local a) s.living (trees (turns ∷ [])) (λ k knows. returned k knows gives)
 
       pub loop_does : DoesLevel types fs f a x in_loop s whole
       loop_does = record {
@@ -213,6 +254,8 @@ module _ (types : Types) (fs : List Function) (f : Function) where
           adds =
               adds_coded types fs f s r (w.state.code ++ Turns w.given (trees t.code) (trees r.code) ∷ [])
               (adds_then types fs f s (past t) r (adds_then types fs f s w.state (past t) (grows_adds types fs f s w.state test.grown) to_body) to_step);
+          locals = λ are. step.does.locals (body.does.locals (locals_added types a s w.state test.grown.types test.registers are));
+          order = order_then s.types w.state.types r.types test.registers.1 (order_then w.state.types t.types r.types body.does.order step.does.order);
           follows = follows_coded types fs f a x r (w.state.code ++ Turns w.given (trees t.code) (trees r.code) ∷ []) step.does.follows;
           code = turns ∷ [];
           written =
@@ -220,6 +263,7 @@ module _ (types : Types) (fs : List Function) (f : Function) where
               ∙ ap (λ (c : List Tree). s.code ++ Turns w.given (trees c) (trees r.code) ∷ []) body.does.written
               ∙ ap (λ (c : List Tree). s.code ++ Turns w.given (trees body.does.code) (trees c) ∷ []) step.does.written;
           acts = λ b. loop_acts (record { locals = b.locals; table = b.table });
+          returns = λ b gives o k. loop_returns (record { locals = b.locals; table = b.table }) gives o k;
         };
         level = step.level ∙ body.level ∙ test.grown.living;
       }

@@ -15,6 +15,7 @@ use Rattle.life_writer.specs.Writing.{State, Gives, gives, mapped}
 use Rattle.life_elab_laws.proofs.Falling.{Falls, falls_append}
 use Rattle.life_elab_laws.proofs.Growing.{Begins, Grows, begins_before, grows_none, grows_then}
 use Rattle.life_elab_laws.proofs.Shaping.{IsFine, fine_append}
+use Rattle.life_elab_laws.proofs.WrittenLocals.{AddsRegisters, registers_none, registers_then}
 
 -- ---- what a part gives
 
@@ -100,6 +101,7 @@ module _ (types : Types) (fs : List Function) (f : Function) where
 
   pub record Makes {A : Type 0} (into : Option ℕ) (s : State) (w : Gives A) (P : List Known → Type 0) (Q : A → ℕ → List Known → Type 0) : Type 0 where
     pub grown : Grows s w.state
+    pub registers : AddsRegisters types s w.state
     pub code : List Tree
     pub written : w.state.code ≡ s.code ++ code
     pub runs : Begins types f w.state → Runs into s w P Q code
@@ -108,6 +110,7 @@ module _ (types : Types) (fs : List Function) (f : Function) where
   pub under : {A : Type 0} (into : Option ℕ) (s : State) (w : Gives A) (P R : List Known → Type 0) (Q : A → ℕ → List Known → Type 0) → Makes into s w P Q → ((k : List Known) → R k → P k) → Makes into s w R Q
   under into s w P R Q made more = record {
     grown = made.grown;
+    registers = made.registers;
     code = made.code;
     written = made.written;
     runs = λ b. let r = made.runs b in record { fine = r.fine; goes = λ k alive p. r.goes k alive (more k p) };
@@ -123,6 +126,7 @@ module _ (types : Types) (fs : List Function) (f : Function) where
       → Makes into s v P O
   and_given into s w v P R Q O opened first second step = record {
     grown = grows_then s w.state v.state first.grown second.grown;
+    registers = registers_then types s w.state v.state second.grown.types first.registers second.registers;
     code = first.code ++ second.code;
     written = second.written ∙ ap (λ (c : List Tree). c ++ second.code) first.written ∙ append_assoc s.code first.code second.code;
     runs = λ b. both (first.runs (begins_before types f w.state v.state second.grown b)) (second.runs b);
@@ -156,6 +160,7 @@ module _ (types : Types) (fs : List Function) (f : Function) where
       → Makes into s w P Q → ((x : A) (n : ℕ) (k : List Known) → Q x n k → O (g x) n k) → Makes into s (mapped g w) P O
   seen into s w g P Q O made weaker = record {
     grown = made.grown;
+    registers = made.registers;
     code = made.code;
     written = made.written;
     runs = λ b. let r = made.runs b in record {
@@ -169,6 +174,7 @@ module _ (types : Types) (fs : List Function) (f : Function) where
       → (Begins types f s → (k : List Known) → Alive s k → P k → Q x (length s.locals) k) → Makes None s (gives x s) P Q
   nothing_made x s P Q q = record {
     grown = grows_none s;
+    registers = registers_none types s;
     code = [];
     written = sym (no_more s.code);
     runs = λ b. record {

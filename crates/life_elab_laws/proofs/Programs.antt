@@ -4,32 +4,41 @@ use Rattle.std.proofs.lemmas.Bool.{and_from, and_parts}
 use Rattle.std.proofs.lemmas.Option.{none-some, same_Some, slice_get-map}
 use Rattle.life_types.specs.Types.{Types}
 use Rattle.life_types.specs.declared.ty.Ty.{Ty}
+use Rattle.life_types.specs.declared.ty.TyId.{TyId}
 use Rattle.life_built.specs.Built.{are_built_functions, has_built_types, has_no_structs, is_built}
+use Rattle.life_typed.specs.BaseTypes.{is_value, type_at}
 use Rattle.life_typed.specs.Programs.{FunctionForm, ProgramForm}
 use Rattle.life_core.specs.Function.{Function}
 use Rattle.life_core.specs.Proper.{ANumber, Blank, result_sort}
 use Rattle.life_proper.specs.Checking.{are_checked, checked, is_checked}
+use Rattle.life_proper.specs.Knowing.{entry_known}
 use Rattle.life_proper.specs.Plain.{are_plain, is_plain, is_plain_tree}
+use Rattle.life_proper.specs.ResultsKnown.{ReturnsKnown}
 use Rattle.life_pset.specs.Elements.{AreShort, elements_of}
 use Rattle.life_well_typed.specs.Functions.{AreWellTyped, IsWellTyped, IsWellTypedFunction}
 use Rattle.life_elab.specs.Bounds.{HaveShortPlaces}
 use Rattle.life_elab.specs.Functions.{first_state, function_from, written}
 use Rattle.life_elab.specs.Programs.{Functions, all_functions, around, core_program, functions, with_function}
+use Rattle.life_well_typed.specs.Names.{HasNames, is_function_named}
 use Rattle.life_well_typed.specs.Results.{HasResults, HaveResults}
-use Rattle.life_elab_laws.proofs.Beginning.{first_shaped, first_types}
-use Rattle.life_elab_laws.proofs.Callees.{IsBuiltFunction, built_parts, callee_from, gives_from, takes_values, values_at}
+use Rattle.life_elab_laws.proofs.Beginning.{first_locals, first_shaped, first_types}
+use Rattle.life_elab_laws.proofs.Callees.{IsBuiltFunction, built_parts, callee_from, gives_from, gives_number, takes_values, type_found, values_at}
 use Rattle.life_elab_laws.proofs.Calls.{IsCallee}
 use Rattle.life_elab_laws.proofs.ExpressionKinds.{function_built}
+use Rattle.life_elab_laws.proofs.FormedLocals.{HasFormedHead, all_at, head_formed}
 use Rattle.life_elab_laws.proofs.Fronts.{IsFront, front_itself, front_then}
-use Rattle.life_elab_laws.proofs.FunctionWriting.{function_checked, function_finished, function_plain}
+use Rattle.life_elab_laws.proofs.FunctionWriting.{function_checked, function_finished, function_plain, function_returns}
+use Rattle.life_elab_laws.proofs.GivingBack.{GivesValue}
 use Rattle.life_elab_laws.proofs.Growing.{Begins}
+use Rattle.life_elab_laws.proofs.OrderedTypes.{KeepsOrder, order_none, order_then}
 use Rattle.life_elab_laws.proofs.Setting.{Setting}
 use Rattle.life_elab_laws.proofs.Shaped.{AreShaped, shaped_later}
 use Rattle.life_elab_laws.proofs.ShortPlaces.{short_function}
+use Rattle.life_elab_laws.proofs.WrittenLocals.{AreWrittenLocals}
 
 -- ---- one function among others
 
-typed_at : (p : ProgramForm) (fs : List FunctionForm) (n : ℕ) (f : FunctionForm) → AreWellTyped p fs → slice_get fs n ≡ Some f → IsWellTypedFunction p f
+pub typed_at : (p : ProgramForm) (fs : List FunctionForm) (n : ℕ) (f : FunctionForm) → AreWellTyped p fs → slice_get fs n ≡ Some f → IsWellTypedFunction p f
 typed_at p [] n f h at = absurd (none-some f at)
 typed_at p (x ∷ fs) zero f h at = subst (IsWellTypedFunction p) (same_Some x f at) h.0
 typed_at p (x ∷ fs) (suc n) f h at = typed_at p fs n f h.1 at
@@ -39,7 +48,7 @@ there [] n lt = absurd (omega (arith, lt))
 there (x ∷ xs) zero lt = (x, refl)
 there (x ∷ xs) (suc n) lt = there xs n (omega (arith, lt))
 
-result_at : (types : Types) (fs : List FunctionForm) (n : ℕ) (f : FunctionForm) → HaveResults types fs → slice_get fs n ≡ Some f → (t : Ty) × (slice_get types.types f.result.0 ≡ Some t)
+pub result_at : (types : Types) (fs : List FunctionForm) (n : ℕ) (f : FunctionForm) → HaveResults types fs → slice_get fs n ≡ Some f → (t : Ty) × (slice_get types.types f.result.0 ≡ Some t)
 result_at types [] n f h at = absurd (none-some f at)
 result_at types (x ∷ fs) zero f h at = subst (λ (y : FunctionForm). (t : Ty) × (slice_get types.types y.result.0 ≡ Some t)) (same_Some x f at) (there types.types x.result.0 h.0)
 result_at types (x ∷ fs) (suc n) f h at = result_at types fs n f h.1 at
@@ -49,6 +58,8 @@ pub record FunctionGrows (p : ProgramForm) (f : FunctionForm) (T : Types) : Type
   pub locals : IsFront (first_state (around p f) T).locals (written (around p f) T).locals
   pub table : IsFront T.types (written (around p f) T).types.types
   pub shaped : AreShaped p.types (written (around p f) T).locals
+  pub own : AreWrittenLocals p.types (around p f) (written (around p f) T)
+  pub order : KeepsOrder T (written (around p f) T).types
 
 -- a core function is what is written for a typed one, in a table that the program's ends with
 pub record IsWritten (p : ProgramForm) (types : Types) (f : FunctionForm) (core : Function) : Type 0 where
@@ -62,7 +73,7 @@ AreWritten p types [] [] = Unit {0}
 AreWritten p types (f ∷ fs) (core ∷ cores) = IsWritten p types f core × AreWritten p types fs cores
 AreWritten p types _ _ = ⊥
 
-written_at : (p : ProgramForm) (types : Types) (fs : List FunctionForm) (cores : List Function) (n : ℕ) (f : FunctionForm) → AreWritten p types fs cores → slice_get fs n ≡ Some f
+pub written_at : (p : ProgramForm) (types : Types) (fs : List FunctionForm) (cores : List Function) (n : ℕ) (f : FunctionForm) → AreWritten p types fs cores → slice_get fs n ≡ Some f
     → (core : Function) × (slice_get cores n ≡ Some core) × IsWritten p types f core
 written_at p types [] [] n f h at = absurd (none-some f at)
 written_at p types (x ∷ fs) (core ∷ cores) zero f h at = (core, refl, subst (λ (y : FunctionForm). IsWritten p types y core) (same_Some x f at) h.0)
@@ -74,23 +85,25 @@ pub record AllWritten (p : ProgramForm) (fs : List FunctionForm) (w : Functions)
   pub more : List Function
   pub listed : (functions p fs w).functions ≡ w.functions ++ more
   pub table : IsFront w.types.types (functions p fs w).types.types
+  pub order : KeepsOrder w.types (functions p fs w).types
   pub each : (types : Types) → IsFront (functions p fs w).types.types types.types → AreWritten p types fs more
 
 all_written : (p : ProgramForm) (fs : List FunctionForm) (w : Functions) → ((n : ℕ) (f : FunctionForm) → slice_get fs n ≡ Some f → (T : Types) → IsFront p.types.types T.types → FunctionGrows p f T) → IsFront p.types.types w.types.types → AllWritten p fs w
-all_written p [] w grows table = record { more = []; listed = sym (append-nil w.functions); table = front_itself w.types.types; each = λ types later. tt }
+all_written p [] w grows table = record { more = []; listed = sym (append-nil w.functions); table = front_itself w.types.types; order = order_none w.types; each = λ types later. tt }
 all_written p (f ∷ fs) w grows table =
     let s = written (around p f) w.types in
-    let here = (grows zero f refl w.types table).table in
-    let rest = all_written p fs (with_function f s w) (λ n. grows (suc n)) (front_then p.types.types w.types.types s.types.types table here) in
+    let one = grows zero f refl w.types table in
+    let rest = all_written p fs (with_function f s w) (λ n. grows (suc n)) (front_then p.types.types w.types.types s.types.types table one.table) in
     record {
       more = function_from f s ∷ rest.more;
       listed = rest.listed ∙ append_assoc w.functions (function_from f s ∷ []) rest.more;
-      table = front_then w.types.types s.types.types _ here rest.table;
+      table = front_then w.types.types s.types.types _ one.table rest.table;
+      order = order_then w.types s.types _ one.order rest.order;
       each = λ types later. (record { before = w.types; table = table; is = refl; later = front_then s.types.types _ types.types rest.table later }, rest.each types later);
     }
 
 module _ (p : ProgramForm) (typed : IsWellTyped p) (built : are_built_functions p.types p.functions ≡ true) (results : HasResults p) where
-  parts : (n : ℕ) (f : FunctionForm) → slice_get p.functions n ≡ Some f → IsBuiltFunction p.types f
+  pub parts : (n : ℕ) (f : FunctionForm) → slice_get p.functions n ≡ Some f → IsBuiltFunction p.types f
   parts n f at = built_parts p.types f (function_built p.types p.functions n f built at)
 
   setting_of : (types : Types) (fs : List Function) (f : FunctionForm) (core : Function) (n : ℕ) → slice_get p.functions n ≡ Some f → IsFront p.types.types types.types
@@ -103,6 +116,7 @@ module _ (p : ProgramForm) (typed : IsWellTyped p) (built : are_built_functions 
     result = (parts n f at).result;
     taken = λ g of there m id is. values_at p.types (take (length of.parameters) of.locals) (parts g of there).parameters m id is;
     callees = callees;
+    results = λ g of there. result_at p.types p.functions g of results there;
     gives = gives;
     shaped = shaped;
   }
@@ -129,7 +143,7 @@ module _ (p : ProgramForm) (typed : IsWellTyped p) (built : are_built_functions 
       (gives_from p f p.types p.types (map begun p.functions) (begun f) fits (parts n f at) t.0 t.1 (front_itself p.types.types) (front_itself p.types.types) refl refl (front_itself (first_state (around p f) p.types).locals))
       (first_shaped (around p f) p.types fits (front_itself p.types.types) (parts n f at).variables)
 
-  grows : (n : ℕ) (f : FunctionForm) → slice_get p.functions n ≡ Some f → (T : Types) → IsFront p.types.types T.types → FunctionGrows p f T
+  pub grows : (n : ℕ) (f : FunctionForm) → slice_get p.functions n ≡ Some f → (T : Types) → IsFront p.types.types T.types → FunctionGrows p f T
   grows n f at T table =
       let t = result_at p.types p.functions n f results at in
       let is = typed_at p p.functions n f typed at in
@@ -138,36 +152,42 @@ module _ (p : ProgramForm) (typed : IsWellTyped p) (built : are_built_functions 
         locals = done.does.adds.locals;
         table = subst (λ (x : Types). IsFront x.types (written (around p f) T).types.types) (first_types (around p f) T is.parameters table) done.does.adds.table;
         shaped = done.does.adds.shaped (first_shaped (around p f) T is.parameters table (parts n f at).variables);
+        own = done.does.locals (first_locals (around p f) T is.parameters table p.types t.0 t.1 (parts n f at).result);
+        order = subst (λ (x : Types). KeepsOrder x (written (around p f) T).types) (first_types (around p f) T is.parameters table) done.does.order;
       }
 
   -- ---- the finished program
 
-  abbrev whole : Functions
+  abbrev pub whole : Functions
   whole = all_functions p
 
   all : AllWritten p p.functions (record { types = p.types; functions = [] })
   all = all_written p p.functions (record { types = p.types; functions = [] }) grows (front_itself p.types.types)
 
-  each_written : AreWritten p whole.types p.functions whole.functions
+  -- .. in whose table each type comes behind its parts, and which has no more structs
+  pub whole_order : KeepsOrder p.types whole.types
+  whole_order = all.order
+
+  pub each_written : AreWritten p whole.types p.functions whole.functions
   each_written = subst (AreWritten p whole.types p.functions) (sym all.listed) (all.each whole.types (front_itself whole.types.types))
 
   module _ (n : ℕ) (f : FunctionForm) (at : slice_get p.functions n ≡ Some f) (core : Function) (w : IsWritten p whole.types f core) where
-    later : IsFront w.before.types whole.types.types
+    pub later : IsFront w.before.types whole.types.types
     later = front_then w.before.types (written (around p f) w.before).types.types whole.types.types (grows n f at w.before w.table).table w.later
 
-    front : IsFront p.types.types whole.types.types
+    pub front : IsFront p.types.types whole.types.types
     front = front_then p.types.types w.before.types whole.types.types w.table later
 
-    shaped : AreShaped whole.types core.locals
+    pub shaped : AreShaped whole.types core.locals
     shaped = shaped_later p.types whole.types front core.locals (subst (λ (c : Function). AreShaped p.types c.locals) (sym w.is) (grows n f at w.before w.table).shaped)
 
-    count : core.parameters ≡ length f.parameters
+    pub count : core.parameters ≡ length f.parameters
     count = ap (λ (c : Function). c.parameters) w.is
 
-    same : core.result ≡ f.result
+    pub same : core.result ≡ f.result
     same = ap (λ (c : Function). c.result) w.is
 
-    locals : IsFront (first_state (around p f) w.before).locals core.locals
+    pub locals : IsFront (first_state (around p f) w.before).locals core.locals
     locals = subst (λ (c : Function). IsFront (first_state (around p f) w.before).locals c.locals) (sym w.is) (grows n f at w.before w.table).locals
 
     written_callee : slice_get whole.functions n ≡ Some core → IsCallee p.types whole.types whole.functions n f
@@ -180,7 +200,18 @@ module _ (p : ProgramForm) (typed : IsWellTyped p) (built : are_built_functions 
         let t = result_at p.types p.functions n f results at in
         gives_from p f w.before whole.types whole.functions core (typed_at p p.functions n f typed at).parameters (parts n f at) t.0 t.1 w.table later count same locals
 
-    written_begins : Begins whole.types core (written (around p f) w.before)
+    pub written_number : is_value (type_at p.types f.result) ≡ true → result_sort whole.types core ≡ ANumber
+    written_number =
+        let t = result_at p.types p.functions n f results at in
+        gives_number p f w.before whole.types whole.functions core (typed_at p p.functions n f typed at).parameters (parts n f at) t.0 t.1 w.table later count same locals
+
+    -- the type of what it gives back
+    pub written_result : slice_get whole.types.types core.result.0 ≡ Some (type_at p.types f.result)
+    written_result =
+        let t = result_at p.types p.functions n f results at in
+        ap (λ (id : TyId). slice_get whole.types.types id.0) same ∙ front f.result.0 t.0 t.1 ∙ ap Some (sym (type_found p.types f.result t.0 t.1))
+
+    pub written_begins : Begins whole.types core (written (around p f) w.before)
     written_begins = record {
       locals = subst (λ (c : Function). IsFront (written (around p f) w.before).locals c.locals) (sym w.is) (front_itself (written (around p f) w.before).locals);
       table = w.later;
@@ -189,15 +220,23 @@ module _ (p : ProgramForm) (typed : IsWellTyped p) (built : are_built_functions 
   callee : (g : ℕ) (of : FunctionForm) → slice_get p.functions g ≡ Some of → IsCallee p.types whole.types whole.functions g of
   callee g of at = let found = written_at p whole.types p.functions whole.functions g of each_written at in written_callee g of at found.0 found.2 found.1
 
-  written_setting : (n : ℕ) (f : FunctionForm) (at : slice_get p.functions n ≡ Some f) (core : Function) → IsWritten p whole.types f core → Setting (around p f) whole.types whole.functions core
+  pub written_setting : (n : ℕ) (f : FunctionForm) (at : slice_get p.functions n ≡ Some f) (core : Function) → IsWritten p whole.types f core → Setting (around p f) whole.types whole.functions core
   written_setting n f at core w =
       setting_of whole.types whole.functions f core n at (front n f at core w) callee (written_gives n f at core w) (shaped n f at core w)
 
-  one_checked : (n : ℕ) (f : FunctionForm) → slice_get p.functions n ≡ Some f → (core : Function) → IsWritten p whole.types f core → is_checked whole.types whole.functions core ≡ true
+  pub one_checked : (n : ℕ) (f : FunctionForm) → slice_get p.functions n ≡ Some f → (core : Function) → IsWritten p whole.types f core → is_checked whole.types whole.functions core ≡ true
   one_checked n f at core w =
       let t = result_at p.types p.functions n f results at in
       let is = typed_at p p.functions n f typed at in
       function_checked p f w.before whole.types whole.functions core (written_setting n f at core w) is.parameters (parts n f at) is.body t.0 t.1 w.table
+      (written_begins n f at core w) (count n f at core w) (locals n f at core w) (ap (λ (c : Function). c.body) w.is)
+
+  pub one_returns : (n : ℕ) (f : FunctionForm) → slice_get p.functions n ≡ Some f → (core : Function) → IsWritten p whole.types f core → GivesValue (around p f)
+      → ReturnsKnown whole.types whole.functions core core.parameters core.body (Some (entry_known whole.types core))
+  one_returns n f at core w =
+      let t = result_at p.types p.functions n f results at in
+      let is = typed_at p p.functions n f typed at in
+      function_returns p f w.before whole.types whole.functions core (written_setting n f at core w) is.parameters (parts n f at) is.body t.0 t.1 w.table
       (written_begins n f at core w) (count n f at core w) (locals n f at core w) (ap (λ (c : Function). c.body) w.is)
 
   one_plain : (n : ℕ) (f : FunctionForm) → slice_get p.functions n ≡ Some f → (core : Function) → IsWritten p whole.types f core → is_plain_tree whole.types whole.functions core core.body ≡ true
@@ -213,6 +252,15 @@ module _ (p : ProgramForm) (typed : IsWellTyped p) (built : are_built_functions 
       short_function whole.types core (shaped n f at core w)
       (takes_values p f w.before whole.types whole.functions core (typed_at p p.functions n f typed at).parameters (parts n f at) t.0 t.1 w.table
       (later n f at core w) (count n f at core w) (same n f at core w) (locals n f at core w))
+
+  -- the locals are well formed, and what else stands beside the body
+  pub one_head : HasNames p → (n : ℕ) (f : FunctionForm) → slice_get p.functions n ≡ Some f → (core : Function) → IsWritten p whole.types f core → HasFormedHead whole.types (length p.names) core
+  one_head names n f at core w =
+      let t = result_at p.types p.functions n f results at in
+      let g = grows n f at w.before w.table in
+      subst (HasFormedHead whole.types (length p.names)) (sym w.is)
+      (head_formed p f w.before whole.types (length p.names) (typed_at p p.functions n f typed at).parameters (parts n f at) t.0 t.1 w.table (front n f at core w) g.locals w.later g.own
+      (all_at (is_function_named (length p.names)) p.functions n f names.named at))
 
   all_checked : (fs : List FunctionForm) (cores : List Function) → ((n : ℕ) (f : FunctionForm) → slice_get fs n ≡ Some f → (core : Function) → IsWritten p whole.types f core → is_checked whole.types whole.functions core ≡ true)
       → AreWritten p whole.types fs cores → are_checked whole.types whole.functions cores ≡ true
@@ -245,7 +293,7 @@ module _ (p : ProgramForm) (typed : IsWellTyped p) (built : are_built_functions 
 
 -- ---- of what is built
 
-functions_built : (p : ProgramForm) → is_built p ≡ true → are_built_functions p.types p.functions ≡ true
+pub functions_built : (p : ProgramForm) → is_built p ≡ true → are_built_functions p.types p.functions ≡ true
 functions_built p b = (and_parts (has_no_structs p.structs) (are_built_functions p.types p.functions) (and_parts (has_built_types p.types) _ b).1).1
 
 pub translation_checked : (p : ProgramForm) → IsWellTyped p → HasResults p → is_built p ≡ true → checked (core_program p) ≡ true

@@ -1,35 +1,48 @@
 -- break, continue and return.
-use Rattle.std.proofs.Common.{◌≡◌, ◌⊎◌, inl, inr, Bool, true, false, ◌||◌, List, take, Option, Some, None, refl, sym, ap, ◌∙◌, subst}
+use Rattle.std.proofs.Common.{◌≡◌, ◌⊎◌, inl, inr, Bool, true, false, ◌||◌, ℕ, List, [], ◌∷◌, ◌++◌, drop, reverse, take, Option, Some, None, refl, sym, ap, ◌∙◌, subst, append_assoc}
 use Rattle.std.proofs.lemmas.Bool.{and_from, false≢true}
+use Rattle.std.proofs.lemmas.Option.{same_Some}
 use Rattle.life_types.specs.Types.{Types}
 use Rattle.life_types.specs.declared.place.Place.{Place}
+use Rattle.life_types.specs.declared.ty.NameId.{NameId}
 use Rattle.life_types.specs.declared.ty.Ty.{Ty}
 use Rattle.life_types.specs.declared.ty.Ty.TheVariants as ty
-use Rattle.life_built.specs.Built.{is_built_if_any, is_void}
+use Rattle.life_built.specs.Built.{is_built_expression, is_built_if_any, is_void}
 use Rattle.life_typed.specs.BaseTypes.{is_value, type_at}
 use Rattle.life_typed.specs.TypedForm.{Typed, whole as whole_form}
 use Rattle.life_type_stmt.specs.Returns as typing
 use Rattle.life_core.specs.Function.{Function}
 use Rattle.life_core.specs.Proper.{ANumber, Blank, Holding, result_sort}
-use Rattle.life_core.specs.Tree.{Breaks, Continues, Returns}
+use Rattle.life_core.specs.Tree.{Tree, Breaks, Continues, Returns, trees}
+use Rattle.life_core.specs.declared.program.Local.{Local}
 use Rattle.life_proper.specs.declared.known.Known.{Known}
-use Rattle.life_proper.specs.Knowing.{known_as}
+use Rattle.life_proper.specs.Checking.{Flow, flow}
+use Rattle.life_proper.specs.Knowing.{State as Knowing, known_as, known_at}
 use Rattle.life_proper.specs.ReadyKnown.{is_result_ready}
+use Rattle.life_proper.specs.ResultsKnown.{IsKnownNumber}
 use Rattle.life_well_typed.specs.Statements.{IsReturned}
 use Rattle.life_well_typed.specs.Visible.{Visible}
 use Rattle.life_writer.specs.Around.{Around, result_local}
 use Rattle.life_writer.specs.Expressions.{value}
-use Rattle.life_writer.specs.Writing.{State}
+use Rattle.life_writer.specs.Writing.{State, Gives, with_code, write}
 use Rattle.life_elab.specs.Statements.{left, result_given}
-use Rattle.life_elab_laws.proofs.Doing.{DoesLevel, does_made, does_nothing, does_then, none_leaves}
-use Rattle.life_elab_laws.proofs.Exits.{MayLeave}
-use Rattle.life_elab_laws.proofs.ExpressionWriting.{given_number, value_made}
-use Rattle.life_elab_laws.proofs.Following.{Follows, HasRegister}
-use Rattle.life_elab_laws.proofs.Leaving.{left_does, left_level}
-use Rattle.life_elab_laws.proofs.Making.{IsNumber}
+use Rattle.life_elab_laws.proofs.Among.{Among, among_drop, reverse_among}
+use Rattle.life_elab_laws.proofs.Doing.{Acting, Does, DoesLevel, acts_then, made_acts, made_knows, none_leaves}
+use Rattle.life_elab_laws.proofs.Ending.{blank_beside}
+use Rattle.life_elab_laws.proofs.Exits.{Leaves, MayKnow, MayLeave}
+use Rattle.life_elab_laws.proofs.ExpressionWriting.{value_made}
+use Rattle.life_elab_laws.proofs.GivenKinds.{given_number}
+use Rattle.life_elab_laws.proofs.GivingBack.{GivesValue, fine_known, known_append, nowhere_number}
+use Rattle.life_elab_laws.proofs.Growing.{Begins}
+use Rattle.life_elab_laws.proofs.Following.{Follows, HasRegister, IsLiving, adds_coded, follows_coded, follows_grown, grows_adds, knows_alive}
+use Rattle.life_elab_laws.proofs.Leaving.{IsEnded, ended, left_acts, left_does, left_level, past_ready}
+use Rattle.life_elab_laws.proofs.Making.{Always, IsNumber, Makes}
+use Rattle.life_elab_laws.proofs.Nowhere.{nowhere_flows}
+use Rattle.life_elab_laws.proofs.ResultRegisters.{value_register}
 use Rattle.life_elab_laws.proofs.Setting.{Setting}
+use Rattle.life_elab_laws.proofs.WrittenLocals.{locals_added}
 
-not_void : (t : Ty) → (is_void t || is_value t) ≡ true → typing.is_void t ≡ false → is_value t ≡ true
+pub not_void : (t : Ty) → (is_void t || is_value t) ≡ true → typing.is_void t ≡ false → is_value t ≡ true
 not_void ty.Void b e = absurd (false≢true (sym e))
 not_void ty.Bool b e = refl
 not_void ty.Char b e = refl
@@ -39,6 +52,24 @@ not_void ty.Size b e = refl
 not_void _ b e = absurd (false≢true b)
 
 module _ (a : Around) (types : Types) (fs : List Function) (f : Function) (setting : Setting a types fs f) (v : Visible) (in_loop : Bool) where
+  result_ready : (k : List Known) → is_result_ready k f.parameters (known_as (result_sort types f)) ≡ true
+  result_ready k = go setting.gives
+    where
+      go : (result_sort types f ≡ Blank) ⊎ (result_sort types f ≡ ANumber) → is_result_ready k f.parameters (known_as (result_sort types f)) ≡ true
+      go (inl e) = ap (λ (g : Holding). is_result_ready k f.parameters (known_as g)) e
+      go (inr e) = ap (λ (g : Holding). is_result_ready k f.parameters (known_as g)) e
+
+  -- control returns
+  return_leaves : (s : State) (keyword : Place) (k : List Known) → Leaves types fs f in_loop s.living (take s.outside s.living) (flow types fs f (trees (Returns keyword ∷ [])) (Some k))
+  return_leaves s keyword k = record {
+    fine = and_from (is_result_ready k f.parameters (known_as (result_sort types f))) true (result_ready k) refl;
+    next = tt;
+    on_break = none_leaves types fs f in_loop (take s.outside s.living);
+    on_continue = none_leaves types fs f in_loop (take s.outside s.living);
+    on_true = refl;
+    on_false = refl;
+  }
+
   module _ (s : State) (h : Follows types fs f a v s) where
     pub break_does : in_loop ≡ true → (keyword : Place) → DoesLevel types fs f a v in_loop s (left s.outside keyword Breaks s)
     break_does e keyword = record {
@@ -50,7 +81,8 @@ module _ (a : Around) (types : Types) (fs : List Function) (f : Function) (setti
             on_continue = none_leaves types fs f in_loop (take s.outside s.living);
             on_true = refl;
             on_false = refl;
-          });
+          })
+          (λ gives o. (tt, tt));
       level = left_level types fs f s s.outside keyword Breaks;
     }
 
@@ -64,50 +96,110 @@ module _ (a : Around) (types : Types) (fs : List Function) (f : Function) (setti
             on_continue = subst (λ (b : Bool). MayLeave types fs f b (take s.outside s.living) (Some k)) (sym e) knows;
             on_true = refl;
             on_false = refl;
-          });
+          })
+          (λ gives o. (tt, tt));
       level = left_level types fs f s s.outside keyword Continues;
     }
 
-    result_ready : (k : List Known) → is_result_ready k f.parameters (known_as (result_sort types f)) ≡ true
-    result_ready k = go setting.gives
-      where
-        go : (result_sort types f ≡ Blank) ⊎ (result_sort types f ≡ ANumber) → is_result_ready k f.parameters (known_as (result_sort types f)) ≡ true
-        go (inl e) = ap (λ (g : Holding). is_result_ready k f.parameters (known_as g)) e
-        go (inr e) = ap (λ (g : Holding). is_result_ready k f.parameters (known_as g)) e
-
-    -- control returns
-    pub return_does : (keyword : Place) → DoesLevel types fs f a v in_loop s (left 0 keyword (Returns keyword) s)
-    return_does keyword = record {
-      does = left_does types fs f a v in_loop s h 0 keyword (Returns keyword) (record { statement = refl; tests = refl; plain = refl })
-          (λ k knows. record {
-            fine = and_from (is_result_ready k f.parameters (known_as (result_sort types f))) true (result_ready k) refl;
-            next = tt;
-            on_break = none_leaves types fs f in_loop (take s.outside s.living);
-            on_continue = none_leaves types fs f in_loop (take s.outside s.living);
-            on_true = refl;
-            on_false = refl;
-          });
+    -- control returns where no value has to be given back
+    pub return_does : (GivesValue a → ⊥) → (keyword : Place) → DoesLevel types fs f a v in_loop s (left 0 keyword (Returns keyword) s)
+    return_does never keyword = record {
+      does = left_does types fs f a v in_loop s h 0 keyword (Returns keyword) (record { statement = refl; tests = refl; plain = refl }) (λ k knows. return_leaves s keyword k) (λ gives o. absurd (never gives));
       level = left_level types fs f s 0 keyword (Returns keyword);
     }
 
-    -- the result is computed before
-    given_does : HasRegister a s → (value : Option Typed) → is_built_if_any value ≡ true → IsReturned a.program a.function.locals a.function.result v.visible value → DoesLevel types fs f a v in_loop s (result_given a value s)
-    given_does register None b r = record { does = does_nothing types fs f a v in_loop s h; level = refl }
-    given_does register (Some e) b r =
-        let t = type_at a.program.types a.function.result in
-        let worth = not_void t setting.result r.0 in
-        let made = value_made a v.visible types fs f setting (whole_form e) b r.2 (given_number a v.visible types fs f setting t e.ty worth r.1) t worth (Some (result_local a)) s (register worth) h.stands in
-        record {
-          does = does_made types fs f a v in_loop (Some (result_local a)) s (value a (whole_form e) t (Some (result_local a)) s) IsNumber h made;
-          level = made.grown.living;
-        }
+    -- .. and behind the value that is given back
+    module _ (register : HasRegister a s) (e : Typed) (keyword : Place) (b_e : is_built_expression e ≡ true) (r : IsReturned a.program a.function.locals a.function.result v.visible (Some e)) where
+      abbrev t : Ty
+      t = type_at a.program.types a.function.result
 
-  pub returned_does : (s : State) → Follows types fs f a v s → HasRegister a s → (keyword : Place) (value : Option Typed) → is_built_if_any value ≡ true → IsReturned a.program a.function.locals a.function.result v.visible value
-      → DoesLevel types fs f a v in_loop s (left 0 keyword (Returns keyword) (result_given a value s))
-  returned_does s h register keyword value b r =
-      let first = given_does s h register value b r in
-      let second = return_does (result_given a value s) first.does.follows keyword in
-      record {
-        does = does_then types fs f a v v in_loop s (result_given a value s) (left 0 keyword (Returns keyword) (result_given a value s)) h.outside first.does second.does;
-        level = second.level ∙ first.level;
-      }
+      abbrev w : Gives ℕ
+      w = value a (whole_form e) t (Some (result_local a)) s
+
+      worth : is_value t ≡ true
+      worth = not_void t setting.result r.0
+
+      made : Makes types fs f (Some (result_local a)) s w Always IsNumber
+      made = value_made a v.visible types fs f setting (whole_form e) b_e r.2 (given_number a.program.types t e worth r.1) t worth (Some (result_local a)) s (register worth).0 h.stands
+
+      later : Follows types fs f a v w.state
+      later = follows_grown types fs f a v s w.state made.grown h
+
+      abbrev ending : List ℕ
+      ending = reverse (drop 0 w.state.living)
+
+      -- its register isn't a variable's, so it stays where all variables end
+      not_ending : Among (result_local a) ending → ⊥
+      not_ending m = named is.local (register worth).0.local is.name (same_Some is.local (register worth).0.local (sym is.there ∙ made.grown.locals (result_local a) (register worth).0.local (register worth).0.there)) is.named (register worth).0.nameless
+        where
+          is : IsLiving w.state (result_local a)
+          is = later.living (result_local a) (among_drop 0 w.state.living (result_local a) (reverse_among (drop 0 w.state.living) (result_local a) m))
+
+          named : (l u : Local) (name : NameId) → l ≡ u → l.name ≡ Some name → u.name ≡ None → ⊥
+          named l u name same e n = clash (sym e ∙ ap (λ (x : Local). x.name) same ∙ n)
+            where
+              clash : Some name ≡ None → ⊥
+              clash e = cc
+
+      module _ (d : IsEnded types fs f ending keyword w.state) where
+        abbrev back : List Tree
+        back = d.code ++ Returns keyword ∷ []
+
+        abbrev behind : State
+        behind = write (Returns keyword) (with_code (w.state.code ++ d.code) w.state)
+
+        -- what is known where control returns
+        known_there : Begins types f w.state → (o : Knowing) → MayKnow types fs f s.living o → IsKnownNumber (result_local a) (flow types fs f (trees d.code) (flow types fs f (trees made.code) o).next).next
+        known_there b None known =
+            nowhere_number (result_local a) (flow types fs f (trees d.code) (flow types fs f (trees made.code) None).next).next
+            (nowhere_flows types fs f (trees d.code) (flow types fs f (trees made.code) None).next (nowhere_flows types fs f (trees made.code) None refl).next).next
+        known_there b (Some k) known =
+            let g = (made.runs b).goes k (knows_alive types fs f a v s k known) tt in
+            let mid = made_knows types fs f a v in_loop (Some (result_local a)) s w IsNumber h made b k known g in
+            subst (λ (q : Flow). IsKnownNumber (result_local a) (flow types fs f (trees d.code) q.next).next) (sym g.falls)
+            (subst (λ (q : Flow). IsKnownNumber (result_local a) q.next) (sym (d.falls g.after (past_ready types fs f a v w.state later b 0 g.after mid)))
+            (blank_beside ending g.after (result_local a) not_ending
+            ∙ ap (known_at g.after) (sym (value_register a v.visible types fs f setting (whole_form e) b_e r.2 (given_number a.program.types t e worth r.1) t (result_local a) s))
+            ∙ g.gives.1))
+
+        returned_from : Does types fs f a v in_loop s behind
+        returned_from = record {
+          adds = adds_coded types fs f s w.state ((w.state.code ++ d.code) ++ Returns keyword ∷ []) (grows_adds types fs f s w.state made.grown);
+          locals = locals_added types a s w.state made.grown.types made.registers;
+          order = made.registers.1;
+          follows = follows_coded types fs f a v w.state ((w.state.code ++ d.code) ++ Returns keyword ∷ []) later;
+          code = made.code ++ back;
+          written =
+              ap (λ (c : List Tree). (c ++ d.code) ++ Returns keyword ∷ []) made.written
+              ∙ append_assoc (s.code ++ made.code) d.code (Returns keyword ∷ [])
+              ∙ append_assoc s.code made.code back;
+          acts = λ b. acting (record { locals = b.locals; table = b.table });
+          returns = λ b gives o known.
+              let between : Knowing = (flow types fs f (trees made.code) o).next in
+              known_append types fs f (result_local a) made.code back o (fine_known types fs f (result_local a) made.code (made.runs (record { locals = b.locals; table = b.table })).fine o)
+              (known_append types fs f (result_local a) d.code (Returns keyword ∷ []) between (fine_known types fs f (result_local a) d.code d.fine between)
+              (known_there (record { locals = b.locals; table = b.table }) o known, tt));
+        }
+          where
+            acting : Begins types f w.state → Acting types fs f in_loop s behind (made.code ++ back)
+            acting b =
+                acts_then types fs f in_loop s w.state behind made.code back h.outside (grows_adds types fs f s w.state made.grown)
+                (made_acts types fs f a v in_loop (Some (result_local a)) s w IsNumber h made b)
+                (left_acts types fs f a v in_loop w.state later 0 keyword (Returns keyword) (record { statement = refl; tests = refl; plain = refl }) (λ k knows. return_leaves w.state keyword k) d b)
+
+      pub value_returned : DoesLevel types fs f a v in_loop s (left 0 keyword (Returns keyword) w.state)
+      value_returned =
+          let d = ended types fs f ending keyword w.state in
+          record {
+            does = subst (λ (q : State). Does types fs f a v in_loop s (write (Returns keyword) q)) (sym d.written) (returned_from d);
+            level = left_level types fs f w.state 0 keyword (Returns keyword) ∙ made.grown.living;
+          }
+
+    no_value : (x : Ty) → typing.is_void x ≡ true → is_value x ≡ false
+    no_value ty.Void e = refl
+    no_value _ e = absurd (false≢true e)
+
+    pub returned_does : HasRegister a s → (keyword : Place) (given : Option Typed) → is_built_if_any given ≡ true → IsReturned a.program a.function.locals a.function.result v.visible given
+        → DoesLevel types fs f a v in_loop s (left 0 keyword (Returns keyword) (result_given a given s))
+    returned_does register keyword None b r = return_does (λ gives. false≢true (sym (no_value (type_at a.program.types a.function.result) r) ∙ gives.0)) keyword
+    returned_does register keyword (Some e) b r = value_returned register e keyword b r

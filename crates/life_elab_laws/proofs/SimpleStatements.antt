@@ -1,5 +1,5 @@
 -- Assignments, steps, calls and output as statements.
-use Rattle.std.proofs.Common.{◌≡◌, ℕ, Bool, true, false, ◌&&◌, cond, List, [], ◌∷◌, None, refl, sym, ◌∙◌, subst}
+use Rattle.std.proofs.Common.{◌≡◌, ℕ, Bool, true, false, ◌&&◌, cond, not, List, [], ◌∷◌, None, refl, sym, ◌∙◌, subst}
 use Rattle.std.proofs.lemmas.Bool.{and_parts, false≢true}
 use Rattle.life_types.specs.Types.{Types}
 use Rattle.life_types.specs.declared.place.Place.{Place}
@@ -17,6 +17,8 @@ use Rattle.life_typed.specs.TypedStatement.{ItemForm, SimpleForm, assign, compou
 use Rattle.life_typed.specs.declared.typed_expr.ExprType.{ExprType}
 use Rattle.life_typed.specs.declared.typed_expr.ExprType.TheVariants.{Of, NullPointer, TextLiteral}
 use Rattle.life_type_expr.specs.Lists.{fits_at_all}
+use Rattle.life_type_expr.specs.Operands.{is_constant}
+use Rattle.life_type_stmt.specs.Simples.{is_place}
 use Rattle.life_core.specs.Function.{Function}
 use Rattle.life_well_typed.specs.Given.{is_given, is_number}
 use Rattle.life_well_typed.specs.Statements.{AreItems, IsSimple}
@@ -38,7 +40,7 @@ use Rattle.life_elab_laws.proofs.VariablePlaces.{Stands}
 
 -- ---- what is computed with is a number
 
-own_counts : (t : ExprType) → is_value (own_type t) ≡ true → is_number t ≡ true
+pub own_counts : (t : ExprType) → is_value (own_type t) ≡ true → is_number t ≡ true
 own_counts (Of t) e = e
 own_counts NullPointer e = absurd (false≢true e)
 own_counts TextLiteral e = absurd (false≢true e)
@@ -52,14 +54,14 @@ counted_numbers t (Of u) h = and_parts (is_value t) (is_value u) (go (is_value t
 counted_numbers t NullPointer h = absurd (false≢true h)
 counted_numbers t TextLiteral h = absurd (false≢true h)
 
-compounded_numbers : (o : CompoundOperator) (t : Ty) (e : ExprType) → is_text t ≡ false → fits_at_all (compounded o t e) ≡ true → (is_value t ≡ true) × (is_number e ≡ true)
+pub compounded_numbers : (o : CompoundOperator) (t : Ty) (e : ExprType) → is_text t ≡ false → fits_at_all (compounded o t e) ≡ true → (is_value t ≡ true) × (is_number e ≡ true)
 compounded_numbers compound_by.Add t e text h = let plain : fits_at_all (counted t e) ≡ true = rw text at h in counted_numbers t e plain
 compounded_numbers compound_by.Subtract t e text h = counted_numbers t e h
 compounded_numbers compound_by.Multiply t e text h = counted_numbers t e h
 compounded_numbers compound_by.Divide t e text h = counted_numbers t e h
 compounded_numbers compound_by.Remainder t e text h = counted_numbers t e h
 
-step_value : (t : Ty) → is_iterator t ≡ false → can_step t ≡ true → is_value t ≡ true
+pub step_value : (t : Ty) → is_iterator t ≡ false → can_step t ≡ true → is_value t ≡ true
 step_value ty.Char i h = refl
 step_value ty.Int i h = refl
 step_value ty.Long i h = refl
@@ -68,7 +70,7 @@ step_value (ty.Iterator target constant) i h = absurd (false≢true (sym i))
 step_value _ i h = absurd (false≢true h)
 
 -- an operand's own type is neither text nor an iterator
-own_plain : (t : ExprType) → IsOperand t → IsPlain (own_type t)
+pub own_plain : (t : ExprType) → IsOperand t → IsPlain (own_type t)
 own_plain t (of_type u is s) = subst (λ (x : ExprType). IsPlain (own_type x)) (sym is) s
 own_plain t (of_null is) = subst (λ (x : ExprType). IsPlain (own_type x)) (sym is) (record { text = refl; view = refl; unique = refl; iterator = refl })
 
@@ -81,12 +83,12 @@ module _ (a : Around) (types : Types) (fs : List Function) (f : Function) (setti
         → IsSimple a.program a.function.locals result visible (assign target equals (one e)) → Stands types fs f a visible s → Acts s (assigned a target equals (one e) s)
     assigned_made target e equals s bt be h stands = go (is_raw (own_type target.ty)) refl
       where
-        given : is_given (own_type target.ty) e.ty ≡ true
-        given = subst (λ (t : Ty). is_given t e.ty ≡ true) (own_same target.ty) h.1.0
+        given : is_given a.program.types (own_type target.ty) e ≡ true
+        given = subst (λ (t : Ty). is_given a.program.types t e ≡ true) (own_same target.ty) h.1.0
 
         go : (b : Bool) → is_raw (own_type target.ty) ≡ b → Acts s (cond b (pointer_assigned a target e s) (value_assigned a target equals e s))
         go true raw = pointer_assigned_made types fs f a visible setting target e s bt be h.0.1 h.1.1 raw given stands
-        go false raw = value_assigned_made types fs f a visible setting target e equals s bt be h.0.1 h.1.1 h.0.0 raw given stands
+        go false raw = value_assigned_made types fs f a visible setting target e equals s bt be h.0.1 h.1.1 (and_parts (is_place target.ty target.category) (not (is_constant target.category)) h.0.0).0 raw given stands
 
     pub simple_made : (it : SimpleForm) (s : State) → is_built_simple it ≡ true → IsSimple a.program a.function.locals result visible it → Stands types fs f a visible s → Acts s (simple a it s)
     simple_made (assign target equals (one e)) s b h stands =
@@ -95,14 +97,14 @@ module _ (a : Around) (types : Types) (fs : List Function) (f : Function) (setti
     simple_made (compound target o place e) s b h stands =
         let parts = and_parts (is_built_expression target) (is_built_expression e) b in
         let k = kind_of a.program a.function.locals visible setting.variables setting.functions (whole_form target) parts.0 h.1.1 in
-        let at = target_place a.program.types target k h.1.0 in
+        let at = target_place a.program.types target k (and_parts (is_place target.ty target.category) (not (is_constant target.category)) h.1.0).0 in
         let plain = own_plain target.ty (operand_kind a.program.types target k) in
         let n = compounded_numbers o (own_type target.ty) e.ty plain.text (subst (λ (t : Ty). fits_at_all (compounded o t e.ty) ≡ true) (own_same target.ty) h.0) in
         combined_made types fs f a visible setting target e o place (promoted (own_type target.ty) (own_type e.ty)) s parts.0 parts.1 h.1.1 h.2 at.0 at.1 at.2 (own_counts target.ty n.0) n.1
         (promoted_value (own_type target.ty) (own_type e.ty)) stands
     simple_made (step target o place) s b h stands =
         let k = kind_of a.program a.function.locals visible setting.variables setting.functions (whole_form target) b h.1.1 in
-        let at = target_place a.program.types target k h.1.0 in
+        let at = target_place a.program.types target k (and_parts (is_place target.ty target.category) (not (is_constant target.category)) h.1.0).0 in
         let plain = own_plain target.ty (operand_kind a.program.types target k) in
         let n = step_value (own_type target.ty) plain.iterator (subst (λ (t : Ty). can_step t ≡ true) (own_same target.ty) h.0) in
         stepped_made types fs f a visible setting target o place (promoted (own_type target.ty) (own_type target.ty)) s b h.1.1 at.0 at.1 at.2 (own_counts target.ty n)

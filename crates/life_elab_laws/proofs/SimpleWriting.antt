@@ -25,7 +25,7 @@ use Rattle.life_proper.specs.Knowing.{known_as, known_at}
 use Rattle.life_proper.specs.Plain.{is_plain_step}
 use Rattle.life_proper.specs.ReadyKnown.{holds, holds_at, is_local, is_operand_ready, is_repoint_ready, is_sort, is_source_ready, is_step_ready, known_after}
 use Rattle.life_well_typed.specs.Expressions.{IsExpression}
-use Rattle.life_well_typed.specs.Given.{is_given, is_number, is_pointer}
+use Rattle.life_well_typed.specs.Given.{is_given, is_number}
 use Rattle.life_writer.specs.Around.{Around, own_type}
 use Rattle.life_writer.specs.Expressions.{operand, pointer, pointing, value}
 use Rattle.life_writer.specs.Pointers.{Pointing, At, As, pointed}
@@ -33,7 +33,8 @@ use Rattle.life_writer.specs.Writing.{State, gives}
 use Rattle.life_elab.specs.Simples.{pointer_assigned, value_assigned}
 use Rattle.life_elab_laws.proofs.Doing.{acted}
 use Rattle.life_elab_laws.proofs.ExpressionKinds.{kind_of}
-use Rattle.life_elab_laws.proofs.ExpressionWriting.{given_number, own_value, place_made, pointer_made, pointing_whole, raw_own, value_made}
+use Rattle.life_elab_laws.proofs.ExpressionWriting.{own_value, place_made, pointer_made, pointing_whole, raw_own, value_made}
+use Rattle.life_elab_laws.proofs.GivenKinds.{given_number, given_pointer}
 use Rattle.life_elab_laws.proofs.Knowledge.{set_known, set_length}
 use Rattle.life_elab_laws.proofs.Leaves.{number_held, number_stays, place_ready, place_stays, pointer_held, pointer_stays}
 use Rattle.life_elab_laws.proofs.Making.{Always, IsNumber, IsPlace, IsPointer, IsPointing, Keeps, Makes, and_then, keeps_all}
@@ -82,10 +83,6 @@ place_number types e id c at (a_null is v) raw = absurd (clash (sym v ∙ at))
   where
     clash : category.Value ≡ category.Place id c → ⊥
     clash e = cc
-
-pub given_pointer : (t : Ty) (e : ExprType) → is_raw t ≡ true → is_given t e ≡ true → is_pointer e ≡ true
-given_pointer (ty.Raw target constant) e r g = g
-given_pointer _ e r g = absurd (false≢true r)
 
 -- nothing is given
 abbrev pub Done : Unit {0} → ℕ → List Known → Type 0
@@ -156,14 +153,14 @@ module _ (types : Types) (fs : List Function) (f : Function) where
     -- ---- assignments
 
     pub value_assigned_made : (target e : Typed) (equals : Place) (s : State) → is_built_expression target ≡ true → is_built_expression e ≡ true → Whole target → Whole e
-        → is_place target.ty target.category ≡ true → is_raw (own_type target.ty) ≡ false → is_given (own_type target.ty) e.ty ≡ true → Standing s → Acts s (value_assigned a target equals e s)
+        → is_place target.ty target.category ≡ true → is_raw (own_type target.ty) ≡ false → is_given a.program.types (own_type target.ty) e ≡ true → Standing s → Acts s (value_assigned a target equals e s)
     value_assigned_made target e equals s bt be ht he is raw given stands =
         let k = kind_is target bt ht in
         let at = target_place a.program.types target k is in
         let n = place_number a.program.types target at.0 at.1 at.2 k.kind raw in
         let t = own_type target.ty in
         let v = own_value target.ty n in
-        let first = value_made a visible types fs f setting (whole_form e) be he (given_number a visible types fs f setting t e.ty v given) t v None s tt stands in
+        let first = value_made a visible types fs f setting (whole_form e) be he (given_number a.program.types t e v given) t v None s tt stands in
         let w = value a (whole_form e) t None s in
         let later = stands_later types fs f a visible s w.state first.grown stands in
         let second = place_made a visible types fs f setting (whole_form target) bt ht at.0 at.1 at.2 w.state later in
@@ -178,9 +175,9 @@ module _ (types : Types) (fs : List Function) (f : Function) where
         (λ k j alive p keeps q. q)
 
     pub pointer_assigned_made : (target e : Typed) (s : State) → is_built_expression target ≡ true → is_built_expression e ≡ true → Whole target → Whole e
-        → is_raw (own_type target.ty) ≡ true → is_given (own_type target.ty) e.ty ≡ true → Standing s → Acts s (pointer_assigned a target e s)
+        → is_raw (own_type target.ty) ≡ true → is_given a.program.types (own_type target.ty) e ≡ true → Standing s → Acts s (pointer_assigned a target e s)
     pointer_assigned_made target e s bt be ht he raw given stands =
-        let first = pointing_whole a visible types fs f setting (whole_form e) be he (given_pointer (own_type target.ty) e.ty raw given) s stands in
+        let first = pointing_whole a visible types fs f setting (whole_form e) be he (given_pointer a.program.types (own_type target.ty) e raw given) s stands in
         let w = pointing a (whole_form e) s in
         let later = stands_later types fs f a visible s w.state first.grown stands in
         let r = raw_own target.ty raw in

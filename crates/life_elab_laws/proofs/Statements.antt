@@ -17,7 +17,8 @@ use Rattle.life_writer.specs.Registers.{computed, constant}
 use Rattle.life_writer.specs.Variables.{end_past}
 use Rattle.life_writer.specs.Writing.{State, Gives, with_code}
 use Rattle.life_elab.specs.Declarations.{declared}
-use Rattle.life_elab.specs.Ends.{all_end, ends, last_ends, last_token}
+use Rattle.life_typed.specs.Ends.{all_end, ends, last_ends}
+use Rattle.life_elab.specs.LastTokens.{last_token}
 use Rattle.life_elab.specs.Simples.{simple_if}
 use Rattle.life_elab.specs.Statements.{branches_of, condition_or_true, looped, result_given, started, statement}
 use Rattle.life_elab_laws.proofs.Branching.{asserted_does, branched_does, tested_follows, visible_again}
@@ -51,7 +52,7 @@ module _ (a : Around) (types : Types) (fs : List Function) (f : Function) (setti
     pub does : DoesLevel types fs f a x in_loop s s'
     pub stopped : over ≡ true → stops (trees s'.code) ≡ true
 
-  level_of : (form : StmtForm) (in_loop : Bool) (v : Visible) (s : State) → IsDone form in_loop v s → is_one form ≡ true → DoesLevel types fs f a (after form v) in_loop s (statement a form s)
+  pub level_of : (form : StmtForm) (in_loop : Bool) (v : Visible) (s : State) → IsDone form in_loop v s → is_one form ≡ true → DoesLevel types fs f a (after form v) in_loop s (statement a form s)
   level_of form in_loop v s h one = record { does = h.does; level = h.level one }
 
   -- a single statement
@@ -69,26 +70,26 @@ module _ (a : Around) (types : Types) (fs : List Function) (f : Function) (setti
 
   -- ---- the parts of loops
 
-  decided : (v : Visible) (e : Typed) (s : State) → is_built_expression e ≡ true → Decides a.program a.function.locals a.function.result v.visible e → Follows types fs f a v s → Tests types fs f s (condition a (whole_form e) s)
+  pub decided : (v : Visible) (e : Typed) (s : State) → is_built_expression e ≡ true → Decides a.program a.function.locals a.function.result v.visible e → Follows types fs f a v s → Tests types fs f s (condition a (whole_form e) s)
   decided v e s b h follows = condition_whole a v.visible types fs f setting (whole_form e) b h.1 h.0 s follows.stands
 
-  decided_or_true : (v : Visible) (keyword : Place) (e : Option Typed) (s : State) → is_built_if_any e ≡ true → DecidesIfAny a.program a.function.locals a.function.result v.visible e → Follows types fs f a v s
+  pub decided_or_true : (v : Visible) (keyword : Place) (e : Option Typed) (s : State) → is_built_if_any e ≡ true → DecidesIfAny a.program a.function.locals a.function.result v.visible e → Follows types fs f a v s
       → Tests types fs f s (condition_or_true a keyword e s)
   decided_or_true v keyword None s b h follows = non_zero_made types fs f keyword (computed None ty.Bool keyword (constant 1)) s (constant_made types fs f None ty.Bool keyword 1 (with_code [] s) refl tt (omega arith))
   decided_or_true v keyword (Some e) s b h follows = decided v e s b h follows
 
-  stepped : (v : Visible) (it : Option SimpleForm) (s : State) → is_built_step it ≡ true → IsSimpleIfAny a.program a.function.locals a.function.result v.visible it → Follows types fs f a v s → DoesLevel types fs f a v false s (simple_if a it s)
+  pub stepped : (v : Visible) (it : Option SimpleForm) (s : State) → is_built_step it ≡ true → IsSimpleIfAny a.program a.function.locals a.function.result v.visible it → Follows types fs f a v s → DoesLevel types fs f a v false s (simple_if a it s)
   stepped v None s b h follows = record { does = does_nothing types fs f a v false s follows; level = refl }
   stepped v (Some it) s b h follows = simple_does a types fs f setting a.function.result v false it s b h follows
 
-  begun : (v : Visible) (in_loop : Bool) (start : Option ForStartForm) (s : State) → is_built_start a.program.types a.function.locals start ≡ true → IsStart a.program a.function.locals a.function.result start v → Follows types fs f a v s
+  pub begun : (v : Visible) (in_loop : Bool) (start : Option ForStartForm) (s : State) → is_built_start a.program.types a.function.locals start ≡ true → IsStart a.program a.function.locals a.function.result start v → Follows types fs f a v s
       → Does types fs f a (after_start start v) in_loop s (started a start s)
   begun v in_loop None s b h follows = does_nothing types fs f a v in_loop s follows
   begun v in_loop (Some (declared_first d)) s b h follows = declaration_does a types fs f setting v in_loop a.function.result d s follows b h
   begun v in_loop (Some (done_first it)) s b h follows = (simple_does a types fs f setting a.function.result v in_loop it s b h follows).does
 
   -- a loop whose body and step are done
-  loop_done : (v u : Visible) (in_loop : Bool) (test : State → Gives Tree) (body step : State → State) (s : State) → Follows types fs f a v s → HasRegister a s → (h : Tests types fs f s (test s))
+  pub loop_done : (v u : Visible) (in_loop : Bool) (test : State → Gives Tree) (body step : State → State) (s : State) → Follows types fs f a v s → HasRegister a s → (h : Tests types fs f s (test s))
       → ((s : State) → Follows types fs f a v s → HasRegister a s → DoesLevel types fs f a u true s (body s)) → ((s : State) → Follows types fs f a (behind v u) s → DoesLevel types fs f a (behind v u) false s (step s))
       → DoesLevel types fs f a (behind v u) in_loop s (looped test body step s)
   loop_done v u in_loop test body step s follows register h inner last =
@@ -192,7 +193,7 @@ module _ (a : Around) (types : Types) (fs : List Function) (f : Function) (setti
         }
 
     -- the branches of an `if`, with what is done where no condition holds
-    branches_do : (branches : StmtForm) (in_loop : Bool) (v : Visible) (s : State) → is_built_statement a.program.types a.function.locals branches ≡ true → AreBranches a.program a.function.locals a.function.result branches in_loop v
+    pub branches_do : (branches : StmtForm) (in_loop : Bool) (v : Visible) (s : State) → is_built_statement a.program.types a.function.locals branches ≡ true → AreBranches a.program a.function.locals a.function.result branches in_loop v
         → Follows types fs f a v s → HasRegister a s → (last : State → State) (x : Visible) (over : Bool)
         → ((t : State) → Follows types fs f a (after branches v) t → HasRegister a t → DoesOver x in_loop over t (last t)) → DoesOver x in_loop (all_end branches && over) s (branches_of a branches last s)
     branches_do (chain (branch keyword decides closing body) others) in_loop v s b h follows register last x over end =

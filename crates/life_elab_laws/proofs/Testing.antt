@@ -25,6 +25,7 @@ use Rattle.life_elab_laws.proofs.Knowledge.{agreed_length, at_agreed, at_set}
 use Rattle.life_elab_laws.proofs.Leaves.{number_held, number_sort, pointer_held}
 use Rattle.life_elab_laws.proofs.Making.{Alive, Always, Goes, IsBeside, IsNumber, IsOpen, IsPointer, Keeps, Makes, Runs, alive_later, keeps_then, seen}
 use Rattle.life_elab_laws.proofs.Shaping.{IsFineTest, fine_acts, fine_asks, fine_behind, fine_both, fine_choice, fine_either, fine_negated}
+use Rattle.life_elab_laws.proofs.WrittenLocals.{AddsRegisters, registers_then}
 
 module _ (types : Types) (fs : List Function) (f : Function) where
   -- ---- what a condition writes
@@ -42,6 +43,7 @@ module _ (types : Types) (fs : List Function) (f : Function) where
 
   pub record Tests (s : State) (w : Gives Tree) : Type 0 where
     pub grown : Grows s w.state
+    pub registers : AddsRegisters types s w.state
     pub unwritten : w.state.code ≡ s.code
     pub runs : Begins types f w.state → AsksAll s w.given
 
@@ -71,6 +73,7 @@ module _ (types : Types) (fs : List Function) (f : Function) where
       outside = made.grown.outside;
       shaped = made.grown.shaped;
     };
+    registers = made.registers;
     unwritten = refl;
     runs = λ b. subst (λ (c : List Tree). AsksAll s (Then (trees c) (Asks place (asks (with_code [] s)).given))) (sym made.written) (all (made.runs (record { locals = b.locals; table = b.table })));
   }
@@ -104,6 +107,7 @@ module _ (types : Types) (fs : List Function) (f : Function) where
   pub negation_made : (w : State → Gives Tree) (s : State) → Tests s (w s) → Tests s (negation w s)
   negation_made w s t = record {
     grown = t.grown;
+    registers = t.registers;
     unwritten = t.unwritten;
     runs = λ b. let r = t.runs b in record {
       fine = fine_negated types fs f (w s).given r.fine;
@@ -120,6 +124,9 @@ module _ (types : Types) (fs : List Function) (f : Function) where
   module _ (left right : State → Gives Tree) (s : State) (opened : IsOpen types fs f s) (first : Tests s (left s)) (second : Tests (left s).state (right (left s).state)) where
     grown : Grows s (right (left s).state).state
     grown = grows_then s (left s).state (right (left s).state).state first.grown second.grown
+
+    registers : AddsRegisters types s (right (left s).state).state
+    registers = registers_then types s (left s).state (right (left s).state).state second.grown.types first.registers second.registers
 
     before : Begins types f (right (left s).state).state → Begins types f (left s).state
     before b = begins_before types f (left s).state (right (left s).state).state second.grown b
@@ -153,6 +160,7 @@ module _ (types : Types) (fs : List Function) (f : Function) where
     pub both_made : Tests s (joined Both left right s)
     both_made = record {
       grown = grown;
+      registers = registers;
       unwritten = second.unwritten ∙ first.unwritten;
       runs = λ b. both (first.runs (before b)) (second.runs b);
     }
@@ -166,6 +174,7 @@ module _ (types : Types) (fs : List Function) (f : Function) where
     pub either_made : Tests s (joined Either left right s)
     either_made = record {
       grown = grown;
+      registers = registers;
       unwritten = second.unwritten ∙ first.unwritten;
       runs = λ b. either (first.runs (before b)) (second.runs b);
     }
@@ -234,6 +243,7 @@ module _ (types : Types) (fs : List Function) (f : Function) where
           outside = (grows_then s (condition s).state w.state test.grown target.grown).outside;
           shaped = (grows_then s (condition s).state w.state test.grown target.grown).shaped;
         };
+        registers = registers_then types s (condition s).state w.state target.grown.types test.registers target.registers;
         code = chosen w.given ∷ [];
         written = ap (λ (c : List Tree). c ++ chosen w.given ∷ []) (target.unwritten ∙ test.unwritten);
         runs = λ b.

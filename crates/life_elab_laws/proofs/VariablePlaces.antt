@@ -23,7 +23,7 @@ use Rattle.life_proper.specs.Knowing.{known_as}
 use Rattle.life_writer.specs.Around.{Around}
 use Rattle.life_writer.specs.Variables.{kind, place_of, place_of_kind, variable, variable_place}
 use Rattle.life_writer.specs.Writing.{State, with_code}
-use Rattle.life_elab_laws.proofs.Fronts.{IsFront}
+use Rattle.life_elab_laws.proofs.Fronts.{IsFront, front_then}
 use Rattle.life_elab_laws.proofs.Growing.{Begins, Grows}
 use Rattle.life_elab_laws.proofs.Making.{Alive, IsOpen, IsPlace, IsPointer, a_target, an_object}
 
@@ -75,13 +75,15 @@ value_held ty.Size e = refl
 value_held _ e = absurd (false≢true e)
 
 module _ (types : Types) (fs : List Function) (f : Function) where
-  -- the visible variables are there
+  -- the table has the program's types, and the visible variables are there
   pub record Stands (a : Around) (visible : List ℕ) (s : State) : Type 0 where
+    pub table : IsFront a.program.types.types s.types.types
     pub opened : IsOpen types fs f s
     pub seen : (x : ℕ) (v : TypedLocal) → Contains visible x → slice_get a.function.locals x ≡ Some v → IsVariableAt a s x v
 
   pub stands_later : (a : Around) (visible : List ℕ) (s s' : State) → Grows s s' → Stands a visible s → Stands a visible s'
   stands_later a visible s s' g h = record {
+    table = front_then a.program.types.types s.types.types s'.types.types h.table g.types;
     opened = λ y c. omega (arith, h.opened y (subst (λ (ys : List ℕ). Contains ys y) g.living c), g.count);
     seen = λ x v c at. moved x v (h.seen x v c at);
   }
@@ -100,6 +102,7 @@ module _ (types : Types) (fs : List Function) (f : Function) where
 
   pub stands_apart : (a : Around) (visible : List ℕ) (s : State) → Stands a visible s → Stands a visible (with_code [] s)
   stands_apart a visible s h = record {
+    table = h.table;
     opened = h.opened;
     seen = λ x v c at. let there = h.seen x v c at in record { local = there.local; there = there.there; typed = there.typed; kind = there.kind; lives = there.lives };
   }

@@ -1,3 +1,4 @@
 pub mod Keys
+pub mod NamedTokens
 pub mod Values
 pub mod Words

@@ -1,2 +1,3 @@
 pub mod CharactersFit
 pub mod LongFiles
+pub mod NamedFiles

@@ -5,4 +5,6 @@ pub mod PlainPrograms
 pub mod Pointers
 pub mod ProperFunctions
 pub mod Readiness
+pub mod ResultsFound
 pub mod Ways
+pub mod WellFormedRows

@@ -59,10 +59,10 @@ at_number code p l h =
     subst (λ (q : ℕ). numbered code q ≡ Some l) (sym is) h.there
 
 -- the point is reached with holdings of which is true what is known there
-record Stood (types : Types) (fs : List Function) (f : Function) (p : ℕ) (hs : Holdings) : Type 0 where
-  link : Linked
-  at : numbered (code_of f) p ≡ Some link
-  stands : Stands types fs f f.body 1 (Some (entry_known types f)) no_exits p link hs
+pub record Stood (types : Types) (fs : List Function) (f : Function) (p : ℕ) (hs : Holdings) : Type 0 where
+  pub link : Linked
+  pub at : numbered (code_of f) p ≡ Some link
+  pub stands : Stands types fs f f.body 1 (Some (entry_known types f)) no_exits p link hs
 
 module _ (types : Types) (fs : List Function) (f : Function) (e : IsTrue (is_checked types fs f)) where
   outer : IsTrue (is_statement f.body) × IsTrue (tests_straight f.body && is_over (body_flow types fs f))
@@ -102,7 +102,7 @@ module _ (types : Types) (fs : List Function) (f : Function) (e : IsTrue (is_che
   sound_at : (p : ℕ) (hs : Holdings) (l : Linked) → Stood types fs f p hs → numbered (code_of f) p ≡ Some l → IsSound types fs f Q hs l
   sound_at p hs l here at = subst (IsSound types fs f Q hs) (same_Some here.link l (sym here.at ∙ at)) (all_sound p here.link hs here.stands)
 
-  reached : (p : ℕ) (hs : Holdings) → Reaches types f p hs → Stood types fs f p hs
+  pub reached : (p : ℕ) (hs : Holdings) → Reaches types f p hs → Stood types fs f p hs
   reached p _ (starts is) = subst (λ (to : Option ℕ). Comes Q to (entry_holdings types f)) is begins
   reached q _ (goes_on {p} {hs} {l} {lead} before at among to) =
       let here = sound_at p hs l (reached p hs before) at in

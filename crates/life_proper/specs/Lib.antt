@@ -1,6 +1,13 @@
 pub mod Checking
+pub mod GivenOver
 pub mod Knowing
+pub mod OperandTypes
+pub mod Placed
 pub mod Plain
 pub mod ReadyKnown
+pub mod ResultsKnown
+pub mod ResultsWritten
 pub mod Seen
 pub mod Turns
+pub mod WellFormed
+pub mod WellFormedPrograms

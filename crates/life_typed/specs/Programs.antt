@@ -1,5 +1,6 @@
 -- Typed programs as plain data.
-use Rattle.std.specs.Prelude.{ℕ, Bool, List, map}
+use Rattle.std.specs.Prelude.{ℕ, Bool, List, [], codes, map, slice_get, unwrap_or}
+use Rattle.std.specs.Str.{bytes_eq}
 use Rattle.std.specs.declared.alloc.Global.{Global}
 use Rattle.std.specs.declared.vec.Vec.{Vec}
 use Rattle.life_types.specs.Types.{Types}
@@ -14,6 +15,10 @@ use Rattle.life_typed.specs.declared.typed_program.Typed.{Typed}
 use Rattle.life_typed.specs.declared.typed_program.TypedFunction.{TypedFunction}
 use Rattle.life_typed.specs.declared.typed_program.TypedLocal.{TypedLocal}
 use Rattle.life_typed.specs.declared.typed_program.TypedStruct.{TypedStruct}
+
+-- where names have these texts, whether it is `main`
+abbrev pub is_main : List (List ℕ) → NameId → Bool
+is_main names name = bytes_eq (unwrap_or (slice_get names name.0) []) (codes "main")
 
 pub data PromiseForm : Type 0 where
   default : PromiseForm

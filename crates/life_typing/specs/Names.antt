@@ -1,8 +1,7 @@
 -- The names of functions, and what may be declared again.
-use Rattle.std.specs.Prelude.{ℕ, Bool, true, false, not, ◌&&◌, List, Option, Some, None, Ok, Err, codes, length, map, slice_get, unwrap_or, if◌then◌else◌, ◌==◌}
+use Rattle.std.specs.Prelude.{ℕ, Bool, true, false, not, ◌&&◌, List, Option, Some, None, Ok, Err, length, map, slice_get, unwrap_or, if◌then◌else◌, ◌==◌}
 use Rattle.std.specs.Cmp.Lexicographic.{pointwise}
 use Rattle.std.specs.List.{starts_with}
-use Rattle.std.specs.Str.{bytes_eq}
 use Rattle.life_types.specs.contracts.ty.TyIdPartialEq.TheImpl.{ghosts as ids}
 use Rattle.life_types.specs.declared.ty.NameId.{NameId}
 use Rattle.life_types.specs.declared.ty.TyId.{TyId}
@@ -11,7 +10,7 @@ use Rattle.life_tree.specs.declared.function.FunctionBody.{FunctionBody}
 use Rattle.life_tree.specs.declared.function.FunctionBody.TheVariants as function_body
 use Rattle.life_tree.specs.declared.function.Parameter.{Parameter}
 use Rattle.life_typing.specs.Answers.{Kept, ill}
-use Rattle.life_names.specs.Environment.{Scope, SignatureView, function, text}
+use Rattle.life_names.specs.Environment.{Scope, SignatureView, function}
 use Rattle.life_typing.specs.contracts.pieces.PiecePartialEq.TheImpl.{ghosts as pieces_of}
 use Rattle.life_names.specs.declared.environment.Entity.{Entity}
 use Rattle.life_names.specs.declared.environment.Entity.TheVariants as entity
@@ -19,6 +18,7 @@ use Rattle.life_names.specs.declared.fault.IllKind.{IllKind}
 use Rattle.life_names.specs.declared.fault.IllKind.TheVariants as kinds
 use Rattle.life_typing.specs.declared.names.Declared.{Declared}
 use Rattle.life_typing.specs.declared.pieces.Piece.{Piece}
+use Rattle.life_typed.specs.Programs as programs
 use Rattle.life_typed.specs.declared.basic.TheConstants.{INT}
 
 -- what is kept of a function beside its signature: what its declarations say beside their types, and whether one of them so far has a body
@@ -63,7 +63,7 @@ may_declare scope declared (entity.Function number) returned parameters pieces b
 may_declare scope declared (entity.Local number) returned parameters pieces bodied = false
 
 abbrev pub is_main : Scope → NameId → Bool
-is_main scope name = bytes_eq (text scope name) (codes "main")
+is_main scope name = programs.is_main scope.names name
 
 -- `main` has the result `int` and no parameters
 abbrev pub fits_main : TyId → List Parameter → Bool

@@ -1,9 +1,10 @@
 -- The body of a function.
-use Rattle.std.proofs.Common.{◌≡◌, Bool, true, false, List, [], Ok, ap, ◌∙◌}
+use Rattle.std.proofs.Common.{◌≡◌, Bool, true, false, List, [], None, Ok, sym, ap, subst, ◌∙◌}
 use Rattle.life_types.specs.Types.{Types, HasType}
 use Rattle.life_types.specs.declared.ty.TyId.{TyId}
 use Rattle.life_tree.specs.declared.stmt.Block.{Block, out-Block}
 use Rattle.life_typed.specs.BaseTypes.{type_at}
+use Rattle.life_typed.specs.Ends.{ends}
 use Rattle.life_typed.specs.Programs.{ProgramForm}
 use Rattle.life_typed.specs.TypedStatement.{StmtForm}
 use Rattle.life_typed.specs.declared.typed_program.TypedLocal.{TypedLocal}
@@ -20,6 +21,7 @@ use Rattle.life_typing_laws.specs.Served.{is_served_statement}
 use Rattle.life_typing_laws.specs.Sound.{IsFinal, IsSound}
 use Rattle.life_typing_laws.proofs.Domains.{Around}
 use Rattle.life_typing_laws.proofs.Blocks.{whole_block}
+use Rattle.life_typing_laws.proofs.Ending.{block_ends_as}
 use Rattle.life_typing_laws.proofs.Statements.{IsPart, is_block}
 use Rattle.life_typing_laws.proofs.Steps.{allowed_ok, bound, same_value}
 
@@ -44,6 +46,16 @@ body_part result is_main b v scope types x h served sound there =
 
 pub body_block : (result : TyId) (is_main : Bool) (b : Block) (scope : Scope) (types : Types) (x : (StmtForm × Scope) × Types) → body result is_main b scope types ≡ Ok x → is_block x.0.0 ≡ true
 body_block result is_main b scope types x h = (whole_block b).block (around_body result) scope types x (body_reads result is_main b scope types x h)
+
+-- no return is missing at its end
+pub body_ends : (result : TyId) (is_main : Bool) (b : Block) (scope : Scope) (types : Types) (x : (StmtForm × Scope) × Types) → body result is_main b scope types ≡ Ok x
+    → return_fault is_main (is_void (type_at x.1 result)) (ends x.0.0) ≡ None
+unfolding body
+body_ends result is_main b scope types x h =
+    let step = bound (block_of b (around_body result) scope types) (ended result is_main b) x h in
+    let fine = allowed_ok (return_fault is_main (is_void (type_at step.value.1 result)) (block_ends b)) (out-Block b).closing (λ _. Ok step.value) x step.behind in
+    subst (λ (y : (StmtForm × Scope) × Types). return_fault is_main (is_void (type_at y.1 result)) (ends y.0.0) ≡ None) (same_value step.value x fine.1)
+    (subst (λ (e : Bool). return_fault is_main (is_void (type_at step.value.1 result)) e ≡ None) (sym (block_ends_as b (around_body result) scope types step.value step.gave)) fine.0)
 
 -- a body is well typed in a program that has in the end what there is behind it
 pub bodies : (p : ProgramForm) (locals : List TypedLocal) (result : TyId) (is_main : Bool) (b : Block) (v : Visible) (scope : Scope) (types : Types) (x : (StmtForm × Scope) × Types)

@@ -3,12 +3,11 @@ use Rattle.std.proofs.Common.{◌≡◌, ◌⊎◌, inl, inr, ⊎_elim, ℕ, zer
 use Rattle.life_tree.specs.declared.function.Function.{Function}
 use Rattle.life_tree.specs.declared.program.Definition.{Definition}
 use Rattle.life_tree.specs.declared.program.Definition.TheVariants as definition
-use Rattle.life_names.specs.declared.environment.Entity.{Entity}
 use Rattle.life_names.specs.declared.environment.Entity.TheVariants as entity
 use Rattle.life_typing.specs.Names.{DeclaredView, has_body}
 use Rattle.life_typing.specs.Progress.{ProgressView}
 use Rattle.life_typing.specs.Resolves.{no_flags, with_all_noted, with_definition_noted, with_function_noted}
-use Rattle.life_typing_laws.proofs.Steps.{same_some, not_both}
+use Rattle.life_typing_laws.proofs.Steps.{same_number, same_some, not_both}
 use Rattle.life_typing_laws.proofs.Entered.{IsBegun}
 use Rattle.life_typing_laws.proofs.Scopes.{set_length, set_other}
 use Rattle.life_typing_laws.proofs.Went.{Went}
@@ -74,9 +73,6 @@ pub record BodiesCome (bodies : List Bool) (p : ProgressView) (ds : List Definit
 
 -- .. and behind the first of them
 module _ (bodies : List Bool) (f : Function) (ds : List Definition) (p q : ProgressView) (b : BodiesCome bodies p (definition.Function f ∷ ds)) (went : Went bodies f p q) where
-  same_number : (m n : ℕ) → ◌≡◌ {A = Entity} (entity.Function m) (entity.Function n) → m ≡ n
-  same_number m n e = cc
-
   named_at : (k : ℕ) → f.name.id.0 ≡ k → slice_get q.scope.visible k ≡ Some (entity.Function went.number)
   named_at k same = subst (λ (i : ℕ). slice_get q.scope.visible i ≡ Some (entity.Function went.number)) same went.named
 

@@ -11,7 +11,7 @@ use Rattle.life_tree.specs.declared.program.Definition.{Definition}
 use Rattle.life_tree.specs.declared.program.Definition.TheVariants as definition
 use Rattle.life_tree.specs.declared.program.StructDefinition.{StructDefinition}
 use Rattle.life_typed.specs.Programs.{FunctionForm}
-use Rattle.life_names.specs.Environment.{Scope, StructureView, meaning, seen_as, structure_declared, with_function, with_structure}
+use Rattle.life_names.specs.Environment.{Scope, StructureView, meaning, seen_as, structure_declared, with_structure}
 use Rattle.life_names.specs.Environment as environment
 use Rattle.life_names.specs.declared.environment.Entity.TheVariants as entity
 use Rattle.life_names.specs.declared.fault.IllKind.TheVariants as kinds
@@ -115,7 +115,7 @@ changed_else {A = A} number change all k other = of (slice_get all number)
     of None = refl
     of (Some x) = set_else all number k (change x) other
 
-changed_size : {A : Type 0} (number : ℕ) (change : A → A) (all : List A) → length (changed number change all) ≡ length all
+pub changed_size : {A : Type 0} (number : ℕ) (change : A → A) (all : List A) → length (changed number change all) ≡ length all
 changed_size {A = A} number change all = of (slice_get all number)
   where
     of : (o : Option A) → length (changed_at number change all o) ≡ length all

@@ -39,12 +39,13 @@ use Rattle.life_names.specs.declared.written.Written.{Written}
 use Rattle.life_type_expr.specs.Expressions.{expr_meaning}
 use Rattle.life_type_expr.specs.Lists.{lower_kind}
 use Rattle.life_type_stmt.specs.Autos.{auto_declared, auto_from, auto_given, auto_local, auto_object, auto_reference, auto_target, auto_value, auto_written, lone_elements, lone_list, reference_fault, type_number}
-use Rattle.life_type_stmt.specs.Declarations.{auto_declaration, declaration, declaration_by, local_of, redeclared, variable_fault, visible_fault, written_declaration}
+use Rattle.life_type_stmt.specs.Conditions.{unless as plainly}
+use Rattle.life_type_stmt.specs.Declarations.{auto_declaration, declaration, declaration_by, default_fault, local_of, redeclared, variable_fault, visible_fault, written_declaration}
 use Rattle.life_type_stmt.specs.Given.{given_first, value_fault}
 use Rattle.life_well_typed.specs.Given.{is_given}
 use Rattle.life_well_typed.specs.Statements.{IsDeclaration, IsInitialised}
 use Rattle.life_well_typed.specs.Visible.{Visible, with_next}
-use Rattle.life_typing_laws.proofs.Fitting.{fits_given, lower_none, misfit_none}
+use Rattle.life_typing_laws.proofs.Fitting.{given_later, lower_none, misfit_none}
 use Rattle.life_typing_laws.proofs.Growing.{IsAdded, added, grows_not, grows_on, same_type_at, type_is}
 use Rattle.life_typing_laws.proofs.Scopes.{IsDeclared, IsFree, Moves, behind_declared, declared_is, declared_moves, declared_sound, declared_there, final_before, moves_on, sound_grown, table_moves}
 use Rattle.life_typing_laws.specs.Sound.{Grows, IsFinal, IsSound}
@@ -55,11 +56,15 @@ use Rattle.life_typing_laws.proofs.Written.{written_finds}
 
 -- ---- what a declaration does
 
--- what a variable of this type is given, where there is this table
+-- no rule is broken by what a variable of this type is given, where there is this table
 abbrev pub IsGivenTo : Types → TyId → Option InitialForm → Type 0
-IsGivenTo types id None = Unit {0}
-IsGivenTo types id (Some (one e)) = is_given (type_at types id) e.ty ≡ true
-IsGivenTo types id (Some (several l)) = Unit {0}
+IsGivenTo types id first = variable_fault types (type_at types id) first ≡ None
+
+-- .. it is given to it, in a table that has grown
+abbrev pub IsTaken : Types → TyId → Option InitialForm → Type 0
+IsTaken types id None = default_fault (type_at types id) ≡ None
+IsTaken types id (Some (one e)) = is_given types (type_at types id) e ≡ true
+IsTaken types id (Some (several l)) = Unit {0}
 
 pub record IsNew (name : Identifier) (v : Visible) (scope : Scope) (types : Types) (x : (DeclarationForm × Scope) × Types) : Type 0 where
   pub moves : Moves (name.id ∷ []) scope x.0.1 types x.1
@@ -68,24 +73,30 @@ pub record IsNew (name : Identifier) (v : Visible) (scope : Scope) (types : Type
 
 -- nothing, or an expression that is well typed, over the table that there is
 pub record IsRead (first : Option InitialForm) (scope : Scope) (types : Types) : Type 0 where
-  pub typed : (p : ProgramForm) (locals : List TypedLocal) (result : TyId) (v : Visible) (id : TyId) → IsSound v scope types → IsFinal p locals scope types → IsGivenTo p.types id first
+  pub typed : (p : ProgramForm) (locals : List TypedLocal) (result : TyId) (v : Visible) (id : TyId) → IsSound v scope types → IsFinal p locals scope types → IsTaken p.types id first
       → (l : TypedLocal) → l.ty ≡ id → IsInitialised p locals result v.visible (Some l) first
 
 read_of : (scope : Scope) (types : Types) (x : Option InitialForm × Types) → FirstRead scope types x → (IsRead x.0 scope types) × (x.1 ≡ types)
-read_of scope types x (Nothing none same) =
-    (subst (λ (f : Option InitialForm). IsRead f scope types) (sym none) (record { typed = λ p locals result v id sound final given l is. tt }), same)
+read_of scope types x (Nothing none same) = (
+  subst (λ (f : Option InitialForm). IsRead f scope types) (sym none) (record {
+    typed = λ p locals result v id sound final given l is. subst (λ (t : TyId). default_fault (type_at p.types t) ≡ None) (sym is) given;
+  }),
+  same,
+)
 read_of scope types x (Value value first) = (
   subst (λ (f : Option InitialForm). IsRead f scope types) (ap Some first.one.is ∙ sym first.is) (record {
     typed = λ p locals result v id sound final given l is.
-        (subst (λ (t : TyId). is_given (type_at p.types t) first.one.value.ty ≡ true) (sym is) given, (first.one.typed p locals v sound final).is);
+        (subst (λ (t : TyId). is_given p.types (type_at p.types t) first.one.value ≡ true) (sym is) given, (first.one.typed p locals v sound final).is);
   }),
   first.one.same,
 )
 
-given_stays : (old new : Types) (id : TyId) (first : Option InitialForm) → Grows old new → HasType old id → IsGivenTo old id first → IsGivenTo new id first
-given_stays old new id None grows there given = tt
-given_stays old new id (Some (one e)) grows there given = subst (λ (t : Ty). is_given t e.ty ≡ true) (sym (same_type_at old new id grows there)) given
-given_stays old new id (Some (several l)) grows there given = tt
+taken_later : (old new : Types) (id : TyId) (first : Option InitialForm) → Grows old new → HasType old id → IsGivenTo old id first → IsTaken new id first
+taken_later old new id None grows there fine = subst (λ (t : Ty). default_fault t ≡ None) (sym (same_type_at old new id grows there)) fine
+taken_later old new id (Some (one e)) grows there fine =
+    subst (λ (t : Ty). is_given new t e ≡ true) (sym (same_type_at old new id grows there))
+    (given_later old new grows (type_at old id) e (misfit_none kinds.WrongType (fits old (type_at old id) e.ty e.category) fine))
+taken_later old new id (Some (several l)) grows there fine = tt
 
 -- a name that may be declared means no function
 free_of : (name : NameId) (scope : Scope) → redeclared scope name ≡ None → IsFree name scope
@@ -129,7 +140,7 @@ module _ (name : Identifier) (v : Visible) (scope : Scope) (types : Types) (soun
           counted,
           subst (λ (o : Option TypedLocal). IsInitialised p locals result v.visible o first) (sym (final.kept (length scope.locals) (local_of name w) (declared_there (local_of name w) scope)))
               (read.typed p locals result v w.ty sound_middle (final_before p locals (name.id ∷ []) scope (behind_declared (local_of name w) scope) middle after from_middle final)
-              (given_stays after p.types w.ty first final.grown there given_to) (local_of name w) refl),
+              (taken_later after p.types w.ty first final.grown there given_to) (local_of name w) refl),
         );
       }
 
@@ -148,11 +159,6 @@ local_written t place scope types x ordered base none h =
     let same : ◌≡◌ {A = Written × Types} (record { ty = step.value.0; constant = is_const_value t }, step.value.1) x =
     same_value {A = Written} (record { ty = step.value.0; constant = is_const_value t }, step.value.1) x step.behind in
     subst (IsWritten types) same (record { grows = found.grows; ordered = found.ordered; there = found.there })
-
-fault_given : (types : Types) (id : TyId) (first : Option InitialForm) → variable_fault types (type_at types id) first ≡ None → IsGivenTo types id first
-fault_given types id None e = tt
-fault_given types id (Some (one x)) e = fits_given types (type_at types id) x.ty x.category (misfit_none kinds.WrongType (fits types (type_at types id) x.ty x.category) e)
-fault_given types id (Some (several l)) e = tt
 
 module _ (name : Identifier) (scope : Scope) where
   abbrev pub finished : Written → Option InitialForm → Types → ℕ × Scope → Checked (DeclarationForm × Scope)
@@ -184,7 +190,7 @@ module _ (name : Identifier) (scope : Scope) where
       subst (IsNew name v scope types) same
       (subst (λ (s : Types). IsNew name v scope types ((record { local = number.value.0; name = name; value = first.value.0 }, number.value.1), s)) (sym read.1)
       (new_local name v scope types sound w.value.0 first.value.0 w.value.1 w.value.1 number.value is.grows is.ordered (grows_not w.value.1) is.ordered is.there read.0
-      (fault_given w.value.1 w.value.0.ty first.value.0 fault) (free_of name.id scope faults.0) number.gave))
+      fault (free_of name.id scope faults.0) number.gave))
 
 -- ---- with `auto`
 
@@ -219,22 +225,22 @@ number_is place (ty.Struct number) scope types x ordered none h =
 number_is place t scope types x ordered none h = added place t types x ordered h
 
 -- the type that is declared, and what it is given
-pub record IsAuto (types : Types) (e : ExprType) (x : Written × Types) : Type 0 where
+pub record IsAuto (types : Types) (e : ExprType) (c : Category) (x : Written × Types) : Type 0 where
   pub grows : Grows types x.1
   pub ordered : IsOrdered x.1
   pub there : HasType x.1 x.0.ty
-  pub given : is_given (type_at x.1 x.0.ty) e ≡ true
+  pub given : value_fault kinds.WrongType x.1 (type_at x.1 x.0.ty) e c ≡ None
 
 object_is : (constant : Bool) (place : Place) (t : Ty) (id : TyId) (e : ExprType) (c : Category) (types : Types) (x : Written × Types) → slice_get types.types id.0 ≡ Some t → IsOrdered types
-    → auto_object constant place t id e c types ≡ Ok x → IsAuto types e x
+    → auto_object constant place t id e c types ≡ Ok x → IsAuto types e c x
 object_is constant place t id e c types x is ordered h =
     let fine = allowed_ok {B = Written} (value_fault kinds.WrongType types t e c) place (λ _. Ok (record { ty = id; constant = constant }, types)) x h in
     let same = same_value {A = Written} (record { ty = id; constant = constant }, types) x fine.1 in
-    subst (IsAuto types e) same (record {
+    subst (IsAuto types e c) same (record {
       grows = grows_not types;
       ordered = ordered;
       there = slice_get_within types.types id.0 t is;
-      given = subst (λ (u : Ty). is_given u e ≡ true) (sym (type_is types id t is)) (fits_given types t e c (misfit_none kinds.WrongType (fits types t e c) fine.0));
+      given = subst (λ (u : Ty). value_fault kinds.WrongType types u e c ≡ None) (sym (type_is types id t is)) fine.0;
     })
 
 abbrev behind_reference : Bool → Place → TyId → ExprType → Category → TyId × Types → Checked Written
@@ -242,39 +248,40 @@ behind_reference constant place id e c r =
     given (allowed (reference_fault (is_plain (tree_at r.1 id)) (value_fault kinds.WrongType r.1 (ty.Reference id constant) e c)) place) (λ _. Ok (record { ty = r.0; constant = false }, r.1))
 
 reference_is : (constant : Bool) (place : Place) (id : TyId) (e : ExprType) (c : Category) (types : Types) (x : Written × Types) → IsOrdered types
-    → auto_reference constant place id e c types ≡ Ok x → IsAuto types e x
+    → auto_reference constant place id e c types ≡ Ok x → IsAuto types e c x
 reference_is constant place id e c types x ordered h =
     let step = bound (type_added place (ty.Reference id constant) types) (behind_reference constant place id e c) x h in
     let new = added place (ty.Reference id constant) types step.value ordered step.gave in
     let fine = allowed_ok {B = Written} (reference_fault (is_plain (tree_at step.value.1 id)) (value_fault kinds.WrongType step.value.1 (ty.Reference id constant) e c)) place
     (λ _. Ok (record { ty = step.value.0; constant = false }, step.value.1)) x step.behind in
     let same = same_value {A = Written} (record { ty = step.value.0; constant = false }, step.value.1) x fine.1 in
-    subst (IsAuto types e) same (record {
+    subst (IsAuto types e c) same (record {
       grows = new.grows;
       ordered = new.ordered;
       there = slice_get_within step.value.1.types step.value.0.0 (ty.Reference id constant) new.is;
-      given = subst (λ (u : Ty). is_given u e ≡ true) (sym (type_is step.value.1 step.value.0 (ty.Reference id constant) new.is)) refl;
+      given = subst (λ (u : Ty). value_fault kinds.WrongType step.value.1 u e c ≡ None) (sym (type_is step.value.1 step.value.0 (ty.Reference id constant) new.is))
+          (lower_none (value_fault kinds.WrongType step.value.1 (ty.Reference id constant) e c) (plainly (is_plain (tree_at step.value.1 id)) kinds.NotPlain) fine.0).0;
     })
 
 auto_of : (a : AutoType) (place : Place) (t : Ty) (e : ExprType) (c : Category) (scope : Scope) (types : Types) (x : Written × Types) → IsOrdered types → scope.structs ≡ []
-    → auto_from a place (Ok t) e c scope types ≡ Ok x → IsAuto types e x
+    → auto_from a place (Ok t) e c scope types ≡ Ok x → IsAuto types e c x
 auto_of a place t e c scope types x ordered none h =
     let step = bound (type_number place t scope types) (λ id. auto_declared a.reference (is_some a.constant) place t id.0 e c id.1) x h in
     let new = number_is place t scope types step.value ordered none step.gave in
     behind step.value new (go a.reference step.value new step.behind)
   where
-    go : (r : Option Place) (y : TyId × Types) → IsAdded t types y → auto_declared r (is_some a.constant) place t y.0 e c y.1 ≡ Ok x → IsAuto y.1 e x
+    go : (r : Option Place) (y : TyId × Types) → IsAdded t types y → auto_declared r (is_some a.constant) place t y.0 e c y.1 ≡ Ok x → IsAuto y.1 e c x
     go None y new h = object_is (is_some a.constant) place t y.0 e c y.1 x new.is new.ordered h
     go (Some reference) y new h = reference_is (is_some a.constant) place y.0 e c y.1 x new.ordered h
 
-    behind : (y : TyId × Types) → IsAdded t types y → IsAuto y.1 e x → IsAuto types e x
+    behind : (y : TyId × Types) → IsAdded t types y → IsAuto y.1 e c x → IsAuto types e c x
     behind y new auto = record { grows = grows_on types y.1 x.1 new.grows auto.grows; ordered = auto.ordered; there = auto.there; given = auto.given }
 
 auto_is : (a : AutoType) (place : Place) (e : ExprType) (c : Category) (scope : Scope) (types : Types) (x : Written × Types) → IsOrdered types → scope.structs ≡ [] → auto_written a place e c scope types ≡ Ok x
-    → IsAuto types e x
+    → IsAuto types e c x
 auto_is a place e c scope types x ordered none h = go (auto_target e) h
   where
-    go : (r : Result Ty IllKind) → auto_from a place r e c scope types ≡ Ok x → IsAuto types e x
+    go : (r : Result Ty IllKind) → auto_from a place r e c scope types ≡ Ok x → IsAuto types e c x
     go (Ok t) h = auto_of a place t e c scope types x ordered none h
     go (Err kind) h = absurd (cc)
 

@@ -31,6 +31,15 @@ fault_parts true true gets e = absurd (cc)
 fault_parts true false false e = absurd (cc)
 fault_parts true false true e = (refl, refl)
 
+-- what is named `main` has its types
+pub main_fits : (may main fits gets : Bool)
+    → ◌≡◌ {A = Option IllKind} (if not may then Some kinds.Redeclared else (if main && not fits then Some kinds.WrongType else (if not gets then Some kinds.NoBody else None))) None
+    → main ≡ true → fits ≡ true
+main_fits false main fits gets e is = absurd (cc)
+main_fits true false fits gets e is = absurd (cc)
+main_fits true true false gets e is = absurd (cc)
+main_fits true true true gets e is = refl
+
 -- there is an earlier declaration, with which this one agrees
 pub record Agrees (signature : Option SignatureView) (noted : Option DeclaredView) (returned : TyId) (parameters : List TyId) (said : List Piece) (bodied : Bool) : Type 0 where
   pub s : SignatureView

@@ -1,5 +1,5 @@
 -- A function is declared, for the first time or again: what is known then, before its body is read.
-use Rattle.std.proofs.Common.{◌≡◌, ◌⊎◌, inl, inr, ⊎_elim, ℕ, zero, suc, ◌-◌, Bool, true, false, Option, Some, None, Ok, List, [], ◌∷◌, ◌++◌, length, map, slice_get, take, refl, sym, ap, subst, ◌∙◌, arith, rules}
+use Rattle.std.proofs.Common.{◌≡◌, ◌⊎◌, inl, inr, ⊎_elim, ℕ, zero, suc, Bool, true, false, Option, Some, None, Ok, List, [], ◌∷◌, ◌++◌, length, map, slice_get, take, refl, sym, ap, subst, ◌∙◌, arith, rules}
 use Rattle.std.specs.Prelude.{unwrap_or}
 use Rattle.std.specs.Cmp.Lexicographic.{pointwise}
 use Rattle.std.specs.List.{starts_with}
@@ -9,27 +9,28 @@ use Rattle.life_types.specs.Types.{Types, HasType, HasTypes}
 use Rattle.life_types.specs.contracts.ty.TyIdPartialEq.TheImpl.{ghosts as ids}
 use Rattle.life_types.specs.declared.ty.NameId.{NameId}
 use Rattle.life_types.specs.declared.ty.TyId.{TyId}
-use Rattle.life_types.proofs.TreeLemmas.{IsThere, in_more, last_in, within}
+use Rattle.life_types.proofs.TreeLemmas.{IsThere, in_more, last_in, stays_in, within}
 use Rattle.life_tree.specs.declared.function.Function.{Function}
 use Rattle.life_tree.specs.declared.function.Parameter.{Parameter}
+use Rattle.life_typed.specs.declared.basic.TheConstants.{INT}
 use Rattle.life_names.specs.Environment.{Scope, SignatureView, meaning, seen_as, with_function}
 use Rattle.life_names.specs.declared.environment.Entity.{Entity}
 use Rattle.life_names.specs.declared.environment.Entity.TheVariants as entity
 use Rattle.life_typing.specs.Functions.{PartsView, without_body}
 use Rattle.life_typing.specs.Functions as functions
 use Rattle.life_typing.specs.Headers.{function_seen, seen_unless}
-use Rattle.life_typing.specs.Names.{DeclaredView, has_body}
-use Rattle.life_typing.specs.Pieces.{pieces}
+use Rattle.life_typing.specs.Names.{DeclaredView, fits_main, gets_body, has_body, is_main, may_declare}
 use Rattle.life_typing.specs.Progress.{ProgressView}
 use Rattle.life_typing.specs.Promises.{parameter_promises}
 use Rattle.life_well_typed.specs.Expressions.{type_of}
 use Rattle.life_well_typed.specs.Visible.{Visible, with_parameters}
-use Rattle.life_typing_laws.proofs.Declaring.{AgreesAt, behind_first, by_way, no_second, noted, parts, said, signature, with_header}
+use Rattle.life_typing_laws.proofs.Declaring.{AgreesAt, behind_first, by_way, main_fits, no_second, noted, parts, said, signature, with_header}
 use Rattle.life_typing_laws.proofs.Headers.{HeaderIs}
-use Rattle.life_typing_laws.proofs.Known.{AreKnown, KnownAt, known_grown, known_more}
+use Rattle.life_typing_laws.proofs.Known.{AreKnown, KnownAt, known_grown, known_more, same_or_not}
+use Rattle.life_typing_laws.proofs.FunctionNames.{AreNamed, NamedAt}
 use Rattle.life_typing_laws.proofs.Parameters.{names_of}
 use Rattle.life_typing_laws.proofs.Pieces.{CountIs, parameter_piece, pieces_count, same_count}
-use Rattle.life_typing_laws.proofs.Scopes.{IsFree, IsIn, KeepsFunctions, set_else, set_length, set_other, set_there}
+use Rattle.life_typing_laws.proofs.Scopes.{IsFree, IsIn, KeepsFunctions, set_at, set_else, set_length, set_other, set_there}
 use Rattle.life_typing_laws.proofs.Steps.{same_some, not_both}
 use Rattle.life_typing_laws.proofs.Visible.{AreVisible, IsUnderway, header_visible, seen_sound}
 use Rattle.life_typing_laws.specs.Sound.{IsSound}
@@ -70,7 +71,9 @@ pub record Entered (bodies : List Bool) (f : Function) (p : ProgressView) (h : P
   pub parameters : h.parameters ≡ s.parameters
   pub result_there : HasType y.1.types h.returned
   pub sound : IsSound (with_parameters (length f.parameters.items)) y.1.scope y.1.types
-  pub known : AreKnown y.1.types y.1.scope.functions y.1.functions y.1.declared
+  pub known : AreKnown y.1.scope.names y.1.types y.1.scope.functions y.1.functions y.1.declared
+  pub forms : AreNamed y.1.scope y.1.functions
+  pub texts : y.1.scope.names ≡ p.scope.names
   pub locals : map type_of y.1.scope.locals ≡ h.parameters
   pub count : length h.parameters ≡ length f.parameters.items
   pub shows : (k n : ℕ) → slice_get y.1.scope.visible k ≡ Some (entity.Local n) → IsIn (names_of f.parameters.items) k
@@ -119,14 +122,15 @@ module _ (bodies : List Bool) (f : Function) (p : ProgressView) (under : IsUnder
   visible = header_visible bodies (meaning p.scope f.name.id) f p x h under
 
   -- all that are known are known over the grown table
-  still_known : AreKnown h.types h.scope.functions p.functions p.declared
-  still_known = subst (λ (fs : List SignatureView). AreKnown h.types fs p.functions p.declared) (sym visible.functions)
-      (known_grown p.types h.types p.scope.functions p.functions p.declared visible.grows under.known)
+  still_known : AreKnown h.scope.names h.types h.scope.functions p.functions p.declared
+  still_known = subst (λ (ns : List (List ℕ)). AreKnown ns h.types h.scope.functions p.functions p.declared) (sym visible.texts)
+      (subst (λ (fs : List SignatureView). AreKnown p.scope.names h.types fs p.functions p.declared) (sym visible.functions)
+      (known_grown p.scope.names p.types h.types p.scope.functions p.functions p.declared visible.grows under.known))
 
   again : (number : ℕ) → meaning p.scope f.name.id ≡ entity.Function number → AgreesAt h number → Entered bodies f p (parts h) (number, with_header h)
   again number is agree = made
     where
-      k : KnownAt h.types h.scope.functions p.functions p.declared number agree.s
+      k : KnownAt h.scope.names h.types h.scope.functions p.functions p.declared number agree.s
       k = still_known.each number agree.s agree.there
 
       counted : CountIs (parameter_piece f) agree.d.pieces (length agree.s.parameters)
@@ -156,6 +160,8 @@ module _ (bodies : List Bool) (f : Function) (p : ProgressView) (under : IsUnder
         result_there = visible.result;
         sound = visible.sound;
         known = still_known;
+        forms = λ m n e. under.named m n (subst (λ (s : Scope). slice_get s.visible m ≡ Some (entity.Function n)) unchanged (visible.means m n e));
+        texts = visible.texts;
         locals = visible.ids;
         count = visible.count;
         shows = visible.shows;
@@ -168,11 +174,19 @@ module _ (bodies : List Bool) (f : Function) (p : ProgressView) (under : IsUnder
 
   -- ---- for the first time
 
-  begun_known : AreKnown h.types (h.scope.functions ++ signature h ∷ []) (p.functions ++ without_body f h.returned.ty h.scope ∷ []) (p.declared ++ noted h ∷ [])
-  begun_known = known_more h.types h.scope.functions p.functions p.declared still_known (without_body f h.returned.ty h.scope) (noted h) (signature h) (record {
+  -- `main` gives back an int
+  int_result : is_main h.scope f.name.id ≡ true → h.returned.ty ≡ INT
+  int_result is =
+      let fits = main_fits (may_declare h.scope p.declared (meaning p.scope f.name.id) h.returned.ty h.known.types (said h) (has_body f.body)) (is_main h.scope f.name.id) (fits_main h.returned.ty f.parameters.items)
+      (gets_body bodies (meaning p.scope f.name.id) f.name.id) h.names is in
+      same_id h.returned.ty INT (and_parts (ids.eq h.returned.ty INT) _ fits).0
+
+  begun_known : AreKnown h.scope.names h.types (h.scope.functions ++ signature h ∷ []) (p.functions ++ without_body f h.returned.ty h.scope ∷ []) (p.declared ++ noted h ∷ [])
+  begun_known = known_more h.scope.names h.types h.scope.functions p.functions p.declared still_known (without_body f h.returned.ty h.scope) (noted h) (signature h) (record {
     result = refl;
     promises = promised h.scope f.parameters.items ∙ sym visible.count;
     said = λ g. subst (CountIs (parameter_piece g) (said h)) (sym visible.count) (pieces_count g h.scope f);
+    main = int_result;
     body = λ has. not_both false has refl;
   })
 
@@ -189,6 +203,8 @@ module _ (bodies : List Bool) (f : Function) (p : ProgressView) (under : IsUnder
     result_there = visible.result;
     sound = begun_sound;
     known = begun_known;
+    forms = λ k n e. ⊎_elim (λ same. newest k n same e) (λ different. older k n different e) (same_or_not f.name.id.0 k);
+    texts = visible.texts;
     locals = visible.ids;
     count = visible.count;
     shows = λ k n e. ⊎_elim (λ here. absurd (never n here.1)) (λ old. visible.shows k n old)
@@ -222,6 +238,26 @@ module _ (bodies : List Bool) (f : Function) (p : ProgressView) (under : IsUnder
       named : (IsIn (names_of f.parameters.items) f.name.id.0 → ⊥) × (slice_get h.scope.visible f.name.id.0 ≡ Some (entity.Function 0))
       named = visible.keeps f.name.id.0 0
           (subst (λ (z : Scope). slice_get z.visible f.name.id.0 ≡ Some (entity.Function 0)) (sym seen) (set_there p.scope.visible f.name.id.0 there.item (entity.Function 0) there.there))
+
+      -- what means a function is its own name, or meant it before
+      newest : (k n : ℕ) → f.name.id.0 ≡ k → slice_get (behind_first h).scope.visible k ≡ Some (entity.Function n) → NamedAt (p.functions ++ without_body f h.returned.ty h.scope ∷ []) n k
+      newest k n same e =
+          let is_it : entity.Function (length h.scope.functions) ≡ entity.Function n =
+          set_at h.scope.visible f.name.id.0 (entity.Function (length h.scope.functions)) (entity.Function n) (subst (λ (i : ℕ). slice_get (behind_first h).scope.visible i ≡ Some (entity.Function n)) (sym same) e) in
+          let number : length h.scope.functions ≡ n = cc in
+          record {
+            form = without_body f h.returned.ty h.scope;
+            there = subst (λ (i : ℕ). slice_get (p.functions ++ without_body f h.returned.ty h.scope ∷ []) i ≡ Some (without_body f h.returned.ty h.scope)) (still_known.forms_count ∙ number)
+                (last_in p.functions (without_body f h.returned.ty h.scope));
+            name = same;
+          }
+
+      older : (k n : ℕ) → (f.name.id.0 ≡ k → ⊥) → slice_get (behind_first h).scope.visible k ≡ Some (entity.Function n) → NamedAt (p.functions ++ without_body f h.returned.ty h.scope ∷ []) n k
+      older k n different e =
+          let in_header = visible.means k n (sym (set_else h.scope.visible f.name.id.0 k (entity.Function (length h.scope.functions)) different) ∙ e) in
+          let was = under.named k n
+          (sym (set_else p.scope.visible f.name.id.0 k (entity.Function 0) different) ∙ subst (λ (z : Scope). slice_get z.visible k ≡ Some (entity.Function n)) seen in_header) in
+          record { form = was.form; there = stays_in p.functions (without_body f h.returned.ty h.scope ∷ []) n was.form was.there; name = was.name }
 
       noted_last : slice_get (p.declared ++ noted h ∷ []) (length h.scope.functions) ≡ Some (noted h)
       noted_last = subst (λ (i : ℕ). slice_get (p.declared ++ noted h ∷ []) i ≡ Some (noted h)) still_known.declared_count (last_in p.declared (noted h))

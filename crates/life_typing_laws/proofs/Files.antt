@@ -1,17 +1,19 @@
 -- Whole files: what is resolved, built, and as it was parsed, is well typed.
-use Rattle.std.proofs.Common.{◌≡◌, inr, ⊎_elim, ℕ, zero, suc, Bool, true, false, ◌&&◌, Some, Ok, Err, List, [], ◌∷◌, length, slice_get, refl, sym, ap, subst, ◌∙◌, arith}
+use Rattle.std.proofs.Common.{◌≡◌, inr, ⊎_elim, ℕ, zero, suc, Bool, true, false, ◌&&◌, Option, Some, Ok, Err, List, [], ◌∷◌, length, slice_get, refl, sym, ap, subst, ◌∙◌, arith}
+use Rattle.std.specs.Prelude.{unwrap_or}
 use Rattle.std.proofs.lemmas.Bool.{and_parts}
 use Rattle.std.proofs.lemmas.Option.{slice_get_within}
 use Rattle.life_types.specs.Trees.{HasPartsBelow, IsOrdered}
 use Rattle.life_types.specs.Types.{HasType, Types}
 use Rattle.life_types.specs.declared.ty.Ty.{Ty}
+use Rattle.life_types.specs.declared.ty.Ty.TheVariants as ty
 use Rattle.life_types.specs.declared.ty.TyId.{TyId}
 use Rattle.life_types.proofs.TreeLemmas.{IsThere, within}
 use Rattle.life_tree.specs.declared.program.Definition.{Definition}
 use Rattle.life_tree.specs.declared.program.Definition.TheVariants as definition
 use Rattle.life_tree.specs.declared.program.Program.{Program}
-use Rattle.life_typed.specs.BaseTypes.{base_types}
-use Rattle.life_typed.specs.Programs.{FunctionForm, ProgramForm, StructForm}
+use Rattle.life_typed.specs.BaseTypes.{base_types, type_at}
+use Rattle.life_typed.specs.Programs.{FunctionForm, ProgramForm, StructForm, is_main}
 use Rattle.life_names.specs.Environment.{SignatureView, unseen_names}
 use Rattle.life_names.specs.declared.environment.Entity.TheVariants as entity
 use Rattle.life_built.specs.Built.{are_built_functions, has_built_types, has_no_structs, is_built}
@@ -23,7 +25,8 @@ use Rattle.life_typing.specs.Resolves.{bodies_of, finished, no_flags, resolved, 
 use Rattle.life_typing.specs.Structs.{with_structure}
 use Rattle.life_well_typed.specs.AsParsed.{is_as_parsed}
 use Rattle.life_well_typed.specs.Functions.{AreWellTyped, IsWellTyped, IsWellTypedFunction}
-use Rattle.life_well_typed.specs.Results.{HasResults, HaveResults}
+use Rattle.life_well_typed.specs.Mains.{HasIntMain, HaveIntMains}
+use Rattle.life_well_typed.specs.Results.{HasResults, HasTable, HaveResults}
 use Rattle.life_typing_laws.proofs.BodiesCome.{BodiesCome, all_flags_size, bodies_come_on, flag_comes, no_flag}
 use Rattle.life_typing_laws.proofs.Counted.{Goes, IsCounted, definitions_go, struct_adds}
 use Rattle.life_typing_laws.proofs.Each.{EachHolds}
@@ -55,6 +58,11 @@ no_local [] k n e = cc
 no_local (name ∷ names) zero n e = cc
 no_local (name ∷ names) (suc k) n e = no_local names k n e
 
+no_function : (names : List (List ℕ)) (k n : ℕ) → slice_get (unseen_names names) k ≡ Some (entity.Function n) → ⊥
+no_function [] k n e = cc
+no_function (name ∷ names) zero n e = cc
+no_function (name ∷ names) (suc k) n e = no_function names k n e
+
 names_count : (names : List (List ℕ)) → length (unseen_names names) ≡ length (no_flags names)
 names_count [] = refl
 names_count (name ∷ names) = ap suc (names_count names)
@@ -72,6 +80,7 @@ begins tree = record {
     visible = λ k n e. absurd (no_local (texts_of tree) k n e);
   };
   known = record { forms_count = refl; declared_count = refl; each = λ n s e. absurd (nothing_there n s e) };
+  named = λ k n e. absurd (no_function (texts_of tree) k n e);
   size = names_count (texts_of tree) ∙ sym (all_flags_size tree.definitions.items (no_flags (texts_of tree)));
 }
 
@@ -83,7 +92,8 @@ all_come tree = record {
 
 -- ---- along the definitions
 
-pub record Ends (bodies : List Bool) (q : ProgressView) : Type 0 where
+pub record Ends (bodies : List Bool) (names : List (List ℕ)) (q : ProgressView) : Type 0 where
+  pub texts : q.scope.names ≡ names
   pub under : IsUnderway bodies q
   pub come : BodiesCome bodies q []
 
@@ -95,18 +105,18 @@ one_step (Err fault) x e = e
 counted_of : (bodies : List Bool) (p : ProgressView) → IsUnderway bodies p → IsCounted p
 counted_of bodies p under = record { forms = under.known.forms_count; declared = under.known.declared_count }
 
-goes_on : (bodies : List Bool) (ds : List Definition) (p q : ProgressView) → IsUnderway bodies p → BodiesCome bodies p ds → with_definitions bodies ds p ≡ Ok q → AreServed q.functions q.declared → q.structs ≡ []
-    → Ends bodies q
-goes_on bodies [] p q under come e served none = subst (Ends bodies) (same_answer p q e) (record { under = under; come = come })
-goes_on bodies (definition.Function f ∷ ds) p q under come e served none =
+goes_on : (bodies : List Bool) (names : List (List ℕ)) (ds : List Definition) (p q : ProgressView) → p.scope.names ≡ names → IsUnderway bodies p → BodiesCome bodies p ds → with_definitions bodies ds p ≡ Ok q → AreServed q.functions q.declared → q.structs ≡ []
+    → Ends bodies names q
+goes_on bodies names [] p q texts under come e served none = subst (Ends bodies names) (same_answer p q e) (record { texts = texts; under = under; come = come })
+goes_on bodies names (definition.Function f ∷ ds) p q texts under come e served none =
     let step = answered (with_function bodies f p) (with_definitions bodies ds) q e in
     let first : Goes p step.value = definitions_go bodies (definition.Function f ∷ []) p step.value (counted_of bodies p under) (one_step (with_function bodies f p) step.value step.gave) in
     let rest : Goes step.value q = definitions_go bodies ds step.value q first.counted step.behind in
     let served_now : AreServed step.value.functions step.value.declared =
     λ n form d there noted has. let kept = rest.bodies n form d there noted has in served n form d kept.0 kept.1 has in
     let went : Went bodies f p step.value = function_went bodies f p step.value under step.gave served_now in
-    goes_on bodies ds step.value q went.under (bodies_come_on bodies f ds p step.value come went) step.behind served none
-goes_on bodies (definition.Struct s ∷ ds) p q under come e served none =
+    goes_on bodies names ds step.value q (went.texts ∙ texts) went.under (bodies_come_on bodies f ds p step.value come went) step.behind served none
+goes_on bodies names (definition.Struct s ∷ ds) p q texts under come e served none =
     let step = answered (with_structure s p) (with_definitions bodies ds) q e in
     let adds = struct_adds s p step.value step.gave in
     let counted : IsCounted step.value = record {
@@ -123,6 +133,10 @@ each_gives : (types : Types) (fs : List FunctionForm) → ((n : ℕ) (f : Functi
 each_gives types [] gives = tt
 each_gives types (f ∷ fs) gives = (gives 0 f refl, each_gives types fs (λ n g e. gives (suc n) g e))
 
+each_int : (names : List (List ℕ)) (types : Types) (fs : List FunctionForm) → ((n : ℕ) (f : FunctionForm) → slice_get fs n ≡ Some f → is_main names f.name ≡ true → type_at types f.result ≡ ty.Int) → HaveIntMains names types fs
+each_int names types [] int = tt
+each_int names types (f ∷ fs) int = (int 0 f refl, each_int names types fs (λ n g e. int (suc n) g e))
+
 each_well : (p : ProgramForm) (fs : List FunctionForm) → ((n : ℕ) (f : FunctionForm) → slice_get fs n ≡ Some f → IsWellTypedFunction p f) → AreWellTyped p fs
 each_well p [] well = tt
 each_well p (f ∷ fs) well = (well 0 f refl, each_well p fs (λ n g e. well (suc n) g e))
@@ -131,7 +145,11 @@ no_structs_there : (ss : List StructForm) → has_no_structs ss ≡ true → ss 
 no_structs_there [] e = refl
 no_structs_there (s ∷ ss) e = absurd (cc)
 
-module _ (tree : Program) (q : ProgressView) (ends : Ends (bodies_of tree) q) where
+-- all that is known of a resolved program
+abbrev pub IsWhole : ProgramForm → Type 0
+IsWhole p = IsWellTyped p × (HasResults p × (HasIntMain p × HasTable p))
+
+module _ (tree : Program) (q : ProgressView) (ends : Ends (bodies_of tree) (texts_of tree) q) where
   abbrev p : ProgramForm
   p = finished tree q
 
@@ -143,11 +161,12 @@ module _ (tree : Program) (q : ProgressView) (ends : Ends (bodies_of tree) q) wh
       go true is = is
       go false is = absurd ((ends.come.pending n d e is).comes)
 
-  body_now : (n : ℕ) (s : SignatureView) (k : KnownAt q.types q.scope.functions q.functions q.declared n s) → HasBody q.types q.scope.functions k.form s
+  body_now : (n : ℕ) (s : SignatureView) (k : KnownAt q.scope.names q.types q.scope.functions q.functions q.declared n s) → HasBody q.scope.names q.types q.scope.functions k.form s
   body_now n s k = k.is.body (has_body_now n k.declared k.declared_there)
 
-  in_end : HasInEnd p q.types q.scope.functions
+  in_end : HasInEnd p q.scope.names q.types q.scope.functions
   in_end = record {
+    named = sym ends.texts;
     grown = grows_not q.types;
     functions = λ n s e.
         let k = ends.under.known.each n s e in
@@ -168,20 +187,33 @@ module _ (tree : Program) (q : ProgressView) (ends : Ends (bodies_of tree) q) wh
       let k = ends.under.known.each n found.item found.there in
       subst (IsWellTypedFunction p) (same_some k.form f (sym k.form_there ∙ e)) ((body_now n found.item k).is p in_end)
 
-  all_well : IsWellTyped p × HasResults p
-  all_well = (each_well p q.functions function_well, each_gives q.types q.functions function_gives)
+  -- `main` gives back an int
+  int_main : (n : ℕ) (f : FunctionForm) → slice_get q.functions n ≡ Some f → is_main p.names f.name ≡ true → type_at q.types f.result ≡ ty.Int
+  int_main n f e is =
+      let found : IsThere q.scope.functions n = within q.scope.functions n (omega (arith, slice_get_within q.functions n f e, ends.under.known.forms_count)) in
+      let k = ends.under.known.each n found.item found.there in
+      let same : k.form ≡ f = same_some k.form f (sym k.form_there ∙ e) in
+      let named : is_main q.scope.names k.form.name ≡ true = ap (λ (g : FunctionForm). is_main q.scope.names g.name) same ∙ ap (λ (ns : List (List ℕ)). is_main ns f.name) ends.texts ∙ is in
+      ap (λ (g : FunctionForm). type_at q.types g.result) (sym same) ∙ ap (type_at q.types) (k.is.main named) ∙ ap (λ (o : Option Ty). unwrap_or o ty.Void) (ends.under.sound.based.types 3 ty.Int refl)
 
-pub resolved_well_typed : (tree : Program) (p : ProgramForm) → resolved tree ≡ Ok p → is_built p ≡ true → is_as_parsed p ≡ true → IsWellTyped p × HasResults p
+  -- each type of the table comes behind its parts, and there are no structs
+  table_well : HasTable p
+  table_well = record { ordered = ends.under.sound.ordered; structs = ends.under.sound.based.structs }
+
+  all_well : IsWhole p
+  all_well = (each_well p q.functions function_well, (each_gives q.types q.functions function_gives, (each_int p.names q.types q.functions int_main, table_well)))
+
+pub resolved_well_typed : (tree : Program) (p : ProgramForm) → resolved tree ≡ Ok p → is_built p ≡ true → is_as_parsed p ≡ true → IsWhole p
 resolved_well_typed tree p e built parsed =
     let step = answered (with_definitions (bodies_of tree) tree.definitions.items (nothing_defined (texts_of tree))) (λ q. Ok (finished tree q)) p e in
     let same : finished tree step.value ≡ p = same_answer (finished tree step.value) p step.behind in
-    subst (λ (r : ProgramForm). IsWellTyped r × HasResults r) same (all_well tree step.value (of step.value step.gave
+    subst IsWhole same (all_well tree step.value (of step.value step.gave
     (subst (λ (r : ProgramForm). is_built r ≡ true) (sym same) built) (subst (λ (r : ProgramForm). is_as_parsed r ≡ true) (sym same) parsed)))
   where
     of : (q : ProgressView) → with_definitions (bodies_of tree) tree.definitions.items (nothing_defined (texts_of tree)) ≡ Ok q → is_built (finished tree q) ≡ true → is_as_parsed (finished tree q) ≡ true
-        → Ends (bodies_of tree) q
+        → Ends (bodies_of tree) (texts_of tree) q
     of q gave built parsed =
         let parts = and_parts (has_built_types q.types) (has_no_structs q.structs && are_built_functions q.types q.functions) built in
         let more = and_parts (has_no_structs q.structs) (are_built_functions q.types q.functions) parts.1 in
-        goes_on (bodies_of tree) tree.definitions.items (nothing_defined (texts_of tree)) q (begins tree) (all_come tree) gave
+        goes_on (bodies_of tree) (texts_of tree) tree.definitions.items (nothing_defined (texts_of tree)) q refl (begins tree) (all_come tree) gave
         (λ n form d there noted has. served_functions q.types q.functions n form more.1 parsed there) (no_structs_there q.structs more.0)

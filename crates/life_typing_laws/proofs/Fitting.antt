@@ -1,5 +1,5 @@
 -- What fits a type, and breaks no rule, is what is given to it.
-use Rattle.std.proofs.Common.{◌≡◌, ℕ, suc, ◌+◌, Bool, true, false, not, Option, None, Some, Ok, Err, List, [], ◌∷◌, length, slice_get, refl, sym, subst, arith}
+use Rattle.std.proofs.Common.{◌≡◌, ℕ, suc, ◌+◌, Bool, true, false, ◌||◌, Option, None, Some, Ok, Err, List, [], ◌∷◌, length, slice_get, unwrap_or, if◌then◌else◌, refl, sym, subst, ◌∙◌, arith}
 use Rattle.std.proofs.lemmas.Bool.{and_from}
 use Rattle.life_types.specs.Types.{Types, HasTypes}
 use Rattle.life_types.specs.declared.ty.Ty.{Ty}
@@ -7,49 +7,72 @@ use Rattle.life_types.specs.declared.ty.Ty.TheVariants as ty
 use Rattle.life_types.specs.declared.ty.TyId.{TyId}
 use Rattle.life_typing_laws.specs.Sound.{Grows}
 use Rattle.life_typed.specs.BaseTypes.{is_raw, is_value, type_at}
-use Rattle.life_typed.specs.Conversions.{Fit, fits, pointer_from, unless}
+use Rattle.life_typed.specs.Conversions.{Fit, bound, bound_const, fits, fitting, initialised, is_place_of}
 use Rattle.life_typed.specs.TypedForm.{Typed, forms}
-use Rattle.life_typed.specs.declared.misfit.Misfit.{Misfit}
-use Rattle.life_typed.specs.declared.misfit.Misfit.TheVariants as misfit
 use Rattle.life_typed.specs.declared.typed_expr.Category.{Category}
 use Rattle.life_typed.specs.declared.typed_expr.ExprType.{ExprType}
 use Rattle.life_typed.specs.declared.typed_expr.ExprType.TheVariants.{Of, NullPointer, TextLiteral}
 use Rattle.life_names.specs.declared.fault.IllKind.{IllKind}
-use Rattle.life_type_expr.specs.Lists.{Targets, lower_kind, misfit_of, misfits, one_misfit, parameters}
+use Rattle.life_type_expr.specs.Lists.{Targets, fits_at_all, lower_kind, misfit_of, misfits, one_misfit, parameters}
 use Rattle.life_well_typed.specs.Expressions.{are_given}
-use Rattle.life_well_typed.specs.Given.{is_given}
-use Rattle.life_typing_laws.proofs.Growing.{same_type_at}
+use Rattle.life_well_typed.specs.Given.{is_asked, is_given}
+use Rattle.life_typing_laws.proofs.Growing.{same_type_at, type_is}
 
 -- ---- one expression
 
-not_unless : (b : Bool) (why : Misfit) → unless (not b) why ≡ Ok tt → b ≡ true
-not_unless true why e = refl
-not_unless false why e = absurd (cc)
+pub fit_at_all : (fit : Fit) → fit ≡ Ok tt → fits_at_all fit ≡ true
+fit_at_all fit e = rw e refl
 
-raw_from : (target : TyId) (constant : Bool) (source : Ty) → pointer_from target constant source ≡ Ok tt → is_raw source ≡ true
-raw_from target constant (ty.Raw found held) e = refl
-raw_from target constant _ e = absurd (cc)
+-- whatever is asked
+if_asked : (asked fine : Bool) → fine ≡ true → (if asked then fine else true) ≡ true
+if_asked true fine e = e
+if_asked false fine e = refl
 
-pub fits_given : (types : Types) (target : Ty) (e : ExprType) (c : Category) → fits types target e c ≡ Ok tt → is_given target e ≡ true
-fits_given types ty.Bool (Of t) c e = not_unless (is_value t) misfit.General e
-fits_given types ty.Bool NullPointer c e = absurd (cc)
-fits_given types ty.Bool TextLiteral c e = absurd (cc)
-fits_given types ty.Char (Of t) c e = not_unless (is_value t) misfit.General e
-fits_given types ty.Char NullPointer c e = absurd (cc)
-fits_given types ty.Char TextLiteral c e = absurd (cc)
-fits_given types ty.Int (Of t) c e = not_unless (is_value t) misfit.General e
-fits_given types ty.Int NullPointer c e = absurd (cc)
-fits_given types ty.Int TextLiteral c e = absurd (cc)
-fits_given types ty.Long (Of t) c e = not_unless (is_value t) misfit.General e
-fits_given types ty.Long NullPointer c e = absurd (cc)
-fits_given types ty.Long TextLiteral c e = absurd (cc)
-fits_given types ty.Size (Of t) c e = not_unless (is_value t) misfit.General e
-fits_given types ty.Size NullPointer c e = absurd (cc)
-fits_given types ty.Size TextLiteral c e = absurd (cc)
-fits_given types (ty.Raw target constant) (Of t) c e = raw_from target constant t e
-fits_given types (ty.Raw target constant) NullPointer c e = refl
-fits_given types (ty.Raw target constant) TextLiteral c e = absurd (cc)
-fits_given types _ t c e = refl
+-- but for structs, what initialises a type hangs on no table
+same_initialised : (few more : Types) (t : Ty) (e : ExprType) (c : Category) → (is_value t || is_raw t) ≡ true → initialised more t e c ≡ initialised few t e c
+same_initialised few more t NullPointer c asked = refl
+same_initialised few more t TextLiteral c asked = refl
+same_initialised few more (ty.Struct number) (Of source) c asked = absurd (cc)
+same_initialised few more _ (Of source) c asked = refl
+
+value_asked : (t : Ty) → is_value t ≡ true → (is_value t || is_raw t) ≡ true
+value_asked t e = rw e refl
+
+initialised_later : (few more : Types) (asked : Bool) (t : Ty) (e : ExprType) (c : Category) → (asked ≡ true → (is_value t || is_raw t) ≡ true) → initialised few t e c ≡ Ok tt
+    → (if asked then fits_at_all (initialised more t e c) else true) ≡ true
+initialised_later few more true t e c asked fine = fit_at_all (initialised more t e c) (same_initialised few more t e c (asked refl) ∙ fine)
+initialised_later few more false t e c asked fine = refl
+
+-- nothing initialises void
+void_never : {P : Type 0} (types : Types) (e : ExprType) (c : Category) → initialised types ty.Void e c ≡ Ok tt → P
+void_never types (Of source) c fine = absurd (cc)
+void_never types NullPointer c fine = absurd (cc)
+void_never types TextLiteral c fine = absurd (cc)
+
+module _ (few more : Types) (grows : Grows few more) where
+  -- a const reference's target is there, unless a place of its type is given
+  const_later : (target : TyId) (e : ExprType) (c : Category) → bound_const few target e c ≡ Ok tt → (if is_value (type_at more target) then fits_at_all (bound_const more target e c) else true) ≡ true
+  const_later target e c fine = by (is_place_of c target) fine
+    where
+      there : (o : Option Ty) → slice_get few.types target.0 ≡ o → initialised few (unwrap_or o ty.Void) e c ≡ Ok tt
+          → (if is_value (type_at more target) then fits_at_all (initialised more (type_at more target) e c) else true) ≡ true
+      there None is fine = void_never few e c fine
+      there (Some t) is fine = subst (λ (u : Ty). (if is_value u then fits_at_all (initialised more u e c) else true) ≡ true) (sym (type_is more target t (grows.types target.0 t is)))
+          (initialised_later few more (is_value t) t e c (value_asked t) fine)
+
+      by : (place : Bool) → (if place then fitting else initialised few (type_at few target) e c) ≡ Ok tt
+          → (if is_value (type_at more target) then fits_at_all (if place then fitting else initialised more (type_at more target) e c) else true) ≡ true
+      by true fine = if_asked (is_value (type_at more target)) true refl
+      by false fine = there (slice_get few.types target.0) refl fine
+
+  type_later : (t : Ty) (e : ExprType) (c : Category) → fits few t e c ≡ Ok tt → (if is_asked more t then fits_at_all (fits more t e c) else true) ≡ true
+  type_later (ty.Reference target false) e c fine = if_asked (is_value (type_at more target)) (fits_at_all (bound target e c)) (fit_at_all (bound target e c) fine)
+  type_later (ty.Reference target true) e c fine = const_later target e c fine
+  type_later t e c fine = initialised_later few more (is_value t || is_raw t) t e c (λ asked. asked) fine
+
+  -- what fits in a table is given in each that it grows to
+  pub given_later : (t : Ty) (e : Typed) → fits few t e.ty e.category ≡ Ok tt → is_given more t e ≡ true
+  given_later t e fine = type_later t e.ty e.category fine
 
 pub misfit_none : (general : IllKind) (fit : Fit) → misfit_of general fit ≡ None → fit ≡ Ok tt
 misfit_none general (Ok u) e = refl
@@ -70,8 +93,8 @@ first_none general targets types lowest n (x ∷ es) e =
 -- ---- arguments, over a table that has grown
 
 module _ (general : IllKind) (ids : List TyId) (old new : Types) (grows : Grows old new) where
-  one_given : (n : ℕ) (id : TyId) (x : Typed) → slice_get ids n ≡ Some id → one_misfit general (parameters ids) old n x ≡ None → is_given (type_at old id) x.ty ≡ true
-  one_given n id x here e = fits_given old (type_at old id) x.ty x.category (misfit_none general (fits old (type_at old id) x.ty x.category) (rw here at e))
+  one_given : (n : ℕ) (id : TyId) (x : Typed) → slice_get ids n ≡ Some id → one_misfit general (parameters ids) old n x ≡ None → is_given new (type_at old id) x ≡ true
+  one_given n id x here e = given_later old new grows (type_at old id) x (misfit_none general (fits old (type_at old id) x.ty x.category) (rw here at e))
 
   -- from the parameter with number n on
   pub arguments_given : (rest : List TyId) (es : List Typed) (n : ℕ) (lowest : Option IllKind) → HasTypes old rest → ((k : ℕ) → slice_get ids (n + k) ≡ slice_get rest k) → length es ≡ length rest
@@ -84,6 +107,6 @@ module _ (general : IllKind) (ids : List TyId) (old new : Types) (grows : Grows 
       let here : slice_get ids n ≡ Some id = subst (λ (i : ℕ). slice_get ids i ≡ Some id) none_more (same 0) in
       let fine : one_misfit general (parameters ids) old n x ≡ None =
       (lower_none lowest (one_misfit general (parameters ids) old n x) (first_none general (parameters ids) old (lower_kind lowest (one_misfit general (parameters ids) old n x)) (suc n) es e)).1 in
-      let first : is_given (type_at new id) x.ty ≡ true = subst (λ (t : Ty). is_given t x.ty ≡ true) (sym (same_type_at old new id grows there.0)) (one_given n id x here fine) in
-      and_from (is_given (type_at new id) x.ty) (are_given new rest (forms es)) first
+      let first : is_given new (type_at new id) x ≡ true = subst (λ (t : Ty). is_given new t x ≡ true) (sym (same_type_at old new id grows there.0)) (one_given n id x here fine) in
+      and_from (is_given new (type_at new id) x) (are_given new rest (forms es)) first
       (arguments_given rest es (suc n) (lower_kind lowest (one_misfit general (parameters ids) old n x)) there.1 (λ k. let later : n + suc k ≡ suc n + k = omega arith in subst (λ (i : ℕ). slice_get ids i ≡ slice_get rest k) later (same (suc k))) (omega arith) e)

@@ -23,10 +23,10 @@ use Rattle.life_typing_laws.specs.Sound.{Grows}
 -- ---- growing
 
 pub grows_not : (types : Types) → Grows types types
-grows_not types = record { types = λ n t e. e; structs = λ n ids e. e }
+grows_not types = record { types = λ n t e. e; structs = refl }
 
 pub grows_on : (a b c : Types) → Grows a b → Grows b c → Grows a c
-grows_on a b c first second = record { types = λ n t e. second.types n t (first.types n t e); structs = λ n ids e. second.structs n ids (first.structs n ids e) }
+grows_on a b c first second = record { types = λ n t e. second.types n t (first.types n t e); structs = second.structs ∙ first.structs }
 
 -- a type that is there keeps its number
 pub stays_there : (old new : Types) (id : TyId) → Grows old new → HasType old id → HasType new id
@@ -123,7 +123,7 @@ with_added types t ordered there = go (list_any (compared.eq t) types.types) ref
     go : (b : Bool) → list_any (compared.eq t) types.types ≡ b → IsAdded t types (over types t (with_type types.types t))
     go true is = subst (λ (ts : List Ty). IsAdded t types (over types t ts)) (sym (old is)) (record { grows = grows_not types; ordered = ordered; is = number_in types.types t is })
     go false is = subst (λ (ts : List Ty). IsAdded t types (over types t ts)) (sym (new is))
-        (record { grows = record { types = (grows_more types ordered t there).types; structs = (grows_more types ordered t there).structs }; ordered = ordered_more types ordered t there; is = number_in (types.types ++ t ∷ []) t (any_last types.types t) })
+        (record { grows = record { types = (grows_more types ordered t there).types; structs = refl }; ordered = ordered_more types ordered t there; is = number_in (types.types ++ t ∷ []) t (any_last types.types t) })
 
 pub added : (place : Place) (t : Ty) (types : Types) (x : TyId × Types) → IsOrdered types → type_added place t types ≡ Ok x → IsAdded t types x
 unfolding type_added

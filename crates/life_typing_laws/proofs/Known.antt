@@ -3,7 +3,8 @@ use Rattle.std.proofs.Common.{◌≡◌, ◌⊎◌, inl, inr, ⊎_elim, ℕ, zer
 use Rattle.life_types.specs.Types.{Types}
 use Rattle.life_types.proofs.TreeLemmas.{in_more, last_in, stays_in}
 use Rattle.life_tree.specs.declared.function.Function.{Function}
-use Rattle.life_typed.specs.Programs.{FunctionForm, ProgramForm}
+use Rattle.life_typed.specs.Programs.{FunctionForm, ProgramForm, is_main}
+use Rattle.life_typed.specs.declared.basic.TheConstants.{INT}
 use Rattle.life_names.specs.Environment.{SignatureView}
 use Rattle.life_typing.specs.Names.{DeclaredView}
 use Rattle.life_well_typed.specs.Expressions.{parameter_types}
@@ -17,49 +18,52 @@ use Rattle.life_typing_laws.specs.Sound.{Grows, HasFunction, Keeps}
 -- ---- one function
 
 -- the program has in the end what there is here
-pub record HasInEnd (p : ProgramForm) (types : Types) (signatures : List SignatureView) : Type 0 where
+pub record HasInEnd (p : ProgramForm) (names : List (List ℕ)) (types : Types) (signatures : List SignatureView) : Type 0 where
+  pub named : p.names ≡ names
   pub grown : Grows types p.types
   pub functions : (n : ℕ) (s : SignatureView) → slice_get signatures n ≡ Some s → HasFunction p n s
 
 -- a function with a body
-pub record HasBody (types : Types) (signatures : List SignatureView) (form : FunctionForm) (s : SignatureView) : Type 0 where
+pub record HasBody (names : List (List ℕ)) (types : Types) (signatures : List SignatureView) (form : FunctionForm) (s : SignatureView) : Type 0 where
   pub parameters : parameter_types (Some form) ≡ s.parameters
-  pub is : (p : ProgramForm) → HasInEnd p types signatures → IsWellTypedFunction p form
+  pub is : (p : ProgramForm) → HasInEnd p names types signatures → IsWellTypedFunction p form
 
-pub record IsKnown (types : Types) (signatures : List SignatureView) (form : FunctionForm) (d : DeclaredView) (s : SignatureView) : Type 0 where
+pub record IsKnown (names : List (List ℕ)) (types : Types) (signatures : List SignatureView) (form : FunctionForm) (d : DeclaredView) (s : SignatureView) : Type 0 where
   pub result : form.result ≡ s.result
   pub promises : length form.parameters ≡ length s.parameters
   pub said : (f : Function) → CountIs (parameter_piece f) d.pieces (length s.parameters)
-  pub body : d.has_body ≡ true → HasBody types signatures form s
+  pub main : is_main names form.name ≡ true → form.result ≡ INT
+  pub body : d.has_body ≡ true → HasBody names types signatures form s
 
-known_on : (a b : Types) (before after : List SignatureView) (form : FunctionForm) (d : DeclaredView) (s : SignatureView) → Grows a b → Keeps before after → IsKnown a before form d s → IsKnown b after form d s
-known_on a b before after form d s grows keeps known = record {
+known_on : (names : List (List ℕ)) (a b : Types) (before after : List SignatureView) (form : FunctionForm) (d : DeclaredView) (s : SignatureView) → Grows a b → Keeps before after → IsKnown names a before form d s → IsKnown names b after form d s
+known_on names a b before after form d s grows keeps known = record {
   result = known.result;
   promises = known.promises;
   said = known.said;
+  main = known.main;
   body = λ has. record {
     parameters = (known.body has).parameters;
-    is = λ p final. (known.body has).is p (record { grown = grows_on a b p.types grows final.grown; functions = λ n t e. final.functions n t (keeps n t e) });
+    is = λ p final. (known.body has).is p (record { named = final.named; grown = grows_on a b p.types grows final.grown; functions = λ n t e. final.functions n t (keeps n t e) });
   };
 }
 
 -- ---- all of them
 
-pub record KnownAt (types : Types) (signatures : List SignatureView) (forms : List FunctionForm) (ds : List DeclaredView) (n : ℕ) (s : SignatureView) : Type 0 where
+pub record KnownAt (names : List (List ℕ)) (types : Types) (signatures : List SignatureView) (forms : List FunctionForm) (ds : List DeclaredView) (n : ℕ) (s : SignatureView) : Type 0 where
   pub form : FunctionForm
   pub declared : DeclaredView
   pub form_there : slice_get forms n ≡ Some form
   pub declared_there : slice_get ds n ≡ Some declared
-  pub is : IsKnown types signatures form declared s
+  pub is : IsKnown names types signatures form declared s
 
-pub record AreKnown (types : Types) (signatures : List SignatureView) (forms : List FunctionForm) (ds : List DeclaredView) : Type 0 where
+pub record AreKnown (names : List (List ℕ)) (types : Types) (signatures : List SignatureView) (forms : List FunctionForm) (ds : List DeclaredView) : Type 0 where
   pub forms_count : length forms ≡ length signatures
   pub declared_count : length ds ≡ length signatures
-  pub each : (n : ℕ) (s : SignatureView) → slice_get signatures n ≡ Some s → KnownAt types signatures forms ds n s
+  pub each : (n : ℕ) (s : SignatureView) → slice_get signatures n ≡ Some s → KnownAt names types signatures forms ds n s
 
 -- the table grows
-pub known_grown : (a b : Types) (signatures : List SignatureView) (forms : List FunctionForm) (ds : List DeclaredView) → Grows a b → AreKnown a signatures forms ds → AreKnown b signatures forms ds
-known_grown a b signatures forms ds grows known = record {
+pub known_grown : (names : List (List ℕ)) (a b : Types) (signatures : List SignatureView) (forms : List FunctionForm) (ds : List DeclaredView) → Grows a b → AreKnown names a signatures forms ds → AreKnown names b signatures forms ds
+known_grown names a b signatures forms ds grows known = record {
   forms_count = known.forms_count;
   declared_count = known.declared_count;
   each = λ n s e.
@@ -69,13 +73,13 @@ known_grown a b signatures forms ds grows known = record {
         declared = k.declared;
         form_there = k.form_there;
         declared_there = k.declared_there;
-        is = known_on a b signatures signatures k.form k.declared s grows (λ _ _ there. there) k.is;
+        is = known_on names a b signatures signatures k.form k.declared s grows (λ _ _ there. there) k.is;
       };
 }
 
 -- one more is declared
-module _ (types : Types) (signatures : List SignatureView) (forms : List FunctionForm) (ds : List DeclaredView) (known : AreKnown types signatures forms ds) where
-  pub known_more : (form : FunctionForm) (d : DeclaredView) (s : SignatureView) → IsKnown types (signatures ++ s ∷ []) form d s → AreKnown types (signatures ++ s ∷ []) (forms ++ form ∷ []) (ds ++ d ∷ [])
+module _ (names : List (List ℕ)) (types : Types) (signatures : List SignatureView) (forms : List FunctionForm) (ds : List DeclaredView) (known : AreKnown names types signatures forms ds) where
+  pub known_more : (form : FunctionForm) (d : DeclaredView) (s : SignatureView) → IsKnown names types (signatures ++ s ∷ []) form d s → AreKnown names types (signatures ++ s ∷ []) (forms ++ form ∷ []) (ds ++ d ∷ [])
   known_more form d s new = record {
     forms_count = count forms form known.forms_count;
     declared_count = count ds d known.declared_count;
@@ -88,7 +92,7 @@ module _ (types : Types) (signatures : List SignatureView) (forms : List Functio
           let second : length (signatures ++ s ∷ []) ≡ length signatures + 1 = length-append signatures (s ∷ []) in
           omega (arith, first, second, e)
 
-      older : (n : ℕ) (t : SignatureView) → slice_get signatures n ≡ Some t → KnownAt types (signatures ++ s ∷ []) (forms ++ form ∷ []) (ds ++ d ∷ []) n t
+      older : (n : ℕ) (t : SignatureView) → slice_get signatures n ≡ Some t → KnownAt names types (signatures ++ s ∷ []) (forms ++ form ∷ []) (ds ++ d ∷ []) n t
       older n t old =
           let k = known.each n t old in
           record {
@@ -96,20 +100,20 @@ module _ (types : Types) (signatures : List SignatureView) (forms : List Functio
             declared = k.declared;
             form_there = stays_in forms (form ∷ []) n k.form k.form_there;
             declared_there = stays_in ds (d ∷ []) n k.declared k.declared_there;
-            is = known_on types types signatures (signatures ++ s ∷ []) k.form k.declared t
-                (record { types = λ _ _ there. there; structs = λ _ _ there. there }) (λ m u there. stays_in signatures (s ∷ []) m u there) k.is;
+            is = known_on names types types signatures (signatures ++ s ∷ []) k.form k.declared t
+                (record { types = λ _ _ there. there; structs = refl }) (λ m u there. stays_in signatures (s ∷ []) m u there) k.is;
           }
 
       at_end : {A : Type 0} (xs : List A) (x : A) (n : ℕ) → n ≡ length signatures → length xs ≡ length signatures → slice_get (xs ++ x ∷ []) n ≡ Some x
       at_end xs x n e size = subst (λ (i : ℕ). slice_get (xs ++ x ∷ []) i ≡ Some x) (size ∙ sym e) (last_in xs x)
 
-      newest : (n : ℕ) (t : SignatureView) → n ≡ length signatures → s ≡ t → KnownAt types (signatures ++ s ∷ []) (forms ++ form ∷ []) (ds ++ d ∷ []) n t
+      newest : (n : ℕ) (t : SignatureView) → n ≡ length signatures → s ≡ t → KnownAt names types (signatures ++ s ∷ []) (forms ++ form ∷ []) (ds ++ d ∷ []) n t
       newest n t last same = record {
         form = form;
         declared = d;
         form_there = at_end forms form n last known.forms_count;
         declared_there = at_end ds d n last known.declared_count;
-        is = subst (λ (u : SignatureView). IsKnown types (signatures ++ s ∷ []) form d u) same new;
+        is = subst (λ (u : SignatureView). IsKnown names types (signatures ++ s ∷ []) form d u) same new;
       }
 
 -- ---- one is changed
@@ -120,16 +124,16 @@ same_or_not zero (suc k) = inr (λ e. omega (arith, e))
 same_or_not (suc n) zero = inr (λ e. omega (arith, e))
 same_or_not (suc n) (suc k) = ⊎_elim (λ same. inl (ap suc same)) (λ other. inr (λ e. other (omega (arith, e)))) (same_or_not n k)
 
-module _ (types : Types) (signatures : List SignatureView) (forms : List FunctionForm) (ds : List DeclaredView) (known : AreKnown types signatures forms ds) where
+module _ (names : List (List ℕ)) (types : Types) (signatures : List SignatureView) (forms : List FunctionForm) (ds : List DeclaredView) (known : AreKnown names types signatures forms ds) where
   pub known_changed : (n : ℕ) (form old_form : FunctionForm) (d old_d : DeclaredView) (s : SignatureView) → slice_get forms n ≡ Some old_form → slice_get ds n ≡ Some old_d → slice_get signatures n ≡ Some s
-      → IsKnown types signatures form d s → AreKnown types signatures (slice_set forms n form) (slice_set ds n d)
+      → IsKnown names types signatures form d s → AreKnown names types signatures (slice_set forms n form) (slice_set ds n d)
   known_changed n form old_form d old_d s form_was d_was there new = record {
     forms_count = set_length forms n form ∙ known.forms_count;
     declared_count = set_length ds n d ∙ known.declared_count;
     each = λ k t e. ⊎_elim (λ same. changed k t e same) (λ other. kept k t e other) (same_or_not n k);
   }
     where
-      kept : (k : ℕ) (t : SignatureView) → slice_get signatures k ≡ Some t → (n ≡ k → ⊥) → KnownAt types signatures (slice_set forms n form) (slice_set ds n d) k t
+      kept : (k : ℕ) (t : SignatureView) → slice_get signatures k ≡ Some t → (n ≡ k → ⊥) → KnownAt names types signatures (slice_set forms n form) (slice_set ds n d) k t
       kept k t e other =
           let old = known.each k t e in
           record {
@@ -140,13 +144,13 @@ module _ (types : Types) (signatures : List SignatureView) (forms : List Functio
             is = old.is;
           }
 
-      changed : (k : ℕ) (t : SignatureView) → slice_get signatures k ≡ Some t → n ≡ k → KnownAt types signatures (slice_set forms n form) (slice_set ds n d) k t
+      changed : (k : ℕ) (t : SignatureView) → slice_get signatures k ≡ Some t → n ≡ k → KnownAt names types signatures (slice_set forms n form) (slice_set ds n d) k t
       changed k t e same =
           let is_it : s ≡ t = same_some s t (sym there ∙ subst (λ (i : ℕ). slice_get signatures i ≡ Some t) (sym same) e) in
-          subst (λ (i : ℕ). KnownAt types signatures (slice_set forms n form) (slice_set ds n d) i t) same (record {
+          subst (λ (i : ℕ). KnownAt names types signatures (slice_set forms n form) (slice_set ds n d) i t) same (record {
             form = form;
             declared = d;
             form_there = set_there forms n old_form form form_was;
             declared_there = set_there ds n old_d d d_was;
-            is = subst (λ (u : SignatureView). IsKnown types signatures form d u) is_it new;
+            is = subst (λ (u : SignatureView). IsKnown names types signatures form d u) is_it new;
           })

@@ -4,19 +4,16 @@ use Rattle.std.specs.declared.alloc.Global.{Global}
 use Rattle.std.proofs.lemmas.Bool.{and_from}
 use Rattle.life_types.specs.Types.{Types}
 use Rattle.life_types.specs.declared.ty.TyId.{TyId}
-use Rattle.life_tree.specs.declared.stmt.BlockItem.{BlockItem, roll-BlockItem}
-use Rattle.life_tree.specs.declared.stmt.PlainStmt.{PlainStmt, roll-PlainStmt}
-use Rattle.life_tree.specs.declared.stmt.Stmt.{Stmt, roll-Stmt}
+use Rattle.life_tree.specs.declared.stmt.BlockItem.{roll-BlockItem}
+use Rattle.life_tree.specs.declared.stmt.PlainStmt.{roll-PlainStmt}
+use Rattle.life_tree.specs.declared.stmt.Stmt.{roll-Stmt}
 use Rattle.life_tree.specs.declared.stmt.Block.{Block, roll-Block}
-use Rattle.life_tree.specs.declared.stmt.Branch.{Branch, roll-Branch}
-use Rattle.life_tree.specs.declared.stmt.Else.{Else, roll-Else}
-use Rattle.life_tree.specs.declared.stmt.ElseIf.{ElseIf, roll-ElseIf}
-use Rattle.life_tree.specs.declared.stmt.For.{For, roll-For}
-use Rattle.life_tree.specs.declared.stmt.If.{If, roll-If}
-use Rattle.life_tree.specs.declared.stmt.RangeFor.{RangeFor, roll-RangeFor}
-use Rattle.life_tree.specs.declared.stmt.BlockItem.TheFolds.{fold-BlockItem, fold-PlainStmt, fold-Stmt, fold-Block, fold-Branch, fold-Else, fold-ElseIf, fold-For, fold-If, fold-RangeFor}
-use Rattle.life_tree.specs.declared.stmt.BlockItem.TheFolds.{fold-roll-BlockItem, fold-roll-PlainStmt, fold-roll-Stmt, fold-roll-Block, fold-roll-Branch, fold-roll-Else, fold-roll-ElseIf, fold-roll-For, fold-roll-If, fold-roll-RangeFor}
-use Rattle.life_tree.specs.declared.stmt.BlockItem.TheFolds.{map-BlockItem, map-PlainStmt, map-Stmt, map-Block, map-Branch, map-Else, map-ElseIf, map-For, map-If, map-RangeFor}
+use Rattle.life_tree.specs.declared.stmt.Branch.{roll-Branch}
+use Rattle.life_tree.specs.declared.stmt.Else.{roll-Else}
+use Rattle.life_tree.specs.declared.stmt.ElseIf.{roll-ElseIf}
+use Rattle.life_tree.specs.declared.stmt.For.{roll-For}
+use Rattle.life_tree.specs.declared.stmt.If.{roll-If}
+use Rattle.life_tree.specs.declared.stmt.RangeFor.{roll-RangeFor}
 use Rattle.life_tree.specs.declared.stmt.BlockItem.TheFolds.{ind-Block}
 use Rattle.life_tree.specs.declared.stmt.BlockItem.TheOpen as open_stmt
 use Rattle.life_tree.specs.Views as views
@@ -24,7 +21,7 @@ use Rattle.life_tree.specs.Views.{block_item_tree, plain_stmt_tree, stmt_tree, b
 use Rattle.life_typed.specs.TypedStatement as typed
 use Rattle.life_names.specs.Environment.{Scope, forgotten}
 use Rattle.life_type_stmt.specs.Bodies.{body}
-use Rattle.life_type_stmt.specs.Statements.{ItemPart, Part, in_loop, block_of, item_step, plain_step, stmt_step, block_step, branch_step, else_step, else_if_step, for_step, if_step, range_for_step}
+use Rattle.life_type_stmt.specs.Statements.{in_loop, block_of, item_step, plain_step, stmt_step, block_step, branch_step, else_step, else_if_step, for_step, if_step, range_for_step}
 use Rattle.life_unique.proofs.Lists.{Both}
 use Rattle.life_unique.proofs.StatementLayers.{Claims, Layer-BlockItem, Layer-PlainStmt, Layer-Stmt, Layer-Block, Layer-Branch, Layer-Else, Layer-ElseIf, Layer-For, Layer-If, Layer-RangeFor}
 use Rattle.life_unique.proofs.StatementLayers.{parts_item, parts_plain, parts_stmt, parts_block, parts_branch, parts_else, parts_else_if, parts_for, parts_if, parts_range_for}
@@ -38,166 +35,35 @@ use Rattle.life_typing_laws.proofs.LongStatements.{BranchReads, ElseIfReads, IsP
 use Rattle.life_typing_laws.proofs.LongValues.{AreParsedItems, IsLongHead, IsLongIfAny, IsParsedDeclaration, condition_long, declared_long, head_long, items_long}
 use Rattle.life_typing_laws.proofs.Pairs.{both_same, paired}
 use Rattle.life_typing_laws.proofs.ReadTrees.{IsRead}
+use Rattle.life_typing_laws.proofs.StatementFolds.{part_steps, of_item, of_plain, of_stmt, of_block, of_branch, of_else, of_else_if, of_for, of_if, of_range_for}
+use Rattle.life_typing_laws.proofs.StatementFolds.{of_parts_item, of_parts_plain, of_parts_stmt, of_parts_block, of_parts_branch, of_parts_else, of_parts_else_if, of_parts_for, of_parts_if, of_parts_range_for}
+use Rattle.life_typing_laws.proofs.StatementFolds.{item_rolled, plain_rolled, stmt_rolled, block_rolled, branch_rolled, else_rolled, else_if_rolled, for_rolled, if_rolled, range_for_rolled}
 use Rattle.life_typing_laws.proofs.Yields.{Yields, yields_given, yields_given_with, yields_ok, yields_then}
-
--- ---- what is made of each type
-
-abbrev of_item : BlockItem → ItemPart
-of_item = fold-BlockItem ItemPart Part Part Part Part Part Part Part Part Part
-    item_step plain_step stmt_step block_step branch_step else_step else_if_step for_step if_step range_for_step
-
-abbrev of_plain : PlainStmt → Part
-of_plain = fold-PlainStmt ItemPart Part Part Part Part Part Part Part Part Part
-    item_step plain_step stmt_step block_step branch_step else_step else_if_step for_step if_step range_for_step
-
-abbrev of_stmt : Stmt → Part
-of_stmt = fold-Stmt ItemPart Part Part Part Part Part Part Part Part Part
-    item_step plain_step stmt_step block_step branch_step else_step else_if_step for_step if_step range_for_step
-
-abbrev of_block : Block → Part
-of_block = fold-Block ItemPart Part Part Part Part Part Part Part Part Part
-    item_step plain_step stmt_step block_step branch_step else_step else_if_step for_step if_step range_for_step
-
-abbrev of_branch : Branch → Part
-of_branch = fold-Branch ItemPart Part Part Part Part Part Part Part Part Part
-    item_step plain_step stmt_step block_step branch_step else_step else_if_step for_step if_step range_for_step
-
-abbrev of_else : Else → Part
-of_else = fold-Else ItemPart Part Part Part Part Part Part Part Part Part
-    item_step plain_step stmt_step block_step branch_step else_step else_if_step for_step if_step range_for_step
-
-abbrev of_else_if : ElseIf → Part
-of_else_if = fold-ElseIf ItemPart Part Part Part Part Part Part Part Part Part
-    item_step plain_step stmt_step block_step branch_step else_step else_if_step for_step if_step range_for_step
-
-abbrev of_for : For → Part
-of_for = fold-For ItemPart Part Part Part Part Part Part Part Part Part
-    item_step plain_step stmt_step block_step branch_step else_step else_if_step for_step if_step range_for_step
-
-abbrev of_if : If → Part
-of_if = fold-If ItemPart Part Part Part Part Part Part Part Part Part
-    item_step plain_step stmt_step block_step branch_step else_step else_if_step for_step if_step range_for_step
-
-abbrev of_range_for : RangeFor → Part
-of_range_for = fold-RangeFor ItemPart Part Part Part Part Part Part Part Part Part
-    item_step plain_step stmt_step block_step branch_step else_step else_if_step for_step if_step range_for_step
 
 -- what is claimed of each
 abbrev claims : Claims
 claims = record {
-  item = λ x. ItemReads (of_item x) (block_item_tree x);
-  plain = λ x. StmtReads (of_plain x) (plain_stmt_tree x);
-  stmt = λ x. StmtReads (of_stmt x) (stmt_tree x);
-  block = λ x. StmtReads (of_block x) (block_tree x);
-  branch = λ x. BranchReads (of_branch x) (branch_view x);
-  else_ = λ x. StmtReads (of_else x) (else_tree x);
-  else_if = λ x. ElseIfReads (of_else_if x) (else_if_view x);
-  for_ = λ x. StmtReads (of_for x) (for_tree x);
-  if_ = λ x. StmtReads (of_if x) (if_tree x);
-  range_for = λ x. StmtReads (of_range_for x) (range_for_tree x);
+  item = λ x. ItemReads (of_item part_steps x) (block_item_tree x);
+  plain = λ x. StmtReads (of_plain part_steps x) (plain_stmt_tree x);
+  stmt = λ x. StmtReads (of_stmt part_steps x) (stmt_tree x);
+  block = λ x. StmtReads (of_block part_steps x) (block_tree x);
+  branch = λ x. BranchReads (of_branch part_steps x) (branch_view x);
+  else_ = λ x. StmtReads (of_else part_steps x) (else_tree x);
+  else_if = λ x. ElseIfReads (of_else_if part_steps x) (else_if_view x);
+  for_ = λ x. StmtReads (of_for part_steps x) (for_tree x);
+  if_ = λ x. StmtReads (of_if part_steps x) (if_tree x);
+  range_for = λ x. StmtReads (of_range_for part_steps x) (range_for_tree x);
 }
-
--- ---- a layer's parts, and what is made of it
-
-abbrev of_parts_item : Opened-BlockItem → open_stmt.BlockItem-F ItemPart Part Part Part Part Part Part Part Part Part
-of_parts_item = map-BlockItem BlockItem PlainStmt Stmt Block Branch Else ElseIf For If RangeFor
-    ItemPart Part Part Part Part Part Part Part Part Part
-    of_item of_plain of_stmt of_block of_branch of_else of_else_if of_for of_if of_range_for
-
-abbrev of_parts_plain : Opened-PlainStmt → open_stmt.PlainStmt-F ItemPart Part Part Part Part Part Part Part Part Part
-of_parts_plain = map-PlainStmt BlockItem PlainStmt Stmt Block Branch Else ElseIf For If RangeFor
-    ItemPart Part Part Part Part Part Part Part Part Part
-    of_item of_plain of_stmt of_block of_branch of_else of_else_if of_for of_if of_range_for
-
-abbrev of_parts_stmt : Opened-Stmt → open_stmt.Stmt-F ItemPart Part Part Part Part Part Part Part Part Part
-of_parts_stmt = map-Stmt BlockItem PlainStmt Stmt Block Branch Else ElseIf For If RangeFor
-    ItemPart Part Part Part Part Part Part Part Part Part
-    of_item of_plain of_stmt of_block of_branch of_else of_else_if of_for of_if of_range_for
-
-abbrev of_parts_block : Opened-Block → open_stmt.Block-F ItemPart Part Part Part Part Part Part Part Part Part
-of_parts_block = map-Block BlockItem PlainStmt Stmt Block Branch Else ElseIf For If RangeFor
-    ItemPart Part Part Part Part Part Part Part Part Part
-    of_item of_plain of_stmt of_block of_branch of_else of_else_if of_for of_if of_range_for
-
-abbrev of_parts_branch : Opened-Branch → open_stmt.Branch-F ItemPart Part Part Part Part Part Part Part Part Part
-of_parts_branch = map-Branch BlockItem PlainStmt Stmt Block Branch Else ElseIf For If RangeFor
-    ItemPart Part Part Part Part Part Part Part Part Part
-    of_item of_plain of_stmt of_block of_branch of_else of_else_if of_for of_if of_range_for
-
-abbrev of_parts_else : Opened-Else → open_stmt.Else-F ItemPart Part Part Part Part Part Part Part Part Part
-of_parts_else = map-Else BlockItem PlainStmt Stmt Block Branch Else ElseIf For If RangeFor
-    ItemPart Part Part Part Part Part Part Part Part Part
-    of_item of_plain of_stmt of_block of_branch of_else of_else_if of_for of_if of_range_for
-
-abbrev of_parts_else_if : Opened-ElseIf → open_stmt.ElseIf-F ItemPart Part Part Part Part Part Part Part Part Part
-of_parts_else_if = map-ElseIf BlockItem PlainStmt Stmt Block Branch Else ElseIf For If RangeFor
-    ItemPart Part Part Part Part Part Part Part Part Part
-    of_item of_plain of_stmt of_block of_branch of_else of_else_if of_for of_if of_range_for
-
-abbrev of_parts_for : Opened-For → open_stmt.For-F ItemPart Part Part Part Part Part Part Part Part Part
-of_parts_for = map-For BlockItem PlainStmt Stmt Block Branch Else ElseIf For If RangeFor
-    ItemPart Part Part Part Part Part Part Part Part Part
-    of_item of_plain of_stmt of_block of_branch of_else of_else_if of_for of_if of_range_for
-
-abbrev of_parts_if : Opened-If → open_stmt.If-F ItemPart Part Part Part Part Part Part Part Part Part
-of_parts_if = map-If BlockItem PlainStmt Stmt Block Branch Else ElseIf For If RangeFor
-    ItemPart Part Part Part Part Part Part Part Part Part
-    of_item of_plain of_stmt of_block of_branch of_else of_else_if of_for of_if of_range_for
-
-abbrev of_parts_range_for : Opened-RangeFor → open_stmt.RangeFor-F ItemPart Part Part Part Part Part Part Part Part Part
-of_parts_range_for = map-RangeFor BlockItem PlainStmt Stmt Block Branch Else ElseIf For If RangeFor
-    ItemPart Part Part Part Part Part Part Part Part Part
-    of_item of_plain of_stmt of_block of_branch of_else of_else_if of_for of_if of_range_for
-
-item_rolled : (l : Opened-BlockItem) → of_item (roll-BlockItem l) ≡ item_step (of_parts_item l)
-item_rolled = fold-roll-BlockItem ItemPart Part Part Part Part Part Part Part Part Part
-    item_step plain_step stmt_step block_step branch_step else_step else_if_step for_step if_step range_for_step
-
-plain_rolled : (l : Opened-PlainStmt) → of_plain (roll-PlainStmt l) ≡ plain_step (of_parts_plain l)
-plain_rolled = fold-roll-PlainStmt ItemPart Part Part Part Part Part Part Part Part Part
-    item_step plain_step stmt_step block_step branch_step else_step else_if_step for_step if_step range_for_step
-
-stmt_rolled : (l : Opened-Stmt) → of_stmt (roll-Stmt l) ≡ stmt_step (of_parts_stmt l)
-stmt_rolled = fold-roll-Stmt ItemPart Part Part Part Part Part Part Part Part Part
-    item_step plain_step stmt_step block_step branch_step else_step else_if_step for_step if_step range_for_step
-
-block_rolled : (l : Opened-Block) → of_block (roll-Block l) ≡ block_step (of_parts_block l)
-block_rolled = fold-roll-Block ItemPart Part Part Part Part Part Part Part Part Part
-    item_step plain_step stmt_step block_step branch_step else_step else_if_step for_step if_step range_for_step
-
-branch_rolled : (l : Opened-Branch) → of_branch (roll-Branch l) ≡ branch_step (of_parts_branch l)
-branch_rolled = fold-roll-Branch ItemPart Part Part Part Part Part Part Part Part Part
-    item_step plain_step stmt_step block_step branch_step else_step else_if_step for_step if_step range_for_step
-
-else_rolled : (l : Opened-Else) → of_else (roll-Else l) ≡ else_step (of_parts_else l)
-else_rolled = fold-roll-Else ItemPart Part Part Part Part Part Part Part Part Part
-    item_step plain_step stmt_step block_step branch_step else_step else_if_step for_step if_step range_for_step
-
-else_if_rolled : (l : Opened-ElseIf) → of_else_if (roll-ElseIf l) ≡ else_if_step (of_parts_else_if l)
-else_if_rolled = fold-roll-ElseIf ItemPart Part Part Part Part Part Part Part Part Part
-    item_step plain_step stmt_step block_step branch_step else_step else_if_step for_step if_step range_for_step
-
-for_rolled : (l : Opened-For) → of_for (roll-For l) ≡ for_step (of_parts_for l)
-for_rolled = fold-roll-For ItemPart Part Part Part Part Part Part Part Part Part
-    item_step plain_step stmt_step block_step branch_step else_step else_if_step for_step if_step range_for_step
-
-if_rolled : (l : Opened-If) → of_if (roll-If l) ≡ if_step (of_parts_if l)
-if_rolled = fold-roll-If ItemPart Part Part Part Part Part Part Part Part Part
-    item_step plain_step stmt_step block_step branch_step else_step else_if_step for_step if_step range_for_step
-
-range_for_rolled : (l : Opened-RangeFor) → of_range_for (roll-RangeFor l) ≡ range_for_step (of_parts_range_for l)
-range_for_rolled = fold-roll-RangeFor ItemPart Part Part Part Part Part Part Part Part Part
-    item_step plain_step stmt_step block_step branch_step else_step else_if_step for_step if_step range_for_step
 
 -- ---- each rule of the grammar
 
-item_layer : (l : Layer-BlockItem claims) → ItemReads (item_step (of_parts_item (parts_item claims l))) (views.block_item_step (trees_item (parts_item claims l)))
+item_layer : (l : Layer-BlockItem claims) → ItemReads (item_step (of_parts_item part_steps (parts_item claims l))) (views.block_item_step (trees_item (parts_item claims l)))
 item_layer (open_stmt.Declare d semicolon) = λ read around scope types.
     yields_then IsParsedDeclaration IsParsedPart _ _ (declared_long d.value.ty d.value.name d.value.initializer read.1.0.1.1.1 scope types) (λ x l.
     yields_ok IsParsedPart (typed.declaration x.0.0 semicolon, x.0.1) x.1 l)
 item_layer (open_stmt.Stmt s) = λ read. s.1 read.1
 
-plain_layer : (l : Layer-PlainStmt claims) → StmtReads (plain_step (of_parts_plain (parts_plain claims l))) (views.plain_step (trees_plain (parts_plain claims l)))
+plain_layer : (l : Layer-PlainStmt claims) → StmtReads (plain_step (of_parts_plain part_steps (parts_plain claims l))) (views.plain_step (trees_plain (parts_plain claims l)))
 plain_layer (open_stmt.Block b) = λ read. b.1 read.1
 plain_layer (open_stmt.Empty place) = λ read around scope types. yields_ok IsParsedPart (typed.empty place, scope) types refl
 plain_layer (open_stmt.Simple s semicolon) = λ read around scope types.
@@ -218,40 +84,40 @@ plain_layer (open_stmt.Print name parts semicolon) = λ read around scope types.
 plain_layer (open_stmt.Assert keyword opening decides closing semicolon) = λ read around scope types.
     yields_then IsLong IsParsedPart _ _ (condition_long decides.value read.1.1.0.1.0 scope types) (λ x l. yields_ok IsParsedPart (typed.assertion keyword x.0 closing semicolon, scope) x.1 l)
 
-stmt_layer : (l : Layer-Stmt claims) → StmtReads (stmt_step (of_parts_stmt (parts_stmt claims l))) (views.stmt_step (trees_stmt (parts_stmt claims l)))
+stmt_layer : (l : Layer-Stmt claims) → StmtReads (stmt_step (of_parts_stmt part_steps (parts_stmt claims l))) (views.stmt_step (trees_stmt (parts_stmt claims l)))
 stmt_layer (open_stmt.If i) = λ read. i.value.1 read.1
 stmt_layer (open_stmt.Plain s) = λ read. s.1 read.1
 
-block_layer : (l : Layer-Block claims) → StmtReads (block_step (of_parts_block (parts_block claims l))) (views.block_step (trees_block (parts_block claims l)))
-block_layer l = λ read. block_long _ _ l.closing (paired ItemReads of_item block_item_tree l.items.items) read.1.0
+block_layer : (l : Layer-Block claims) → StmtReads (block_step (of_parts_block part_steps (parts_block claims l))) (views.block_step (trees_block (parts_block claims l)))
+block_layer l = λ read. block_long _ _ l.closing (paired ItemReads (of_item part_steps) block_item_tree l.items.items) read.1.0
 
-branch_layer : (l : Layer-Branch claims) → BranchReads (branch_step (of_parts_branch (parts_branch claims l))) (views.branch_step (trees_branch (parts_branch claims l)))
+branch_layer : (l : Layer-Branch claims) → BranchReads (branch_step (of_parts_branch part_steps (parts_branch claims l))) (views.branch_step (trees_branch (parts_branch claims l)))
 branch_layer l = λ read around scope types.
     yields_then IsLong IsParsedPart _ _ (condition_long l.condition.value read.0.1.0 scope types) (λ x m. yields_then IsParsedPart IsParsedPart _ _ (l.body.value.1 read.1 around scope x.1) (λ y b.
     yields_ok IsParsedPart (typed.branch l.keyword x.0 l.closing y.0.0, y.0.1) y.1 (and_from (has_longs x.0.form) (is_statement_as_parsed y.0.0) m b)))
 
-else_layer : (l : Layer-Else claims) → StmtReads (else_step (of_parts_else (parts_else claims l))) (views.else_step (trees_else (parts_else claims l)))
+else_layer : (l : Layer-Else claims) → StmtReads (else_step (of_parts_else part_steps (parts_else claims l))) (views.else_step (trees_else (parts_else claims l)))
 else_layer l = λ read. l.body.value.1 read.1
 
-else_if_layer : (l : Layer-ElseIf claims) → ElseIfReads (else_if_step (of_parts_else_if (parts_else_if claims l))) (views.else_if_step (trees_else_if (parts_else_if claims l)))
+else_if_layer : (l : Layer-ElseIf claims) → ElseIfReads (else_if_step (of_parts_else_if part_steps (parts_else_if claims l))) (views.else_if_step (trees_else_if (parts_else_if claims l)))
 else_if_layer l = λ read. l.branch.1 read
 
-for_layer : (l : Layer-For claims) → StmtReads (for_step (of_parts_for (parts_for claims l))) (views.for_step (trees_for (parts_for claims l)))
-for_layer l = λ read. for_long l.keyword l.start l.first_semicolon l.condition l.second_semicolon l.step l.closing (of_stmt l.body.value.0) read.0.1.0.1 (l.body.value.1 read.1)
+for_layer : (l : Layer-For claims) → StmtReads (for_step (of_parts_for part_steps (parts_for claims l))) (views.for_step (trees_for (parts_for claims l)))
+for_layer l = λ read. for_long l.keyword l.start l.first_semicolon l.condition l.second_semicolon l.step l.closing (of_stmt part_steps l.body.value.0) read.0.1.0.1 (l.body.value.1 read.1)
 
 branches_layer : (first : Both claims.branch) (more : Vec (Both claims.else_if) Global) (last : Option (Both claims.else_))
-    → StmtReads (if_step (of_parts_if (parts_if claims (record { first = first; more = more; last = last })))) (views.if_step (trees_if (parts_if claims (record { first = first; more = more; last = last }))))
+    → StmtReads (if_step (of_parts_if part_steps (parts_if claims (record { first = first; more = more; last = last })))) (views.if_step (trees_if (parts_if claims (record { first = first; more = more; last = last }))))
 branches_layer first more None = λ read.
-    let others = else_each (map of_else_if (map (λ z. z.0) more.items)) (map else_if_view (map (λ z. z.0) more.items)) None (paired ElseIfReads of_else_if else_if_view more.items) read.1.1.1 in
-    branches_long (of_branch first.0) (map of_else_if (map (λ z. z.0) more.items)) None (first.1 (read.1.0, read.1.1.0)) others.0 tt
+    let others = else_each (map (of_else_if part_steps) (map (λ z. z.0) more.items)) (map else_if_view (map (λ z. z.0) more.items)) None (paired ElseIfReads (of_else_if part_steps) else_if_view more.items) read.1.1.1 in
+    branches_long (of_branch part_steps first.0) (map (of_else_if part_steps) (map (λ z. z.0) more.items)) None (first.1 (read.1.0, read.1.1.0)) others.0 tt
 branches_layer first more (Some last) = λ read.
-    let others = else_each (map of_else_if (map (λ z. z.0) more.items)) (map else_if_view (map (λ z. z.0) more.items)) (Some (else_tree last.0)) (paired ElseIfReads of_else_if else_if_view more.items) read.1.1.1 in
-    branches_long (of_branch first.0) (map of_else_if (map (λ z. z.0) more.items)) (Some (of_else last.0)) (first.1 (read.1.0, read.1.1.0)) others.0 (last.1 others.1)
+    let others = else_each (map (of_else_if part_steps) (map (λ z. z.0) more.items)) (map else_if_view (map (λ z. z.0) more.items)) (Some (else_tree last.0)) (paired ElseIfReads (of_else_if part_steps) else_if_view more.items) read.1.1.1 in
+    branches_long (of_branch part_steps first.0) (map (of_else_if part_steps) (map (λ z. z.0) more.items)) (Some (of_else part_steps last.0)) (first.1 (read.1.0, read.1.1.0)) others.0 (last.1 others.1)
 
-if_layer : (l : Layer-If claims) → StmtReads (if_step (of_parts_if (parts_if claims l))) (views.if_step (trees_if (parts_if claims l)))
+if_layer : (l : Layer-If claims) → StmtReads (if_step (of_parts_if part_steps (parts_if claims l))) (views.if_step (trees_if (parts_if claims l)))
 if_layer l = branches_layer l.first l.more l.last
 
-range_for_layer : (l : Layer-RangeFor claims) → StmtReads (range_for_step (of_parts_range_for (parts_range_for claims l))) (views.range_for_step (trees_range_for (parts_range_for claims l)))
+range_for_layer : (l : Layer-RangeFor claims) → StmtReads (range_for_step (of_parts_range_for part_steps (parts_range_for claims l))) (views.range_for_step (trees_range_for (parts_range_for claims l)))
 range_for_layer l = λ read around scope types.
     yields_then IsLongHead IsParsedPart _ _ (head_long l.ty l.name l.colon l.range.value read.0.1.0.1.1.1.1 scope types) (λ x h.
     yields_then IsParsedPart IsParsedPart _ _ (l.body.value.1 read.1 (in_loop around) x.0.1 x.1) (λ y b.
@@ -260,37 +126,37 @@ range_for_layer l = λ read around scope types.
 
 -- ---- each statement
 
-item_made : (x : Opened-BlockItem) (l : Layer-BlockItem claims) → parts_item claims l ≡ x → ItemReads (of_item (roll-BlockItem x)) (block_item_tree (roll-BlockItem x))
-item_made x l e = subst (λ z. ItemReads (of_item (roll-BlockItem z)) (block_item_tree (roll-BlockItem z))) e (both_same ItemReads (sym (item_rolled (parts_item claims l))) (sym (tree_of_item (parts_item claims l))) (item_layer l))
+item_made : (x : Opened-BlockItem) (l : Layer-BlockItem claims) → parts_item claims l ≡ x → ItemReads (of_item part_steps (roll-BlockItem x)) (block_item_tree (roll-BlockItem x))
+item_made x l e = subst (λ z. ItemReads (of_item part_steps (roll-BlockItem z)) (block_item_tree (roll-BlockItem z))) e (both_same ItemReads (sym (item_rolled part_steps (parts_item claims l))) (sym (tree_of_item (parts_item claims l))) (item_layer l))
 
-plain_made : (x : Opened-PlainStmt) (l : Layer-PlainStmt claims) → parts_plain claims l ≡ x → StmtReads (of_plain (roll-PlainStmt x)) (plain_stmt_tree (roll-PlainStmt x))
-plain_made x l e = subst (λ z. StmtReads (of_plain (roll-PlainStmt z)) (plain_stmt_tree (roll-PlainStmt z))) e (both_same StmtReads (sym (plain_rolled (parts_plain claims l))) (sym (tree_of_plain (parts_plain claims l))) (plain_layer l))
+plain_made : (x : Opened-PlainStmt) (l : Layer-PlainStmt claims) → parts_plain claims l ≡ x → StmtReads (of_plain part_steps (roll-PlainStmt x)) (plain_stmt_tree (roll-PlainStmt x))
+plain_made x l e = subst (λ z. StmtReads (of_plain part_steps (roll-PlainStmt z)) (plain_stmt_tree (roll-PlainStmt z))) e (both_same StmtReads (sym (plain_rolled part_steps (parts_plain claims l))) (sym (tree_of_plain (parts_plain claims l))) (plain_layer l))
 
-stmt_made : (x : Opened-Stmt) (l : Layer-Stmt claims) → parts_stmt claims l ≡ x → StmtReads (of_stmt (roll-Stmt x)) (stmt_tree (roll-Stmt x))
-stmt_made x l e = subst (λ z. StmtReads (of_stmt (roll-Stmt z)) (stmt_tree (roll-Stmt z))) e (both_same StmtReads (sym (stmt_rolled (parts_stmt claims l))) (sym (tree_of_stmt (parts_stmt claims l))) (stmt_layer l))
+stmt_made : (x : Opened-Stmt) (l : Layer-Stmt claims) → parts_stmt claims l ≡ x → StmtReads (of_stmt part_steps (roll-Stmt x)) (stmt_tree (roll-Stmt x))
+stmt_made x l e = subst (λ z. StmtReads (of_stmt part_steps (roll-Stmt z)) (stmt_tree (roll-Stmt z))) e (both_same StmtReads (sym (stmt_rolled part_steps (parts_stmt claims l))) (sym (tree_of_stmt (parts_stmt claims l))) (stmt_layer l))
 
-block_made : (x : Opened-Block) (l : Layer-Block claims) → parts_block claims l ≡ x → StmtReads (of_block (roll-Block x)) (block_tree (roll-Block x))
-block_made x l e = subst (λ z. StmtReads (of_block (roll-Block z)) (block_tree (roll-Block z))) e (both_same StmtReads (sym (block_rolled (parts_block claims l))) (sym (tree_of_block (parts_block claims l))) (block_layer l))
+block_made : (x : Opened-Block) (l : Layer-Block claims) → parts_block claims l ≡ x → StmtReads (of_block part_steps (roll-Block x)) (block_tree (roll-Block x))
+block_made x l e = subst (λ z. StmtReads (of_block part_steps (roll-Block z)) (block_tree (roll-Block z))) e (both_same StmtReads (sym (block_rolled part_steps (parts_block claims l))) (sym (tree_of_block (parts_block claims l))) (block_layer l))
 
-branch_made : (x : Opened-Branch) (l : Layer-Branch claims) → parts_branch claims l ≡ x → BranchReads (of_branch (roll-Branch x)) (branch_view (roll-Branch x))
-branch_made x l e = subst (λ z. BranchReads (of_branch (roll-Branch z)) (branch_view (roll-Branch z))) e (both_same BranchReads (sym (branch_rolled (parts_branch claims l))) (sym (tree_of_branch (parts_branch claims l))) (branch_layer l))
+branch_made : (x : Opened-Branch) (l : Layer-Branch claims) → parts_branch claims l ≡ x → BranchReads (of_branch part_steps (roll-Branch x)) (branch_view (roll-Branch x))
+branch_made x l e = subst (λ z. BranchReads (of_branch part_steps (roll-Branch z)) (branch_view (roll-Branch z))) e (both_same BranchReads (sym (branch_rolled part_steps (parts_branch claims l))) (sym (tree_of_branch (parts_branch claims l))) (branch_layer l))
 
-else_made : (x : Opened-Else) (l : Layer-Else claims) → parts_else claims l ≡ x → StmtReads (of_else (roll-Else x)) (else_tree (roll-Else x))
-else_made x l e = subst (λ z. StmtReads (of_else (roll-Else z)) (else_tree (roll-Else z))) e (both_same StmtReads (sym (else_rolled (parts_else claims l))) (sym (tree_of_else (parts_else claims l))) (else_layer l))
+else_made : (x : Opened-Else) (l : Layer-Else claims) → parts_else claims l ≡ x → StmtReads (of_else part_steps (roll-Else x)) (else_tree (roll-Else x))
+else_made x l e = subst (λ z. StmtReads (of_else part_steps (roll-Else z)) (else_tree (roll-Else z))) e (both_same StmtReads (sym (else_rolled part_steps (parts_else claims l))) (sym (tree_of_else (parts_else claims l))) (else_layer l))
 
-else_if_made : (x : Opened-ElseIf) (l : Layer-ElseIf claims) → parts_else_if claims l ≡ x → ElseIfReads (of_else_if (roll-ElseIf x)) (else_if_view (roll-ElseIf x))
-else_if_made x l e = subst (λ z. ElseIfReads (of_else_if (roll-ElseIf z)) (else_if_view (roll-ElseIf z))) e (both_same ElseIfReads (sym (else_if_rolled (parts_else_if claims l))) (sym (tree_of_else_if (parts_else_if claims l))) (else_if_layer l))
+else_if_made : (x : Opened-ElseIf) (l : Layer-ElseIf claims) → parts_else_if claims l ≡ x → ElseIfReads (of_else_if part_steps (roll-ElseIf x)) (else_if_view (roll-ElseIf x))
+else_if_made x l e = subst (λ z. ElseIfReads (of_else_if part_steps (roll-ElseIf z)) (else_if_view (roll-ElseIf z))) e (both_same ElseIfReads (sym (else_if_rolled part_steps (parts_else_if claims l))) (sym (tree_of_else_if (parts_else_if claims l))) (else_if_layer l))
 
-for_made : (x : Opened-For) (l : Layer-For claims) → parts_for claims l ≡ x → StmtReads (of_for (roll-For x)) (for_tree (roll-For x))
-for_made x l e = subst (λ z. StmtReads (of_for (roll-For z)) (for_tree (roll-For z))) e (both_same StmtReads (sym (for_rolled (parts_for claims l))) (sym (tree_of_for (parts_for claims l))) (for_layer l))
+for_made : (x : Opened-For) (l : Layer-For claims) → parts_for claims l ≡ x → StmtReads (of_for part_steps (roll-For x)) (for_tree (roll-For x))
+for_made x l e = subst (λ z. StmtReads (of_for part_steps (roll-For z)) (for_tree (roll-For z))) e (both_same StmtReads (sym (for_rolled part_steps (parts_for claims l))) (sym (tree_of_for (parts_for claims l))) (for_layer l))
 
-if_made : (x : Opened-If) (l : Layer-If claims) → parts_if claims l ≡ x → StmtReads (of_if (roll-If x)) (if_tree (roll-If x))
-if_made x l e = subst (λ z. StmtReads (of_if (roll-If z)) (if_tree (roll-If z))) e (both_same StmtReads (sym (if_rolled (parts_if claims l))) (sym (tree_of_if (parts_if claims l))) (if_layer l))
+if_made : (x : Opened-If) (l : Layer-If claims) → parts_if claims l ≡ x → StmtReads (of_if part_steps (roll-If x)) (if_tree (roll-If x))
+if_made x l e = subst (λ z. StmtReads (of_if part_steps (roll-If z)) (if_tree (roll-If z))) e (both_same StmtReads (sym (if_rolled part_steps (parts_if claims l))) (sym (tree_of_if (parts_if claims l))) (if_layer l))
 
-range_for_made : (x : Opened-RangeFor) (l : Layer-RangeFor claims) → parts_range_for claims l ≡ x → StmtReads (of_range_for (roll-RangeFor x)) (range_for_tree (roll-RangeFor x))
-range_for_made x l e = subst (λ z. StmtReads (of_range_for (roll-RangeFor z)) (range_for_tree (roll-RangeFor z))) e (both_same StmtReads (sym (range_for_rolled (parts_range_for claims l))) (sym (tree_of_range_for (parts_range_for claims l))) (range_for_layer l))
+range_for_made : (x : Opened-RangeFor) (l : Layer-RangeFor claims) → parts_range_for claims l ≡ x → StmtReads (of_range_for part_steps (roll-RangeFor x)) (range_for_tree (roll-RangeFor x))
+range_for_made x l e = subst (λ z. StmtReads (of_range_for part_steps (roll-RangeFor z)) (range_for_tree (roll-RangeFor z))) e (both_same StmtReads (sym (range_for_rolled part_steps (parts_range_for claims l))) (sym (tree_of_range_for (parts_range_for claims l))) (range_for_layer l))
 
-all_blocks : (x : Block) → StmtReads (of_block x) (block_tree x)
+all_blocks : (x : Block) → StmtReads (of_block part_steps x) (block_tree x)
 all_blocks = ind-Block
     claims.item claims.plain claims.stmt claims.block claims.branch claims.else_ claims.else_if claims.for_ claims.if_ claims.range_for
     item_made plain_made stmt_made block_made branch_made else_made else_if_made for_made if_made range_for_made

@@ -26,7 +26,7 @@ use Rattle.life_names.specs.Found.{allowed, given}
 use Rattle.life_names.specs.declared.fault.IllKind.TheVariants as kinds
 use Rattle.life_type_stmt.specs.Conditions.{condition, items, optional_condition, unless}
 use Rattle.life_type_stmt.specs.Declarations.{declaration}
-use Rattle.life_type_stmt.specs.Given.{given_expr}
+use Rattle.life_type_stmt.specs.Given.{given_expr, value_fault}
 use Rattle.life_type_stmt.specs.Returns.{is_void, moves_out, named_local, result_fault, returned}
 use Rattle.life_type_stmt.specs.Simples.{named_in, optional_simple, simple_statement}
 use Rattle.life_type_stmt.specs.Statements.{Part, for_start_part, in_loop, in_loop_only, in_turn, optional_part, start_names}
@@ -36,17 +36,17 @@ use Rattle.life_well_typed.specs.Visible.{Visible, after, after_start}
 use Rattle.life_typing_laws.proofs.Domains.{Around}
 use Rattle.life_typing_laws.proofs.Declarations.{IsNew, declaration_new}
 use Rattle.life_typing_laws.proofs.Each.{EachHolds}
-use Rattle.life_typing_laws.proofs.Fitting.{fits_given, misfit_none}
+use Rattle.life_typing_laws.proofs.Fitting.{given_later, misfit_none}
 use Rattle.life_typing_laws.proofs.Growing.{same_type_at, stays_there}
 use Rattle.life_typing_laws.proofs.Reading.{append_none}
 use Rattle.life_typing_laws.proofs.Scopes.{Moves, final_before, final_remembered, forgotten_locals, moves_not, moves_on, moves_behind, sound_behind}
-use Rattle.life_typing_laws.specs.Sound.{IsFinal, IsSound}
+use Rattle.life_typing_laws.specs.Sound.{Grows, IsFinal, IsSound}
 use Rattle.life_typing_laws.specs.Served.{is_served_form, is_served_if_any, is_served_start, is_served_statement, is_served_step}
 use Rattle.life_typing_laws.proofs.Simples.{optional_simple_is, simple_is}
 use Rattle.life_typing_laws.proofs.Statements.{GoodPart, Gives, IsPart, condition_is, items_are, optional_condition_is, served_still, still}
 use Rattle.life_typing_laws.proofs.Steps.{allowed_ok, bound, given_ok, same_value}
 use Rattle.life_typing_laws.proofs.Turns.{BranchesAre, GoodBranch, IsBranch, branches_are}
-use Rattle.life_typing_laws.proofs.Values.{given_expr_reads}
+use Rattle.life_typing_laws.proofs.Values.{given_expr_reads, unless_none}
 use Rattle.life_typing_laws.proofs.Wholes.{expr_good}
 
 -- a statement is one, as it is given
@@ -140,23 +140,27 @@ continue_good keyword semicolon = jump_good (typed.loop_continue keyword semicol
 
 -- ---- returns
 
-result_given : (types : Types) (t : Ty) (result : TyId) (named : Option TypedLocal) (e : Typed) → result_fault (is_void t) (moves_out t result named) types t e ≡ None
-    → (is_void t ≡ false) × (is_given t e.ty ≡ true)
-result_given types ty.Void result named e h = absurd (cc)
-result_given types (ty.Unique target) result named e h = (refl, refl)
-result_given types ty.Bool result named e h = (refl, fits_given types ty.Bool e.ty e.category (misfit_none kinds.WrongType (fits types ty.Bool e.ty e.category) h))
-result_given types ty.Char result named e h = (refl, fits_given types ty.Char e.ty e.category (misfit_none kinds.WrongType (fits types ty.Char e.ty e.category) h))
-result_given types ty.Int result named e h = (refl, fits_given types ty.Int e.ty e.category (misfit_none kinds.WrongType (fits types ty.Int e.ty e.category) h))
-result_given types ty.Long result named e h = (refl, fits_given types ty.Long e.ty e.category (misfit_none kinds.WrongType (fits types ty.Long e.ty e.category) h))
-result_given types ty.Size result named e h = (refl, fits_given types ty.Size e.ty e.category (misfit_none kinds.WrongType (fits types ty.Size e.ty e.category) h))
-result_given types ty.Text result named e h = (refl, fits_given types ty.Text e.ty e.category (misfit_none kinds.WrongType (fits types ty.Text e.ty e.category) h))
-result_given types ty.View result named e h = (refl, fits_given types ty.View e.ty e.category (misfit_none kinds.WrongType (fits types ty.View e.ty e.category) h))
-result_given types (ty.Vector element) result named e h = (refl, fits_given types (ty.Vector element) e.ty e.category (misfit_none kinds.WrongType (fits types (ty.Vector element) e.ty e.category) h))
-result_given types (ty.Raw target constant) result named e h = (refl, fits_given types (ty.Raw target constant) e.ty e.category (misfit_none kinds.WrongType (fits types (ty.Raw target constant) e.ty e.category) h))
-result_given types (ty.Reference target constant) result named e h = (refl, fits_given types (ty.Reference target constant) e.ty e.category (misfit_none kinds.WrongType (fits types (ty.Reference target constant) e.ty e.category) h))
-result_given types (ty.Iterator target constant) result named e h = (refl, fits_given types (ty.Iterator target constant) e.ty e.category (misfit_none kinds.WrongType (fits types (ty.Iterator target constant) e.ty e.category) h))
-result_given types (ty.Span target constant) result named e h = (refl, fits_given types (ty.Span target constant) e.ty e.category (misfit_none kinds.WrongType (fits types (ty.Span target constant) e.ty e.category) h))
-result_given types (ty.Struct number) result named e h = (refl, fits_given types (ty.Struct number) e.ty e.category (misfit_none kinds.WrongType (fits types (ty.Struct number) e.ty e.category) h))
+module _ (few more : Types) (grows : Grows few more) where
+  fits_result : (t : Ty) (e : Typed) → value_fault kinds.WrongType few t e.ty e.category ≡ None → is_given more t e ≡ true
+  fits_result t e h = given_later few more grows t e (misfit_none kinds.WrongType (fits few t e.ty e.category) h)
+
+  -- a `std::unique_ptr` that is moved out needn't fit
+  result_given : (t : Ty) (result : TyId) (named : Option TypedLocal) (e : Typed) → result_fault (is_void t) (moves_out t result named) few t e ≡ None → (is_void t ≡ false) × (is_given more t e ≡ true)
+  result_given ty.Void result named e h = absurd (cc)
+  result_given (ty.Unique target) result named e h = (refl, refl)
+  result_given ty.Bool result named e h = (refl, fits_result ty.Bool e h)
+  result_given ty.Char result named e h = (refl, fits_result ty.Char e h)
+  result_given ty.Int result named e h = (refl, fits_result ty.Int e h)
+  result_given ty.Long result named e h = (refl, fits_result ty.Long e h)
+  result_given ty.Size result named e h = (refl, fits_result ty.Size e h)
+  result_given ty.Text result named e h = (refl, fits_result ty.Text e h)
+  result_given ty.View result named e h = (refl, fits_result ty.View e h)
+  result_given (ty.Vector element) result named e h = (refl, fits_result (ty.Vector element) e h)
+  result_given (ty.Raw target constant) result named e h = (refl, fits_result (ty.Raw target constant) e h)
+  result_given (ty.Reference target constant) result named e h = (refl, fits_result (ty.Reference target constant) e h)
+  result_given (ty.Iterator target constant) result named e h = (refl, fits_result (ty.Iterator target constant) e h)
+  result_given (ty.Span target constant) result named e h = (refl, fits_result (ty.Span target constant) e h)
+  result_given (ty.Struct number) result named e h = (refl, fits_result (ty.Struct number) e h)
 
 pub record IsGivenBack (result : TyId) (scope : Scope) (types : Types) (x : Option Typed × Types) : Type 0 where
   pub same : x.1 ≡ types
@@ -170,7 +174,10 @@ returned_is : (result : TyId) (keyword : Place) (e : Option (Box Expr Global)) (
     → IsGivenBack result scope types x
 returned_is result keyword None scope types x h served =
     let fine = allowed_ok {B = Option Typed} (unless (is_void (type_at types result)) kinds.WrongType) keyword (λ _. Ok (None, types)) x h in
-    subst (IsGivenBack result scope types) (same_value {A = Option Typed} (None, types) x fine.1) (record { same = refl; is = λ p locals v sound final there. tt })
+    subst (IsGivenBack result scope types) (same_value {A = Option Typed} (None, types) x fine.1) (record {
+      same = refl;
+      is = λ p locals v sound final there. subst (λ (t : Ty). is_void t ≡ true) (sym (same_type_at types p.types result final.grown there)) (unless_none (is_void (type_at types result)) kinds.WrongType fine.0);
+    })
 returned_is result keyword (Some e) scope types x h served =
     let step = bound (given_expr (type_at types result) e.value scope types) (behind_returned result keyword scope types) x h in
     let named = named_local scope (named_in step.value.0.form) in
@@ -179,14 +186,15 @@ returned_is result keyword (Some e) scope types x h served =
     let same = same_value {A = Option Typed} (Some step.value.0, step.value.1) x fine.1 in
     let served_value : is_served_form step.value.0.form ≡ true = subst (λ (z : Option Typed × Types). is_served_if_any z.0 ≡ true) (sym same) served in
     let reads = given_expr_reads (type_at types result) e.value scope types step.value step.gave in
-    let given = result_given step.value.1 (type_at types result) result named step.value.0 fine.0 in
+    let table : step.value.1 ≡ types = (expr_good e.value).same scope types step.value reads served_value in
     subst (IsGivenBack result scope types) same (record {
-      same = (expr_good e.value).same scope types step.value reads served_value;
-      is = λ p locals v sound final there. (
-        subst (λ (t : Ty). is_void t ≡ false) (sym (same_type_at types p.types result final.grown there)) given.0,
-        subst (λ (t : Ty). is_given t step.value.0.ty ≡ true) (sym (same_type_at types p.types result final.grown there)) given.1,
-        ((expr_good e.value).is p locals v scope types step.value reads served_value sound final).is,
-      );
+      same = table;
+      is = λ p locals v sound final there.
+          let given = result_given step.value.1 p.types (subst (λ (s : Types). Grows s p.types) (sym table) final.grown) (type_at types result) result named step.value.0 fine.0 in (
+            subst (λ (t : Ty). is_void t ≡ false) (sym (same_type_at types p.types result final.grown there)) given.0,
+            subst (λ (t : Ty). is_given p.types t step.value.0 ≡ true) (sym (same_type_at types p.types result final.grown there)) given.1,
+            ((expr_good e.value).is p locals v scope types step.value reads served_value sound final).is,
+          );
     })
 
 abbrev pub return_part : Place → Option (Box Expr Global) → Place → Part

@@ -23,7 +23,7 @@ set_there [] n x y e = absurd (cc)
 set_there (z ∷ zs) zero x y e = refl
 set_there (z ∷ zs) (suc n) x y e = set_there zs n x y e
 
-set_at : {A : Type 0} (xs : List A) (i : ℕ) (y x : A) → slice_get (slice_set xs i y) i ≡ Some x → y ≡ x
+pub set_at : {A : Type 0} (xs : List A) (i : ℕ) (y x : A) → slice_get (slice_set xs i y) i ≡ Some x → y ≡ x
 set_at [] i y x e = absurd (cc)
 set_at (z ∷ zs) zero y x e = cc
 set_at (z ∷ zs) (suc i) y x e = set_at zs i y x e
@@ -63,6 +63,10 @@ abbrev pub KeepsFunctions : List NameId → Scope → Scope → Type 0
 KeepsFunctions names before after =
     (k n : ℕ) → slice_get before.visible k ≡ Some (entity.Function n) → (IsIn names k → ⊥) × (slice_get after.visible k ≡ Some (entity.Function n))
 
+-- .. and nothing else means one
+abbrev pub MeansNoMore : Scope → Scope → Type 0
+MeansNoMore before after = (k n : ℕ) → slice_get after.visible k ≡ Some (entity.Function n) → slice_get before.visible k ≡ Some (entity.Function n)
+
 -- a name that means no function
 abbrev pub IsFree : NameId → Scope → Type 0
 IsFree name scope = (n : ℕ) → slice_get scope.visible name.0 ≡ Some (entity.Function n) → ⊥
@@ -88,6 +92,14 @@ forgotten_keeps [] scope k none = refl
 forgotten_keeps (name ∷ names) scope k none =
     forgotten_keeps names (seen_as name entity.Unseen scope) k (λ among. none (inr among)) ∙ set_else scope.visible name.0 k entity.Unseen (λ same. none (inl same))
 
+pub forgotten_meant : (names : List NameId) (scope : Scope) → MeansNoMore scope (forgotten names scope)
+forgotten_meant [] scope k n e = e
+forgotten_meant (name ∷ names) scope k n e =
+    ⊎_elim (λ here. absurd (other here.1)) (λ there. there) (set_other scope.visible name.0 k entity.Unseen (entity.Function n) (forgotten_meant names (seen_as name entity.Unseen scope) k n e))
+  where
+    other : entity.Unseen ≡ entity.Function n → ⊥
+    other e = cc
+
 pub forgotten_size : (names : List NameId) (scope : Scope) → length (forgotten names scope).visible ≡ length scope.visible
 forgotten_size [] scope = refl
 forgotten_size (name ∷ names) scope = forgotten_size names (seen_as name entity.Unseen scope) ∙ set_length scope.visible name.0 entity.Unseen
@@ -104,6 +116,10 @@ pub forgotten_structs : (names : List NameId) (scope : Scope) → (forgotten nam
 forgotten_structs [] scope = refl
 forgotten_structs (name ∷ names) scope = forgotten_structs names (seen_as name entity.Unseen scope)
 
+pub forgotten_texts : (names : List NameId) (scope : Scope) → (forgotten names scope).names ≡ scope.names
+forgotten_texts [] scope = refl
+forgotten_texts (name ∷ names) scope = forgotten_texts names (seen_as name entity.Unseen scope)
+
 -- ---- what a step of checking changes
 
 pub record Moves (names : List NameId) (before after : Scope) (old new : Types) : Type 0 where
@@ -115,6 +131,8 @@ pub record Moves (names : List NameId) (before after : Scope) (old new : Types) 
   pub structs : after.structs ≡ before.structs
   pub shows : ShowsNoMore names before after
   pub keeps : KeepsFunctions names before after
+  pub means : MeansNoMore before after
+  pub texts : after.names ≡ before.names
   pub size : length after.visible ≡ length before.visible
 
 -- .. nothing, where the table stays too
@@ -128,6 +146,8 @@ moves_not v scope types sound = record {
   structs = refl;
   shows = λ k n e. inr e;
   keeps = λ k n e. (λ none. none, e);
+  means = λ k n e. e;
+  texts = refl;
   size = refl;
 }
 
@@ -155,6 +175,8 @@ moves_on first second a b c s t u m n = record {
   structs = n.structs ∙ m.structs;
   shows = λ k x e. ⊎_elim (λ late. inl (in_second first second k late)) (λ old. ⊎_elim (λ early. inl (in_first first second k early)) (λ older. inr older) (m.shows k x old)) (n.shows k x e);
   keeps = λ k x e. let early = m.keeps k x e in let late = n.keeps k x early.1 in (not_in_both first second k early.0 late.0, late.1);
+  means = λ k x e. m.means k x (n.means k x e);
+  texts = n.texts ∙ m.texts;
   size = n.size ∙ m.size;
 }
 
@@ -169,6 +191,8 @@ moves_behind names a b s t m = record {
   structs = forgotten_structs names b ∙ m.structs;
   shows = λ k n e. let found = forgotten_means names b k n e in ⊎_elim (λ among. absurd (found.0 among)) (λ old. inr old) (m.shows k n found.1);
   keeps = λ k n e. let kept = m.keeps k n e in (λ none. none, forgotten_keeps names b k kept.0 ∙ kept.1);
+  means = λ k n e. m.means k n (forgotten_meant names b k n e);
+  texts = forgotten_texts names b ∙ m.texts;
   size = forgotten_size names b ∙ m.size;
 }
 
@@ -198,6 +222,8 @@ table_moves v scope old new sound grows ordered = record {
   structs = refl;
   shows = λ k n e. inr e;
   keeps = λ k n e. (λ none. none, e);
+  means = λ k n e. e;
+  texts = refl;
   size = refl;
 }
 
@@ -257,9 +283,14 @@ declared_moves l v scope types sound there free = record {
   structs = refl;
   shows = λ k n e. ⊎_elim (λ here. inl (inl here.0)) (λ old. inr old) (set_other scope.visible l.name.0 k (entity.Local (length scope.locals)) (entity.Local n) e);
   keeps = λ k n e. (λ among. ⊎_elim (λ here. taken k n here e) (λ none. none) among, set_else scope.visible l.name.0 k (entity.Local (length scope.locals)) (λ here. taken k n here e) ∙ e);
+  means = λ k n e. ⊎_elim (λ here. absurd (other n here.1)) (λ old. old) (set_other scope.visible l.name.0 k (entity.Local (length scope.locals)) (entity.Function n) e);
+  texts = refl;
   size = set_length scope.visible l.name.0 (entity.Local (length scope.locals));
 }
   where
+    other : (n : ℕ) → entity.Local (length scope.locals) ≡ entity.Function n → ⊥
+    other n e = cc
+
     taken : (k n : ℕ) → l.name.0 ≡ k → slice_get scope.visible k ≡ Some (entity.Function n) → ⊥
     taken k n here e = free n (subst (λ (i : ℕ). slice_get scope.visible i ≡ Some (entity.Function n)) (sym here) e)
 

@@ -1,7 +1,7 @@
 -- Assignments, steps and calls as statements.
-use Rattle.std.proofs.Common.{◌≡◌, true, ◌&&◌, Option, None, Some, List, Ok, Box, refl, sym, ap, subst, ◌∙◌}
+use Rattle.std.proofs.Common.{◌≡◌, Bool, true, false, ◌&&◌, not, Option, None, Some, List, Ok, Box, refl, sym, ap, subst, ◌∙◌}
 use Rattle.std.specs.declared.alloc.Global.{Global}
-use Rattle.std.proofs.lemmas.Bool.{and_parts}
+use Rattle.std.proofs.lemmas.Bool.{and_from, and_parts}
 use Rattle.life_types.specs.Types.{Types}
 use Rattle.life_types.specs.declared.place.Place.{Place}
 use Rattle.life_types.specs.declared.ty.TyId.{TyId}
@@ -32,8 +32,8 @@ use Rattle.life_type_stmt.specs.Given.{given_value, initial_fault}
 use Rattle.life_type_stmt.specs.Simples.{assignment, assignment_fault, compound, compound_fault, is_place, operand, optional_simple, self_fault, simple_statement, step_fault, stepped, target, type_of, whole_fault}
 use Rattle.life_well_typed.specs.Statements.{IsGiven, IsSimple, IsSimpleIfAny, ends_in_arguments}
 use Rattle.life_well_typed.specs.Visible.{Visible}
-use Rattle.life_typing_laws.proofs.Fitting.{fits_given, lower_none, misfit_none}
-use Rattle.life_typing_laws.specs.Sound.{IsFinal, IsSound}
+use Rattle.life_typing_laws.proofs.Fitting.{fit_at_all, given_later, lower_none, misfit_none}
+use Rattle.life_typing_laws.specs.Sound.{Grows, IsFinal, IsSound}
 use Rattle.life_typing_laws.specs.Served.{is_served_form, is_served_simple, is_served_step, is_served_value}
 use Rattle.life_typing_laws.proofs.Steps.{allowed_ok, bound, given_ok, same_value}
 use Rattle.life_typing_laws.proofs.Typed.{Good}
@@ -51,6 +51,18 @@ done_as scope types y x h done = subst (IsDone scope types) (same_value y x h) d
 
 served_as : (y x : SimpleForm × Types) → ◌≡◌ {A = Checked SimpleForm} (Ok y) (Ok x) → is_served_simple x.0 ≡ true → is_served_simple y.0 ≡ true
 served_as y x h served = subst (λ (z : SimpleForm × Types). is_served_simple z.0 ≡ true) (sym (same_value y x h)) served
+
+-- ---- targets
+
+const_none : (constant : Bool) (other : Option IllKind) → const_or constant other ≡ None → not constant ≡ true
+const_none true other e = absurd (cc)
+const_none false other e = refl
+
+-- a place that isn't const
+place_given : (t : Typed) (kind : IllKind) (other : Option IllKind) → unless (is_place t.ty t.category) kind ≡ None → const_or (is_constant t.category) other ≡ None
+    → (is_place t.ty t.category && not (is_constant t.category)) ≡ true
+place_given t kind other place free =
+    and_from (is_place t.ty t.category) (not (is_constant t.category)) (unless_none (is_place t.ty t.category) kind place) (const_none (is_constant t.category) other free)
 
 -- ---- assignments
 
@@ -86,16 +98,13 @@ assignment_is t equals i scope types x h served =
     done_as scope types (typed.assign first.value.0 equals second.value.0, second.value.1) x fine.1 (record {
       same = value.same;
       is = λ p locals result v sound final. (
-        (unless_none (is_place first.value.0.ty first.value.0.category) kinds.NotAssignable no_place.0, ((target_good t).is p locals v scope types first.value reads parts.0 sound final).is),
+        (place_given first.value.0 kinds.NotAssignable (self_fault first.value.0.form second.value.0) no_place.0 no_initial.1, ((target_good t).is p locals v scope types first.value reads parts.0 sound final).is),
         subst (λ (f : InitialForm). IsGiven p locals result v.visible (type_of first.value.0.ty) f) value.is
-            (fits_given second.value.1 (type_of first.value.0.ty) value.value.ty value.value.category fits_it, (value.typed p locals v sound final).is),
+            (given_later second.value.1 p.types (subst (λ (s : Types). Grows s p.types) (sym value.same) final.grown) (type_of first.value.0.ty) value.value fits_it, (value.typed p locals v sound final).is),
       );
     })
 
 -- ---- `+=` and its kind
-
-fit_at_all : (fit : Fit) → misfit_of kinds.WrongType fit ≡ None → fits_at_all fit ≡ true
-fit_at_all fit e = subst (λ (f : Fit). fits_at_all f ≡ true) (sym (misfit_none kinds.WrongType fit e)) refl
 
 abbrev fit_of : CompoundOperator → Typed → Typed → Fit
 fit_of operator t value = compounded operator (type_of t.ty) value.ty
@@ -122,8 +131,8 @@ compound_is t operator place e scope types x h served =
     done_as scope types (typed.compound first.value.0 operator place second.value.0, second.value.1) x fine.1 (record {
       same = (expr_good e).same scope types second.value gave parts.1;
       is = λ p locals result v sound final. (
-        fit_at_all fit no_misfit.0,
-        (unless_none (is_place first.value.0.ty first.value.0.category) kinds.WrongType no_place.0, ((target_good t).is p locals v scope types first.value reads parts.0 sound final).is),
+        fit_at_all fit (misfit_none kinds.WrongType fit no_misfit.0),
+        (place_given first.value.0 kinds.WrongType None no_place.0 no_misfit.1, ((target_good t).is p locals v scope types first.value reads parts.0 sound final).is),
         ((expr_good e).is p locals v scope types second.value gave parts.1 sound final).is,
       );
     })
@@ -155,7 +164,7 @@ step_is m good operator place scope types y x reads h served =
     let tests = and_parts (is_place y.0.ty y.0.category) (can_step (type_of y.0.ty)) (unless_none (is_place y.0.ty y.0.category && can_step (type_of y.0.ty)) kinds.WrongType no_step.0) in
     done_as scope types (typed.step y.0 operator place, y.1) x whole (record {
       same = good.same scope types y reads served_target;
-      is = λ p locals result v sound final. (tests.1, (tests.0, (good.is p locals v scope types y reads served_target sound final).is));
+      is = λ p locals result v sound final. (tests.1, (and_from (is_place y.0.ty y.0.category) (not (is_constant y.0.category)) tests.0 (const_none (is_constant y.0.category) None no_step.1), (good.is p locals v scope types y reads served_target sound final).is));
     })
 
 -- ---- all of them

@@ -1,9 +1,11 @@
 -- What steps that succeed were made of.
-use Rattle.std.proofs.Common.{◌≡◌, Option, None, Some, Ok, Err, refl, ap, Bool, true, false, sym, ◌∙◌, true≢false}
+use Rattle.std.proofs.Common.{◌≡◌, ℕ, Option, None, Some, Ok, Err, refl, ap, Bool, true, false, sym, ◌∙◌, true≢false}
 use Rattle.life_types.specs.Types.{Types}
 use Rattle.life_types.specs.declared.place.Place.{Place}
 use Rattle.life_names.specs.Checked.{Checked, ◌>>=◌}
 use Rattle.life_names.specs.Found.{Found, allowed, found_in, given}
+use Rattle.life_names.specs.declared.environment.Entity.{Entity}
+use Rattle.life_names.specs.declared.environment.Entity.TheVariants as entity
 use Rattle.life_names.specs.declared.fault.IllKind.{IllKind}
 use Rattle.life_typing.specs.Answers.{Answer, ◌>>◌}
 
@@ -65,3 +67,7 @@ same_value x y e = cc
 -- .. and no test both holds and fails
 pub not_both : {P : Type 0} (b : Bool) → b ≡ true → b ≡ false → P
 not_both b holds fails = absurd (true≢false (sym holds ∙ fails))
+
+-- one function has one number
+pub same_number : (m n : ℕ) → ◌≡◌ {A = Entity} (entity.Function m) (entity.Function n) → m ≡ n
+same_number m n e = cc

@@ -16,8 +16,9 @@ use Rattle.life_typing_laws.proofs.Domains.{Returned}
 use Rattle.life_typing_laws.proofs.HeaderTypes.{HeaderRead, header_read, by_seen}
 use Rattle.life_typing_laws.proofs.Headers.{HeaderIs}
 use Rattle.life_typing_laws.proofs.Known.{AreKnown}
+use Rattle.life_typing_laws.proofs.FunctionNames.{AreNamed}
 use Rattle.life_typing_laws.proofs.Parameters.{AreParameters, HideNothing, hides_count, ids_known, names_of, nothing_hidden, parameter_ids, parameters_are}
-use Rattle.life_typing_laws.proofs.Scopes.{IsIn, KeepsFunctions, set_length, set_other, sound_grown}
+use Rattle.life_typing_laws.proofs.Scopes.{IsIn, KeepsFunctions, MeansNoMore, set_length, set_other, sound_grown}
 use Rattle.life_typing_laws.specs.Sound.{Grows, IsSound}
 
 -- ---- between functions
@@ -25,7 +26,8 @@ use Rattle.life_typing_laws.specs.Sound.{Grows, IsSound}
 -- so far, where there are bodies of these names
 pub record IsUnderway (bodies : List Bool) (p : ProgressView) : Type 0 where
   pub sound : IsSound (with_parameters 0) p.scope p.types
-  pub known : AreKnown p.types p.scope.functions p.functions p.declared
+  pub known : AreKnown p.scope.names p.types p.scope.functions p.functions p.declared
+  pub named : AreNamed p.scope p.functions
   pub size : length p.scope.visible ≡ length bodies
 
 -- ---- the function's name means a function
@@ -49,13 +51,14 @@ seen_sound name number v scope types sound = record {
 pub record IsSeen (f : Function) (v : Visible) (scope after : Scope) (types : Types) : Type 0 where
   pub sound : IsSound v after types
   pub functions : after.functions ≡ scope.functions
+  pub texts : after.names ≡ scope.names
   pub size : length after.visible ≡ length scope.visible
 
 function_is_seen : (f : Function) (v : Visible) (scope : Scope) (types : Types) → IsSound v scope types → IsSeen f v scope (function_seen f scope) types
 function_is_seen f v scope types sound =
     by_seen f scope (λ (s : Scope). IsSeen f v scope s types)
-    (record { sound = sound; functions = refl; size = refl })
-    (record { sound = seen_sound f.name.id 0 v scope types sound; functions = refl; size = set_length scope.visible f.name.id.0 (entity.Function 0) })
+    (record { sound = sound; functions = refl; texts = refl; size = refl })
+    (record { sound = seen_sound f.name.id 0 v scope types sound; functions = refl; texts = refl; size = set_length scope.visible f.name.id.0 (entity.Function 0) })
 
 -- ---- the parameters are visible
 
@@ -76,6 +79,8 @@ pub record AreVisible (f : Function) (p : ProgressView) (returned : Returned) (k
   pub functions : scope.functions ≡ p.scope.functions
   pub shows : (k n : ℕ) → slice_get scope.visible k ≡ Some (entity.Local n) → IsIn (names_of f.parameters.items) k
   pub keeps : KeepsFunctions (names_of f.parameters.items) (function_seen f p.scope) scope
+  pub means : MeansNoMore (function_seen f p.scope) scope
+  pub texts : scope.names ≡ p.scope.names
   pub size : length scope.visible ≡ length p.scope.visible
 
 pub header_visible : (bodies : List Bool) (before : Entity) (f : Function) (p : ProgressView) (x : PartsView × ProgressView) (h : HeaderIs bodies before f p x) → IsUnderway bodies p
@@ -101,5 +106,7 @@ header_visible bodies before f p x h under =
       functions = them.moves.functions ∙ seen.functions;
       shows = λ k n e. ⊎_elim (λ among. among) (λ old. absurd (none_in n (seen.sound.visible k n old))) (them.moves.shows k n e);
       keeps = them.moves.keeps;
+      means = them.moves.means;
+      texts = them.moves.texts ∙ seen.texts;
       size = them.moves.size ∙ seen.size;
     }

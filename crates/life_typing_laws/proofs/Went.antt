@@ -1,20 +1,25 @@
 -- A whole function: what is known behind it.
-use Rattle.std.proofs.Common.{◌≡◌, ◌⊎◌, inl, inr, ⊎_elim, ℕ, suc, ◌≤◌, Bool, true, false, Option, Some, Ok, List, [], ◌∷◌, length, map, slice_get, slice_set, take, refl, sym, ap, subst, ◌∙◌, arith}
+use Rattle.std.proofs.Common.{◌≡◌, ◌⊎◌, inl, inr, ⊎_elim, ℕ, suc, ◌≤◌, Bool, true, false, Option, None, Some, Ok, List, [], ◌∷◌, length, map, slice_get, slice_set, take, refl, sym, ap, subst, ◌∙◌, arith}
 use Rattle.std.proofs.lemmas.List.{length-map}
-use Rattle.life_types.specs.Types.{Types}
+use Rattle.life_types.specs.Types.{Types, HasType}
 use Rattle.life_types.specs.declared.ty.NameId.{NameId}
+use Rattle.life_types.specs.declared.ty.Ty.{Ty}
 use Rattle.life_types.specs.declared.ty.TyId.{TyId}
 use Rattle.life_tree.specs.declared.function.Function.{Function}
 use Rattle.life_tree.specs.declared.function.FunctionBody.{FunctionBody}
 use Rattle.life_tree.specs.declared.function.FunctionBody.TheVariants as function_body
 use Rattle.life_tree.specs.declared.function.Parameter.{Parameter}
 use Rattle.life_tree.specs.declared.stmt.Block.{Block}
+use Rattle.life_typed.specs.BaseTypes.{type_at}
+use Rattle.life_typed.specs.Ends.{ends}
+use Rattle.life_typed.specs.Programs as programs
 use Rattle.life_typed.specs.Programs.{FunctionForm, ProgramForm}
 use Rattle.life_typed.specs.TypedStatement.{StmtForm, block}
 use Rattle.life_typed.specs.declared.typed_program.TypedLocal.{TypedLocal}
 use Rattle.life_names.specs.Environment.{Scope, SignatureView, forgotten, seen_as, without_locals}
 use Rattle.life_names.specs.declared.environment.Entity.TheVariants as entity
-use Rattle.life_type_stmt.specs.Bodies.{body}
+use Rattle.life_type_stmt.specs.Bodies.{body, return_fault}
+use Rattle.life_type_stmt.specs.Returns.{is_void}
 use Rattle.life_typing.specs.Functions.{PartsView, behind_header, behind_header_as, body_kept, changed_at, with_function, with_parameters_forgotten}
 use Rattle.life_typing.specs.Names.{DeclaredView, has_body, is_main}
 use Rattle.life_typing.specs.Parameters.{parameters_forgotten}
@@ -24,11 +29,13 @@ use Rattle.life_well_typed.specs.Functions.{IsBody, IsWellTypedFunction}
 use Rattle.life_well_typed.specs.Statements.{IsStatement}
 use Rattle.life_well_typed.specs.Visible.{Visible, after, with_parameters}
 use Rattle.life_typing_laws.proofs.Declaring.{function_is, parts}
-use Rattle.life_typing_laws.proofs.Bodies.{around_body, body_block, body_part}
+use Rattle.life_typing_laws.proofs.Bodies.{around_body, body_block, body_ends, body_part}
 use Rattle.life_typing_laws.proofs.Entered.{Entered, IsBegun, enters}
+use Rattle.life_typing_laws.proofs.Growing.{same_type_at, stays_there}
 use Rattle.life_typing_laws.proofs.Known.{AreKnown, HasInEnd, KnownAt, known_changed, known_grown, same_or_not}
+use Rattle.life_typing_laws.proofs.FunctionNames.{AreNamed, NamedAt, named_changed}
 use Rattle.life_typing_laws.proofs.Parameters.{names_of}
-use Rattle.life_typing_laws.proofs.Scopes.{IsIn, forgotten_functions, forgotten_keeps, forgotten_locals, forgotten_means, forgotten_size, forgotten_structs, set_else, set_there}
+use Rattle.life_typing_laws.proofs.Scopes.{IsIn, forgotten_functions, forgotten_keeps, forgotten_locals, forgotten_means, forgotten_meant, forgotten_size, forgotten_structs, forgotten_texts, set_else, set_there}
 use Rattle.life_typing_laws.proofs.Statements.{IsPart, is_block}
 use Rattle.life_typing_laws.proofs.Steps.{answered, same_some, same_answer, not_both}
 use Rattle.life_typing_laws.proofs.Visible.{IsUnderway}
@@ -37,7 +44,7 @@ use Rattle.life_typing_laws.specs.Sound.{IsSound, Keeps}
 
 -- ---- behind it no parameter and no variable is visible
 
-forgotten_are : (ps : List Parameter) (scope : Scope) → parameters_forgotten ps scope ≡ forgotten (names_of ps) scope
+pub forgotten_are : (ps : List Parameter) (scope : Scope) → parameters_forgotten ps scope ≡ forgotten (names_of ps) scope
 forgotten_are [] scope = refl
 forgotten_are (q ∷ ps) scope = forgotten_are ps (seen_as q.name.id entity.Unseen scope)
 
@@ -90,6 +97,7 @@ AreServed forms ds = (n : ℕ) (form : FunctionForm) (d : DeclaredView) → slic
 pub record Went (bodies : List Bool) (f : Function) (p q : ProgressView) : Type 0 where
   pub under : IsUnderway bodies q
   pub number : ℕ
+  pub texts : q.scope.names ≡ p.scope.names
   pub keeps : (k n : ℕ) → slice_get p.scope.visible k ≡ Some (entity.Function n) → slice_get q.scope.visible k ≡ Some (entity.Function n)
   pub named : slice_get q.scope.visible f.name.id.0 ≡ Some (entity.Function number)
   pub noted : has_body f.body ≡ true → (d : DeclaredView) → slice_get q.declared number ≡ Some d → d.has_body ≡ true
@@ -100,12 +108,14 @@ module _ (bodies : List Bool) (f : Function) (p : ProgressView) (h : PartsView) 
   names = names_of f.parameters.items
 
   -- what is visible behind it, from what is visible behind its body
-  shut : (scope : Scope) (types : Types) (forms : List FunctionForm) (ds : List DeclaredView) (v : Visible) → IsSound v scope types → AreKnown types scope.functions forms ds
-      → ((k n : ℕ) → slice_get scope.visible k ≡ Some (entity.Local n) → IsIn names k) → length scope.visible ≡ length bodies
+  shut : (scope : Scope) (types : Types) (forms : List FunctionForm) (ds : List DeclaredView) (v : Visible) → IsSound v scope types → AreKnown scope.names types scope.functions forms ds
+      → AreNamed scope forms → ((k n : ℕ) → slice_get scope.visible k ≡ Some (entity.Local n) → IsIn names k) → length scope.visible ≡ length bodies
       → IsUnderway bodies (record y.1 { scope = ended names scope; types = types; functions = forms; declared = ds })
-  shut scope types forms ds v sound known shows size = record {
+  shut scope types forms ds v sound known named shows size = record {
     sound = ended_sound names v scope types sound shows;
-    known = subst (λ (fs : List SignatureView). AreKnown types fs forms ds) (sym (forgotten_functions names (without_locals scope))) known;
+    known = subst (λ (ns : List (List ℕ)). AreKnown ns types (ended names scope).functions forms ds) (sym (forgotten_texts names (without_locals scope)))
+        (subst (λ (fs : List SignatureView). AreKnown scope.names types fs forms ds) (sym (forgotten_functions names (without_locals scope))) known);
+    named = λ k n e. named k n (forgotten_meant names (without_locals scope) k n e);
     size = forgotten_size names (without_locals scope) ∙ size;
   }
 
@@ -117,8 +127,9 @@ module _ (bodies : List Bool) (f : Function) (p : ProgressView) (h : PartsView) 
 
   declared_went : has_body f.body ≡ false → Went bodies f p (record y.1 { scope = ended names y.1.scope })
   declared_went bodiless = record {
-    under = shut y.1.scope y.1.types y.1.functions y.1.declared (with_parameters (length f.parameters.items)) entered.sound entered.known entered.shows entered.size;
+    under = shut y.1.scope y.1.types y.1.functions y.1.declared (with_parameters (length f.parameters.items)) entered.sound entered.known entered.forms entered.shows entered.size;
     number = y.0;
+    texts = forgotten_texts names (without_locals y.1.scope) ∙ entered.texts;
     keeps = λ k n e. let kept = entered.keeps k n e in stays y.1.scope k n kept.0 kept.1;
     named = stays y.1.scope f.name.id.0 y.0 entered.named.0 entered.named.1;
     noted = λ bodied d e. not_both (has_body f.body) bodied bodiless;
@@ -127,7 +138,7 @@ module _ (bodies : List Bool) (f : Function) (p : ProgressView) (h : PartsView) 
 
   -- ---- with a body
 
-  at : KnownAt y.1.types y.1.scope.functions y.1.functions y.1.declared y.0 entered.s
+  at : KnownAt y.1.scope.names y.1.types y.1.scope.functions y.1.functions y.1.declared y.0 entered.s
   at = entered.known.each y.0 entered.s entered.there
 
   abbrev with_body : (StmtForm × Scope) × Types → FunctionForm
@@ -139,7 +150,11 @@ module _ (bodies : List Bool) (f : Function) (p : ProgressView) (h : PartsView) 
   abbrev behind_body : (StmtForm × Scope) × Types → ProgressView
   behind_body w = record y.1 { scope = ended names w.0.1; types = w.1; functions = slice_set y.1.functions y.0 (with_body w); declared = slice_set y.1.declared y.0 noted }
 
-  module _ (b : Block) (main : Bool) (w : (StmtForm × Scope) × Types) (checked : body h.returned main b y.1.scope y.1.types ≡ Ok w) (served : is_served_statement w.0.0 ≡ true) where
+  -- whether it is `main`
+  abbrev main : Bool
+  main = is_main y.1.scope f.name.id
+
+  module _ (b : Block) (w : (StmtForm × Scope) × Types) (checked : body h.returned main b y.1.scope y.1.types ≡ Ok w) (served : is_served_statement w.0.0 ≡ true) where
     abbrev form : FunctionForm
     form = with_body w
 
@@ -170,34 +185,57 @@ module _ (bodies : List Bool) (f : Function) (p : ProgressView) (h : PartsView) 
       block_is (block items closing) is typed = typed
       block_is _ is typed = absurd (cc)
 
-      well_typed : HasInEnd P w.1 w.0.1.functions → IsWellTypedFunction P form
+      -- it has the name that it is read under
+      name_is : at.form.name.0 ≡ f.name.id.0
+      name_is =
+          let named : NamedAt y.1.functions y.0 f.name.id.0 = entered.forms f.name.id.0 y.0 entered.named.1 in
+          ap (λ (g : FunctionForm). g.name.0) (same_some at.form named.form (sym at.form_there ∙ named.there)) ∙ named.name
+
+      main_is : P.names ≡ w.0.1.names → programs.is_main P.names at.form.name ≡ main
+      main_is texts = ap (λ (ns : List (List ℕ)). programs.is_main ns at.form.name) (texts ∙ part.moves.texts) ∙ ap (λ (k : ℕ). programs.is_main y.1.scope.names (record { 0 = k })) name_is
+
+      -- no return is missing at its end
+      ends_as : HasInEnd P w.0.1.names w.1 w.0.1.functions → return_fault (programs.is_main P.names at.form.name) (is_void (type_at P.types at.form.result)) (ends w.0.0) ≡ None
+      ends_as final =
+          let there : HasType w.1 h.returned = stays_there y.1.types w.1 h.returned part.moves.types entered.result_there in
+          subst (λ (m : Bool). return_fault m (is_void (type_at P.types at.form.result)) (ends w.0.0) ≡ None) (sym (main_is final.named))
+          (subst (λ (t : TyId). return_fault main (is_void (type_at P.types t)) (ends w.0.0) ≡ None) result_is
+          (subst (λ (t : Ty). return_fault main (is_void t) (ends w.0.0) ≡ None) (sym (same_type_at w.1 P.types h.returned final.grown there))
+          (body_ends h.returned main b y.1.scope y.1.types w checked)))
+
+      well_typed : HasInEnd P w.0.1.names w.1 w.0.1.functions → IsWellTypedFunction P form
       well_typed final = record {
         parameters = subst (λ (n : ℕ). n ≤ length w.0.1.locals) (sym locals_count) (kept_count y.1.scope.locals w.0.1.locals part.moves.locals);
         body = block_is w.0.0 (body_block h.returned main b y.1.scope y.1.types w checked)
             (subst (λ (t : TyId). IsStatement P w.0.1.locals t w.0.0 false (with_parameters (length at.form.parameters))) result_is
             (subst (λ (n : ℕ). IsStatement P w.0.1.locals h.returned w.0.0 false (with_parameters n)) promises_count
             (part.is P w.0.1.locals (record { grown = final.grown; kept = λ n l e. e; functions = final.functions }))));
+        ending = ends_as final;
       }
 
-    known_behind : AreKnown w.1 w.0.1.functions (slice_set y.1.functions y.0 form) (slice_set y.1.declared y.0 noted)
-    known_behind = known_changed w.1 w.0.1.functions y.1.functions y.1.declared grown y.0 form at.form noted at.declared entered.s at.form_there at.declared_there
+    known_behind : AreKnown w.0.1.names w.1 w.0.1.functions (slice_set y.1.functions y.0 form) (slice_set y.1.declared y.0 noted)
+    known_behind = known_changed w.0.1.names w.1 w.0.1.functions y.1.functions y.1.declared grown y.0 form at.form noted at.declared entered.s at.form_there at.declared_there
         (subst (λ (fs : List SignatureView). slice_get fs y.0 ≡ Some entered.s) (sym part.moves.functions) entered.there)
         (record {
           result = at.is.result;
           promises = at.is.promises;
           said = at.is.said;
+          main = λ is. at.is.main (ap (λ (ns : List (List ℕ)). programs.is_main ns at.form.name) (sym part.moves.texts) ∙ is);
           body = λ has. record { parameters = types_are; is = well_typed };
         })
       where
-        grown : AreKnown w.1 w.0.1.functions y.1.functions y.1.declared
-        grown = subst (λ (fs : List SignatureView). AreKnown w.1 fs y.1.functions y.1.declared) (sym part.moves.functions)
-            (known_grown y.1.types w.1 y.1.scope.functions y.1.functions y.1.declared part.moves.types entered.known)
+        grown : AreKnown w.0.1.names w.1 w.0.1.functions y.1.functions y.1.declared
+        grown = subst (λ (ns : List (List ℕ)). AreKnown ns w.1 w.0.1.functions y.1.functions y.1.declared) (sym part.moves.texts)
+            (subst (λ (fs : List SignatureView). AreKnown y.1.scope.names w.1 fs y.1.functions y.1.declared) (sym part.moves.functions)
+            (known_grown y.1.scope.names y.1.types w.1 y.1.scope.functions y.1.functions y.1.declared part.moves.types entered.known))
 
     bodied_went : has_body f.body ≡ true → Went bodies f p (behind_body w)
     bodied_went bodied = record {
       under = shut w.0.1 w.1 (slice_set y.1.functions y.0 form) (slice_set y.1.declared y.0 noted) (after w.0.0 v) part.sound known_behind
+          (named_changed w.0.1 y.1.functions y.0 at.form form at.form_there refl (λ k n e. entered.forms k n (part.moves.means k n e)))
           (λ k n e. ⊎_elim (λ none. absurd none) (λ old. entered.shows k n old) (part.moves.shows k n e)) (part.moves.size ∙ entered.size);
       number = y.0;
+      texts = forgotten_texts names (without_locals w.0.1) ∙ part.moves.texts ∙ entered.texts;
       keeps = λ k n e. let kept = entered.keeps k n e in stays w.0.1 k n kept.0 (part.moves.keeps k n kept.1).1;
       named = stays w.0.1 f.name.id.0 y.0 entered.named.0 (part.moves.keeps f.name.id.0 y.0 entered.named.1).1;
       noted = λ _ d e. ap (λ (c : DeclaredView). c.has_body) (sym (same_some noted d (sym noted_there ∙ e)));
@@ -230,7 +268,7 @@ module _ (bodies : List Bool) (f : Function) (p q : ProgressView) (h : PartsView
   built w scope forms ds = record y.1 { scope = scope; types = w.1; functions = forms; declared = ds }
 
   module _ (w : (StmtForm × Scope) × Types) (kept : body_kept f y.0 y.1 w.0.0 w.0.1 w.1 ≡ z) where
-    abbrev k : KnownAt y.1.types y.1.scope.functions y.1.functions y.1.declared y.0 entered.s
+    abbrev k : KnownAt y.1.scope.names y.1.types y.1.scope.functions y.1.functions y.1.declared y.0 entered.s
     k = at bodies f p h y entered
 
     -- that is what is behind the body
@@ -263,7 +301,7 @@ module _ (bodies : List Bool) (f : Function) (p q : ProgressView) (h : PartsView
           let step = answered (body h.returned (is_main y.1.scope f.name.id) b y.1.scope y.1.types) (λ x. Ok (body_kept f y.0 y.1 (x.0).0 (x.0).1 x.1)) z e in
           let kept = same_answer (body_kept f y.0 y.1 step.value.0.0 step.value.0.1 step.value.1) z step.behind in
           subst (Went bodies f p) (behind_it step.value kept)
-          (bodied_went bodies f p h y entered b (is_main y.1.scope f.name.id) step.value step.gave (body_served step.value kept) (ap (λ (c : FunctionBody). has_body c) is))
+          (bodied_went bodies f p h y entered b step.value step.gave (body_served step.value kept) (ap (λ (c : FunctionBody). has_body c) is))
 
 -- so a function that is read leaves all as it should be
 pub function_went : (bodies : List Bool) (f : Function) (p q : ProgressView) → IsUnderway bodies p → with_function bodies f p ≡ Ok q → AreServed q.functions q.declared → Went bodies f p q

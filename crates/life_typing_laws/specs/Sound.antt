@@ -15,11 +15,11 @@ use Rattle.life_well_typed.specs.Visible.{Visible}
 abbrev pub Keeps : {A : Type 0} → List A → List A → Type 0
 Keeps {A = A} xs ys = (n : ℕ) (x : A) → slice_get xs n ≡ Some x → slice_get ys n ≡ Some x
 
--- ---- tables in which older numbers stay
+-- ---- tables in which older numbers stay, and to which no struct is added
 
 pub record Grows (old new : Types) : Type 0 where
   pub types : Keeps old.types new.types
-  pub structs : Keeps old.structs new.structs
+  pub structs : new.structs ≡ old.structs
 
 -- ---- what holds of a scope and a table as checking goes on, where so much is declared and visible
 

@@ -1,6 +1,9 @@
-// What checking gives is well typed.
+// What checking gives is well typed, and its names are in the tree's table.
 ghost use Rattle.life_built.specs.Built.{is_built};
+ghost use Rattle.life_keys.specs.NamedTokens.{are_named};
 ghost use Rattle.life_names.specs.Environment.{Scope};
+ghost use Rattle.life_tree.specs.Tree.{tokens_of};
+ghost use Rattle.life_tree.specs.Views.{program_tree};
 ghost use Rattle.life_tree.specs.declared.expr.Expr.{Expr};
 ghost use Rattle.life_tree.specs.declared.program.Program.{Program};
 ghost use Rattle.life_tree.specs.declared.stmt.Block.{Block};
@@ -10,6 +13,7 @@ ghost use Rattle.life_typed.specs.Programs.{ProgramForm};
 ghost use Rattle.life_typed.specs.TypedForm.{Typed, whole};
 ghost use Rattle.life_typed.specs.TypedStatement.{StmtForm};
 ghost use Rattle.life_typed.specs.declared.typed_program.TypedLocal.{TypedLocal};
+ghost use Rattle.life_types.specs.Trees.{IsOrdered};
 ghost use Rattle.life_types.specs.Types.{HasType, Types};
 ghost use Rattle.life_types.specs.declared.ty.TyId.{TyId};
 ghost use Rattle.life_typing.specs.Resolves.{resolved};
@@ -18,10 +22,12 @@ ghost use Rattle.life_typing_laws.specs.Sound.{IsFinal, IsSound};
 ghost use Rattle.life_well_typed.specs.AsParsed.{is_as_parsed};
 ghost use Rattle.life_well_typed.specs.Expressions.{IsExpression};
 ghost use Rattle.life_well_typed.specs.Functions.{IsWellTyped};
-ghost use Rattle.life_well_typed.specs.Results.{HasResults};
+ghost use Rattle.life_well_typed.specs.Mains.{HasIntMain};
+ghost use Rattle.life_well_typed.specs.Names.{HasNames};
+ghost use Rattle.life_well_typed.specs.Results.{HasResults, HasTable};
 ghost use Rattle.life_well_typed.specs.Statements.{IsStatement};
 ghost use Rattle.life_well_typed.specs.Visible.{Visible};
-ghost use Rattle.std.specs.Prelude.{◌≡◌, Bool, List, Ok, false, true};
+ghost use Rattle.std.specs.Prelude.{◌≡◌, Bool, List, Ok, false, length, true};
 
 /// An expression is well typed, where it is checked in a sound scope and table and served, in each program and function that have in the end what there is here; and it adds no types.
 pub fn expressions_are_well_typed()
@@ -37,8 +43,15 @@ pub fn bodies_are_well_typed()
         → IsStatement p locals result x.0.0 false v }
 {}
 
-/// The typed program of a tree is well typed, where it is built so far and as it was parsed: the numbers in it are longs, and only calls stand alone; and its table has the type of what each function gives back.
+/// The typed program of a tree is well typed, where it is built so far and as it was parsed: the numbers in it are longs, and only calls stand alone; `main` gives back an int; and the table, which is in order and has no structs, has the type of what each function gives back.
 pub fn resolved_programs_are_well_typed()
     ensures well_typed { (tree : Program) (p : ProgramForm) → resolved tree ≡ Ok p → is_built p ≡ true → is_as_parsed p ≡ true → IsWellTyped p }
     ensures results { (tree : Program) (p : ProgramForm) → resolved tree ≡ Ok p → is_built p ≡ true → is_as_parsed p ≡ true → HasResults p }
+    ensures mains { (tree : Program) (p : ProgramForm) → resolved tree ≡ Ok p → is_built p ≡ true → is_as_parsed p ≡ true → HasIntMain p }
+    ensures table { (tree : Program) (p : ProgramForm) → resolved tree ≡ Ok p → is_built p ≡ true → is_as_parsed p ≡ true → HasTable p }
+{}
+
+/// Where the names in a tree are in its table of names, so are those of its typed program: each function's, and those of its parameters and variables; and no two functions have one name.
+pub fn resolved_programs_have_names()
+    ensures { (tree : Program) (p : ProgramForm) → resolved tree ≡ Ok p → are_named (length tree.names.items) (tokens_of (program_tree tree)) ≡ true → HasNames p }
 {}

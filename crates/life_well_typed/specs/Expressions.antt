@@ -34,7 +34,7 @@ parameter_types (Some f) = map type_of (take (length f.parameters) f.locals)
 -- what is given to each parameter: as many arguments as there are parameters, each of a type that it takes
 abbrev pub are_given : Types → List TyId → Form → Bool
 are_given types [] nothing = true
-are_given types (id ∷ ids) (e ⨟ es) = is_given (type_at types id) (typed_in e).ty && are_given types ids es
+are_given types (id ∷ ids) (e ⨟ es) = is_given types (type_at types id) (typed_in e) && are_given types ids es
 are_given types _ _ = false
 
 -- the function is there, and the expression is its result

@@ -1,7 +1,11 @@
 -- Functions and programs that are well typed.
-use Rattle.std.specs.Prelude.{◌≤◌, false, List, [], ◌∷◌, length}
-use Rattle.life_typed.specs.Programs.{FunctionForm, ProgramForm}
+use Rattle.std.specs.Prelude.{◌≡◌, ◌≤◌, false, List, [], ◌∷◌, length, Option, None}
+use Rattle.life_typed.specs.BaseTypes.{type_at}
+use Rattle.life_typed.specs.Ends.{ends}
+use Rattle.life_typed.specs.Programs.{FunctionForm, ProgramForm, is_main}
 use Rattle.life_typed.specs.TypedStatement.{StmtForm, block}
+use Rattle.life_type_stmt.specs.Bodies.{return_fault}
+use Rattle.life_type_stmt.specs.Returns.{is_void}
 use Rattle.life_well_typed.specs.Statements.{IsStatement}
 use Rattle.life_well_typed.specs.Visible.{with_parameters}
 
@@ -10,10 +14,11 @@ abbrev pub IsBody : ProgramForm → FunctionForm → StmtForm → Type 0
 IsBody p f (block items closing) = IsStatement p f.locals f.result items false (with_parameters (length f.parameters))
 IsBody p f _ = ⊥
 
--- the first locals of a function are its parameters
+-- the first locals of a function are its parameters, and control doesn't run past the end of one that gives something back
 pub record IsWellTypedFunction (p : ProgramForm) (f : FunctionForm) : Type 0 where
   pub parameters : length f.parameters ≤ length f.locals
   pub body : IsBody p f f.body
+  pub ending : return_fault (is_main p.names f.name) (is_void (type_at p.types f.result)) (ends f.body) ≡ None
 
 abbrev pub AreWellTyped : ProgramForm → List FunctionForm → Type 0
 AreWellTyped p [] = Unit {0}

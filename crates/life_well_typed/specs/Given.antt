@@ -1,9 +1,15 @@
--- What is given to an object of a type, as far as the program is built: a value to a value, and a pointer or nullptr to a raw pointer.
-use Rattle.std.specs.Prelude.{Bool, true, false, if◌then◌else◌}
+-- What is given to an object of a type, as far as the program is built: to a value, to a raw pointer, and to a reference to a value
+-- (ISO/IEC 14882:2017 [dcl.init], [dcl.init.ref]).
+use Rattle.std.specs.Prelude.{Bool, true, false, ◌||◌, if◌then◌else◌}
+use Rattle.life_types.specs.Types.{Types}
 use Rattle.life_types.specs.declared.ty.Ty.{Ty}
-use Rattle.life_typed.specs.BaseTypes.{is_raw, is_value}
+use Rattle.life_types.specs.declared.ty.Ty.TheVariants as ty
+use Rattle.life_typed.specs.BaseTypes.{is_raw, is_value, type_at}
+use Rattle.life_typed.specs.Conversions.{fits}
+use Rattle.life_typed.specs.TypedForm.{Typed}
 use Rattle.life_typed.specs.declared.typed_expr.ExprType.{ExprType}
 use Rattle.life_typed.specs.declared.typed_expr.ExprType.TheVariants.{Of, NullPointer, TextLiteral}
+use Rattle.life_type_expr.specs.Lists.{fits_at_all}
 
 abbrev pub is_number : ExprType → Bool
 is_number (Of t) = is_value t
@@ -15,6 +21,10 @@ is_pointer (Of t) = is_raw t
 is_pointer NullPointer = true
 is_pointer TextLiteral = false
 
--- .. nothing is asked of what is given to any other type
-abbrev pub is_given : Ty → ExprType → Bool
-is_given target e = if is_value target then is_number e else (if is_raw target then is_pointer e else true)
+abbrev pub is_asked : Types → Ty → Bool
+is_asked types (ty.Reference target constant) = is_value (type_at types target)
+is_asked types t = is_value t || is_raw t
+
+-- it fits; nothing is asked of what is given to any other type
+abbrev pub is_given : Types → Ty → Typed → Bool
+is_given types target e = if is_asked types target then fits_at_all (fits types target e.ty e.category) else true

@@ -1,5 +1,5 @@
 -- Statements that are well typed, in the order of their text. Nothing is said of forms that aren't built so far.
-use Rattle.std.specs.Prelude.{◌≡◌, ℕ, Bool, true, false, List, [], ◌∷◌, Option, None, Some, slice_get}
+use Rattle.std.specs.Prelude.{◌≡◌, ℕ, Bool, true, false, ◌&&◌, not, List, [], ◌∷◌, Option, None, Some, slice_get}
 use Rattle.life_types.specs.declared.ty.Ty.{Ty}
 use Rattle.life_types.specs.declared.ty.TyId.{TyId}
 use Rattle.life_typed.specs.BaseTypes.{type_at}
@@ -10,6 +10,8 @@ use Rattle.life_typed.specs.TypedForm.{Form, Typed, null, local, paren, derefere
 use Rattle.life_typed.specs.TypedStatement.{StmtForm, DeclarationForm, ForStartForm, InitialForm, ItemForm, SimpleForm, one, several, assign, compound, step, discarded, declared_first, done_first, printed, line_end, block, empty, sentence, branching, while_loop, for_loop, range_loop, loop_break, loop_continue, returned, print, assertion, branch, declaration, no_more, chain}
 use Rattle.life_typed.specs.declared.typed_program.TypedLocal.{TypedLocal}
 use Rattle.life_type_expr.specs.Lists.{fits_at_all}
+use Rattle.life_type_expr.specs.Operands.{is_constant}
+use Rattle.life_type_stmt.specs.Declarations.{default_fault}
 use Rattle.life_type_stmt.specs.Returns.{is_void}
 use Rattle.life_type_stmt.specs.Simples.{is_place, type_of}
 use Rattle.life_well_typed.specs.Expressions.{IsExpression}
@@ -48,11 +50,12 @@ module _ (p : ProgramForm) (locals : List TypedLocal) (result : TyId) where
 
   -- what is given to an object of a type
   abbrev pub IsGiven : List ℕ → Ty → InitialForm → Type 0
-  IsGiven visible t (one e) = (is_given t e.ty ≡ true) × IsWhole visible e
+  IsGiven visible t (one e) = (is_given p.types t e ≡ true) × IsWhole visible e
   IsGiven visible t (several list) = Unit {0}
 
+  -- a place that isn't const
   abbrev pub IsTarget : List ℕ → Typed → Type 0
-  IsTarget visible e = (is_place e.ty e.category ≡ true) × IsWhole visible e
+  IsTarget visible e = ((is_place e.ty e.category && not (is_constant e.category)) ≡ true) × IsWhole visible e
 
   abbrev pub IsSimple : List ℕ → SimpleForm → Type 0
   IsSimple visible (assign target equals value) = IsTarget visible target × IsGiven visible (type_of target.ty) value
@@ -73,17 +76,17 @@ module _ (p : ProgramForm) (locals : List TypedLocal) (result : TyId) where
   AreItems visible [] = Unit {0}
   AreItems visible (i ∷ is) = IsItem visible i × AreItems visible is
 
-  -- a value is given back by a function that isn't void
+  -- a value is given back by a function that isn't void, and by no other one
   abbrev pub IsReturned : List ℕ → Option Typed → Type 0
-  IsReturned visible None = Unit {0}
-  IsReturned visible (Some e) = (is_void (type_at p.types result) ≡ false) × (is_given (type_at p.types result) e.ty ≡ true) × IsWhole visible e
+  IsReturned visible None = is_void (type_at p.types result) ≡ true
+  IsReturned visible (Some e) = (is_void (type_at p.types result) ≡ false) × (is_given p.types (type_at p.types result) e ≡ true) × IsWhole visible e
 
   -- ---- declarations
 
-  -- a variable and what it is given
+  -- a variable and what it is given: a reference is given something
   abbrev pub IsInitialised : List ℕ → Option TypedLocal → Option InitialForm → Type 0
   IsInitialised visible None value = ⊥
-  IsInitialised visible (Some v) None = Unit {0}
+  IsInitialised visible (Some v) None = default_fault (type_at p.types v.ty) ≡ None
   IsInitialised visible (Some v) (Some value) = IsGiven visible (type_at p.types v.ty) value
 
   -- it has the next number, and isn't visible in what it is given

@@ -107,7 +107,7 @@ fn a_pointer_to_a_variable(rt: HostRuntime) -> Result<(), Fail> {
     // The result, the register of the 4, x and p.
     let locals = [
         local(None, INT, LocalKind::Register, 5),
-        local(None, INT, LocalKind::Register, 5),
+        local(None, INT, LocalKind::Register, 22),
         local(Some(NameId(1)), INT, LocalKind::Object, 18),
         local(Some(NameId(2)), TyId(8), LocalKind::Register, 30),
     ];

@@ -16,6 +16,9 @@ check_typed-requires g c =
     record {
       well_typed = λ built. c.resolved_programs_are_well_typed.ensures.well_typed tree typed c.in_ok-typed.ensures built parsed;
       results = λ built. c.resolved_programs_are_well_typed.ensures.results tree typed c.in_ok-typed.ensures built parsed;
+      mains = λ built. c.resolved_programs_are_well_typed.ensures.mains tree typed c.in_ok-typed.ensures built parsed;
+      table = λ built. c.resolved_programs_are_well_typed.ensures.table tree typed c.in_ok-typed.ensures built parsed;
+      names = c.resolved_programs_have_names.ensures tree typed c.in_ok-typed.ensures c.requires.named;
     }
 
 pub returns-clause-finds : goal.returns-clause-finds

@@ -22,7 +22,9 @@ check_program-requires-clause-whole g c =
     let typed = c.requires.well_typed built in
     let results = c.requires.results built in
     translated_whole p (program_of c.in_ok-program.program) c.in_ok-program.ensures.program.0 c.in_ok-program.ensures.program.1 c.in_ok-program.ensures.numbered
-    (c.translations_have_short_places.ensures p typed results built) (c.translations_are_proper.ensures p typed results built) (c.translations_are_plain.ensures p typed results built)
+    (c.translations_have_short_places.ensures p typed results built) (c.translations_are_proper.ensures p typed results built)
+    (c.translations_are_well_formed.ensures p typed results (c.requires.table built) c.requires.names built) (c.translations_write_results.ensures p typed results (c.requires.mains built) built)
+    (c.translations_are_plain.ensures p typed results built)
 
 pub check_program-requires-clause-within : goal.check_program-requires-clause-within
 check_program-requires-clause-within g c =

@@ -1,6 +1,6 @@
 use Rattle.std.proofs.Common.{◌≡◌, false, drop, map}
 use Rattle.life_typed.specs.TypedStatement.{block_item_view, branch_view, stmt_forms}
-use Rattle.life_elab.specs.Ends.{all_end, last_ends}
+use Rattle.life_typed.specs.Ends.{all_end, last_ends}
 use Rattle.life_elab.proofs.ends.+ends.Given as goal
 
 abbrev pub invariant-block_ends-items : goal.invariant-block_ends-items

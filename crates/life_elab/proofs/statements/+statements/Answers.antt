@@ -10,7 +10,7 @@ use Rattle.life_built.specs.Last.{last_view}
 use Rattle.life_writer.specs.Views.{around_of, state_of}
 use Rattle.life_elab.specs.OpenedViews.{opened_of}
 use Rattle.life_elab.specs.Statements.{Opened, opened_all, statement}
-use Rattle.life_elab.specs.Ends.{last_token}
+use Rattle.life_elab.specs.LastTokens.{last_token}
 use Rattle.life_elab.proofs.LoopWriting.{for_gives, while_gives}
 use Rattle.life_elab.proofs.SeenStatements.{assert_seen, for_seen, if_seen, while_seen}
 use Rattle.life_elab.proofs.SimpleSteps.{followed}

@@ -5,4 +5,10 @@ pub returns-clause-well_typed : goal.returns-clause-well_typed
 returns-clause-well_typed c tree p e built parsed = (resolved_well_typed tree p e built parsed).0
 
 pub returns-clause-results : goal.returns-clause-results
-returns-clause-results c tree p e built parsed = (resolved_well_typed tree p e built parsed).1
+returns-clause-results c tree p e built parsed = (resolved_well_typed tree p e built parsed).1.0
+
+pub returns-clause-mains : goal.returns-clause-mains
+returns-clause-mains c tree p e built parsed = (resolved_well_typed tree p e built parsed).1.1.0
+
+pub returns-clause-table : goal.returns-clause-table
+returns-clause-table c tree p e built parsed = (resolved_well_typed tree p e built parsed).1.1.1

@@ -1,0 +1,136 @@
+-- What ends is an object or a pointer, and neither the result nor a slot.
+use Rattle.std.proofs.Common.{◌≡◌, ◌⊎◌, inl, inr, ℕ, Bool, true, false, ◌&&◌, ◌||◌, not, List, [], ◌∷◌, nat_eq, slice_get, Option, Some, None, is_none, refl, sym, ap, ◌∙◌, subst, arith}
+use Rattle.std.specs.List.{list_all}
+use Rattle.std.proofs.lemmas.Bool.{and_from, false≢true, or_left, or_right}
+use Rattle.std.proofs.lemmas.Bool.Decides.{nat_tests}
+use Rattle.life_types.specs.Types.{Types, class, is_slot_target, is_slot_type}
+use Rattle.life_types.specs.declared.ty.NameId.{NameId}
+use Rattle.life_types.specs.declared.ty.Ty.{Ty}
+use Rattle.life_types.specs.declared.ty.Ty.TheVariants as ty
+use Rattle.life_types.specs.declared.ty.TyId.{TyId}
+use Rattle.life_typed.specs.BaseTypes.{is_value, type_at}
+use Rattle.life_core.specs.Function.{Function}
+use Rattle.life_core.specs.Proper.{Holding, ANumber, AnObject, APointer, Blank, held_by, held_if, sort_of}
+use Rattle.life_core.specs.declared.program.Local.{Local}
+use Rattle.life_core.specs.declared.program.LocalKind.{LocalKind}
+use Rattle.life_core.specs.declared.program.LocalKind.TheVariants.{Object, Register, Range}
+use Rattle.life_pset.specs.Shapes as shapes
+use Rattle.life_proper.specs.Knowing.{is_register}
+use Rattle.life_elab_laws.proofs.Among.{Among}
+use Rattle.life_elab_laws.proofs.Shaped.{AreShaped, shaped_at}
+use Rattle.life_elab_laws.proofs.VariablePlaces.{IsVariableType, a_raw, a_reference, a_value, variable_type}
+use Rattle.life_proper.specs.OperandTypes.{is_void}
+use Rattle.life_proper.specs.Placed.{is_slot_local, object_at, result_at, slot_at}
+use Rattle.life_proper.specs.Placed as placed
+use Rattle.life_proper.specs.WellFormed.{can_end}
+use Rattle.life_elab_laws.proofs.FormedVariables.{reference_there, type_found, type_later}
+use Rattle.life_elab_laws.proofs.OperandsThere.{object_there, type_there}
+
+-- ---- slots
+
+value_no_target : (t : Ty) → is_value t ≡ true → is_slot_target (Some t) ≡ false
+value_no_target (ty.Iterator item constant) v = absurd (false≢true v)
+value_no_target (ty.Span item constant) v = absurd (false≢true v)
+value_no_target ty.View v = absurd (false≢true v)
+value_no_target (ty.Unique item) v = absurd (false≢true v)
+value_no_target _ v = refl
+
+found_no_target : (o : Option Ty) → ((t : Ty) → o ≡ Some t → is_value t ≡ true) → is_slot_target o ≡ false
+found_no_target None v = refl
+found_no_target (Some t) v = value_no_target t (v t refl)
+
+value_no_slot : (types : Types) (t : Ty) → is_value t ≡ true → is_slot_type types (Some t) ≡ false
+value_no_slot types (ty.Reference target constant) v = absurd (false≢true v)
+value_no_slot types _ v = refl
+
+reference_no_slot : (types : Types) (target : TyId) (constant : Bool) → is_value (type_at types target) ≡ true → is_slot_type types (Some (ty.Reference target constant)) ≡ false
+reference_no_slot types target true v = refl
+reference_no_slot types target false v = ap is_slot_target (type_found types types (λ n x e. e) target v) ∙ value_no_target (type_at types target) v
+
+-- ---- kinds
+
+value_object : (t : Ty) (k : LocalKind) → is_value t ≡ true → (held_if (class (Some t)) k (Some t) ≡ AnObject) ⊎ (held_if (class (Some t)) k (Some t) ≡ APointer) → k ≡ Object
+value_object t Object v h = refl
+value_object t Register v h = go t v h
+  where
+    number : (ANumber ≡ AnObject) ⊎ (ANumber ≡ APointer) → Register ≡ Object
+    number (inl e) = absurd (clash e)
+      where
+        clash : ANumber ≡ AnObject → ⊥
+        clash e = cc
+    number (inr e) = absurd (clash e)
+      where
+        clash : ANumber ≡ APointer → ⊥
+        clash e = cc
+
+    go : (t : Ty) → is_value t ≡ true → (held_if (class (Some t)) Register (Some t) ≡ AnObject) ⊎ (held_if (class (Some t)) Register (Some t) ≡ APointer) → Register ≡ Object
+    go ty.Bool v h = number h
+    go ty.Char v h = number h
+    go ty.Int v h = number h
+    go ty.Long v h = number h
+    go ty.Size v h = number h
+    go _ v h = absurd (false≢true v)
+value_object t Range v h = go t v h
+  where
+    blank : (Blank ≡ AnObject) ⊎ (Blank ≡ APointer) → Range ≡ Object
+    blank (inl e) = absurd (clash e)
+      where
+        clash : Blank ≡ AnObject → ⊥
+        clash e = cc
+    blank (inr e) = absurd (clash e)
+      where
+        clash : Blank ≡ APointer → ⊥
+        clash e = cc
+
+    go : (t : Ty) → is_value t ≡ true → (held_if (class (Some t)) Range (Some t) ≡ AnObject) ⊎ (held_if (class (Some t)) Range (Some t) ≡ APointer) → Range ≡ Object
+    go ty.Bool v h = blank h
+    go ty.Char v h = blank h
+    go ty.Int v h = blank h
+    go ty.Long v h = blank h
+    go ty.Size v h = blank h
+    go _ v h = absurd (false≢true v)
+
+module _ (types : Types) (texts : ℕ) (fs : List Function) (f : Function) (shaped : AreShaped types f.locals)
+    (nameless : (l : Local) → slice_get f.locals f.parameters ≡ Some l → is_void (shapes.ty_of types f.result) ≡ false → l.name ≡ None) where
+  -- a local with a name isn't the result
+  no_result : (y : ℕ) (l : Local) → slice_get f.locals y ≡ Some l → is_none l.name ≡ false → not (result_at types f y) ≡ true
+  no_result y l at named = go (is_void (shapes.ty_of types f.result)) (nat_eq y f.parameters) refl refl
+    where
+      one : (a b : ℕ) → nat_eq a b ≡ true → a ≡ b
+      one a b h = grind (arith, nat_tests)
+
+      go : (v e : Bool) → is_void (shapes.ty_of types f.result) ≡ v → nat_eq y f.parameters ≡ e → not (not v && e) ≡ true
+      go true e vs es = refl
+      go false false vs es = refl
+      go false true vs es =
+          absurd (false≢true (sym named ∙ ap is_none (nameless l (ap (slice_get f.locals) (sym (one y f.parameters es)) ∙ at) vs)))
+
+  -- a variable
+  pub variable_ends : (y : ℕ) (l : Local) → slice_get f.locals y ≡ Some l → is_none l.name ≡ false → (sort_of types f y ≡ AnObject) ⊎ (sort_of types f y ≡ APointer) → can_end types texts fs f y ≡ true
+  variable_ends y l at named sorts =
+      go (variable_type types l.ty (shaped_at types f.locals y l shaped at (only_named l.kind l.name named)).built)
+    where
+      only_named : (k : LocalKind) (n : Option NameId) → is_none n ≡ false → (is_register k && is_none n) ≡ false
+      only_named Object n e = refl
+      only_named Register n e = e
+      only_named Range n e = refl
+
+      both : (object_at types f y || shapes.is_pointer (placed.type_at types f y)) ≡ true → is_slot_type types (slice_get types.types l.ty.0) ≡ false → can_end types texts fs f y ≡ true
+      both first slot =
+          and_from (object_at types f y || shapes.is_pointer (placed.type_at types f y)) _ first
+          (and_from (not (result_at types f y)) (not (slot_at types f y)) (no_result y l at named) (ap (λ (o : Option Local). not (is_slot_local types f o)) at ∙ ap not slot))
+
+      go : IsVariableType types l.ty → can_end types texts fs f y ≡ true
+      go (a_value t found v) =
+          let kind = value_object t l.kind v (subst (λ (h : Holding). (h ≡ AnObject) ⊎ (h ≡ APointer)) (ap (held_by types) at ∙ ap (λ (o : Option Ty). held_if (class o) l.kind o) found) sorts) in
+          both (or_left (object_at types f y) _ (object_there types f y l at kind)) (ap (is_slot_type types) found ∙ value_no_slot types t v)
+      go (a_raw target constant found) =
+          both (or_right (object_at types f y) _ (ap shapes.is_pointer (type_there types f y l (ty.Raw target constant) at found refl))) (ap (is_slot_type types) found)
+      go (a_reference target constant found v) =
+          both (or_right (object_at types f y) _ (ap shapes.is_pointer (reference_there types f y l target constant at found (ap is_value (type_later types types (λ n x e. e) target v) ∙ v))))
+          (ap (is_slot_type types) found ∙ reference_no_slot types target constant v)
+
+  -- .. and several
+  pub all_end : (xs : List ℕ) → ((y : ℕ) → Among y xs → can_end types texts fs f y ≡ true) → list_all (can_end types texts fs f) xs ≡ true
+  all_end [] each = refl
+  all_end (x ∷ xs) each = and_from (can_end types texts fs f x) (list_all (can_end types texts fs f) xs) (each x (inl refl)) (all_end xs (λ y m. each y (inr m)))

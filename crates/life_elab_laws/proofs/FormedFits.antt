@@ -1,0 +1,87 @@
+-- What the rules of initialisation let a pointer be given it takes, and so does a reference: of one target, and const stays const.
+use Rattle.std.proofs.Common.{◌≡◌, Bool, true, false, ◌&&◌, not, cond, Err, refl, ap, ◌∙◌, subst, rules}
+use Rattle.std.proofs.lemmas.Bool.{and_from, false≢true}
+use Rattle.life_types.specs.Types.{Types}
+use Rattle.life_types.specs.contracts.ty.TyIdPartialEq.TheImpl.{ghosts as id}
+use Rattle.life_types.specs.declared.ty.Ty.TheVariants as ty
+use Rattle.life_types.specs.declared.ty.TyId.{TyId}
+use Rattle.life_built.specs.Built.{needs_no_temporary}
+use Rattle.life_pset.specs.Shapes.{ty_of}
+use Rattle.life_typed.specs.BaseTypes.{is_value, type_at}
+use Rattle.life_typed.specs.Conversions.{fits, initialised, is_place_of, pointer_from, unless}
+use Rattle.life_typed.specs.TypedForm.{Typed}
+use Rattle.life_typed.specs.declared.misfit.Misfit.TheVariants.{General, Constant}
+use Rattle.life_typed.specs.declared.typed_expr.Category.{Category}
+use Rattle.life_typed.specs.declared.typed_expr.Category.TheVariants as category
+use Rattle.life_typed.specs.declared.typed_expr.ExprType.{ExprType}
+use Rattle.life_typed.specs.declared.typed_expr.ExprType.TheVariants.{Of, NullPointer, TextLiteral}
+use Rattle.life_type_expr.specs.Lists.{fits_at_all}
+use Rattle.life_well_typed.specs.Given.{is_given}
+use Rattle.life_proper.specs.OperandTypes.{keeps_const, same}
+use Rattle.life_proper.specs.OperandTypes as operands
+use Rattle.life_elab_laws.proofs.FormedSimples.{takes_from}
+use Rattle.life_elab_laws.proofs.FormedVariables.{type_later}
+use Rattle.life_elab_laws.proofs.Fronts.{IsFront}
+use Rattle.life_elab_laws.proofs.OperandsThere.{value_either, value_same}
+
+same_id : (a b : TyId) → id.eq a b ≡ true → a ≡ b
+same_id a b e = search rules
+
+keeps_as : (c held : Bool) → fits_at_all (unless (held && not c) Constant) ≡ true → keeps_const c held ≡ true
+keeps_as true held e = refl
+keeps_as false true e = absurd (false≢true e)
+keeps_as false false e = refl
+
+module _ (few more : Types) (front : IsFront few.types more.types) (target : TyId) (constant : Bool) (worth : is_value (type_at few target) ≡ true) where
+  one_target : (found : TyId) → found ≡ target → same (ty_of more target) (ty_of more found) ≡ true
+  one_target found e =
+      ap (λ (i : TyId). same (ty_of more target) (ty_of more i)) e
+      ∙ value_same (ty_of more target) (ap operands.is_value (type_later few more front target worth) ∙ value_either (type_at few target) worth)
+
+  from_pointer : (found : TyId) (held : Bool) → fits_at_all (pointer_from target constant (ty.Raw found held)) ≡ true → takes_from more (ty.Raw target constant) (Of (ty.Raw found held)) ≡ true
+  from_pointer found held e = go (id.eq found target) refl e
+    where
+      go : (b : Bool) → id.eq found target ≡ b → fits_at_all (cond b (unless (held && not constant) Constant) (Err General)) ≡ true
+          → (same (ty_of more target) (ty_of more found) && keeps_const constant held) ≡ true
+      go true is e = and_from (same (ty_of more target) (ty_of more found)) (keeps_const constant held) (one_target found (same_id found target is)) (keeps_as constant held e)
+      go false is e = absurd (false≢true e)
+
+  fits_raw : (t : ExprType) (c : Category) → fits_at_all (initialised few (ty.Raw target constant) t c) ≡ true → takes_from more (ty.Raw target constant) t ≡ true
+  fits_raw (Of (ty.Raw found held)) c e = from_pointer found held e
+  fits_raw (Of _) c e = absurd (false≢true e)
+  fits_raw NullPointer c e = refl
+  fits_raw TextLiteral c e = absurd (false≢true e)
+
+  -- what is given to a raw pointer
+  pub given_raw : (e : Typed) → is_given few (ty.Raw target constant) e ≡ true → takes_from more (ty.Raw target constant) e.ty ≡ true
+  given_raw e given = fits_raw e.ty e.category given
+
+-- a place that a reference is bound to, which keeps its const
+pub record IsBoundTo (target : TyId) (constant : Bool) (c : Category) : Type 0 where
+  pub held : Bool
+  pub place : c ≡ category.Place target held
+  pub kept : keeps_const constant held ≡ true
+
+bound_kept : (types : Types) (target : TyId) (constant held : Bool) (t : ExprType) → fits_at_all (fits types (ty.Reference target constant) t (category.Place target held)) ≡ true → id.eq target target ≡ true → keeps_const constant held ≡ true
+bound_kept types target true held t e is = refl
+bound_kept types target false held t e is = plain held (rw is at e)
+  where
+    plain : (held : Bool) → fits_at_all (unless held Constant) ≡ true → keeps_const false held ≡ true
+    plain true e = absurd (false≢true e)
+    plain false e = refl
+
+bound_place : (types : Types) (target : TyId) (constant : Bool) (t : ExprType) (c : Category) → is_place_of c target ≡ true → fits_at_all (fits types (ty.Reference target constant) t c) ≡ true → IsBoundTo target constant c
+bound_place types target constant t category.Value is e = absurd (false≢true is)
+bound_place types target constant t (category.Place found held) is e =
+    let one = same_id found target is in
+    record {
+      held = held;
+      place = ap (λ (i : TyId). category.Place i held) one;
+      kept = bound_kept types target constant held t (subst (λ (i : TyId). fits_at_all (fits types (ty.Reference target constant) t (category.Place i held)) ≡ true) one e)
+          (subst (λ (i : TyId). id.eq i target ≡ true) one is);
+    }
+
+-- what is given to a reference without a temporary
+pub given_reference : (types : Types) (target : TyId) (constant : Bool) (e : Typed) → is_value (type_at types target) ≡ true → needs_no_temporary (ty.Reference target constant) e ≡ true
+    → is_given types (ty.Reference target constant) e ≡ true → IsBoundTo target constant e.category
+given_reference types target constant e worth place given = bound_place types target constant e.ty e.category place (rw worth at given)

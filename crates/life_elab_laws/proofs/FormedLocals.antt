@@ -1,0 +1,284 @@
+-- The locals of a core function that is translated are well formed, and so is what stands beside its body: its name, its result and its promise.
+use Rattle.std.proofs.Common.{◌≡◌, ◌<◌, ◌+◌, ◌≤◌, ◌⊎◌, inl, inr, ℕ, zero, suc, Bool, true, false, ◌&&◌, ◌||◌, not, List, [], ◌∷◌, length, nat_eq, nat_le, nat_lt, slice_get, Option, Some, None, is_some, refl, sym, ap, ◌∙◌, subst, unwrap_or, arith, true≢false}
+use Rattle.std.specs.List.{list_all}
+use Rattle.std.proofs.lemmas.Bool.{and_from, and_parts, false≢true, le-leb, or_cases}
+use Rattle.std.proofs.lemmas.Bool.Decides.{nat_tests}
+use Rattle.std.proofs.lemmas.Option.{none-some, same_Some}
+use Rattle.life_types.specs.Trees.{is_plain, tree_at, tree_of, tree_within}
+use Rattle.life_types.specs.Types.{Types, class}
+use Rattle.life_types.specs.declared.ty.NameId.{NameId}
+use Rattle.life_types.specs.declared.ty.Ty.{Ty}
+use Rattle.life_types.specs.declared.ty.Ty.TheVariants as ty
+use Rattle.life_types.specs.declared.ty.TyId.{TyId}
+use Rattle.life_built.specs.Built.{is_built_variable, is_default, is_pointing, is_void as is_nothing}
+use Rattle.life_typed.specs.BaseTypes.{is_value, type_at}
+use Rattle.life_typed.specs.Programs.{FunctionForm, ProgramForm, PromiseForm, default}
+use Rattle.life_typed.specs.declared.typed_program.ParameterPromise.{ParameterPromise}
+use Rattle.life_typed.specs.declared.typed_program.TypedLocal.{TypedLocal}
+use Rattle.life_core.specs.Function.{Function}
+use Rattle.life_core.specs.declared.program.Local.{Local}
+use Rattle.life_core.specs.declared.program.LocalKind.{LocalKind}
+use Rattle.life_core.specs.declared.program.LocalKind.TheVariants.{Register}
+use Rattle.life_pset.specs.Shapes.{or_void, referred, shape, shape_if, ty_of, unslotted}
+use Rattle.life_proper.specs.OperandTypes.{is_void}
+use Rattle.life_proper.specs.WellFormedPrograms.{are_well_formed_locals, fits_kind, is_name, is_name_if, is_named_as, is_result_local, is_result_of, is_well_formed_local, may_stand, names_parameters}
+use Rattle.life_well_typed.specs.Names.{is_function_named, is_local_named}
+use Rattle.life_writer.specs.Registers.{nameless}
+use Rattle.life_writer.specs.Around.{Around}
+use Rattle.life_writer.specs.Variables.{kind}
+use Rattle.life_elab.specs.Functions.{first_state, function_from, parameter_local, promise_of, written}
+use Rattle.life_elab.specs.Programs.{around}
+use Rattle.life_elab_laws.proofs.Beginning.{given, given_count, parameter_locals, parameters_front, result_first, result_grows}
+use Rattle.life_elab_laws.proofs.Callees.{IsBuiltFunction, type_found}
+use Rattle.life_elab_laws.proofs.ExpressionKinds.{variable_built}
+use Rattle.life_elab_laws.proofs.Fronts.{IsFront, front_length}
+use Rattle.life_elab_laws.proofs.OperandsThere.{type_either}
+use Rattle.life_elab_laws.proofs.WrittenLocals.{AreWrittenLocals, IsIntermediate, IsOwn, fits_later, fits_register}
+
+-- ---- what a register or a variable holds
+
+module _ (types : Types) where
+  -- the tree of a value, however many steps deep
+  value_tree : (n : ℕ) (id : TyId) → is_value (type_at types id) ≡ true → (is_plain (tree_within n types id) && may_stand (tree_within n types id)) ≡ true
+  value_tree zero id v = refl
+  value_tree (suc n) id v = go (slice_get types.types id.0) v
+    where
+      go : (o : Option Ty) → is_value (unwrap_or o ty.Void) ≡ true → (is_plain (tree_of types (tree_within n types) o) && may_stand (tree_of types (tree_within n types) o)) ≡ true
+      go (Some ty.Bool) v = refl
+      go (Some ty.Char) v = refl
+      go (Some ty.Int) v = refl
+      go (Some ty.Long) v = refl
+      go (Some ty.Size) v = refl
+      go _ v = absurd (false≢true v)
+
+  fits_stands : (id : TyId) (t : Ty) → slice_get types.types id.0 ≡ Some t → fits_register types t ≡ true → may_stand (tree_at types id) ≡ true
+  unfolding tree_at
+  fits_stands id t at h = ap (λ (o : Option Ty). may_stand (tree_of types (tree_within id.0 types) o)) at ∙ go t h
+    where
+      go : (t : Ty) → fits_register types t ≡ true → may_stand (tree_of types (tree_within id.0 types) (Some t)) ≡ true
+      go (ty.Raw target constant) h = value_tree id.0 target h
+      go (ty.Reference target constant) h = value_tree id.0 target h
+      go (ty.Vector element) h = absurd (false≢true h)
+      go (ty.Unique target) h = absurd (false≢true h)
+      go (ty.Iterator target constant) h = absurd (false≢true h)
+      go (ty.Span target constant) h = absurd (false≢true h)
+      go (ty.Struct number) h = absurd (false≢true h)
+      go _ h = refl
+
+  -- it stands as it is, also where a parameter has it
+  fits_itself : (parameter : Bool) (id : TyId) (t : Ty) → slice_get types.types id.0 ≡ Some t → fits_register types t ≡ true → shape_if types parameter id ≡ id
+  fits_itself false id t at h = refl
+  fits_itself true id t at h = ap (λ (o : Option Ty). unslotted types id (or_void o)) at ∙ go t h
+    where
+      to : (target : TyId) (u : Ty) → is_value u ≡ true → referred id target u ≡ id
+      to target (ty.Iterator item constant) v = absurd (false≢true v)
+      to target (ty.Span item constant) v = absurd (false≢true v)
+      to target ty.View v = absurd (false≢true v)
+      to target (ty.Unique item) v = absurd (false≢true v)
+      to target _ v = refl
+
+      go : (t : Ty) → fits_register types t ≡ true → unslotted types id t ≡ id
+      go (ty.Reference target false) h = to target (ty_of types target) (ap is_value (type_either types target) ∙ h)
+      go _ h = refl
+
+  fits_no_void : (t : Ty) → fits_register types t ≡ true → not (is_void t) ≡ true
+  fits_no_void ty.Void h = absurd (false≢true h)
+  fits_no_void _ h = refl
+
+  fits_kept : (t : Ty) → fits_register types t ≡ true → fits_kind Register t ≡ true
+  fits_kept ty.Void h = absurd (false≢true h)
+  fits_kept ty.Text h = absurd (false≢true h)
+  fits_kept (ty.Vector element) h = absurd (false≢true h)
+  fits_kept (ty.Unique target) h = absurd (false≢true h)
+  fits_kept (ty.Struct number) h = absurd (false≢true h)
+  fits_kept _ h = refl
+
+  -- a variable is no view
+  pub variable_fits : (t : Ty) → (is_value t || is_pointing types t) ≡ true → fits_register types t ≡ true
+  variable_fits ty.View b = absurd (false≢true b)
+  variable_fits _ b = b
+
+  variable_kept : (t : Ty) → (is_value t || is_pointing types t) ≡ true → fits_kind (kind (class (Some t))) t ≡ true
+  variable_kept ty.Bool b = refl
+  variable_kept ty.Char b = refl
+  variable_kept ty.Int b = refl
+  variable_kept ty.Long b = refl
+  variable_kept ty.Size b = refl
+  variable_kept (ty.Raw target constant) b = refl
+  variable_kept (ty.Reference target constant) b = refl
+  variable_kept _ b = absurd (false≢true b)
+
+  variable_named : (t : Ty) (name : NameId) → (is_value t || is_pointing types t) ≡ true → is_named_as (kind (class (Some t))) t (Some name) ≡ true
+  variable_named ty.Bool name b = refl
+  variable_named ty.Char name b = refl
+  variable_named ty.Int name b = refl
+  variable_named ty.Long name b = refl
+  variable_named ty.Size name b = refl
+  variable_named (ty.Raw target constant) name b = refl
+  variable_named (ty.Reference target constant) name b = refl
+  variable_named _ name b = absurd (false≢true b)
+
+  pub variable_found : (id : TyId) → is_built_variable types id ≡ true → (t : Ty) × (slice_get types.types id.0 ≡ Some t) × ((is_value t || is_pointing types t) ≡ true)
+  variable_found id b = go (slice_get types.types id.0) refl b
+    where
+      go : (o : Option Ty) → slice_get types.types id.0 ≡ o → (is_value (unwrap_or o ty.Void) || is_pointing types (unwrap_or o ty.Void)) ≡ true
+          → (t : Ty) × (slice_get types.types id.0 ≡ Some t) × ((is_value t || is_pointing types t) ≡ true)
+      go None at b = absurd (false≢true b)
+      go (Some t) at b = (t, at, b)
+
+  -- ---- a local, and all of them
+
+  local_formed : (names n x : ℕ) (l : Local) (t : Ty) → slice_get types.types l.ty.0 ≡ Some t → fits_register types t ≡ true
+      → fits_kind l.kind t ≡ true → is_named_as l.kind t l.name ≡ true → is_name_if names l.name ≡ true → (not (nat_lt x n) || is_some l.name) ≡ true → is_well_formed_local types names n x l ≡ true
+  local_formed names n x l t at h kept as_named name has =
+      let same : shape types n x l ≡ l.ty = fits_itself (nat_lt x n) l.ty t at h in
+      let typed : ty_of types (shape types n x l) ≡ t = ap (ty_of types) same ∙ ap or_void at in
+      and_from (not (is_void (ty_of types l.ty))) _ (ap (λ (o : Option Ty). not (is_void (or_void o))) at ∙ fits_no_void t h)
+      (and_from (may_stand (tree_at types (shape types n x l))) _ (ap (λ (id : TyId). may_stand (tree_at types id)) same ∙ fits_stands l.ty t at h)
+      (and_from (fits_kind l.kind (ty_of types (shape types n x l))) _ (ap (fits_kind l.kind) typed ∙ kept)
+      (and_from (is_named_as l.kind (ty_of types (shape types n x l)) l.name) _ (ap (λ (u : Ty). is_named_as l.kind u l.name) typed ∙ as_named)
+      (and_from (is_name_if names l.name) (not (nat_lt x n) || is_some l.name) name has))))
+
+  all_formed : (names n x : ℕ) (ls : List Local) → ((y : ℕ) (l : Local) → slice_get ls y ≡ Some l → is_well_formed_local types names n (x + y) l ≡ true) → are_well_formed_locals types names n x ls ≡ true
+  all_formed names n x [] each = refl
+  all_formed names n x (l ∷ ls) each =
+      and_from (is_well_formed_local types names n x l) (are_well_formed_locals types names n (x + 1) ls)
+      (subst (λ (z : ℕ). is_well_formed_local types names n z l ≡ true) (omega arith) (each zero l refl))
+      (all_formed names n (x + 1) ls (λ y u at. subst (λ (z : ℕ). is_well_formed_local types names n z u ≡ true) (omega arith) (each (suc y) u at)))
+
+-- ---- names
+
+pub all_at : {X : Type 0} (test : X → Bool) (xs : List X) (n : ℕ) (x : X) → list_all test xs ≡ true → slice_get xs n ≡ Some x → test x ≡ true
+all_at test [] n x h at = absurd (none-some x at)
+all_at test (z ∷ xs) zero x h at = ap test (sym (same_Some z x at)) ∙ (and_parts (test z) (list_all test xs) h).0
+all_at test (z ∷ xs) (suc n) x h at = all_at test xs n x (and_parts (test z) (list_all test xs) h).1 at
+
+-- each parameter has one
+parameter_named : (a : Around) (ps : List ParameterPromise) (us : List TypedLocal) (y : ℕ) → length ps ≤ length us → y < length ps → (l : Local) × (slice_get (parameter_locals a ps us) y ≡ Some l) × (is_some l.name ≡ true)
+parameter_named a [] us y few lt = absurd (omega (arith, lt))
+parameter_named a (p ∷ ps) [] y few lt = absurd (omega (arith, few))
+parameter_named a (p ∷ ps) (u ∷ us) zero few lt = (parameter_local a p u, refl, refl)
+parameter_named a (p ∷ ps) (u ∷ us) (suc y) few lt = parameter_named a ps us y (omega (arith, few)) (omega (arith, lt))
+
+-- ---- a function
+
+-- all that is asked of it beside its body, and that its result has no name
+pub record HasFormedHead (types : Types) (names : ℕ) (f : Function) : Type 0 where
+  pub name : is_name names f.name ≡ true
+  pub count : nat_le f.parameters (length f.locals) ≡ true
+  pub promise : names_parameters f.parameters f.promise ≡ true
+  pub result : is_result_of types f.result (slice_get types.types f.result.0) (slice_get f.locals f.parameters) ≡ true
+  pub locals : are_well_formed_locals types names f.parameters 0 f.locals ≡ true
+  pub nameless : (l : Local) → slice_get f.locals f.parameters ≡ Some l → is_void (ty_of types f.result) ≡ false → l.name ≡ None
+
+default_names : (n : ℕ) (promise : PromiseForm) → is_default promise ≡ true → names_parameters n (promise_of promise) ≡ true
+default_names n default d = refl
+default_names n _ d = absurd (false≢true d)
+
+itself : (n : ℕ) → nat_eq n n ≡ true
+itself n = grind (arith, nat_tests)
+
+lt_of : (a b : ℕ) → nat_lt a b ≡ true → a < b
+lt_of a b h = grind (arith, nat_tests)
+
+result_void : (types : Types) (id : TyId) (o : Option Local) (t : Ty) → is_nothing t ≡ true → is_result_of types id (Some t) o ≡ true
+result_void types id o ty.Void v = refl
+result_void types id o _ v = absurd (false≢true v)
+
+result_worth : (types : Types) (id : TyId) (o : Option Local) (t : Ty) → is_value t ≡ true → is_result_local types id o ≡ true → is_result_of types id (Some t) o ≡ true
+result_worth types id o ty.Void v h = refl
+result_worth types id o _ v h = h
+
+void_both : (t : Ty) → is_nothing t ≡ true → is_void t ≡ true
+void_both ty.Void v = refl
+void_both _ v = absurd (false≢true v)
+
+-- as it is written, in a finished table that begins with the one behind it
+module _ (p : ProgramForm) (of : FunctionForm) (T types : Types) (names : ℕ) (fits : length of.parameters ≤ length of.locals) (built : IsBuiltFunction p.types of)
+    (t : Ty) (result : slice_get p.types.types of.result.0 ≡ Some t) (table : IsFront p.types.types T.types) (front : IsFront p.types.types types.types)
+    (grown : IsFront (first_state (around p of) T).locals (written (around p of) T).locals) (later : IsFront (written (around p of) T).types.types types.types)
+    (own : AreWrittenLocals p.types (around p of) (written (around p of) T)) (named : is_function_named names of ≡ true) where
+  abbrev core : Function
+  core = function_from of (written (around p of) T)
+
+  has_name : (x : ℕ) (l : Local) → slice_get core.locals x ≡ Some l → (not (nat_lt x core.parameters) || is_some l.name) ≡ true
+  has_name x l at = go (nat_lt x core.parameters) refl
+    where
+      go : (b : Bool) → nat_lt x core.parameters ≡ b → (not b || is_some l.name) ≡ true
+      go false is = refl
+      go true is =
+          let found = parameter_named (around p of) of.parameters of.locals x fits (lt_of x core.parameters is) in
+          let there : slice_get core.locals x ≡ Some found.0 = grown x found.0 (parameters_front (around p of) T fits table x found.0 found.1) in
+          ap (λ (l : Local). is_some l.name) (same_Some l found.0 (sym at ∙ there)) ∙ found.2
+
+  intermediate_formed : (x : ℕ) (l : Local) → slice_get core.locals x ≡ Some l → IsIntermediate p.types (written (around p of) T).types l → is_well_formed_local types names core.parameters x l ≡ true
+  intermediate_formed x l at is =
+      let fit = fits_later p.types types front is.ty is.fits in
+      local_formed types names core.parameters x l is.ty (later l.ty.0 is.ty is.typed) fit
+      (ap (λ (k : LocalKind). fits_kind k is.ty) is.kind ∙ fits_kept types is.ty fit) (ap (is_named_as l.kind is.ty) is.nameless) (ap (is_name_if names) is.nameless) (has_name x l at)
+
+  own_formed : (x : ℕ) (l : Local) → slice_get core.locals x ≡ Some l → IsOwn (around p of) l → is_well_formed_local types names core.parameters x l ≡ true
+  own_formed x l at is =
+      let found = variable_found p.types is.variable.ty (variable_built p.types of.locals is.number is.variable built.variables is.there) in
+      let kept : l.kind ≡ kind (class (Some found.0)) = is.of.kind ∙ ap (λ (o : Option Ty). kind (class o)) found.1 in
+      let known = (and_parts (nat_lt of.name.0 names) (list_all (is_local_named names) of.locals) named).1 in
+      local_formed types names core.parameters x l found.0 (ap (λ (id : TyId). slice_get types.types id.0) is.of.typed ∙ front is.variable.ty.0 found.0 found.1)
+      (fits_later p.types types front found.0 (variable_fits p.types found.0 found.2))
+      (ap (λ (k : LocalKind). fits_kind k found.0) kept ∙ variable_kept p.types found.0 found.2)
+      (ap (λ (k : LocalKind). is_named_as k found.0 l.name) kept ∙ ap (is_named_as (kind (class (Some found.0))) found.0) is.of.named ∙ variable_named p.types found.0 is.variable.name found.2)
+      (ap (is_name_if names) is.of.named ∙ all_at (is_local_named names) of.locals is.number is.variable known is.there)
+      (has_name x l at)
+
+  locals_formed : are_well_formed_locals types names core.parameters 0 core.locals ≡ true
+  locals_formed = all_formed types names core.parameters 0 core.locals (λ y l at. subst (λ (z : ℕ). is_well_formed_local types names core.parameters z l ≡ true) (omega arith) (each y l at (own y l at)))
+    where
+      each : (y : ℕ) (l : Local) → slice_get core.locals y ≡ Some l → IsIntermediate p.types (written (around p of) T).types l ⊎ IsOwn (around p of) l → is_well_formed_local types names core.parameters y l ≡ true
+      each y l at (inl is) = intermediate_formed y l at is
+      each y l at (inr is) = own_formed y l at is
+
+  -- ---- the result
+
+  result_type : slice_get types.types core.result.0 ≡ Some t
+  result_type = front of.result.0 t result
+
+  result_there : is_value t ≡ true → slice_get core.locals core.parameters ≡ Some (nameless of.place of.result)
+  result_there v =
+      grown core.parameters (nameless of.place of.result)
+      (result_first (around p of) T fits table (ap is_value (type_found p.types of.result t result) ∙ v))
+
+  result_cases : (is_nothing t ≡ true) ⊎ (is_value t ≡ true)
+  result_cases = or_cases (is_nothing t) (is_value t) (subst (λ (u : Ty). (is_nothing u || is_value u) ≡ true) (type_found p.types of.result t result) built.result)
+
+  result_formed : is_result_of types core.result (slice_get types.types core.result.0) (slice_get core.locals core.parameters) ≡ true
+  result_formed = ap (λ (o : Option Ty). is_result_of types core.result o (slice_get core.locals core.parameters)) result_type ∙ go result_cases
+    where
+      go : (is_nothing t ≡ true) ⊎ (is_value t ≡ true) → is_result_of types core.result (Some t) (slice_get core.locals core.parameters) ≡ true
+      go (inl v) = result_void types core.result (slice_get core.locals core.parameters) t v
+      go (inr v) =
+          result_worth types core.result (slice_get core.locals core.parameters) t v
+          (ap (is_result_local types core.result) (result_there v) ∙ and_from (nat_eq of.result.0 of.result.0) true (itself of.result.0) refl)
+
+  no_name : (l : Local) → slice_get core.locals core.parameters ≡ Some l → is_void (ty_of types core.result) ≡ false → l.name ≡ None
+  no_name l at some = go result_cases
+    where
+      go : (is_nothing t ≡ true) ⊎ (is_value t ≡ true) → l.name ≡ None
+      go (inl v) = absurd (true≢false (sym (ap (λ (o : Option Ty). is_void (or_void o)) result_type ∙ void_both t v) ∙ some))
+      go (inr v) = ap (λ (u : Local). u.name) (same_Some l (nameless of.place of.result) (sym at ∙ result_there v))
+
+  -- ---- the whole
+
+  enough : core.parameters ≤ length core.locals
+  enough =
+      let fewer = (result_grows (around p of) (type_at p.types of.result) (given (around p of) T fits table)).count in
+      let more = front_length (first_state (around p of) T).locals core.locals grown in
+      omega (arith, given_count (around p of) T fits table, fewer, more)
+
+  pub head_formed : HasFormedHead types names core
+  head_formed = record {
+    name = (and_parts (nat_lt of.name.0 names) (list_all (is_local_named names) of.locals) named).0;
+    count = le-leb core.parameters (length core.locals) enough;
+    promise = default_names core.parameters of.promise built.promise;
+    result = result_formed;
+    locals = locals_formed;
+    nameless = no_name;
+  }

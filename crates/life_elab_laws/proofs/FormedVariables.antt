@@ -1,0 +1,170 @@
+-- Variables as places and as pointers: their types in the finished function, and const where the text has it.
+use Rattle.std.proofs.Common.{◌≡◌, ℕ, Bool, true, false, not, if◌then◌else◌, List, [], nat_lt, slice_get, Option, Some, None, refl, sym, ap, ◌∙◌, subst, unwrap_or}
+use Rattle.std.proofs.lemmas.Bool.{false≢true}
+use Rattle.life_types.specs.Types.{Types, class}
+use Rattle.life_types.specs.declared.ty.Ty.{Ty}
+use Rattle.life_types.specs.declared.ty.Ty.TheVariants as ty
+use Rattle.life_types.specs.declared.ty.TyId.{TyId}
+use Rattle.life_built.specs.Built.{is_built_variable}
+use Rattle.life_typed.specs.BaseTypes.{is_value, type_at}
+use Rattle.life_typed.specs.TypedForm.{Form, Typed}
+use Rattle.life_typed.specs.declared.typed_expr.Category.{Category}
+use Rattle.life_typed.specs.declared.typed_expr.Category.TheVariants as category
+use Rattle.life_typed.specs.declared.typed_program.TypedLocal.{TypedLocal}
+use Rattle.life_type_expr.specs.Operands.{place_of as place_typed, variable_of}
+use Rattle.life_core.specs.Function.{Function}
+use Rattle.life_core.specs.Operands.{Location, Through, behind, object_named, whole}
+use Rattle.life_core.specs.declared.program.Local.{Local}
+use Rattle.life_core.specs.declared.program.LocalKind.{LocalKind}
+use Rattle.life_core.specs.declared.program.LocalKind.TheVariants.{Object, Register}
+use Rattle.life_pset.specs.Shapes.{or_void, referred, shape_if, shape_of, target_of, ty_if, ty_of, unslotted}
+use Rattle.life_writer.specs.Around.{Around}
+use Rattle.life_writer.specs.Variables.{kind, place_of, place_of_kind, variable, variable_place}
+use Rattle.life_writer.specs.Writing.{State}
+use Rattle.life_elab_laws.proofs.Fronts.{IsFront}
+use Rattle.life_elab_laws.proofs.Growing.{Begins}
+use Rattle.life_elab_laws.proofs.TypedKinds.{place_same}
+use Rattle.life_elab_laws.proofs.VariablePlaces.{IsVariableAt, IsVariableType, a_raw, a_reference, a_value, variable_type}
+use Rattle.life_proper.specs.OperandTypes.{is_constant, is_void, keeps_const, pointee}
+use Rattle.life_proper.specs.Placed as placed
+use Rattle.life_elab_laws.proofs.FormedLeaves.{IsPlaceOf}
+use Rattle.life_elab_laws.proofs.OperandsThere.{object_there, type_there, value_either, value_no_reference}
+
+keeps_all : (to : Bool) → keeps_const to false ≡ true
+keeps_all true = refl
+keeps_all false = refl
+
+keeps_same : (c : Bool) → keeps_const c c ≡ true
+keeps_same true = refl
+keeps_same false = refl
+
+const_in : Bool → Category → Bool
+const_in c category.Value = c
+const_in c (category.Place id d) = d
+
+pub const_same : (id target : TyId) (c d : Bool) → category.Place id c ≡ category.Place target d → c ≡ d
+unfolding const_in
+const_same id target c d e = ap (const_in c) e
+
+-- ---- types in a table with more types too
+
+pub type_found : (few more : Types) → IsFront few.types more.types → (id : TyId) → is_value (type_at few id) ≡ true → slice_get more.types id.0 ≡ Some (type_at few id)
+type_found few more front id v = go (slice_get few.types id.0) refl v
+  where
+    go : (o : Option Ty) → slice_get few.types id.0 ≡ o → is_value (unwrap_or o ty.Void) ≡ true → slice_get more.types id.0 ≡ Some (type_at few id)
+    go None at v = absurd (false≢true v)
+    go (Some t) at v = front id.0 t at ∙ ap Some (sym (ap (λ (o : Option Ty). unwrap_or o ty.Void) at))
+
+pub type_later : (few more : Types) → IsFront few.types more.types → (id : TyId) → is_value (type_at few id) ≡ true → ty_of more id ≡ type_at few id
+type_later few more front id v = ap or_void (type_found few more front id v)
+
+pub value_kind : (t : Ty) → is_value t ≡ true → kind (class (Some t)) ≡ Object
+value_kind ty.Bool e = refl
+value_kind ty.Char e = refl
+value_kind ty.Int e = refl
+value_kind ty.Long e = refl
+value_kind ty.Size e = refl
+value_kind _ e = absurd (false≢true e)
+
+value_no_void : (t : Ty) → is_value t ≡ true → not (is_void t) ≡ true
+value_no_void ty.Void e = absurd (false≢true e)
+value_no_void _ e = refl
+
+-- a reference to a value is no slot
+value_referred : (id target : TyId) (t : Ty) → is_value t ≡ true → referred id target t ≡ id
+value_referred id target (ty.Iterator item constant) v = absurd (false≢true v)
+value_referred id target (ty.Span item constant) v = absurd (false≢true v)
+value_referred id target ty.View v = absurd (false≢true v)
+value_referred id target (ty.Unique item) v = absurd (false≢true v)
+value_referred id target _ v = refl
+
+module _ (types : Types) (f : Function) where
+  reference_shape : (parameter : Bool) (id target : TyId) (constant : Bool) → ty_of types id ≡ ty.Reference target constant → is_value (ty_of types target) ≡ true → shape_if types parameter id ≡ id
+  reference_shape false id target constant at v = refl
+  reference_shape true id target true at v = ap (unslotted types id) at
+  reference_shape true id target false at v = ap (unslotted types id) at ∙ value_referred id target (ty_of types target) v
+
+  pub reference_there : (x : ℕ) (l : Local) (target : TyId) (constant : Bool) → slice_get f.locals x ≡ Some l → slice_get types.types l.ty.0 ≡ Some (ty.Reference target constant) → is_value (ty_of types target) ≡ true
+      → placed.type_at types f x ≡ ty.Reference target constant
+  reference_there x l target constant at typed v =
+      ap (λ (o : Option Local). ty_if types (shape_of types f.parameters x o)) at
+      ∙ ap (ty_of types) (reference_shape (nat_lt x f.parameters) l.ty target constant (ap or_void typed) v)
+      ∙ ap or_void typed
+
+module _ (types : Types) (texts : ℕ) (fs : List Function) (f : Function) where
+  -- an object of a value type
+  pub object_place : (y : ℕ) (t : Ty) (c : Bool) → placed.object_at types f y ≡ true → placed.type_at types f y ≡ t → IsPlaceOf types texts fs f t c (object_named y)
+  object_place y t c there typed = record {
+    typed = ap (λ (b : Bool). if b then placed.type_at types f y else ty.Void) there ∙ typed;
+    held = keeps_all c;
+  }
+
+  -- what a pointer of this type points to
+  pub behind_place : (q : Location) (u : Ty) (target : TyId) (c : Bool) (t : Ty) → placed.type_in types f q ≡ u → pointee types u ≡ ty_of types target → target_of u ≡ Some target → is_constant u ≡ c
+      → ty_of types target ≡ t → is_value t ≡ true → IsPlaceOf types texts fs f t c (Through q [])
+  behind_place q u target c t at object has const typed v = record {
+    typed =
+        ap (λ (w : Ty). if not (is_void (pointee types w)) then ty_if types (target_of w) else ty.Void) at
+        ∙ ap (λ (o : Option TyId). if not (is_void (pointee types u)) then ty_if types o else ty.Void) has
+        ∙ ap (λ (b : Bool). if b then ty_of types target else ty.Void) (ap (λ (w : Ty). not (is_void w)) (object ∙ typed) ∙ value_no_void t v)
+        ∙ typed;
+    held = ap (λ (w : Ty). keeps_const c (is_constant w)) at ∙ ap (keeps_const c) const ∙ keeps_same c;
+  }
+
+  module _ (a : Around) (front : IsFront a.program.types.types types.types) (s : State) (b : Begins types f s) (x : ℕ) (v : TypedLocal) (h : IsVariableAt a s x v) where
+    there : slice_get f.locals (variable s x) ≡ Some h.local
+    there = b.locals (variable s x) h.local h.there
+
+    typed_as : (t : Ty) → slice_get a.program.types.types v.ty.0 ≡ Some t → slice_get types.types h.local.ty.0 ≡ Some t
+    typed_as t at = ap (λ (i : TyId). slice_get types.types i.0) h.typed ∙ front v.ty.0 t at
+
+    kind_as : (t : Ty) → slice_get a.program.types.types v.ty.0 ≡ Some t → h.local.kind ≡ kind (class (Some t))
+    kind_as t at = h.kind ∙ ap (λ (o : Option Ty). kind (class o)) at
+
+    place_as : (k : LocalKind) → h.local.kind ≡ k → variable_place s x ≡ place_of_kind k (variable s x)
+    place_as k e = ap (λ (o : Option Local). place_of o (variable s x)) h.there ∙ ap (λ (c : LocalKind). place_of_kind c (variable s x)) e
+
+    -- a variable that is named where a value is, is a place of that type
+    pub variable_formed : (e : Typed) (form : Form) → is_built_variable a.program.types v.ty ≡ true → e ≡ variable_of (type_at a.program.types v.ty) a.program.types v.ty v.constant e.place form
+        → (id : TyId) (constant : Bool) → e.category ≡ category.Place id constant → is_value (type_at a.program.types id) ≡ true
+        → IsPlaceOf types texts fs f (type_at a.program.types id) constant (variable_place s x)
+    variable_formed e form built is id constant at value = go (variable_type a.program.types v.ty built)
+      where
+        named : (t : Ty) → slice_get a.program.types.types v.ty.0 ≡ Some t → e ≡ variable_of t a.program.types v.ty v.constant e.place form
+        named t found = is ∙ ap (λ (o : Option Ty). variable_of (unwrap_or o ty.Void) a.program.types v.ty v.constant e.place form) found
+
+        own : (u : TyId) (d : Bool) → e ≡ place_typed a.program.types u d e.place form → category.Place u d ≡ category.Place id constant
+        own u d is = sym (ap (λ (y : Typed). y.category) is) ∙ at
+
+        object : (t : Ty) → slice_get a.program.types.types v.ty.0 ≡ Some t → is_value t ≡ true → e ≡ place_typed a.program.types v.ty v.constant e.place form
+            → IsPlaceOf types texts fs f (type_at a.program.types id) constant (variable_place s x)
+        object t found w is =
+            let one : v.ty ≡ id = place_same v.ty id v.constant constant (own v.ty v.constant is) in
+            let here : type_at a.program.types id ≡ t = ap (type_at a.program.types) (sym one) ∙ ap (λ (o : Option Ty). unwrap_or o ty.Void) found in
+            subst (IsPlaceOf types texts fs f (type_at a.program.types id) constant) (sym (place_as Object (kind_as t found ∙ value_kind t w)))
+            (object_place (variable s x) (type_at a.program.types id) constant (object_there types f (variable s x) h.local there (kind_as t found ∙ value_kind t w))
+            (type_there types f (variable s x) h.local t there (typed_as t found) (value_no_reference t (value_either t w)) ∙ sym here))
+
+        go : IsVariableType a.program.types v.ty → IsPlaceOf types texts fs f (type_at a.program.types id) constant (variable_place s x)
+        go (a_value ty.Bool found w) = object ty.Bool found w (named ty.Bool found)
+        go (a_value ty.Char found w) = object ty.Char found w (named ty.Char found)
+        go (a_value ty.Int found w) = object ty.Int found w (named ty.Int found)
+        go (a_value ty.Long found w) = object ty.Long found w (named ty.Long found)
+        go (a_value ty.Size found w) = object ty.Size found w (named ty.Size found)
+        go (a_value _ found w) = absurd (false≢true w)
+        go (a_raw target c found) =
+            let one : v.ty ≡ id = place_same v.ty id v.constant constant (own v.ty v.constant (named (ty.Raw target c) found)) in
+            let here : type_at a.program.types id ≡ ty.Raw target c = ap (type_at a.program.types) (sym one) ∙ ap (λ (o : Option Ty). unwrap_or o ty.Void) found in
+            absurd (false≢true (sym (ap is_value here) ∙ value))
+        go (a_reference target c found w) =
+            let same = own target c (named (ty.Reference target c) found) in
+            let later : ty_of types target ≡ type_at a.program.types target = type_later a.program.types types front target w in
+            let here : ty_of types target ≡ type_at a.program.types id = later ∙ ap (type_at a.program.types) (place_same target id c constant same) in
+            subst (IsPlaceOf types texts fs f (type_at a.program.types id) constant) (sym (place_as Register (kind_as (ty.Reference target c) found)))
+            (subst (λ (d : Bool). IsPlaceOf types texts fs f (type_at a.program.types id) d (behind (variable s x))) (const_same target id c constant same)
+            (behind_place (whole (variable s x)) (ty.Reference target c) target c (type_at a.program.types id)
+            (reference_there types f (variable s x) h.local target c there (typed_as (ty.Reference target c) found) (ap is_value later ∙ w)) refl refl refl here value))
+
+    -- a raw pointer variable has its type
+    pub pointer_formed : (target : TyId) (constant : Bool) → slice_get a.program.types.types v.ty.0 ≡ Some (ty.Raw target constant) → placed.type_in types f (whole (variable s x)) ≡ ty.Raw target constant
+    pointer_formed target constant found = type_there types f (variable s x) h.local (ty.Raw target constant) there (typed_as (ty.Raw target constant) found) refl

@@ -1,0 +1,55 @@
+-- A table stays ordered as the types of registers are added: each type comes behind its parts, and no struct comes in.
+use Rattle.std.proofs.Common.{◌≡◌, ◌≤◌, ◌⊎◌, inl, inr, ℕ, zero, suc, Bool, true, false, List, [], ◌∷◌, ◌++◌, length, slice_get, Some, if◌then◌else◌, refl, sym, ap, ◌∙◌, subst, arith, length-append}
+use Rattle.std.specs.List.{list_any}
+use Rattle.std.proofs.lemmas.Option.{none-some, same_Some}
+use Rattle.life_types.specs.Trees.{AllBelow, HasPartsBelow, IsOrdered}
+use Rattle.life_types.specs.Types.{Types, with_type}
+use Rattle.life_types.specs.contracts.ty.TyPartialEq.TheImpl.{ghosts as compared}
+use Rattle.life_types.specs.declared.ty.Ty.{Ty}
+use Rattle.life_types.specs.declared.ty.Ty.TheVariants as ty
+use Rattle.life_types.specs.declared.ty.TyId.{TyId}
+
+pub record KeepsOrder (few more : Types) : Type 0 where
+  pub structs : more.structs ≡ few.structs
+  pub ordered : IsOrdered few → IsOrdered more
+
+pub order_none : (table : Types) → KeepsOrder table table
+order_none table = record { structs = refl; ordered = λ h. h }
+
+pub order_then : (a b c : Types) → KeepsOrder a b → KeepsOrder b c → KeepsOrder a c
+order_then a b c first second = record { structs = second.structs ∙ first.structs; ordered = λ h. second.ordered (first.ordered h) }
+
+-- ---- one more type
+
+all_below : (m n : ℕ) → m ≤ n → (ids : List TyId) → AllBelow m ids → AllBelow n ids
+all_below m n le [] h = tt
+all_below m n le (id ∷ ids) h = (omega (arith, le, h.0), all_below m n le ids h.1)
+
+-- what parts are below says nothing of the types beside it
+parts_beside : (table : Types) (types : List Ty) (n : ℕ) (t : Ty) → HasPartsBelow table n t → HasPartsBelow (record table { types = types }) n t
+parts_beside table types n (ty.Struct number) h = record { members = h.members; there = h.there; below = h.below }
+parts_beside table types n _ h = h
+
+-- the type at the end, or one before it
+pushed_at : (xs : List Ty) (t : Ty) (n : ℕ) (u : Ty) → slice_get (xs ++ t ∷ []) n ≡ Some u → (slice_get xs n ≡ Some u) ⊎ ((n ≡ length xs) × (u ≡ t))
+pushed_at [] t zero u at = inr (refl, sym (same_Some t u at))
+pushed_at [] t (suc n) u at = absurd (none-some u at)
+pushed_at (x ∷ xs) t zero u at = inl at
+pushed_at (x ∷ xs) t (suc n) u at = elim (pushed_at xs t n u at) [ inl before ↦ inl before | inr last ↦ inr (ap suc last.0, last.1) ]
+
+module _ (table : Types) (t : Ty) (below : HasPartsBelow table (length table.types) t) where
+  pushed_ordered : IsOrdered table → IsOrdered (record table { types = table.types ++ t ∷ [] })
+  pushed_ordered h = record {
+    parts = λ n u at. elim (pushed_at table.types t n u at) [
+      | inl before ↦ parts_beside table (table.types ++ t ∷ []) n u (h.parts n u before)
+      | inr last ↦ parts_beside table (table.types ++ t ∷ []) n u (subst (λ (v : Ty). HasPartsBelow table n v) (sym last.1) (subst (λ (m : ℕ). HasPartsBelow table m t) (sym last.0) below))
+    ];
+    members = λ n ids at. all_below (length table.types) (length (table.types ++ t ∷ [])) (omega (arith, length-append table.types (t ∷ []))) ids (h.members n ids at);
+  }
+
+  pub type_ordered : KeepsOrder table (record table { types = with_type table.types t })
+  type_ordered = record { structs = refl; ordered = λ h. go (list_any (compared.eq t) table.types) h }
+    where
+      go : (b : Bool) → IsOrdered table → IsOrdered (record table { types = if b then table.types else table.types ++ t ∷ [] })
+      go true h = h
+      go false h = pushed_ordered h

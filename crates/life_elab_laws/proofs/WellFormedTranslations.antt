@@ -1,0 +1,113 @@
+-- The core program of a well typed program that is built is well formed.
+use Rattle.std.proofs.Common.{◌≡◌, ◌<◌, ◌⊎◌, inl, inr, ℕ, zero, suc, true, List, [], ◌∷◌, length, nat_le, nat_lt, slice_get, Some, refl, sym, ap, ◌∙◌, subst, arith, length-append}
+use Rattle.std.specs.List.{list_all}
+use Rattle.std.proofs.lemmas.Bool.{and_from, and_parts}
+use Rattle.std.proofs.lemmas.Bool.Decides.{nat_tests}
+use Rattle.life_types.specs.Trees.{IsOrdered}
+use Rattle.life_types.specs.Types.{Types}
+use Rattle.life_types.specs.declared.ty.TyId.{TyId}
+use Rattle.life_built.specs.Built.{are_built_functions, has_built_types, has_no_structs, is_built, is_built_variable}
+use Rattle.life_typed.specs.Programs.{FunctionForm, ProgramForm}
+use Rattle.life_core.specs.Function.{Function}
+use Rattle.life_core.specs.declared.program.Local.{Local}
+use Rattle.life_proper.specs.GivenOver.{all_keep_given}
+use Rattle.life_proper.specs.WellFormed.{is_well_formed_tree}
+use Rattle.life_proper.specs.WellFormedPrograms.{IsWellFormedProgram, are_well_formed_locals, is_name, is_result_of, is_well_formed_function, names_parameters}
+use Rattle.life_well_typed.specs.Functions.{IsWellTyped}
+use Rattle.life_well_typed.specs.Names.{HasNames}
+use Rattle.life_well_typed.specs.Results.{HasResults}
+use Rattle.life_elab.specs.Functions.{written}
+use Rattle.life_elab.specs.Programs.{around, core_program, texts_of}
+use Rattle.life_elab.specs.Statements.{end_line}
+use Rattle.life_elab_laws.proofs.ExpressionKinds.{variable_built}
+use Rattle.life_elab_laws.proofs.FlatLocals.{IsLocalType, flat_locals, variable_typed}
+use Rattle.life_elab_laws.proofs.FormedCallees.{typed_callee}
+use Rattle.life_elab_laws.proofs.FormedCalls.{IsTypedCallee}
+use Rattle.life_elab_laws.proofs.FormedFunctions.{function_formed}
+use Rattle.life_elab_laws.proofs.GivenNothing.{gives_nothing, keeps_all}
+use Rattle.life_elab_laws.proofs.ProgramNames.{no_members, own_names}
+use Rattle.life_elab_laws.proofs.Programs.{AreWritten, IsWritten, count, each_written, front, functions_built, grows, locals, one_head, parts, result_at, same, typed_at, whole, whole_order, written_at, written_begins, written_setting}
+use Rattle.life_elab_laws.proofs.Shaped.{variable_later}
+use Rattle.life_elab_laws.proofs.WrittenLocals.{IsIntermediate, IsOwn, fits_later}
+
+-- what endl writes stands behind the texts
+text_there : (p : ProgramForm) (f : FunctionForm) → nat_lt (end_line (around p f)) (length (texts_of p)) ≡ true
+text_there p f = go (length p.texts) (length (texts_of p)) (omega (arith, length-append p.texts ((10 ∷ []) ∷ [])))
+  where
+    go : (m n : ℕ) → m < n → nat_lt m n ≡ true
+    go m n h = grind (arith, nat_tests)
+
+module _ (p : ProgramForm) (typed : IsWellTyped p) (built : are_built_functions p.types p.functions ≡ true) (results : HasResults p) where
+  abbrev functions : List Function
+  functions = (whole p typed built results).functions
+
+  abbrev types : Types
+  types = (whole p typed built results).types
+
+  abbrev names : ℕ
+  names = length p.names
+
+  abbrev texts : ℕ
+  texts = length (texts_of p)
+
+  typed_callees : (g : ℕ) (of : FunctionForm) → slice_get p.functions g ≡ Some of → IsTypedCallee functions g of
+  typed_callees g of at =
+      let found = written_at p types p.functions functions g of (each_written p typed built results) at in
+      typed_callee p of found.2.before functions found.0 (typed_at p p.functions g of typed at).parameters found.2.table
+      (count p typed built results g of at found.0 found.2) (same p typed built results g of at found.0 found.2) (locals p typed built results g of at found.0 found.2) g found.1
+
+  -- ---- one function
+
+  module _ (n : ℕ) (f : FunctionForm) (at : slice_get p.functions n ≡ Some f) (core : Function) (w : IsWritten p types f core) where
+    -- each local is a value, a pointer or reference to one, or a view
+    local_type : (x : ℕ) (l : Local) → slice_get core.locals x ≡ Some l → IsLocalType types l
+    local_type x l there = go ((grows p typed built results n f at w.before w.table).own x l (subst (λ (c : Function). slice_get c.locals x ≡ Some l) w.is there))
+      where
+        go : IsIntermediate p.types (written (around p f) w.before).types l ⊎ IsOwn (around p f) l → IsLocalType types l
+        go (inl is) = record { ty = is.ty; typed = w.later l.ty.0 is.ty is.typed; fits = fits_later p.types types (front p typed built results n f at core w) is.ty is.fits }
+        go (inr is) =
+            variable_typed types l
+            (variable_later p.types types (front p typed built results n f at core w) l.ty
+            (subst (λ (id : TyId). is_built_variable p.types id ≡ true) (sym is.of.typed) (variable_built p.types f.locals is.number is.variable (parts p typed built results n f at).variables is.there)))
+
+    body_formed : is_well_formed_tree types texts functions core core.body ≡ true
+    body_formed =
+        let t = result_at p.types p.functions n f results at in
+        let is = typed_at p p.functions n f typed at in
+        function_formed p f w.before types texts functions core (written_setting p typed built results n f at core w) typed_callees (text_there p f)
+        is.parameters (parts p typed built results n f at) is.body t.0 t.1 w.table (written_begins p typed built results n f at core w)
+        (count p typed built results n f at core w) (same p typed built results n f at core w) (locals p typed built results n f at core w) (ap (λ (c : Function). c.body) w.is)
+
+    one_formed : HasNames p → is_well_formed_function types names texts functions core ≡ true
+    one_formed named =
+        let head = one_head p typed built results named n f at core w in
+        and_from (is_name names core.name) _ head.name
+        (and_from (nat_le core.parameters (length core.locals)) _ head.count
+        (and_from (names_parameters core.parameters core.promise) _ head.promise
+        (and_from (is_result_of types core.result (slice_get types.types core.result.0) (slice_get core.locals core.parameters)) _ head.result
+        (and_from (are_well_formed_locals types names core.parameters 0 core.locals) _ head.locals
+        (and_from (is_well_formed_tree types texts functions core core.body) (all_keep_given types core) body_formed
+        (keeps_all types core (gives_nothing types texts functions core (flat_locals types core local_type) body_formed)))))))
+
+  -- ---- all of them
+
+  all_formed : (fs : List FunctionForm) (cores : List Function) → ((n : ℕ) (f : FunctionForm) → slice_get fs n ≡ Some f → (core : Function) → IsWritten p types f core → is_well_formed_function types names texts functions core ≡ true)
+      → AreWritten p types fs cores → list_all (is_well_formed_function types names texts functions) cores ≡ true
+  all_formed [] [] each h = refl
+  all_formed (f ∷ fs) (core ∷ cores) each h =
+      and_from (is_well_formed_function types names texts functions core) (list_all (is_well_formed_function types names texts functions) cores) (each zero f refl core h.0) (all_formed fs cores (λ n. each (suc n)) h.1)
+  all_formed _ _ each h = absurd h
+
+  program_formed : HasNames p → IsOrdered p.types → p.types.structs ≡ [] → has_no_structs p.structs ≡ true → IsWellFormedProgram (core_program p)
+  program_formed named ordered structs none =
+      let order = whole_order p typed built results in
+      record {
+        table = order.ordered ordered;
+        members = no_members names types.structs p.structs (order.structs ∙ structs) none;
+        own_names = own_names p types p.functions functions (each_written p typed built results) ∙ named.own;
+        functions = all_formed p.functions functions (λ n f at core w. one_formed n f at core w named) (each_written p typed built results);
+      }
+
+pub program_well_formed : (p : ProgramForm) → IsWellTyped p → HasResults p → HasNames p → IsOrdered p.types → p.types.structs ≡ [] → is_built p ≡ true → IsWellFormedProgram (core_program p)
+program_well_formed p typed results named ordered structs b =
+    program_formed p typed (functions_built p b) results named ordered structs (and_parts (has_no_structs p.structs) (are_built_functions p.types p.functions) (and_parts (has_built_types p.types) _ b).1).0

@@ -1,0 +1,135 @@
+-- The locals of a function while it is written: registers without names, and those of its variables.
+use Rattle.std.proofs.Common.{◌≡◌, ◌<◌, ◌≤◌, ◌⊎◌, inl, inr, ℕ, zero, suc, Bool, true, ◌||◌, List, [], ◌∷◌, ◌++◌, length, slice_get, Option, Some, None, refl, subst, unwrap_or, arith}
+use Rattle.std.proofs.lemmas.Bool.{false≢true}
+use Rattle.std.proofs.lemmas.Option.{none-some, same_Some, slice_get_within}
+use Rattle.life_types.specs.Trees.{HasPartsBelow}
+use Rattle.life_types.specs.Types.{Types, class_at}
+use Rattle.life_types.specs.declared.ty.Ty.{Ty}
+use Rattle.life_types.specs.declared.ty.Ty.TheVariants as ty
+use Rattle.life_types.specs.declared.ty.TyId.{TyId}
+use Rattle.life_built.specs.Built.{is_pointing}
+use Rattle.life_typed.specs.BaseTypes.{is_value, type_at}
+use Rattle.life_typed.specs.declared.typed_program.TypedLocal.{TypedLocal}
+use Rattle.life_core.specs.declared.program.Local.{Local}
+use Rattle.life_core.specs.declared.program.LocalKind.TheVariants.{Register}
+use Rattle.life_writer.specs.Around.{Around}
+use Rattle.life_writer.specs.Variables.{kind}
+use Rattle.life_writer.specs.Writing.{State}
+use Rattle.life_elab_laws.proofs.Fronts.{IsFront}
+use Rattle.life_elab_laws.proofs.OrderedTypes.{KeepsOrder, order_none, order_then}
+use Rattle.life_elab_laws.proofs.Shaped.{value_later}
+
+-- ---- what a register without a name holds: a value, a pointer or reference to one, or a view
+
+abbrev pub fits_register : Types → Ty → Bool
+fits_register types ty.View = true
+fits_register types t = is_value t || is_pointing types t
+
+pub value_fits : (types : Types) (t : Ty) → is_value t ≡ true → fits_register types t ≡ true
+value_fits types ty.Bool v = refl
+value_fits types ty.Char v = refl
+value_fits types ty.Int v = refl
+value_fits types ty.Long v = refl
+value_fits types ty.Size v = refl
+value_fits types _ v = absurd (false≢true v)
+
+pub fits_later : (few more : Types) → IsFront few.types more.types → (t : Ty) → fits_register few t ≡ true → fits_register more t ≡ true
+fits_later few more front (ty.Raw target constant) h = value_later few more front target h
+fits_later few more front (ty.Reference target constant) h = value_later few more front target h
+fits_later few more front _ h = h
+
+-- what a register holds has its parts in the table before
+value_within : (table : Types) (id : TyId) → is_value (type_at table id) ≡ true → id.0 < length table.types
+value_within table id v = go (slice_get table.types id.0) refl v
+  where
+    go : (o : Option Ty) → slice_get table.types id.0 ≡ o → is_value (unwrap_or o ty.Void) ≡ true → id.0 < length table.types
+    go None at v = absurd (false≢true v)
+    go (Some t) at v = slice_get_within table.types id.0 t at
+
+pub fits_below : (few table : Types) → length few.types ≤ length table.types → (t : Ty) → fits_register few t ≡ true → HasPartsBelow table (length table.types) t
+fits_below few table le ty.Bool h = tt
+fits_below few table le ty.Char h = tt
+fits_below few table le ty.Int h = tt
+fits_below few table le ty.Long h = tt
+fits_below few table le ty.Size h = tt
+fits_below few table le ty.View h = tt
+fits_below few table le (ty.Raw target constant) h = omega (arith, le, value_within few target h)
+fits_below few table le (ty.Reference target constant) h = omega (arith, le, value_within few target h)
+fits_below few table le _ h = absurd (false≢true h)
+
+-- its type is in the table
+pub record IsIntermediate (types table : Types) (l : Local) : Type 0 where
+  pub nameless : l.name ≡ None
+  pub kind : l.kind ≡ Register
+  pub ty : Ty
+  pub typed : slice_get table.types l.ty.0 ≡ Some ty
+  pub fits : fits_register types ty ≡ true
+
+pub intermediate_later : (types few more : Types) (l : Local) → IsFront few.types more.types → IsIntermediate types few l → IsIntermediate types more l
+intermediate_later types few more l front is = record { nameless = is.nameless; kind = is.kind; ty = is.ty; typed = front l.ty.0 is.ty is.typed; fits = is.fits }
+
+-- ---- what a part of an expression adds
+
+-- one more at the end
+pub pushed : {X : Type 0} (xs : List X) (x : X) (n : ℕ) (y : X) → slice_get (xs ++ x ∷ []) n ≡ Some y → (slice_get xs n ≡ Some y) ⊎ (x ≡ y)
+pushed [] x zero y at = inr (same_Some x y at)
+pushed [] x (suc n) y at = absurd (none-some y at)
+pushed (z ∷ xs) x zero y at = inl at
+pushed (z ∷ xs) x (suc n) y at = pushed xs x n y at
+
+-- whatever is there behind it was there before, or is such a register
+abbrev AddsLocals : Types → State → State → Type 0
+AddsLocals types s s' = (y : ℕ) (l : Local) → slice_get s'.locals y ≡ Some l → (slice_get s.locals y ≡ Some l) ⊎ IsIntermediate types s'.types l
+
+-- .. and the table stays ordered
+abbrev pub AddsRegisters : Types → State → State → Type 0
+AddsRegisters types s s' = AddsLocals types s s' × KeepsOrder s.types s'.types
+
+pub registers_none : (types : Types) (s : State) → AddsRegisters types s s
+registers_none types s = (λ y l at. inl at, order_none s.types)
+
+pub registers_then : (types : Types) (s t u : State) → IsFront t.types.types u.types.types → AddsRegisters types s t → AddsRegisters types t u → AddsRegisters types s u
+registers_then types s t u front first second = (
+  λ y l at. elim (second.0 y l at) [
+    | inl before ↦ elim (first.0 y l before) [ inl old ↦ inl old | inr is ↦ inr (intermediate_later types t.types u.types l front is) ]
+    | inr is ↦ inr is
+  ],
+  order_then s.types t.types u.types first.1 second.1,
+)
+
+pub register_pushed : (types table : Types) (ls : List Local) (new : Local) → IsIntermediate types table new → (y : ℕ) (l : Local) → slice_get (ls ++ new ∷ []) y ≡ Some l → (slice_get ls y ≡ Some l) ⊎ IsIntermediate types table l
+register_pushed types table ls new is y l at = elim (pushed ls new y l at) [
+  | inl old ↦ inl old
+  | inr same ↦ inr (subst (IsIntermediate types table) same is)
+]
+
+-- ---- all locals
+
+-- the local of a variable or parameter
+pub record IsLocalOf (a : Around) (u : TypedLocal) (l : Local) : Type 0 where
+  pub named : l.name ≡ Some u.name
+  pub typed : l.ty ≡ u.ty
+  pub kind : l.kind ≡ kind (class_at a.program.types u.ty)
+
+-- .. of the function
+pub record IsOwn (a : Around) (l : Local) : Type 0 where
+  pub number : ℕ
+  pub variable : TypedLocal
+  pub there : slice_get a.function.locals number ≡ Some variable
+  pub of : IsLocalOf a variable l
+
+module _ (types : Types) (a : Around) where
+  abbrev pub AreWrittenLocals : State → Type 0
+  AreWrittenLocals s = (y : ℕ) (l : Local) → slice_get s.locals y ≡ Some l → IsIntermediate types s.types l ⊎ IsOwn a l
+
+  pub locals_added : (s s' : State) → IsFront s.types.types s'.types.types → AddsRegisters types s s' → AreWrittenLocals s → AreWrittenLocals s'
+  locals_added s s' front added h y l at = elim (added.0 y l at) [
+    | inl before ↦ elim (h y l before) [ inl is ↦ inl (intermediate_later types s.types s'.types l front is) | inr own ↦ inr own ]
+    | inr is ↦ inl is
+  ]
+
+  pub own_added : (s : State) (new : Local) → IsOwn a new → AreWrittenLocals s → (y : ℕ) (l : Local) → slice_get (s.locals ++ new ∷ []) y ≡ Some l → IsIntermediate types s.types l ⊎ IsOwn a l
+  own_added s new own h y l at = elim (pushed s.locals new y l at) [
+    | inl old ↦ h y l old
+    | inr same ↦ inr (subst (IsOwn a) same own)
+  ]

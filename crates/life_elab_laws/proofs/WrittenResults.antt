@@ -1,0 +1,82 @@
+-- The core program of a well typed program that is built writes its results: on every way to a return of a function that gives a value back the result was
+-- written, but for the int of main.
+use Rattle.std.proofs.Common.{◌≡◌, ℕ, zero, suc, Bool, true, false, ◌||◌, List, [], ◌∷◌, slice_get, Some, None, refl, sym, ap, ◌∙◌, subst}
+use Rattle.std.proofs.lemmas.Bool.{false≢true}
+use Rattle.std.proofs.lemmas.Option.{none-some, same_Some}
+use Rattle.life_types.specs.declared.ty.NameId.{NameId}
+use Rattle.life_types.specs.declared.ty.Ty.{Ty}
+use Rattle.life_types.specs.declared.ty.Ty.TheVariants as ty
+use Rattle.life_built.specs.Built.{are_built_functions, is_built, is_void}
+use Rattle.life_typed.specs.BaseTypes.{is_value, type_at}
+use Rattle.life_typed.specs.Ends.{ends}
+use Rattle.life_typed.specs.Programs.{FunctionForm, ProgramForm, is_main}
+use Rattle.life_type_stmt.specs.Bodies.{return_fault}
+use Rattle.life_type_stmt.specs.Returns as typing
+use Rattle.life_core.specs.Function.{Function}
+use Rattle.life_core.specs.Proper.{Holding, Holds}
+use Rattle.life_proper.specs.ResultsWritten.{HasResultWritten, HaveResultsWritten, WritesResults, is_written_by, writes_result}
+use Rattle.life_proper.proofs.ResultsFound.{results_found}
+use Rattle.life_well_typed.specs.Functions.{IsWellTyped}
+use Rattle.life_well_typed.specs.Mains.{HasIntMain, HaveIntMains}
+use Rattle.life_well_typed.specs.Results.{HasResults}
+use Rattle.life_elab.specs.Programs.{around, core_program}
+use Rattle.life_elab_laws.proofs.GivingBack.{GivesValue}
+use Rattle.life_elab_laws.proofs.Programs.{AreWritten, IsWritten, each_written, functions_built, one_checked, one_returns, parts, typed_at, whole, written_number, written_result}
+use Rattle.life_elab_laws.proofs.TypedKinds.{none_some}
+
+-- ---- what must be written is a value, and control doesn't run past the end
+
+value_of : (t : Ty) → (is_void t || is_value t) ≡ true → is_written_by false (Some t) ≡ true → (is_value t ≡ true) × (typing.is_void t ≡ false)
+value_of ty.Void b w = absurd (false≢true w)
+value_of ty.Bool b w = (refl, refl)
+value_of ty.Char b w = (refl, refl)
+value_of ty.Int b w = (refl, refl)
+value_of ty.Long b w = (refl, refl)
+value_of ty.Size b w = (refl, refl)
+value_of _ b w = absurd (false≢true b)
+
+no_fault : (void over : Bool) → void ≡ false → return_fault false void over ≡ None → over ≡ true
+no_fault true over v e = absurd (false≢true (sym v))
+no_fault false true v e = refl
+no_fault false false v e = absurd (none_some (sym e))
+
+needs : (main : Bool) (t : Ty) (over : Bool) → (is_void t || is_value t) ≡ true → (main ≡ true → t ≡ ty.Int) → return_fault main (typing.is_void t) over ≡ None → is_written_by main (Some t) ≡ true
+    → (is_value t ≡ true) × (over ≡ true)
+needs true t over b int e w = absurd (false≢true (subst (λ (u : Ty). is_written_by true (Some u) ≡ true) (int refl) w))
+needs false t over b int e w = let v = value_of t b w in (v.0, no_fault (typing.is_void t) over v.1 e)
+
+int_at : (p : ProgramForm) (fs : List FunctionForm) (n : ℕ) (f : FunctionForm) → HaveIntMains p.names p.types fs → slice_get fs n ≡ Some f → is_main p.names f.name ≡ true → type_at p.types f.result ≡ ty.Int
+int_at p [] n f h at = absurd (none-some f at)
+int_at p (x ∷ fs) zero f h at = subst (λ (y : FunctionForm). is_main p.names y.name ≡ true → type_at p.types y.result ≡ ty.Int) (same_Some x f at) h.0
+int_at p (x ∷ fs) (suc n) f h at = int_at p fs n f h.1 at
+
+-- ---- each function
+
+module _ (p : ProgramForm) (typed : IsWellTyped p) (built : are_built_functions p.types p.functions ≡ true) (results : HasResults p) (mains : HasIntMain p) where
+  module _ (n : ℕ) (f : FunctionForm) (at : slice_get p.functions n ≡ Some f) (core : Function) (w : IsWritten p (whole p typed built results).types f core) where
+    gives : writes_result p.names (whole p typed built results).types core ≡ true → GivesValue (around p f)
+    gives must =
+        needs (is_main p.names f.name) (type_at p.types f.result) (ends f.body) (parts p typed built results n f at).result (int_at p p.functions n f mains at) (typed_at p p.functions n f typed at).ending
+        (ap (λ (x : NameId). is_written_by (is_main p.names x) (Some (type_at p.types f.result))) (sym (ap (λ (c : Function). c.name) w.is))
+        ∙ ap (is_written_by (is_main p.names core.name)) (sym (written_result p typed built results n f at core w))
+        ∙ must)
+
+    one_result : HasResultWritten p.names (whole p typed built results).types core
+    one_result must = λ q hs l way here is.
+        let g = gives must in
+        subst (λ (h : Holding). Holds hs core.parameters h) (sym (written_number p typed built results n f at core w g.0))
+        (results_found (whole p typed built results).types (whole p typed built results).functions core (one_checked p typed built results n f at core w) core.parameters
+        (one_returns p typed built results n f at core w g) q hs l way here is)
+
+  -- .. and all of them
+  all_results : (fs : List FunctionForm) (cores : List Function)
+      → ((n : ℕ) (f : FunctionForm) → slice_get fs n ≡ Some f → (core : Function) → IsWritten p (whole p typed built results).types f core → HasResultWritten p.names (whole p typed built results).types core)
+      → AreWritten p (whole p typed built results).types fs cores → HaveResultsWritten p.names (whole p typed built results).types cores
+  all_results [] [] each h = tt
+  all_results (f ∷ fs) (core ∷ cores) each h = (each zero f refl core h.0, all_results fs cores (λ n. each (suc n)) h.1)
+  all_results _ _ each h = absurd h
+
+pub program_writes_results : (p : ProgramForm) → IsWellTyped p → HasResults p → HasIntMain p → is_built p ≡ true → WritesResults (core_program p)
+program_writes_results p typed results mains b =
+    let built = functions_built p b in
+    all_results p typed built results mains p.functions (whole p typed built results).functions (one_result p typed built results mains) (each_written p typed built results)
