@@ -1,5 +1,5 @@
 -- Spans and views: whether one may be used, what it sees, and a part of it.
-use Rattle.std.specs.Prelude.{ℕ, ◌+◌, ◌-◌, ◌%◌, ◌^◌, min, ℤ, pos, Bool, true, false, cond, ◌&&◌, nat_eq, nat_le, List, [], ◌∷◌, Option, Some, None, drop, length, map, option_and_then, slice_get, slice_index, take}
+use Rattle.std.specs.Prelude.{ℕ, ◌+◌, ◌-◌, ◌%◌, ◌^◌, min, ℤ, pos, Bool, true, false, cond, ◌&&◌, ◌||◌, nat_eq, nat_le, List, [], ◌∷◌, Option, Some, None, drop, length, map, option_and_then, slice_get, slice_index, take}
 use Rattle.std.specs.Int.{cast_unsigned, w64}
 use Rattle.life_types.specs.declared.ty.Ty.{Ty}
 use Rattle.life_types.specs.declared.ty.Ty.TheVariants as variant
@@ -46,9 +46,11 @@ byte_of z = cast_unsigned w64 z % 2 ^ 8
 
 -- ---- whether one may be used
 
--- an object that lives has the positions, and they have stood there since the view was made
+-- an object that lives has the positions, and they have stood there since the view was made. What sees nothing names no position, so it
+-- may begin anywhere, also behind the object's end
 abbrev pub is_valid_range : Content → Target → Bool
-is_valid_range c t = is_valid_in t.index t.count t.moment (at c.objects t.object) && nat_le (t.index + t.count) (length (slots_at c t.object))
+is_valid_range c t =
+    is_valid_in t.index t.count t.moment (at c.objects t.object) && (nat_eq t.count 0 || nat_le (t.index + t.count) (length (slots_at c t.object)))
 
 abbrev pub usable : Content → Pointer → Attempt Pointer
 usable c Null = GotLost
