@@ -61,12 +61,17 @@ abbrev pub found_if : Bool → Content → Target → Found
 found_if true c t = reached_in (at c.objects t.object) t.object t.index
 found_if false c t = Wrong fault.Dangling
 
+-- characters of a text. Where there is no text, its one position is the end
+abbrev pub found_text : Option ℕ → Characters → Found
+found_text None s = Outside
+found_text (Some n) s = Fixed s
+
 -- what is behind a pointer
 abbrev pub behind : Content → Pointer → Found
 behind c Null = Wrong fault.Null
 behind c Wild = Wrong fault.Dangling
 behind c (To t) = found_if (is_valid c t) c t
-behind c (Static s) = Fixed s
+behind c (Static s) = found_text s.text s
 
 abbrev pub behind_cell : Content → Option Cell → Found
 behind_cell c None = Astray
