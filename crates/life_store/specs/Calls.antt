@@ -9,11 +9,12 @@ use Rattle.life_core.specs.Operands.{Argument, Location, Value, GivenOver, Point
 use Rattle.life_core.specs.Proper.{Holding, Blank, AnObject, ANumber, APointer, AView, result_sort, sort_of}
 use Rattle.life_core.specs.declared.program.Local.{Local}
 use Rattle.life_store.specs.Content.{Content, without}
-use Rattle.life_store.specs.Doing.{Setting, Effect, Next, Strays, Got, born_object, cell, converted, found_at, location_cell, on_found, on_got, on_location, on_next, pointed, put_cell, put_content, saved, as_long, type_of, wrote_spot}
+use Rattle.life_store.specs.Doing.{Setting, Effect, Next, Strays, Attempt, Got, Spot, born_object, cell, converted, found_at, location_cell, on_found, on_got, on_location, on_next, pointed, put_cell, put_content, saved, as_long, type_of, wrote_spot}
 use Rattle.life_store.specs.Edits.{owned_at}
 use Rattle.life_store.specs.Held.{owner_word, slot_words}
 use Rattle.life_store.specs.Owners.{object_with}
 use Rattle.life_store.specs.Parts.{Parts, Single, Unique, variable_type, location_parts}
+use Rattle.life_store.specs.Places.{owner_spot_if}
 use Rattle.life_store.specs.State.{Cell, Empty, Named, Number, Points, State}
 
 -- ---- what is handed over
@@ -36,13 +37,13 @@ abbrev pub target_cell : Option ℕ → Cell
 target_cell None = Empty
 target_cell (Some n) = Named n
 
-abbrev pub target_handed : Content → Option Cell → Parts → Location → Option Cell
-target_handed c (Some (Named n)) parts l = Some (target_cell (owned_at c (record { object = n; index = 0; word = 0 })))
-target_handed c _ parts l = None
+abbrev pub target_handed : Content → Attempt Spot → Option Cell
+target_handed c (Got spot) = Some (target_cell (owned_at c spot))
+target_handed c _ = None
 
--- a slot is a whole local: a pointer is handed over as its value, a unique_ptr as what it owns
+-- of what a slot refers to, a pointer is handed over as its value, and a unique_ptr as what it owns
 abbrev pub slot_handed : Types → Function → Parts → Location → State → Option Cell
-slot_handed types f (Unique ty target) l st = target_handed st.world.content (cell st l.local) (Unique ty target) l
+slot_handed types f (Unique ty target) l st = target_handed st.world.content (owner_spot_if types f l (cell st l.local))
 slot_handed types f _ l st = pointer_handed (location_cell types f l st)
 
 abbrev pub handed : Types → Function → State → Argument → Option Cell
@@ -61,20 +62,20 @@ all_handed types f st [] = Some []
 all_handed types f st (x ∷ xs) = with_handed (handed types f st x) (all_handed types f st xs)
 
 -- .. and what the caller has while the call runs: no temporary that it gave over, and null in a unique_ptr that is a slot
-abbrev pub spot_lent : Option Cell → State → State
-spot_lent (Some (Named n)) st = put_content (wrote_spot (record { object = n; index = 0; word = 0 }) (owner_word None ∷ []) st.world.content) st
+abbrev pub spot_lent : Attempt Spot → State → State
+spot_lent (Got spot) st = put_content (wrote_spot spot (owner_word None ∷ []) st.world.content) st
 spot_lent _ st = st
 
-abbrev pub slot_lent : Parts → Location → State → State
-slot_lent (Unique ty target) l st = spot_lent (cell st l.local) st
-slot_lent _ l st = st
+abbrev pub slot_lent : Types → Function → Parts → Location → State → State
+slot_lent types f (Unique ty target) l st = spot_lent (owner_spot_if types f l (cell st l.local)) st
+slot_lent types f _ l st = st
 
 abbrev pub lent : Types → Function → List Argument → State → State
 lent types f [] st = st
 lent types f (Value r ∷ xs) st = lent types f xs st
 lent types f (GivenOver x ∷ xs) st = lent types f xs (put_cell x Empty st)
 lent types f (PointerOf l ∷ xs) st = lent types f xs st
-lent types f (Slot l ∷ xs) st = lent types f xs (slot_lent (location_parts types f l) l st)
+lent types f (Slot l ∷ xs) st = lent types f xs (slot_lent types f (location_parts types f l) l st)
 
 -- ---- what is given
 
