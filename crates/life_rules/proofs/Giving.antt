@@ -11,6 +11,7 @@ use Rattle.life_core.specs.Linked.{spot_of}
 use Rattle.life_types.specs.Trees.{holds_owner}
 use Rattle.life_core.specs.Operands.{Name, Through}
 use Rattle.life_core.specs.Step.{Step, Copy, Move, Changes, Call}
+use Rattle.life_pset.specs.Elements.{local_place}
 use Rattle.life_pset.specs.Shapes.{operand_type, tree_if}
 use Rattle.life_core.specs.Tree.{Node, Action, Question, Return, Stop, Spot}
 use Rattle.life_core.specs.declared.stmt.Edge.{Edge}
@@ -20,7 +21,7 @@ use Rattle.life_rules.proofs.Calls.{call_two_none}
 pub use Rattle.life_rules.proofs.Nothing.{cond_none, flat_map_empty}
 use Rattle.life_rules.specs.Along.{all_at, all_along, takes_first, node_takes_first, spot_takes_first}
 use Rattle.life_contract.specs.Signatures.{Signature}
-use Rattle.life_rules.specs.Carrying.{is_location, killed_under, none_at, one_at, two_at, from_two, node_two, Gives}
+use Rattle.life_rules.specs.Carrying.{is_location, killed_under, points_under, none_at, one_at, two_at, from_two, node_two, Gives}
 
 pub none_in_empty : {A : Type 0} (x : A) → Contains [] x → ⊥
 none_in_empty x h = omega (arith, h.1)
@@ -67,8 +68,10 @@ step_two sigs types f place (Copy (Name l) from) a b h = same_either (holds_owne
 step_two sigs types f place (Copy (Through p members) from) a b h =
     ap (λ (xs : List Fact). if holds_owner (tree_if types (operand_type types f (Through p members))) then xs else []) (cond_none (is_location p a.location) (killed_under place (Copy (Through p members) from) members a.element b) h)
     ∙ same_either (holds_owner (tree_if types (operand_type types f (Through p members)))) []
-step_two sigs types f place (Move (Name l) y) a b h = refl
-step_two sigs types f place (Move (Through p members) y) a b h = cond_none (is_location p a.location) (killed_under place (Move (Through p members) y) members a.element b) h
+step_two sigs types f place (Move (Name l) y) a b h = same_either (points_under (local_place y) b.element) []
+step_two sigs types f place (Move (Through p members) y) a b h =
+    ap (λ (xs : List Fact). if points_under (local_place y) b.element then [] else xs) (cond_none (is_location p a.location) (killed_under place (Move (Through p members) y) members a.element b) h)
+    ∙ same_either (points_under (local_place y) b.element) []
 step_two sigs types f place (Changes (Name l) change) a b h = refl
 step_two sigs types f place (Changes (Through p members) change) a b h = cond_none (is_location p a.location) (killed_under place (Changes (Through p members) change) members a.element b) h
 step_two sigs types f place (Call target g xs) a b h = call_two_none types place g.0 (slice_get sigs g.0) xs target a b h

@@ -311,10 +311,11 @@ abbrev pub killed_through : Place → Step → Operand → (target victim : Fact
 killed_through place i (named.Name l) a b = []
 killed_through place i (named.Through p members) a b = cond (is_location p a.location) (killed_under place i members a.element b) []
 
--- what comes of a target of the pointer through which an instruction changes an owner, and of a victim
+-- what comes of a target of the pointer through which an instruction changes an owner, and of a victim. A move kills twice, one after the
+-- other: what points under the local that is moved from is invalid then, and so under no target any more
 abbrev pub from_two : List Signature → Types → Function → Place → Step → Fact → Fact → List Fact
 from_two sigs types f place (Copy to from) a b = if holds_owner (tree_if types (operand_type types f to)) then killed_through place (Copy to from) to a b else []
-from_two sigs types f place (Move to y) a b = killed_through place (Move to y) to a b
+from_two sigs types f place (Move to y) a b = if points_under (local_place y) b.element then [] else killed_through place (Move to y) to a b
 from_two sigs types f place (Changes o change) a b = killed_through place (Changes o change) o a b
 from_two sigs types f place (Call target g xs) a b = called_two types place g.0 (slice_get sigs g.0) xs target a b
 from_two sigs types f place _ a b = []

@@ -13,7 +13,7 @@ use crate::push::push_if;
 use crate::writes::writes;
 use life_contract::{Signatures, is_in_arguments};
 use life_core::{CoreFn, Instr, Operand};
-use life_pset::{Element, Fact, holds_owner_if, operand_type, owner_changed};
+use life_pset::{AbsPlace, Element, Fact, holds_owner_if, operand_type, owner_changed};
 use life_types::{NoMemory, Place, TypeTable};
 use std::alloc::Global;
 
@@ -42,7 +42,8 @@ pub fn takes_first(instr: &Instr, fact: &Fact) -> bool
 }
 
 /// Adds what an instruction at a place makes of two facts: what points under an owner that may be
-/// changed through a pointer may be invalid.
+/// changed through a pointer may be invalid. What a move makes invalid by the name of what it takes is
+/// under no target any more.
 pub fn push_from_two(
     alloc: Global,
     sigs: &Signatures,
@@ -63,7 +64,11 @@ pub fn push_from_two(
                 push_killed_through(place, instr, to, target, victim, out)?;
             }
         }
-        Instr::Move { to, .. } => push_killed_through(place, instr, to, target, victim, out)?,
+        Instr::Move { to, from } => {
+            if !points_under(&AbsPlace::of_local(*from), &victim.element) {
+                push_killed_through(place, instr, to, target, victim, out)?;
+            }
+        }
         Instr::Change { place: operand, .. } => push_killed_through(
             place, instr, operand, target, victim, out,
         )?,
