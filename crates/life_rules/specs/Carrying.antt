@@ -63,16 +63,9 @@ abbrev pub is_killed : KillPair → Element → Bool
 is_killed ks e = is_killed_by ks.first e || is_killed_by ks.second e
 
 -- what becomes of an element
-abbrev pub killed_by : Option Kill → Element → Option Element
-killed_by None e = None
-killed_by (Some k) e = if points_under k.owner e then Some (element.Invalid k.cause) else None
-
-abbrev pub killed_at : KillPair → AbsPlace → Element → List Fact
-killed_at ks l e = facts_at l (killed_by ks.first e) ++ facts_at l (killed_by ks.second e)
-
--- the set of a location after the kill, from one of its elements
-abbrev pub after_kill : KillPair → AbsPlace → Element → List Fact
-after_kill ks l e = unless (is_killed ks e) (fact_at l e) ++ killed_at ks l e
+abbrev pub after_kill : Option Kill → Element → Element
+after_kill None e = e
+after_kill (Some k) e = if points_under k.owner e then element.Invalid k.cause else e
 
 -- ---- what is written: its old set is replaced
 
@@ -106,22 +99,14 @@ writes (Make u what) location = is_location u location
 writes (Call target g xs) location = is_in_target target location
 writes _ location = false
 
--- whether an instruction drops a fact: what is written or ended loses its old set, and what is killed becomes invalid
+-- an element doesn't stay where its root ended, or where it is killed
+abbrev pub is_gone : Types → Function → Place → Step → Element → Bool
+is_gone types f place (End xs) e = points_among xs e
+is_gone types f place i e = is_killed (kills types f place i) e
+
+-- a fact is dropped where its element doesn't stay, or its location is written
 abbrev pub drops : Types → Function → Place → Step → Fact → Bool
-drops types f place (Live x form) fact = is_rooted x fact.location
-drops types f place (End xs) fact = is_rooted_among xs fact.location || points_among xs fact.element
-drops types f place (Copy to from) fact = is_in_named to fact.location || is_killed (kills types f place (Copy to from)) fact.element
-drops types f place (Move to y) fact = writes (Move to y) fact.location || is_killed (kills types f place (Move to y)) fact.element
-drops types f place (Aim p s) fact = is_location p fact.location
-drops types f place (Repoint p q) fact = is_location p fact.location
-drops types f place (Advance p q r direction) fact = is_location p fact.location
-drops types f place (Cut p q r count) fact = is_location p fact.location
-drops types f place (step.Element p b which) fact = is_location p fact.location
-drops types f place (Cursor p b end) fact = is_location p fact.location
-drops types f place (Changes o change) fact = is_erased_into change fact.location || is_killed (kills types f place (Changes o change)) fact.element
-drops types f place (Make u what) fact = is_location u fact.location || is_killed (kills types f place (Make u what)) fact.element
-drops types f place (Call target g xs) fact = is_in_target target fact.location
-drops types f place _ fact = false
+drops types f place i fact = is_gone types f place i fact.element || writes i fact.location
 
 -- ---- facts that come from none
 
@@ -228,22 +213,24 @@ abbrev pub ended_facts : Function → Place → List ℕ → Fact → List Fact
 ended_facts f place xs fact = cond (is_rooted_among xs fact.location) [] (ended_element f place xs fact.location fact.element)
 
 -- Kill by name: a pointer under what is changed is invalid, unless it is written itself
-abbrev pub killed_facts : Types → Function → Place → Step → Fact → List Fact
-killed_facts types f place i fact = cond (writes i fact.location) [] (killed_at (kills types f place i) fact.location fact.element)
+abbrev pub killed_fact : Option Kill → Step → Fact → List Fact
+killed_fact None i fact = []
+killed_fact (Some k) i fact = given_if (points_under k.owner fact.element && not (writes i fact.location)) (fact_at fact.location (element.Invalid k.cause))
+
+abbrev pub killed_facts : KillPair → Step → Fact → List Fact
+killed_facts ks i fact = killed_fact ks.first i fact ++ killed_fact ks.second i fact
 
 -- Copy: the pointers of what is written take the sets that those of the other have after the kill
 abbrev pub copied_location : (from to location : AbsPlace) → AbsPlace
 copied_location from to location = members_place to (drop from.length (path location))
 
-abbrev pub copied_from : Types → Function → KillPair → (to from : AbsPlace) → Fact → List Fact
-copied_from types f ks to from fact =
-    cond (is_within from fact.location && is_pointer (ty_if types (place_type types f fact.location)))
-    (after_kill ks (copied_location from to fact.location) fact.element)
-    []
+abbrev pub copied_from : Types → Function → Option Kill → (to from : AbsPlace) → Fact → List Fact
+copied_from types f k to from fact =
+    given_if (is_within from fact.location && is_pointer (ty_if types (place_type types f fact.location))) (fact_at (copied_location from to fact.location) (after_kill k fact.element))
 
-abbrev pub copied_facts : Types → Function → KillPair → (to from : Operand) → Fact → List Fact
-copied_facts types f ks (named.Name to) (named.Name from) fact = copied_from types f ks (located to) (located from) fact
-copied_facts types f ks _ _ fact = []
+abbrev pub copied_facts : Types → Function → Option Kill → (to from : Operand) → Fact → List Fact
+copied_facts types f k (named.Name to) (named.Name from) fact = copied_from types f k (located to) (located from) fact
+copied_facts types f k _ _ fact = []
 
 -- Move: a unique_ptr takes what the other gives over
 abbrev pub moved_facts : Types → Function → Operand → ℕ → Fact → List Fact
@@ -279,25 +266,24 @@ abbrev pub position_facts : Operand → Change → Fact → List Fact
 position_facts o (Erase at into) fact = position_from into o fact
 position_facts o _ fact = []
 
--- what an instruction makes of one fact, beside keeping it
+-- what an instruction makes of one fact, beside keeping it and what it kills
 abbrev pub makes : List Signature → Types → Function → Place → Step → Fact → List Fact
 makes sigs types f place (End xs) fact = ended_facts f place xs fact
-makes sigs types f place (Copy to from) fact = killed_facts types f place (Copy to from) fact ++ copied_facts types f (kills types f place (Copy to from)) to from fact
-makes sigs types f place (Move to y) fact = killed_facts types f place (Move to y) fact ++ moved_facts types f to y fact
+makes sigs types f place (Copy to from) fact = copied_facts types f (kills types f place (Copy to from)).first to from fact
+makes sigs types f place (Move to y) fact = moved_facts types f to y fact
 makes sigs types f place (Aim p s) fact = aimed_from p s fact
 makes sigs types f place (Repoint p q) fact = taken p q fact
 makes sigs types f place (Advance p q r direction) fact = taken p q fact
 makes sigs types f place (Cut p q r count) fact = taken p q fact
 makes sigs types f place (step.Element p b which) fact = element_from p b fact
 makes sigs types f place (Cursor p b end) fact = element_from p b fact
-makes sigs types f place (Changes o change) fact = killed_facts types f place (Changes o change) fact ++ position_facts o change fact
-makes sigs types f place (Make u what) fact = killed_facts types f place (Make u what) fact
+makes sigs types f place (Changes o change) fact = position_facts o change fact
 makes sigs types f place (Call target g xs) fact = called_one types (slice_get sigs g.0) xs target fact
 makes sigs types f place _ fact = []
 
--- what comes of one fact: itself, unless it is dropped, and what is made of it
+-- what comes of one fact: itself, unless it is dropped, what a kill leaves of it, and what is made of it
 abbrev pub from_one : List Signature → Types → Function → Place → Step → Fact → List Fact
-from_one sigs types f place i fact = unless (drops types f place i fact) fact ++ makes sigs types f place i fact
+from_one sigs types f place i fact = unless (drops types f place i fact) fact ++ (killed_facts (kills types f place i) i fact ++ makes sigs types f place i fact)
 
 -- ---- facts that come from two
 

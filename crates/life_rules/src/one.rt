@@ -5,15 +5,15 @@ ghost use Rattle.life_core.specs.Function.{function_of};
 ghost use Rattle.life_core.specs.Operands.{base_of, location_of, operand_of, source_of};
 ghost use Rattle.life_core.specs.Step.{change_of, step_of};
 ghost use Rattle.life_pset.specs.Elements.{causes_of_end, end_causes, end_if};
-ghost use Rattle.life_rules.specs.Carrying.{aimed_from, copied_facts, copied_from, copied_location, element_from, ended_element, ended_facts, ended_root, from_one, invalid_facts, killed_facts, kills, makes, moved_facts, position_facts, position_from, reached_from, taken};
+ghost use Rattle.life_rules.specs.Carrying.{aimed_from, copied_facts, copied_from, copied_location, element_from, ended_element, ended_facts, ended_root, from_one, invalid_facts, kills, makes, moved_facts, position_facts, position_from, reached_from, taken};
 
 use crate::calling::push_called_one;
-use crate::kill::{KillPair, kills, push_after_kill, push_killed};
+use crate::kill::{Kill, after_kill, drops, kills, push_killed};
 use crate::matching::{
     given_over, gotten, is_location, is_rooted_among, located, position_in, reached,
 };
 use crate::push::{push_at_if, push_if, push_unless};
-use crate::writes::{drops, is_whole, writes};
+use crate::writes::is_whole;
 use life_contract::Signatures;
 use life_core::{Base, Change, CoreFn, Instr, Local, LocalKind, Location, Operand, Source};
 use life_pset::{
@@ -24,7 +24,7 @@ use life_types::{NoMemory, Place, TypeTable};
 use std::alloc::Global;
 
 /// Adds what an instruction at a place makes of one fact: the fact itself, unless the instruction
-/// drops it, and what the instruction makes of it.
+/// drops it, what a kill leaves of it, and what the instruction makes of it.
 #[tactic(auto, using(std::proofs::Common::append_assoc))]
 pub fn push_from_one(
     alloc: Global,
@@ -40,10 +40,11 @@ pub fn push_from_one(
         (out.new.items ≡ out.old.items ++ from_one sigs.now types.now (function_of f.now) place (step_of instr.now) fact) }
 {
     push_unless(drops(types, f, place, instr, fact), fact, out)?;
+    push_killed(kills(types, f, place, instr), instr, fact, out)?;
     push_made(alloc, sigs, types, f, place, instr, fact, out)
 }
 
-// Adds what an instruction makes of a fact, beside keeping it.
+// Adds what an instruction makes of a fact, beside keeping it and what it kills.
 fn push_made(
     alloc: Global,
     sigs: &Signatures,
@@ -59,8 +60,11 @@ fn push_made(
 {
     match instr {
         Instr::End { locals } => push_ended(f, place, locals, fact, out),
-        Instr::Copy { to, from } => push_copy(types, f, place, instr, to, from, fact, out),
-        Instr::Move { to, from } => push_move(types, f, place, instr, to, *from, fact, out),
+        Instr::Copy { to, from } => {
+            let kill = kills(types, f, place, instr).first;
+            push_copied(types, f, kill, to, from, fact, out)
+        }
+        Instr::Move { to, from } => push_given_over(types, f, to, *from, fact, out),
         Instr::Aim { pointer, source } => push_aimed_from(pointer, source, fact, out),
         Instr::Repoint { pointer, from } => push_taken(pointer, from, fact, out),
         Instr::Advance { pointer, from, .. } => push_taken(pointer, from, fact, out),
@@ -70,8 +74,7 @@ fn push_made(
         Instr::Change {
             place: operand,
             change,
-        } => push_change(types, f, place, instr, operand, change, fact, out),
-        Instr::Make { .. } => push_killed_facts(types, f, place, instr, fact, out),
+        } => push_position_facts(operand, change, fact, out),
         Instr::Call {
             target,
             function,
@@ -194,65 +197,23 @@ fn push_invalid_object(
 
 // ---- owners that are changed
 
-// Adds that a pointer under what is changed by its name is invalid, unless its set is replaced.
-fn push_killed_facts(
-    types: &TypeTable,
-    f: &CoreFn,
-    place: Place,
-    instr: &Instr,
-    fact: Fact,
-    out: &mut Vec<Fact>,
-) -> Result<(), NoMemory>
-    ensures { OnOk result
-        (out.new.items ≡ out.old.items ++ killed_facts types.now (function_of f.now) place (step_of instr.now) fact) }
-{
-    if writes(instr, &fact.location) {
-        return Ok(());
-    }
-    push_killed(
-        kills(types, f, place, instr),
-        fact.location,
-        fact.element,
-        out,
-    )
-}
-
-#[tactic(auto, using(std::proofs::Common::append_assoc))]
-fn push_copy(
-    types: &TypeTable,
-    f: &CoreFn,
-    place: Place,
-    instr: &Instr,
-    to: &Operand,
-    from: &Operand,
-    fact: Fact,
-    out: &mut Vec<Fact>,
-) -> Result<(), NoMemory>
-    ensures { OnOk result
-        (out.new.items
-        ≡ out.old.items ++ (killed_facts types.now (function_of f.now) place (step_of instr.now) fact ++ copied_facts types.now (function_of f.now) (kills types.now (function_of f.now) place (step_of instr.now)) (operand_of to.now) (operand_of from.now) fact)) }
-{
-    push_killed_facts(types, f, place, instr, fact, out)?;
-    push_copied(types, f, kills(types, f, place, instr), to, from, fact, out)
-}
-
 // Adds what the pointers of the copy take from the pointer of the other that the fact is about.
 fn push_copied(
     types: &TypeTable,
     f: &CoreFn,
-    kills: KillPair,
+    kill: Option<Kill>,
     to: &Operand,
     from: &Operand,
     fact: Fact,
     out: &mut Vec<Fact>,
 ) -> Result<(), NoMemory>
     ensures { OnOk result
-        (out.new.items ≡ out.old.items ++ copied_facts types.now (function_of f.now) kills (operand_of to.now) (operand_of from.now) fact) }
+        (out.new.items ≡ out.old.items ++ copied_facts types.now (function_of f.now) kill (operand_of to.now) (operand_of from.now) fact) }
 {
     match to {
         Operand::Name(to) => match from {
             Operand::Name(from) => {
-                push_copied_from(types, f, kills, located(to), located(from), fact, out)
+                push_copied_from(types, f, kill, located(to), located(from), fact, out)
             }
             Operand::Through { .. } => Ok(()),
         },
@@ -263,22 +224,25 @@ fn push_copied(
 fn push_copied_from(
     types: &TypeTable,
     f: &CoreFn,
-    kills: KillPair,
+    kill: Option<Kill>,
     to: AbsPlace,
     from: AbsPlace,
     fact: Fact,
     out: &mut Vec<Fact>,
 ) -> Result<(), NoMemory>
     ensures { OnOk result
-        (out.new.items ≡ out.old.items ++ copied_from types.now (function_of f.now) kills to from fact) }
+        (out.new.items ≡ out.old.items ++ copied_from types.now (function_of f.now) kill to from fact) }
 {
     let is_copied = is_within(&from, &fact.location)
         && is_pointer(ty_if(types, place_type(types, f, &fact.location)));
-    if !is_copied {
-        return Ok(());
-    }
-    let location = copied_location(from, to, &fact.location);
-    push_after_kill(kills, location, fact.element, out)
+    push_if(
+        is_copied,
+        Fact {
+            location: copied_location(from, to, &fact.location),
+            element: after_kill(kill, fact.element),
+        },
+        out,
+    )
 }
 
 // The location in the copy that a location in the other is copied to.
@@ -286,25 +250,6 @@ fn copied_location(from: AbsPlace, to: AbsPlace, location: &AbsPlace) -> AbsPlac
     ensures { result ≡ copied_location from to location.now }
 {
     to.further(rest_of(location.path(), from.length as usize))
-}
-
-#[tactic(auto, using(std::proofs::Common::append_assoc))]
-fn push_move(
-    types: &TypeTable,
-    f: &CoreFn,
-    place: Place,
-    instr: &Instr,
-    to: &Operand,
-    from: u32,
-    fact: Fact,
-    out: &mut Vec<Fact>,
-) -> Result<(), NoMemory>
-    ensures { OnOk result
-        (out.new.items
-        ≡ out.old.items ++ (killed_facts types.now (function_of f.now) place (step_of instr.now) fact ++ moved_facts types.now (function_of f.now) (operand_of to.now) from fact)) }
-{
-    push_killed_facts(types, f, place, instr, fact, out)?;
-    push_given_over(types, f, to, from, fact, out)
 }
 
 // Adds what a `std::unique_ptr` takes from the local that is moved from.
@@ -327,25 +272,6 @@ fn push_given_over(
         }
         Operand::Through { .. } => Ok(()),
     }
-}
-
-#[tactic(auto, using(std::proofs::Common::append_assoc))]
-fn push_change(
-    types: &TypeTable,
-    f: &CoreFn,
-    place: Place,
-    instr: &Instr,
-    operand: &Operand,
-    change: &Change,
-    fact: Fact,
-    out: &mut Vec<Fact>,
-) -> Result<(), NoMemory>
-    ensures { OnOk result
-        (out.new.items
-        ≡ out.old.items ++ (killed_facts types.now (function_of f.now) place (step_of instr.now) fact ++ position_facts (operand_of operand.now) (change_of change.now) fact)) }
-{
-    push_killed_facts(types, f, place, instr, fact, out)?;
-    push_position_facts(operand, change, fact, out)
 }
 
 // Adds the position in an owner behind a pointer, for the pointer that is given that of what is erased.

@@ -29,7 +29,7 @@ use Rattle.life_sound.proofs.Writing.{IsSafe}
 
 module _ (sigs : List Signature) (types : Types) (f : Function) (place : Place) (xs : List ℕ) (S S' : Fact → Type 0) (st st' : State) (sorted : IsSorted types f (holdings_of st)) (k : Known S st) (cl : Closed sigs types f place (End xs) S S') (after : AfterEnds xs st st') where
   stays : (q : ℕ) (e : Element) → list_any (λ z. nat_eq z q) xs ≡ false → points_among xs e ≡ false → drops types f place (End xs) (fact_at (local_place q) e) ≡ false
-  stays q e out none = ap (λ b. b || points_among xs e) out ∙ none
+  stays q e out none = ap (λ b. b || list_any (λ z. nat_eq z q) xs) none ∙ out
 
   -- what ended makes a pointer to it invalid
   ended_holds : (q y : ℕ) → list_any (λ z. nat_eq z q) xs ≡ false → list_any (λ z. nat_eq z y) xs ≡ true → sort_of types f y ≡ AnObject → S (fact_at (local_place q) (element.At (local_place y)))

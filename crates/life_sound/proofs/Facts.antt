@@ -31,7 +31,7 @@ use Rattle.life_pset.specs.declared.element.Fact.{Fact}
 use Rattle.life_pset.proofs.Numbering.{numbered_contains}
 use Rattle.life_pset.proofs.Numbers.{is_of_iff}
 use Rattle.life_contract.specs.Signatures.{Signature}
-use Rattle.life_rules.specs.Carrying.{fact_at, given_if, unless, drops, makes, from_none, from_one, from_two}
+use Rattle.life_rules.specs.Carrying.{fact_at, given_if, unless, drops, kills, killed_facts, makes, from_none, from_one, from_two}
 use Rattle.life_rules.specs.Diagnosing.{uses, misused, misused_as}
 use Rattle.life_rules.specs.declared.diag.Diag.{Diag}
 use Rattle.life_rules.proofs.Giving.{none_in_empty, at_head, in_tail, cons_cases, flat_map_into}
@@ -201,10 +201,15 @@ pub record Closed (sigs : List Signature) (types : Types) (f : Function) (place 
 
 module _ (sigs : List Signature) (types : Types) (f : Function) (place : Place) (i : Step) (S S' : Fact → Type 0) (cl : Closed sigs types f place i S S') where
   pub kept : (a : Fact) → S a → drops types f place i a ≡ false → S' a
-  kept a s d = cl.one a a s (cl.of a s) (Contains-append_left (unless (drops types f place i a) a) (makes sigs types f place i a) a (subst (λ t. Contains (unless t a) a) (sym d) (at_head a [])))
+  kept a s d =
+      cl.one a a s (cl.of a s)
+      (Contains-append_left (unless (drops types f place i a) a) (killed_facts (kills types f place i) i a ++ makes sigs types f place i a) a (subst (λ t. Contains (unless t a) a) (sym d) (at_head a [])))
 
   pub made : (a x : Fact) → S a → IsOf (table_of types f) x → Contains (makes sigs types f place i a) x → S' x
-  made a x s of c = cl.one a x s of (Contains-append_right (unless (drops types f place i a) a) (makes sigs types f place i a) x c)
+  made a x s of c =
+      cl.one a x s of
+      (Contains-append_right (unless (drops types f place i a) a) (killed_facts (kills types f place i) i a ++ makes sigs types f place i a) x
+      (Contains-append_right (killed_facts (kills types f place i) i a) (makes sigs types f place i a) x c))
 
 pub if_given : (t : Bool) (x : Fact) → t ≡ true → Contains (given_if t x) x
 if_given t x e = subst (λ b. Contains (given_if b x) x) (sym e) (at_head x [])
