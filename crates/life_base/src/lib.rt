@@ -14,6 +14,6 @@ mod steps;
 pub use disk::{DiskFiles, StreamSink};
 pub use edges::{Failed, Files, Sink};
 pub use memory::MemFiles;
-pub use pieces::{MOST_BYTES, PIECE, ReadError, read_rest, write_whole};
+pub use pieces::{PIECE, ReadError, read_rest, write_whole};
 pub use sink::MemSink;
 pub use steps::Steps;

@@ -1,18 +1,15 @@
 // The loop that reads a file and the loop that writes a text.
-ghost use Rattle.std.specs.Prelude.{◌≡◌, ◌≤◌, ◌<◌, ◌++◌, List, ℕ, length, take, MatchResult, IfOk, IfSome};
+ghost use Rattle.std.specs.Prelude.{◌≡◌, ◌≤◌, ◌<◌, ◌++◌, length, take, MatchResult, IfOk, IfSome};
 ghost use Rattle.std.specs.Io.KnownBytes.{Appends, Consumes, IsAtEnd};
 ghost use Rattle.life_base.specs.Causes.{HasCause};
 ghost use Rattle.life_base.specs.Edges.{AppendsFront};
-ghost use Rattle.life_base.specs.Pieces.{HasReadCause};
+ghost use Rattle.life_base.specs.Pieces.{ConsumesUpTo, GainsPiece, HasReadCause};
 ghost use Rattle.life_base.specs.declared.pieces.ReadError.TheVariants as read_error;
 
 use crate::{Failed, Files, Sink};
 use life_types::NoMemory;
 use std::alloc::Global;
 use thiserror::Error;
-
-/// At most so many bytes are taken of a file: one more than a file may have.
-pub const MOST_BYTES: usize = 1_048_577;
 
 /// A read or a write moves at most so many bytes.
 pub const PIECE: usize = 4_096;
@@ -44,17 +41,20 @@ impl From<NoMemory> for ReadError {
     }
 }
 
-/// Reads what is left of the started file until a read gives 0 or until `MOST_BYTES` were taken.
-pub fn read_rest<F: Files>(alloc: Global, files: &mut F) -> Result<Vec<u8>, ReadError>
-    ensures whole { IfOk result (λ bytes. IfSome (F.rest files.old) (λ rest. bytes.items ≡ take MOST_BYTES rest)) }
-    ensures bound { IfOk result (λ bytes. length bytes.items ≤ MOST_BYTES) }
+/// Reads what is left of the started file until a read gives 0 or until `most` bytes were taken. It takes
+/// of the file what it gives, and after an error no more than `most` bytes.
+pub fn read_rest<F: Files>(alloc: Global, files: &mut F, most: usize) -> Result<Vec<u8>, ReadError>
+    ensures whole { IfOk result (λ bytes. IfSome (F.rest files.old) (λ rest. bytes.items ≡ take most rest)) }
+    ensures bound { IfOk result (λ bytes. length bytes.items ≤ most) }
+    ensures taken { MatchResult result (λ bytes. Consumes (F.rest files.old) (F.rest files.new) bytes.items)
+        (λ _. ConsumesUpTo most (F.rest files.old) (F.rest files.new)) }
     ensures held { F.held files.new ≡ F.held files.old }
     ensures cause { HasReadCause (F.faults files.old) (F.faults files.new) result }
 {
     let mut bytes = Vec::new(alloc);
-    while bytes.len() < MOST_BYTES {
-        let most = (MOST_BYTES - bytes.len()).min(PIECE);
-        let count = take_piece(files, &mut bytes, most)?;
+    while bytes.len() < most {
+        let room = (most - bytes.len()).min(PIECE);
+        let count = take_piece(files, &mut bytes, room)?;
         if count == 0 {
             return Ok(bytes);
         }
@@ -66,10 +66,8 @@ pub fn read_rest<F: Files>(alloc: Global, files: &mut F) -> Result<Vec<u8>, Read
 fn take_piece<F: Files>(files: &mut F, bytes: &mut Vec<u8>, most: usize) -> Result<usize, ReadError>
     requires most { most ≤ PIECE }
     requires some { 0 < most }
-    ensures gained { IfOk result (λ n. (got : List ℕ) × (length got ≡ n) × (n ≤ most)
-        × (bytes.new.items ≡ bytes.old.items ++ got)
-        × Consumes (F.rest files.old) (F.rest files.new) got
-        × (n ≡ 0 → IsAtEnd (F.rest files.new))) }
+    ensures gained { MatchResult result (λ n. GainsPiece most (F.rest files.old) (F.rest files.new) bytes.old.items bytes.new.items n)
+        (λ _. ConsumesUpTo most (F.rest files.old) (F.rest files.new)) }
     ensures held { F.held files.new ≡ F.held files.old }
     ensures cause { HasReadCause (F.faults files.old) (F.faults files.new) result }
 {

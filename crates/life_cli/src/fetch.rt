@@ -34,12 +34,12 @@ pub fn fetch<F: Files>(alloc: Global, name: &str, files: &mut F) -> Result<Fetch
     }
 }
 
-// Reads the file that was started.
+// Reads the file that was started, and of a file that is too long the first byte that is too many.
 fn read_started<F: Files>(alloc: Global, files: &mut F) -> Result<Fetched, Stop>
     ensures held { F.held files.new ≡ F.held files.old }
     ensures fetches { Fetches (option_map bytes_text (F.rest files.old)) (F.faults files.old) (F.faults files.new) result }
 {
-    match read_rest(alloc, files) {
+    match read_rest(alloc, files, MOST_BYTES + 1) {
         Ok(bytes) => Ok(limited(bytes)),
         Err(ReadError::Failed) => Err(Stop::ReadFault),
         Err(ReadError::NoMemory) => Err(Stop::NoMemory),

@@ -35,7 +35,7 @@ fn memory_fails_where_it_is_told_to(rt: HostRuntime) -> Result<(), Fail> {
     ] {
         let mut files = two_files(alloc, 2, &[failing])?;
         assert_eq!(rt; files.start(name), started, "{name} {failing}");
-        let bytes = read_rest(alloc, &mut files);
+        let bytes = read_rest(alloc, &mut files, 1_000);
         match read {
             Ok(text) => assert_eq!(rt; bytes?.as_slice(), text.as_bytes(), "{name} {failing}"),
             Err(error) => assert!(rt;
