@@ -53,11 +53,10 @@ pub fn run_edge<R: Rows, L: Ledger>(
     ensures locations { AllLimited R.location_limit (length flow.now.table.now.locations) rows.new }
     ensures elements { AllLimited R.element_limit (length flow.now.table.now.elements) rows.new }
 {
-    steps.tick();
     let spot = spot_in(flow.spots, edge.from);
     let log = &logs[row_index(edge.from)];
     let facts = given_by_new(
-        alloc, flow.f, flow.sigs, flow.types, flow.table, edge, spot, log, carried,
+        alloc, flow.f, flow.sigs, flow.types, flow.table, edge, spot, log, carried, steps,
     )?;
     let to = row_index(edge.to);
     add_facts(flow.table, &facts, &mut rows[to], &mut logs[to])?;

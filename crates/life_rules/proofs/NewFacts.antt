@@ -17,7 +17,7 @@ use Rattle.life_pset.specs.declared.element.Fact.{Fact}
 use Rattle.life_rules.specs.Along.{is_target_of, node_takes_first, spot_takes_first, takes_first}
 use Rattle.life_rules.specs.Carrying.{none_at, one_at, two_at, Gives}
 use Rattle.life_rules.specs.FactSets.{pair_facts}
-use Rattle.life_rules.specs.NewFacts.{facts_of, fresh_along, is_through, new_at, new_twos_at, node_takes_two, spot_takes_two, takes_two, twos_at}
+use Rattle.life_rules.specs.NewFacts.{facts_of, fresh_along, is_through, new_at, new_twos_at, node_takes_two, spot_takes_two, takes_two, twos_at, ComeOfNew}
 use Rattle.life_rules.proofs.Giving.{at_head, flat_map_both, flat_map_empty, flat_map_from, flat_map_into, gives_at, gives_back, in_tail, no_premise, none_in_empty, one_premise, two_none, two_premises, AllIn, GivesAt}
 
 -- ---- where nothing comes of two
@@ -165,3 +165,47 @@ fresh_into t sigs types f edge pairs (Some n) premises x held g =
       | inl new ↦ inl new
       | inr old ↦ inr (n, (refl, old))
     ]
+
+-- ---- each comes of a fact that wasn't carried
+
+module _ (sigs : List Signature) (types : Types) (f : Function) (edge : Edge) where
+  -- premises of which one is among these give the fact
+  abbrev GivenWith : List Fact → Fact → Type 0
+  GivenWith newer x = (premises : List Fact) × (Gives sigs types f edge premises x × ((y : Fact) × (Contains premises y × Contains newer y)))
+
+  twos_first : (firsts seconds newer : List Fact) (x : Fact) → AllIn firsts newer → Contains (twos_at sigs types f (spot_of f edge.from) firsts seconds) x → GivenWith newer x
+  twos_first firsts seconds newer x new h =
+      let spot = spot_of f edge.from in
+      let r = flat_map_from (λ a. flat_map (two_at sigs types f spot a) seconds) firsts x h in
+      let s = flat_map_from (two_at sigs types f spot r.0) seconds x r.1.1 in
+      (r.0 ∷ s.0 ∷ [], (gives_back sigs types f edge (r.0 ∷ s.0 ∷ []) x s.1.1, (r.0, (at_head r.0 (s.0 ∷ []), new r.0 r.1.0))))
+
+  twos_second : (firsts seconds newer : List Fact) (x : Fact) → AllIn seconds newer → Contains (twos_at sigs types f (spot_of f edge.from) firsts seconds) x → GivenWith newer x
+  twos_second firsts seconds newer x new h =
+      let spot = spot_of f edge.from in
+      let r = flat_map_from (λ a. flat_map (two_at sigs types f spot a) seconds) firsts x h in
+      let s = flat_map_from (two_at sigs types f spot r.0) seconds x r.1.1 in
+      (r.0 ∷ s.0 ∷ [], (gives_back sigs types f edge (r.0 ∷ s.0 ∷ []) x s.1.1, (s.0, (in_tail r.0 (s.0 ∷ []) s.0 (at_head s.0 []), new s.0 s.1.0))))
+
+  given_with : (older newer : List Fact) (x : Fact) → Contains (new_at sigs types f edge.branch (spot_of f edge.from) older newer) x → GivenWith newer x
+  given_with older newer x h =
+      let spot = spot_of f edge.from in
+      elim (Contains-append_cases (flat_map (one_at sigs types f edge.branch spot) newer) (new_twos_at sigs types f spot older newer) x h) [
+        | inl one ↦
+            let r = flat_map_from (one_at sigs types f edge.branch spot) newer x one in
+            (r.0 ∷ [], (gives_back sigs types f edge (r.0 ∷ []) x r.1.1, (r.0, (at_head r.0 [], r.1.0))))
+        | inr two ↦ elim (Contains-append_cases (twos_at sigs types f spot older newer) _ x two) [
+          | inl a ↦ twos_second older newer newer x (λ y k. k) a
+          | inr more ↦ elim (Contains-append_cases (twos_at sigs types f spot newer older) _ x more) [
+            | inl b ↦ twos_first newer older newer x (λ y k. k) b
+            | inr c ↦ twos_first newer newer newer x (λ y k. k) c
+          ]
+        ]
+      ]
+
+-- what an edge gives newly comes of something that it hasn't carried
+pub all_of_new : (t : Table) (sigs : List Signature) (types : Types) (f : Function) (edge : Edge) (pairs : List (ℕ × ℕ)) (carried : Option ℕ) (all : List Fact) → all ≡ fresh_along t sigs types f edge pairs carried
+    → ComeOfNew t sigs types f edge pairs carried all
+all_of_new t sigs types f edge pairs None all is x h = tt
+all_of_new t sigs types f edge pairs (Some n) all is x h =
+    given_with sigs types f edge (facts_of t (take n pairs)) (facts_of t (drop n pairs)) x (subst (λ (xs : List Fact). Contains xs x) is h)

@@ -11,7 +11,7 @@ use Rattle.life_core.specs.Tree.{Node, Action, Question, Return, Stop, Spot}
 use Rattle.life_core.specs.declared.stmt.Edge.{Edge}
 use Rattle.life_pset.specs.Table.{Table, Names, table_of}
 use Rattle.life_pset.specs.declared.element.Fact.{Fact}
-use Rattle.life_rules.specs.Carrying.{none_at, one_at, two_at}
+use Rattle.life_rules.specs.Carrying.{none_at, one_at, two_at, Gives}
 use Rattle.life_rules.specs.Deriving.{Carries}
 use Rattle.life_rules.specs.FactSets.{pair_facts}
 
@@ -66,3 +66,19 @@ abbrev pub CarriesFrom : List Signature → Types → Function → Edge → List
 CarriesFrom sigs types f edge facts l e =
     (x : Fact) × (Names (table_of types f) l e x
     × ((premises : List Fact) × (((y : Fact) → Contains premises y → Contains facts y) × Carries sigs types f edge premises x)))
+
+-- ---- nothing is carried again
+
+-- the facts of those pairs that the edge hasn't carried
+abbrev pub uncarried : Table → List (ℕ × ℕ) → ℕ → List Fact
+uncarried t pairs n = facts_of t (drop n pairs)
+
+-- the edge gives the fact from premises at least one of which it hasn't carried yet, or it wasn't run before
+abbrev pub ComesOfNew : Table → List Signature → Types → Function → Edge → List (ℕ × ℕ) → (carried : Option ℕ) → Fact → Type 0
+ComesOfNew t sigs types f edge pairs None x = Unit {0}
+ComesOfNew t sigs types f edge pairs (Some n) x =
+    (premises : List Fact) × (Gives sigs types f edge premises x × ((y : Fact) × (Contains premises y × Contains (uncarried t pairs n) y)))
+
+-- each of the facts
+abbrev pub ComeOfNew : Table → List Signature → Types → Function → Edge → List (ℕ × ℕ) → (carried : Option ℕ) → List Fact → Type 0
+ComeOfNew t sigs types f edge pairs carried all = (x : Fact) → Contains all x → ComesOfNew t sigs types f edge pairs carried x

@@ -1,25 +1,51 @@
 // What comes of facts of which some were seen before.
-ghost use Rattle.std.specs.Prelude.{◌≡◌, ◌++◌, ◌≤◌, length, option_map, IfOk, IfSome, OnOk};
+ghost use Rattle.std.specs.Prelude.{◌≡◌, ◌+◌, ◌++◌, ◌≤◌, length, option_map, IfOk, IfSome, OnOk};
 ghost use Rattle.life_core.specs.Function.{function_of};
 ghost use Rattle.life_core.specs.Linked.{spot_of};
 ghost use Rattle.life_core.specs.Node.{spot_seen};
 ghost use Rattle.life_core.specs.Operands.{operand_of};
 ghost use Rattle.life_core.specs.Step.{step_of};
-ghost use Rattle.life_rules.specs.NewFacts.{facts_of, fresh_along, is_through, new_at, new_twos_at, spot_takes_two, takes_two};
+ghost use Rattle.life_rules.specs.NewFacts.{facts_of, fresh_along, is_through, new_at, new_twos_at, spot_takes_two, takes_two, ComeOfNew};
 
 use crate::along::{push_none, push_ones, push_twos};
 use crate::row_facts::push_pairs;
+use life_base::Steps;
 use life_contract::Signatures;
 use life_core::{CoreFn, Edge, Instr, NodeRef, Operand, SpotRef};
 use life_pset::{ElementTable, Fact};
 use life_types::{NoMemory, TypeTable};
 use std::alloc::Global;
+use std::sync::ledger::Ledger;
 
 /// All that the edge gives from a list of pairs of which it has carried the first so many, where `spot`
 /// is what stands at its first point: what comes of premises at least one of which is new. Where it
 /// has carried none, not even those that need no premise, `carried` is None. Facts that aren't the
-/// function's may be among them.
-pub fn given_by_new(
+/// function's may be among them. It takes one step, whatever it answers.
+pub fn given_by_new<L: Ledger>(
+    alloc: Global,
+    f: &CoreFn,
+    sigs: &Signatures,
+    types: &TypeTable,
+    table: &ElementTable,
+    edge: Edge,
+    spot: Option<SpotRef>,
+    pairs: &[(u32, u32)],
+    carried: Option<usize>,
+    steps: &mut Steps<L>,
+) -> Result<Vec<Fact>, NoMemory>
+    requires spot { option_map spot_seen spot ≡ spot_of (function_of f.now) edge.from }
+    requires carried { IfSome carried (λ n. n ≤ length pairs.now) }
+    ensures gives { IfOk result (λ all. all.items ≡ fresh_along table.now sigs.now types.now (function_of f.now) edge pairs.now carried) }
+    ensures fresh { IfOk result (λ all. ComeOfNew table.now sigs.now types.now (function_of f.now) edge pairs.now carried all.items) }
+    ensures tick { steps.new ≡ steps.old + 1 }
+{
+    steps.tick();
+    let all = gathered_new(alloc, f, sigs, types, table, edge, spot, pairs, carried)?;
+    Ok(all)
+}
+
+// .. without a count.
+fn gathered_new(
     alloc: Global,
     f: &CoreFn,
     sigs: &Signatures,

@@ -40,7 +40,7 @@ returns-clause-runs g c =
     let in_rows : i < length rows = omega (arith, c.row_index-to.ensures, c.requires.join.3) in
     runs_at g.R.Rows.has c.args.flow.now.sigs.now c.args.flow.now.types.now (function_of c.args.flow.now.f.now) c.args.edge rows i (get_or rows i c.index-rows-to.result) c.add_facts.new.row
     c.args.flow.now.table.now (log_at logs c.args.edge.from.0) c.deref.result.now c.args.carried c.deref-2.result.now c.in_ok-facts.facts.items
-    (slice_get-get_or rows i _ in_rows) c.row_index-to.ensures c.requires.flow.table (c.deref.ensures.value ∙ sym is) c.in_ok-facts.ensures c.deref-2.ensures.value c.in_ok-add_facts.ensures.added
+    (slice_get-get_or rows i _ in_rows) c.row_index-to.ensures c.requires.flow.table (c.deref.ensures.value ∙ sym is) c.in_ok-facts.ensures.gives c.deref-2.ensures.value c.in_ok-add_facts.ensures.added
 
 pub returns-clause-logs : goal.returns-clause-logs
 returns-clause-logs g c =
