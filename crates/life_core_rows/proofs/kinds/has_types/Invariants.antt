@@ -1,6 +1,6 @@
 use Rattle.life_types.specs.Types.{HasTypes}
 use Rattle.std.proofs.Common.{◌↔◌, drop}
-use Rattle.life_fix_tests.proofs.solving.has_types.Given as goal
+use Rattle.life_core_rows.proofs.kinds.has_types.Given as goal
 
 -- what is left decides
 abbrev pub invariant-loop-id : goal.invariant-loop-id

@@ -1,0 +1,293 @@
+// A row as it is asked for, against what is derived.
+ghost use Rattle.std.specs.Prelude.{◌<◌, All, IsTrue};
+ghost use Rattle.life_core.specs.Function.{function_of};
+ghost use Rattle.life_pset.specs.Elements.{IsWithinLimits};
+ghost use Rattle.life_rules.specs.declared.diag.Diag.{Diag};
+
+use crate::asked::{Ask, Asked, PROGRAM, compare, count_of, say};
+use crate::derive::{Found, Given, MOST_POINTS, found_by_bits, found_by_sets};
+use crate::joins::joined_line;
+use crate::refusal::Refusal;
+use crate::row::Row;
+use crate::show::{
+    carried_line, diagnostic_line, edge_line, element_line, place_line, point_line, stretch_line,
+    stretches,
+};
+use crate::words::index;
+use life_contract::Signatures;
+use life_core::{CoreFn, CoreProgram, FnId, Point, edges, links, points};
+use life_proper::{is_plain_program, is_proper};
+use life_pset::{elements, is_within_limits, locations};
+use life_report::text_report;
+use life_rules::Diag;
+use life_types::NoMemory;
+use std::alloc::Global;
+
+/// How much was derived.
+#[derive(Clone, Copy)]
+pub struct Counts {
+    pub points: u32,
+    pub facts: usize,
+    pub diagnostics: usize,
+}
+
+/// Adds to what is said what differs in a row, and tells how much was derived.
+pub fn check(alloc: Global, row: &Row, said: &mut Vec<u8>) -> Result<Counts, Refusal> {
+    let sigs = Signatures::of(alloc, &row.program)?;
+    let mut counts = Counts {
+        points: 0,
+        facts: 0,
+        diagnostics: 0,
+    };
+    let mut all = Vec::new(alloc);
+    for (count, (f, named)) in row.program.functions.iter().zip(&row.named).enumerate() {
+        let number = index(count)?;
+        let given = Given {
+            alloc,
+            f,
+            id: FnId(number),
+            sigs: &sigs,
+            types: &row.program.types,
+            names: &row.program.names,
+        };
+        let more = check_function(given, named, &row.asked, said, &mut all)?;
+        counts.points = counts.points.saturating_add(more.points);
+        counts.facts = counts.facts.saturating_add(more.facts);
+    }
+    counts.diagnostics = all.len();
+    compare_program(alloc, row, &all, said)?;
+    Ok(counts)
+}
+
+// ---- the whole program
+
+fn compare_program(
+    alloc: Global,
+    row: &Row,
+    all: &[Diag],
+    said: &mut Vec<u8>,
+) -> Result<(), Refusal> {
+    if count_of(&row.asked, PROGRAM, Ask::Report) > 0 {
+        let text = report(alloc, &row.program, all)?;
+        compare(
+            &row.asked,
+            PROGRAM,
+            Ask::Report,
+            &lines_of(alloc, &text)?,
+            said,
+        )?;
+    }
+    if count_of(&row.asked, PROGRAM, Ask::Proper) > 0 {
+        let proper = is_proper(alloc, &row.program)?;
+        compare_answer(alloc, row, Ask::Proper, proper, said)?;
+    }
+    if count_of(&row.asked, PROGRAM, Ask::Plain) > 0 {
+        compare_answer(alloc, row, Ask::Plain, is_plain_program(&row.program), said)?;
+    }
+    compare_joined(alloc, &row.asked, said)
+}
+
+fn compare_joined(alloc: Global, asked: &[Asked], said: &mut Vec<u8>) -> Result<(), Refusal> {
+    let mut lines = Vec::new(alloc);
+    for one in asked {
+        if one.ask == Ask::Join {
+            lines.push(joined_line(alloc, &one.text)?)?;
+        }
+    }
+    compare(asked, PROGRAM, Ask::Join, &lines, said)
+}
+
+fn compare_answer(
+    alloc: Global,
+    row: &Row,
+    ask: Ask,
+    answer: bool,
+    said: &mut Vec<u8>,
+) -> Result<(), Refusal> {
+    let mut lines = Vec::new(alloc);
+    let text = if answer { "yes" } else { "no" };
+    lines.push(text.as_bytes().to_vec(alloc)?)?;
+    compare(&row.asked, PROGRAM, ask, &lines, said)
+}
+
+fn report(alloc: Global, program: &CoreProgram, all: &[Diag]) -> Result<Vec<u8>, Refusal> {
+    if are_of(all, program.functions.len()) {
+        Ok(text_report(alloc, program, all)?)
+    } else {
+        Err(Refusal::PastLimit)
+    }
+}
+
+// Whether each diagnostic is of one of so many functions.
+fn are_of(all: &[Diag], functions: usize) -> bool
+    ensures { IsTrue result → All (λ (d : Diag). d.function < functions) all.now }
+{
+    for diagnostic in all {
+        if diagnostic.function as usize >= functions {
+            return false;
+        }
+    }
+    true
+}
+
+// The lines of a text, without their ends.
+fn lines_of(alloc: Global, text: &[u8]) -> Result<Vec<Vec<u8>>, NoMemory> {
+    let mut lines = Vec::new(alloc);
+    let mut line = Vec::new(alloc);
+    for byte in text {
+        if *byte == b'\n' {
+            lines.push(std::mem::replace(&mut line, Vec::new(alloc)))?;
+        } else {
+            line.push(*byte)?;
+        }
+    }
+    Ok(lines)
+}
+
+// ---- one function
+
+fn check_function(
+    given: Given,
+    named: &CoreFn,
+    asked: &[Asked],
+    said: &mut Vec<u8>,
+    all: &mut Vec<Diag>,
+) -> Result<Counts, Refusal> {
+    if !is_within_limits(given.alloc, given.f, given.types)? {
+        return Err(Refusal::PastLimit);
+    }
+    let found = found_by_sets(given)?;
+    let again = found_by_bits(given)?;
+    if found != again {
+        say(said, "  rows of bits have something else", b"")?;
+    }
+    if !found.gains {
+        say(said, "  an edge said wrongly what was gained", b"")?;
+    }
+    compare_facts(given, named, &found, asked, said)?;
+    compare_diagnostics(given, named, &found, asked, said)?;
+    compare_carried(given, named, &found, asked, said)?;
+    compare_edges(given, asked, said)?;
+    compare_points(given, asked, said)?;
+    compare_table(given, asked, said)?;
+    all.extend_from_slice(&found.diagnostics)?;
+    Ok(Counts {
+        points: points(given.f),
+        facts: found.facts.len(),
+        diagnostics: found.diagnostics.len(),
+    })
+}
+
+// Whether something of the kind is asked for.
+fn asks(given: Given, asked: &[Asked], ask: Ask) -> bool {
+    count_of(asked, given.id.0, ask) > 0
+}
+
+fn compare_facts(
+    given: Given,
+    named: &CoreFn,
+    found: &Found,
+    asked: &[Asked],
+    said: &mut Vec<u8>,
+) -> Result<(), Refusal> {
+    if !asks(given, asked, Ask::Fact) && !asks(given, asked, Ask::NoFacts) {
+        return Ok(());
+    }
+    let mut lines = Vec::new(given.alloc);
+    for stretch in &stretches(given.alloc, &found.facts)? {
+        lines.push(stretch_line(given, named, *stretch)?)?;
+    }
+    compare(asked, given.id.0, Ask::Fact, &lines, said)
+}
+
+fn compare_diagnostics(
+    given: Given,
+    named: &CoreFn,
+    found: &Found,
+    asked: &[Asked],
+    said: &mut Vec<u8>,
+) -> Result<(), Refusal> {
+    let mut lines = Vec::new(given.alloc);
+    for diagnostic in &found.diagnostics {
+        lines.push(diagnostic_line(given, named, diagnostic)?)?;
+    }
+    compare(asked, given.id.0, Ask::Wrong, &lines, said)
+}
+
+fn compare_carried(
+    given: Given,
+    named: &CoreFn,
+    found: &Found,
+    asked: &[Asked],
+    said: &mut Vec<u8>,
+) -> Result<(), Refusal> {
+    if !asks(given, asked, Ask::Carry) {
+        return Ok(());
+    }
+    let mut lines = Vec::new(given.alloc);
+    for carried in &found.carried {
+        lines.push(carried_line(given, named, *carried)?)?;
+    }
+    compare(asked, given.id.0, Ask::Carry, &lines, said)
+}
+
+fn compare_edges(given: Given, asked: &[Asked], said: &mut Vec<u8>) -> Result<(), Refusal>
+    requires { IsWithinLimits given.types.now (function_of given.f.now) }
+{
+    if !asks(given, asked, Ask::Edge) {
+        return Ok(());
+    }
+    let mut lines = Vec::new(given.alloc);
+    for edge in &edges(given.alloc, given.f)? {
+        lines.push(edge_line(given.alloc, *edge)?)?;
+    }
+    compare(asked, given.id.0, Ask::Edge, &lines, said)
+}
+
+fn compare_points(given: Given, asked: &[Asked], said: &mut Vec<u8>) -> Result<(), Refusal>
+    requires { IsWithinLimits given.types.now (function_of given.f.now) }
+{
+    if !asks(given, asked, Ask::Point) {
+        return Ok(());
+    }
+    let mut lines = Vec::new(given.alloc);
+    let links = links(given.alloc, given.f)?;
+    for (link, number) in links.iter().zip(1..=MOST_POINTS) {
+        lines.push(point_line(given, Point(number), link)?)?;
+    }
+    compare(asked, given.id.0, Ask::Point, &lines, said)
+}
+
+fn compare_table(given: Given, asked: &[Asked], said: &mut Vec<u8>) -> Result<(), Refusal>
+    requires { IsWithinLimits given.types.now (function_of given.f.now) }
+{
+    if asks(given, asked, Ask::Location) {
+        compare_locations(given, asked, said)?;
+    }
+    if asks(given, asked, Ask::Element) {
+        compare_elements(given, asked, said)?;
+    }
+    Ok(())
+}
+
+// The locations, as reports print them.
+fn compare_locations(given: Given, asked: &[Asked], said: &mut Vec<u8>) -> Result<(), Refusal>
+    requires { IsWithinLimits given.types.now (function_of given.f.now) }
+{
+    let mut lines = Vec::new(given.alloc);
+    for location in &locations(given.alloc, given.f, given.types)? {
+        lines.push(place_line(given, given.f, *location)?)?;
+    }
+    compare(asked, given.id.0, Ask::Location, &lines, said)
+}
+
+// The elements, as reports print them.
+fn compare_elements(given: Given, asked: &[Asked], said: &mut Vec<u8>) -> Result<(), Refusal>
+    requires { IsWithinLimits given.types.now (function_of given.f.now) }
+{
+    let mut lines = Vec::new(given.alloc);
+    for element in &elements(given.alloc, given.f, given.types)? {
+        lines.push(element_line(given, given.f, *element)?)?;
+    }
+    compare(asked, given.id.0, Ask::Element, &lines, said)
+}
