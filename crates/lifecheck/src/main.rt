@@ -19,20 +19,3 @@ fn main(rt: HostRuntime) -> ExitCode {
 fn words_of(rt: &HostRuntime) -> io::Result<Vec<String>> {
     Ok(env::args(rt)?.collect(rt.alloc())?)
 }
-
-#[cfg(test)]
-mod asked;
-#[cfg(test)]
-mod check_tests;
-#[cfg(test)]
-mod elaborate_tests;
-#[cfg(test)]
-mod ill_tests;
-#[cfg(test)]
-mod input_tests;
-#[cfg(test)]
-mod program_tests;
-#[cfg(test)]
-mod refusal_tests;
-#[cfg(test)]
-mod tests;
