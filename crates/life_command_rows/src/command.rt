@@ -3,13 +3,13 @@ ghost use Rattle.std.specs.Prelude.{◌≤◌};
 
 use life_base::{MemFiles, MemSink};
 use life_cli::run_command;
-use life_rows::{Form, Judge, Key, Row, RowFault, compare};
+use life_rows::{Form, Judge, Key, Row, RowFault, compare, compare_part};
 use std::alloc::{AllocError, Global};
 
 // A read gives, and a write takes, at most so many bytes where a row doesn't say how many.
 const MOST: usize = 4_096;
 
-// What a command writes to out or to err is shorter.
+// What a command writes is shorter, where a row doesn't say how much fits.
 const ROOM: usize = 65_536;
 
 /// Rows of whole commands.
@@ -21,6 +21,7 @@ impl Judge for Commands {
         ("reads", Form::Value),
         ("writes to out", Form::Value),
         ("writes to err", Form::Value),
+        ("room on out", Form::Value),
         ("words", Form::WantedValue),
         ("status", Form::WantedValue),
         ("out", Form::Text),
@@ -28,28 +29,18 @@ impl Judge for Commands {
     ];
 
     fn differences(alloc: Global, row: &Row) -> Result<String, RowFault> {
-        let mut told = String::new(alloc);
         let answer = answer(alloc, row)?;
-        compare(
-            &mut told,
-            "status",
-            answer.status.as_bytes(),
-            row.value("status").as_bytes(),
-        )?;
-        compare(
-            &mut told,
-            "out",
-            answer.out.held(),
-            &row.text(alloc, "out")?,
-        )?;
-        compare(
-            &mut told,
-            "err",
-            answer.err.held(),
-            &row.text(alloc, "err")?,
-        )?;
+        let mut told = String::new(alloc);
+        compare_all(&mut told, row, &answer)?;
         Ok(told)
     }
+}
+
+fn compare_all(told: &mut String, row: &Row, answer: &Answer) -> Result<(), RowFault> {
+    let wanted = row.value("status");
+    compare(told, "status", answer.status.as_bytes(), wanted.as_bytes())?;
+    compare_part(told, row, "out", answer.out.held())?;
+    compare_part(told, row, "err", answer.err.held())
 }
 
 // What a command comes to.
@@ -62,8 +53,9 @@ struct Answer {
 
 fn answer(alloc: Global, row: &Row) -> Result<Answer, RowFault> {
     let mut files = files(alloc, row)?;
-    let mut out = sink(alloc, row, "writes to out")?;
-    let mut err = sink(alloc, row, "writes to err")?;
+    let room = room(&row.numbers(alloc, "room on out")?);
+    let mut out = sink(alloc, row, "writes to out", room)?;
+    let mut err = sink(alloc, row, "writes to err", ROOM)?;
     let words = words(alloc, row.value("words"))?;
     let status = run_command(alloc, &words, &mut files, &mut out, &mut err);
     let code = status.code();
@@ -89,12 +81,20 @@ fn files(alloc: Global, row: &Row) -> Result<MemFiles, RowFault> {
     Ok(MemFiles::new(files, most, failing.to_vec(alloc)?))
 }
 
-fn sink(alloc: Global, row: &Row, key: &str) -> Result<MemSink, RowFault> {
+// How many bytes a sink has room for.
+fn room(numbers: &[u64]) -> usize {
+    match numbers {
+        [] => ROOM,
+        [room, ..] => *room as usize,
+    }
+}
+
+fn sink(alloc: Global, row: &Row, key: &str, room: usize) -> Result<MemSink, RowFault> {
     let numbers = row.numbers(alloc, key)?;
     let (most, failing) = calls(&numbers);
-    match MemSink::new(alloc, ROOM, most, failing.to_vec(alloc)?) {
+    match MemSink::new(alloc, room, most, failing.to_vec(alloc)?) {
         Ok(sink) => Ok(sink),
-        Err(_) => Err(RowFault::NoMemory),
+        Err(_) => Err(RowFault::from(AllocError)),
     }
 }
 

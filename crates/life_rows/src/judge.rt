@@ -13,6 +13,14 @@ pub trait Judge {
     fn differences(alloc: Global, row: &Row) -> Result<String, RowFault>;
 }
 
+/// Adds the lines that tell what was got in place of the text under the key of this word, where these
+/// differ.
+pub fn compare_part(told: &mut String, row: &Row, word: &str, got: &[u8]) -> Result<(), RowFault> {
+    let wanted = row.text(*told.allocator(), word)?;
+    compare(told, word, got, &wanted)?;
+    Ok(())
+}
+
 /// Adds the lines that tell what was got in place of what was wanted, where these differ.
 pub fn compare(told: &mut String, what: &str, got: &[u8], wanted: &[u8]) -> Result<(), AllocError> {
     if got == wanted {

@@ -20,5 +20,5 @@ mod piece;
 mod row;
 
 pub use fault::{RowFault, Wrong};
-pub use judge::{Judge, compare, judge_rows};
+pub use judge::{Judge, compare, compare_part, judge_rows};
 pub use row::{Form, Key, Row, Value};

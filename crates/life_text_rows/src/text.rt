@@ -4,7 +4,7 @@ ghost use Rattle.std.specs.Prelude.{◌<◌, ◌^◌, length};
 use crate::keys::keys;
 use crate::tokens::{bytes, tokens};
 use crate::tree::{core, tree, types};
-use life_rows::{Form, Judge, Key, Row, RowFault, compare};
+use life_rows::{Form, Judge, Key, Row, RowFault, compare_part};
 use std::alloc::{AllocError, Global};
 
 // Texts are shorter.
@@ -28,7 +28,7 @@ impl Judge for Texts {
         let source = row.text(alloc, "text")?;
         let mut told = String::new(alloc);
         if source.len() < MOST {
-            compare_all(alloc, &mut told, row, &source)?;
+            compare_all(&mut told, row, &source)?;
         } else {
             told.push_str("  a text that is too long\n")?;
         }
@@ -37,39 +37,37 @@ impl Judge for Texts {
 }
 
 // Compares whatever the row wants.
-fn compare_all(alloc: Global, told: &mut String, row: &Row, source: &[u8]) -> Result<(), RowFault>
+fn compare_all(told: &mut String, row: &Row, source: &[u8]) -> Result<(), RowFault>
     requires { length source.now < 2 ^ 28 }
 {
-    if row.find("tokens").is_some() {
-        compare_one(alloc, told, row, "tokens", tokens(alloc, source))?;
-    }
-    if row.find("bytes").is_some() {
-        compare_one(alloc, told, row, "bytes", bytes(alloc))?;
-    }
-    if row.find("keys").is_some() {
-        compare_one(alloc, told, row, "keys", keys(alloc, source))?;
-    }
-    if row.find("tree").is_some() {
-        compare_one(alloc, told, row, "tree", tree(alloc, source))?;
-    }
-    if row.find("types").is_some() {
-        compare_one(alloc, told, row, "types", types(alloc, source))?;
-    }
-    if row.find("core").is_some() {
-        compare_one(alloc, told, row, "core", core(alloc, source))?;
+    for (word, _) in Texts::KEYS {
+        if row.find(word).is_some() {
+            compare_one(told, row, word, source)?;
+        }
     }
     Ok(())
 }
 
-fn compare_one(
-    alloc: Global,
-    told: &mut String,
-    row: &Row,
-    key: &str,
-    got: Result<String, AllocError>,
-) -> Result<(), RowFault> {
-    let got = got?;
-    let wanted = row.text(alloc, key)?;
-    compare(told, key, got.as_bytes(), &wanted)?;
-    Ok(())
+fn compare_one(told: &mut String, row: &Row, word: &str, source: &[u8]) -> Result<(), RowFault>
+    requires { length source.now < 2 ^ 28 }
+{
+    match told_of(*told.allocator(), word, source)? {
+        Some(got) => compare_part(told, row, word, got.as_bytes()),
+        None => Ok(()),
+    }
+}
+
+// What is told of the text under the key of this word.
+fn told_of(alloc: Global, word: &str, source: &[u8]) -> Result<Option<String>, AllocError>
+    requires { length source.now < 2 ^ 28 }
+{
+    match word {
+        "tokens" => Ok(Some(tokens(alloc, source)?)),
+        "bytes" => Ok(Some(bytes(alloc)?)),
+        "keys" => Ok(Some(keys(alloc, source)?)),
+        "tree" => Ok(Some(tree(alloc, source)?)),
+        "types" => Ok(Some(types(alloc, source)?)),
+        "core" => Ok(Some(core(alloc, source)?)),
+        _ => Ok(None),
+    }
 }
