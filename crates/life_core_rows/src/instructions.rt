@@ -107,9 +107,9 @@ pub fn instruction(s: Scope) -> Result<Instr, Refusal> {
 }
 
 fn kind_of(s: Scope) -> Result<Kind, Refusal> {
-    for (form, kind) in FORMS {
-        if fits(form, s.words) {
-            return Ok(kind);
+    for form in &FORMS {
+        if fits(form.0, s.words) {
+            return Ok(form.1);
         }
     }
     Err(Refusal::NoForm)
@@ -210,9 +210,9 @@ const OPERATORS: [(&str, Operator); 11] = [
 ];
 
 fn operator(word: &str) -> Result<Operator, Refusal> {
-    for (text, operator) in OPERATORS {
-        if text == word {
-            return Ok(operator);
+    for operator in &OPERATORS {
+        if operator.0 == word {
+            return Ok(operator.1);
         }
     }
     Err(Refusal::NoForm)

@@ -81,9 +81,9 @@ const FORMS: [(&str, Kind); 25] = [
 ];
 
 fn kind_of(words: &[&str]) -> Option<Kind> {
-    for (form, kind) in FORMS {
-        if fits(form, words) {
-            return Some(kind);
+    for form in &FORMS {
+        if fits(form.0, words) {
+            return Some(form.1);
         }
     }
     None
