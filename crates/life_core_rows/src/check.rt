@@ -69,13 +69,8 @@ fn compare_program(
 ) -> Result<(), Refusal> {
     if count_of(&row.asked, PROGRAM, Ask::Report) > 0 {
         let text = report(alloc, &row.program, all)?;
-        compare(
-            &row.asked,
-            PROGRAM,
-            Ask::Report,
-            &lines_of(alloc, &text)?,
-            said,
-        )?;
+        let lines = lines_of(alloc, &text)?;
+        compare(&row.asked, PROGRAM, Ask::Report, &lines, said)?;
     }
     if count_of(&row.asked, PROGRAM, Ask::Proper) > 0 {
         let proper = is_proper(alloc, &row.program)?;
@@ -106,7 +101,8 @@ fn compare_answer(
 ) -> Result<(), Refusal> {
     let mut lines = Vec::new(alloc);
     let text = if answer { "yes" } else { "no" };
-    lines.push(text.as_bytes().to_vec(alloc)?)?;
+    let line = text.as_bytes().to_vec(alloc)?;
+    lines.push(line)?;
     compare(&row.asked, PROGRAM, ask, &lines, said)
 }
 
@@ -136,7 +132,8 @@ fn lines_of(alloc: Global, text: &[u8]) -> Result<Vec<Vec<u8>>, NoMemory> {
     let mut line = Vec::new(alloc);
     for byte in text {
         if *byte == b'\n' {
-            lines.push(std::mem::replace(&mut line, Vec::new(alloc)))?;
+            let whole = std::mem::replace(&mut line, Vec::new(alloc));
+            lines.push(whole)?;
         } else {
             line.push(*byte)?;
         }
@@ -194,7 +191,8 @@ fn compare_facts(
         return Ok(());
     }
     let mut lines = Vec::new(given.alloc);
-    for stretch in &stretches(given.alloc, &found.facts)? {
+    let stretches = stretches(given.alloc, &found.facts)?;
+    for stretch in &stretches {
         lines.push(stretch_line(given, named, *stretch)?)?;
     }
     compare(asked, given.id.0, Ask::Fact, &lines, said)
@@ -238,7 +236,8 @@ fn compare_edges(given: Given, asked: &[Asked], said: &mut Vec<u8>) -> Result<()
         return Ok(());
     }
     let mut lines = Vec::new(given.alloc);
-    for edge in &edges(given.alloc, given.f)? {
+    let edges = edges(given.alloc, given.f)?;
+    for edge in &edges {
         lines.push(edge_line(given.alloc, *edge)?)?;
     }
     compare(asked, given.id.0, Ask::Edge, &lines, said)
@@ -275,7 +274,8 @@ fn compare_locations(given: Given, asked: &[Asked], said: &mut Vec<u8>) -> Resul
     requires { IsWithinLimits given.types.now (function_of given.f.now) }
 {
     let mut lines = Vec::new(given.alloc);
-    for location in &locations(given.alloc, given.f, given.types)? {
+    let locations = locations(given.alloc, given.f, given.types)?;
+    for location in &locations {
         lines.push(place_line(given, given.f, *location)?)?;
     }
     compare(asked, given.id.0, Ask::Location, &lines, said)
@@ -286,7 +286,8 @@ fn compare_elements(given: Given, asked: &[Asked], said: &mut Vec<u8>) -> Result
     requires { IsWithinLimits given.types.now (function_of given.f.now) }
 {
     let mut lines = Vec::new(given.alloc);
-    for element in &elements(given.alloc, given.f, given.types)? {
+    let elements = elements(given.alloc, given.f, given.types)?;
+    for element in &elements {
         lines.push(element_line(given, given.f, *element)?)?;
     }
     compare(asked, given.id.0, Ask::Element, &lines, said)

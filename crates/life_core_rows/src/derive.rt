@@ -96,7 +96,6 @@ fn facts_of<R: Rows>(alloc: Global, sol: &Solution<R>) -> Result<Vec<(Fact, u32)
     for point in 1..=MOST_POINTS {
         push_facts(alloc, sol, point, &mut all)?;
     }
-    all.sort()?;
     Ok(all)
 }
 

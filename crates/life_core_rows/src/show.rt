@@ -19,7 +19,7 @@ pub struct Stretch {
     to: u32,
 }
 
-/// The longest stretches of points of facts, which stand in their order.
+/// The longest stretches of points of facts, which stand in the order of their points.
 pub fn stretches(alloc: Global, facts: &[(Fact, u32)]) -> Result<Vec<Stretch>, NoMemory> {
     let mut all = Vec::new(alloc);
     for (fact, point) in facts {
@@ -29,18 +29,29 @@ pub fn stretches(alloc: Global, facts: &[(Fact, u32)]) -> Result<Vec<Stretch>, N
 }
 
 fn push_point(all: &mut Vec<Stretch>, fact: Fact, point: u32) -> Result<(), NoMemory> {
-    if let Some(last) = all.last_mut() {
-        if last.fact == fact && last.to.checked_add(1) == Some(point) {
-            last.to = point;
-            return Ok(());
+    match reaching(all, fact, point) {
+        None => all.push(Stretch {
+            fact,
+            from: point,
+            to: point,
+        })?,
+        Some(index) => {
+            if let Some(stretch) = all.get_mut(index) {
+                stretch.to = point;
+            }
         }
     }
-    all.push(Stretch {
-        fact,
-        from: point,
-        to: point,
-    })?;
     Ok(())
+}
+
+// The stretch of the fact that ends right before the point.
+fn reaching(all: &[Stretch], fact: Fact, point: u32) -> Option<usize> {
+    for (index, stretch) in all.iter().enumerate() {
+        if stretch.fact == fact && stretch.to.checked_add(1) == Some(point) {
+            return Some(index);
+        }
+    }
+    None
 }
 
 fn push_text(out: &mut Vec<u8>, text: &str) -> Result<(), NoMemory> {
@@ -50,11 +61,12 @@ fn push_text(out: &mut Vec<u8>, text: &str) -> Result<(), NoMemory> {
 
 // A point, or the first and the last of a stretch.
 fn push_span(alloc: Global, out: &mut Vec<u8>, from: u32, to: u32) -> Result<(), NoMemory> {
-    if from == to {
-        push_text(out, &format!(in alloc; "{from} ")?)
+    let text = if from == to {
+        format!(in alloc; "{from} ")?
     } else {
-        push_text(out, &format!(in alloc; "{from}-{to} ")?)
-    }
+        format!(in alloc; "{from}-{to} ")?
+    };
+    push_text(out, &text)
 }
 
 // ---- facts
@@ -71,15 +83,18 @@ pub fn stretch_line(g: Given, named: &CoreFn, stretch: Stretch) -> Result<Vec<u8
 pub fn carried_line(g: Given, named: &CoreFn, carried: Carried) -> Result<Vec<u8>, NoMemory> {
     let mut out = Vec::new(g.alloc);
     let Carried { from, to, fact } = carried;
-    push_text(&mut out, &format!(in g.alloc; "{from}-{to} ")?)?;
+    let head = format!(in g.alloc; "{from}-{to} ")?;
+    push_text(&mut out, &head)?;
     push_fact(g, named, fact, &mut out)?;
     Ok(out)
 }
 
 fn push_fact(g: Given, named: &CoreFn, fact: Fact, out: &mut Vec<u8>) -> Result<(), NoMemory> {
-    out.extend_from_slice(&place_line(g, named, fact.location)?)?;
+    let place = place_line(g, named, fact.location)?;
+    let element = element_line(g, named, fact.element)?;
+    out.extend_from_slice(&place)?;
     push_text(out, ": ")?;
-    out.extend_from_slice(&element_line(g, named, fact.element)?)?;
+    out.extend_from_slice(&element)?;
     Ok(())
 }
 
@@ -100,7 +115,8 @@ pub fn element_line(g: Given, named: &CoreFn, element: Element) -> Result<Vec<u8
 fn push_ended(g: Given, named: &CoreFn, cause: Cause, out: &mut Vec<u8>) -> Result<(), NoMemory> {
     if cause.kind == CauseKind::TemporaryEnded {
         push_text(out, " (")?;
-        out.extend_from_slice(&place_line(g, named, AbsPlace::of_local(cause.root))?)?;
+        let which = place_line(g, named, AbsPlace::of_local(cause.root))?;
+        out.extend_from_slice(&which)?;
         push_text(out, ")")?;
     }
     Ok(())
@@ -115,7 +131,8 @@ pub fn diagnostic_line(g: Given, named: &CoreFn, d: &Diag) -> Result<Vec<u8>, No
     let line = d.place.line;
     let column = d.place.column;
     let kind = kind_name(d.kind);
-    push_text(&mut out, &format!(in g.alloc; "{line}:{column}: {kind}: ")?)?;
+    let head = format!(in g.alloc; "{line}:{column}: {kind}: ")?;
+    push_text(&mut out, &head)?;
     let text = texts_of(g.alloc, g.names, named, g.sigs, g.types, d)?;
     out.extend_from_slice(&text.name)?;
     push_text(&mut out, ": ")?;
@@ -138,7 +155,8 @@ pub fn edge_line(alloc: Global, edge: Edge) -> Result<Vec<u8>, NoMemory> {
         Some(true) => " held",
         Some(false) => " failed",
     };
-    push_text(&mut out, &format!(in alloc; "{from}-{to}{branch}")?)?;
+    let text = format!(in alloc; "{from}-{to}{branch}")?;
+    push_text(&mut out, &text)?;
     Ok(out)
 }
 
@@ -149,11 +167,13 @@ pub fn point_line(g: Given, point: Point, link: &LinkRef) -> Result<Vec<u8>, NoM
 {
     let mut out = Vec::new(g.alloc);
     let number = point.0;
-    push_text(&mut out, &format!(in g.alloc; "{number} ")?)?;
+    let head = format!(in g.alloc; "{number} ")?;
+    push_text(&mut out, &head)?;
     if let Some(place) = place_at(g.f, point) {
         let line = place.line;
         let column = place.column;
-        push_text(&mut out, &format!(in g.alloc; "{line}:{column} ")?)?;
+        let text = format!(in g.alloc; "{line}:{column} ")?;
+        push_text(&mut out, &text)?;
     }
     push_text(&mut out, what_stands(g.f, point))?;
     push_leads(g.alloc, &mut out, link.leads)?;
@@ -186,8 +206,9 @@ fn push_leads(alloc: Global, out: &mut Vec<u8>, leads: Leads) -> Result<(), NoMe
 }
 
 fn push_way(alloc: Global, out: &mut Vec<u8>, how: &str, to: Option<u32>) -> Result<(), NoMemory> {
-    match to {
-        None => push_text(out, &format!(in alloc; "{how} out")?),
-        Some(to) => push_text(out, &format!(in alloc; "{how} {to}")?),
-    }
+    let text = match to {
+        None => format!(in alloc; "{how} out")?,
+        Some(to) => format!(in alloc; "{how} {to}")?,
+    };
+    push_text(out, &text)
 }
