@@ -1,3 +1,4 @@
 pub mod Checking
+pub mod ListedPrograms
 pub mod OneFinding
 pub mod PassedLimits

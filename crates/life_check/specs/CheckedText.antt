@@ -73,3 +73,11 @@ pub record ComesTo (bytes : List ℕ) (finding : Finding) : Type 0 where
 pub record ComesOnlyTo (bytes : List ℕ) (finding : Finding) : Type 0 where
   pub is : ComesTo bytes finding
   pub only : (other : Finding) → ComesTo bytes other → other ≡ finding
+
+-- the core program of the typed program of the only tree of these bytes
+pub record IsProgramOf (bytes : List ℕ) (p : Program) : Type 0 where
+  pub tree : Parsed
+  pub typed : ProgramForm
+  pub parsed : Parses bytes (Ok tree)
+  pub has_types : resolved tree ≡ Ok typed
+  pub is : p ≡ core_program typed

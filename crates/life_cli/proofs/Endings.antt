@@ -1,14 +1,15 @@
 -- How the work and the text on err come to an ending.
-use Rattle.std.proofs.Common.{◌≡◌, ℕ, Option, IfOk, Result, Ok, Err, sym, ◌∙◌, subst, inl, inr}
+use Rattle.std.proofs.Common.{◌≡◌, ℕ, Option, None, Some, IfOk, Result, Ok, Err, sym, ◌∙◌, subst, inl, inr}
 use Rattle.std.proofs.lemmas.Option.{IfSome_then}
 use Rattle.std.specs.Io.KnownBytes.{Appends}
 use Rattle.life_base.specs.Causes.{Rose}
-use Rattle.life_base.specs.Edges.{AppendsFront}
+use Rattle.life_base.specs.Edges.{AppendsFront, Directory}
 use Rattle.life_cli.proofs.Fronts.{known_of, whole_front}
 use Rattle.life_cli.proofs.Questions.{answer_then}
 use Rattle.life_cli.specs.Ends.{Closes, Ends, EndsWell, GainsFront, GainsSomeText, Gives, IsReady, Port, Works, status_of, text_of}
-use Rattle.life_cli.specs.Question.{Question}
+use Rattle.life_cli.specs.Question.{Asks, NoJob, OfFile, Question}
 use Rattle.life_cli.specs.Status.{IsSettled}
+use Rattle.life_cli.specs.Words.{Job}
 use Rattle.life_cli.specs.declared.status.Status.{Status}
 use Rattle.life_cli.specs.declared.status.Status.TheVariants.{NoMemory, ReadFault, WriteFault}
 use Rattle.life_cli.specs.declared.stop.Stop.{Stop}
@@ -30,7 +31,7 @@ module _ (asked : Option Question) (reads reads' : ℕ) (out out' err err' : Por
   cut_off rose front text = record { front = front; text = inr (rose, text) }
 
   -- how the work went and how err was closed say how the command ended
-  pub ends : (ended : Result Ending Stop) (status : Status) → Works asked reads reads' out out' ended
+  ends : (ended : Result Ending Stop) (status : Status) → Works asked reads reads' out out' ended
       → Closes err err' (text_of ended) (status_of ended) status → Ends asked reads reads' out out' err err' status
   ends (Ok ending) status work close = elim close.ends [
     | inl e ↦ ends_as status ending.status e.0 (settled_ends ending.status work.settled (record {
@@ -55,6 +56,18 @@ module _ (asked : Option Question) (reads reads' : ℕ) (out out' err err' : Por
     | inl e ↦ ends_as status WriteFault e.0 (record { front = work.front; text = inl (work.read_faults, work.out_faults, e.1, e.2) })
     | inr e ↦ ends_as status WriteFault e.0 (cut_off e.1 work.front (record { gained = inr (inr (inr (e.2, work.read_faults, work.out_faults))) }))
   ]
+
+-- .. on whatever is asked
+pub all_ends : (words : Option Job) (told : Option Directory) (reads reads' : ℕ) (out out' err err' : Port) (ended : Result Ending Stop) (status : Status) → Asks words told (λ asked. Works asked reads reads' out out' ended)
+    → Closes err err' (text_of ended) (status_of ended) status → Asks words told (λ asked. Ends asked reads reads' out out' err err' status)
+all_ends None told reads reads' out out' err err' ended status work close = ends (Some NoJob) reads reads' out out' err err' ended status work close
+all_ends (Some job) told reads reads' out out' err err' ended status work close = record {
+  directory = work.directory;
+  text = work.text;
+  agrees = work.agrees;
+  read = work.read;
+  is = ends (Some (OfFile job work.directory work.text)) reads reads' out out' err err' ended status work.is close;
+}
 
 -- what a settled status of the work tells, that of the command tells too
 pub ends_settled : (err err' : Port) (settled : Status) {P : Type 0} (ended : Result Ending Stop) (status : Status) → IsSettled settled

@@ -14,7 +14,7 @@ use Rattle.life_cli.specs.declared.stop.Stop.TheVariants as stop
 is_less : (a b : ℕ) → a < b → nat_lt a b ≡ true
 is_less a b h = grind (arith, nat_tests)
 
-is_long : (bytes : List ℕ) → most_bytes < length bytes → bytes_text bytes ≡ TooLong
+pub is_long : (bytes : List ℕ) → most_bytes < length bytes → bytes_text bytes ≡ TooLong
 is_long bytes many = ap (λ (b : Bool). cond b TooLong (Holds bytes)) (is_less most_bytes (length bytes) many)
 
 -- one byte more than a file may have says as much as all that there are

@@ -11,15 +11,16 @@ use Rattle.life_check.specs.declared.fault.CheckFault.TheVariants as check
 use Rattle.life_core.specs.Function.{Program}
 use Rattle.life_rules.specs.declared.diag.Diag.{Diag}
 use Rattle.life_types.specs.Places.{position_text}
+use Rattle.life_cli.proofs.Files.{files_then, for_any, for_job, for_text, text_read}
 use Rattle.life_cli.proofs.Fronts.{gains_nothing}
 use Rattle.life_cli.proofs.Questions.{the_answer, to_finding}
-use Rattle.life_cli.proofs.Working.{fetched_on, on_as, refusal_on}
+use Rattle.life_cli.proofs.Working.{on_as, refusal_on, stopped_on}
 use Rattle.life_cli.specs.Answer.{refusal}
 use Rattle.life_cli.specs.CheckedFile.{IsLine, fault_line, lex_fault_text, limit_text}
 use Rattle.life_cli.specs.Ends.{IsReady, Port, Tells, Works, WorksOn}
-use Rattle.life_cli.specs.FileText.{Absent, Fetches, Holds, TooLong, file_text}
+use Rattle.life_cli.specs.FileText.{Absent, Fetches, FileText, Holds, TooLong, file_text}
 use Rattle.life_cli.specs.IllFormed.{ill_text}
-use Rattle.life_cli.specs.Question.{IsAnswer, NoJob, OfFile, OfProgram, Question, asked, program_asked, text_asked}
+use Rattle.life_cli.specs.Question.{Asks, IsAnswer, NoJob, OfFile, OfFiles, OfJob, OfProgram, Question, program_asked, text_asked}
 use Rattle.life_cli.specs.Refusals.{TellsFault}
 use Rattle.life_cli.specs.Status.{IsFaultless, IsOfJob, IsSettled}
 use Rattle.life_cli.specs.Words.{AsksUnchecked, IsUnchecked, Job}
@@ -47,46 +48,59 @@ module _ (question : Question) (status : Status) (text : List ℕ) (is : IsAnswe
   refused (Err stop.WriteFault) tells = absurd tells
 
 -- the words were no job
-pub no_job_works : (job : Option Job) (held : Option Directory) (reads : ℕ) (out : Port) (result : Result Ending Stop) → job ≡ None
-    → Tells Usage (codes "usage: lifecheck COMMAND FILE [OPTIONS]") result → Works (asked job held) reads reads out out result
-no_job_works None held reads out result none tells = refused NoJob Usage (codes "usage: lifecheck COMMAND FILE [OPTIONS]") refl tt reads out result tells
-no_job_works (Some job) held reads out result none tells = cc
+pub no_job_works : (job : Option Job) (told : Option Directory) (reads : ℕ) (out : Port) (result : Result Ending Stop) → job ≡ None
+    → Tells Usage (codes "usage: lifecheck COMMAND FILE [OPTIONS]") result → Asks job told (λ asked. Works asked reads reads out out result)
+no_job_works None told reads out result none tells = refused NoJob Usage (codes "usage: lifecheck COMMAND FILE [OPTIONS]") refl tt reads out result tells
+no_job_works (Some job) told reads out result none tells = cc
 
 -- the words were this job
-module _ (held : Option Directory) (reads reads' : ℕ) (out out' : Port) (result : Result Ending Stop) (job : Job) (words : Option Job) (is : Some job ≡ words)
-    (on : WorksOn (asked (Some job) held) (IsUnchecked job.command) reads reads' out out' result) where
-  pub job_works : Works (asked words held) reads reads' out out' result
-  job_works = subst (λ j. Works (asked j held) reads reads' out out' result) is on.works
+module _ (told : Option Directory) (reads reads' : ℕ) (out out' : Port) (result : Result Ending Stop) (job : Job) (words : Option Job) (is : Some job ≡ words)
+    (on : OfJob job told (λ asked. WorksOn asked (IsUnchecked job.command) reads reads' out out' result)) where
+  pub job_works : Asks words told (λ asked. Works asked reads reads' out out' result)
+  job_works =
+      subst (λ w. Asks w told (λ asked. Works asked reads reads' out out' result)) is
+      (record { directory = on.directory; text = on.text; agrees = on.agrees; read = on.read; is = on.is.works })
 
   pub job_is_there : IfOk result (λ (ending : Ending). ending.status ≡ Usage → words ≡ None)
-  job_is_there = IfOk-weaker result (λ (e : Ending). IsOfJob e.status) (λ (e : Ending). e.status ≡ Usage → words ≡ None) (λ e of_job same. absurd (subst IsOfJob same of_job)) on.status
+  job_is_there = IfOk-weaker result (λ (e : Ending). IsOfJob e.status) (λ (e : Ending). e.status ≡ Usage → words ≡ None) (λ e of_job same. absurd (subst IsOfJob same of_job)) on.is.status
 
   pub job_is_unchecked : IfOk result (λ (ending : Ending). ending.status ≡ Fault → AsksUnchecked words)
-  job_is_unchecked = IfOk-weaker result (λ (e : Ending). e.status ≡ Fault → IsUnchecked job.command) (λ (e : Ending). e.status ≡ Fault → AsksUnchecked words) (λ e may same. subst AsksUnchecked is (may same)) on.fault
+  job_is_unchecked = IfOk-weaker result (λ (e : Ending). e.status ≡ Fault → IsUnchecked job.command) (λ (e : Ending). e.status ≡ Fault → AsksUnchecked words) (λ e may same. subst AsksUnchecked is (may same)) on.is.fault
 
 -- ---- the file of a job
 
-module _ (job : Job) (held : Option Directory) (MayFault : Type 0) (reads reads' : ℕ) (out : Port) where
-  pub absent_file : (told : Result Ending Stop) → Fetches (option_map (λ directory. file_text (directory job.file)) held) reads reads' (Ok fetched.Absent) → Tells NoFile (codes "no file " ++ job.file) told
-      → WorksOn (asked (Some job) held) MayFault reads reads' out out told
-  absent_file told got tells =
-      fetched_on held (OfFile job) job.file Absent MayFault reads reads' out out told got.1.0
-      (refusal_on held (λ d. OfFile job d Absent) MayFault NoFile (codes "no file " ++ job.file) (λ d a is. is) (λ d a is. is) tt reads reads' got.0 out told tells)
+module _ (job : Job) (told : Option Directory) (MayFault : Type 0) (reads reads' : ℕ) (out : Port) where
+  -- the work on what is asked
+  abbrev OnAsked : Port → Result Ending Stop → Option Question → Type 0
+  OnAsked out' result asked = WorksOn asked MayFault reads reads' out out' result
 
-  pub long_file : (told : Result Ending Stop) → Fetches (option_map (λ directory. file_text (directory job.file)) held) reads reads' (Ok fetched.TooLong) → Tells Limit (codes "limit: file") told
-      → WorksOn (asked (Some job) held) MayFault reads reads' out out told
-  long_file told got tells =
-      fetched_on held (OfFile job) job.file TooLong MayFault reads reads' out out told got.1.0
-      (refusal_on held (λ d. OfFile job d TooLong) MayFault Limit (codes "limit: file") (λ d a is. is) (λ d a is. is) tt reads reads' got.0 out told tells)
+  pub absent_file : (result : Result Ending Stop) → Fetches (option_map (λ directory. file_text (directory job.file)) told) reads reads' (Ok fetched.Absent) → Tells NoFile (codes "no file " ++ job.file) result
+      → OfJob job told (OnAsked out result)
+  absent_file result got tells =
+      for_text job told Absent (OnAsked out result) got.1.0
+      (λ d. refusal_on (Some d) (λ e. OfFile job e Absent) MayFault NoFile (codes "no file " ++ job.file) (λ e a is. is) (λ e a is. is) tt reads reads' got.0 out result tells)
+
+  pub long_file : (result : Result Ending Stop) → Fetches (option_map (λ directory. file_text (directory job.file)) told) reads reads' (Ok fetched.TooLong) → Tells Limit (codes "limit: file") result
+      → OfJob job told (OnAsked out result)
+  long_file result got tells =
+      for_text job told TooLong (OnAsked out result) got.1.0
+      (λ d. refusal_on (Some d) (λ e. OfFile job e TooLong) MayFault Limit (codes "limit: file") (λ e a is. is) (λ e a is. is) tt reads reads' got.0 out result tells)
 
   -- the files are the same after a read, and no count rose
-  pub bytes_file : (bytes : List ℕ) (held' : Option Directory) (mid : ℕ) → held' ≡ held → mid ≡ reads → IfSome (option_map (λ directory. file_text (directory job.file)) held) (λ t. t ≡ Holds bytes)
-      → (out' : Port) (result : Result Ending Stop) → WorksOn (text_asked job (Holds bytes) held') MayFault mid reads' out out' result → WorksOn (asked (Some job) held) MayFault reads reads' out out' result
+  pub bytes_file : (bytes : List ℕ) (told' : Option Directory) (mid : ℕ) → told' ≡ told → mid ≡ reads → IfSome (option_map (λ directory. file_text (directory job.file)) told) (λ t. t ≡ Holds bytes)
+      → (out' : Port) (result : Result Ending Stop) → OfFiles told' (λ held. WorksOn (text_asked job (Holds bytes) held) MayFault mid reads' out out' result) → OfJob job told (OnAsked out' result)
   unfolding text_asked
-  bytes_file bytes held' mid same quiet is out' result on =
-      fetched_on held (OfFile job) job.file (Holds bytes) MayFault reads reads' out out' result is
-      (subst (λ (h : Option Directory). WorksOn (option_map (λ d. OfFile job d (Holds bytes)) h) MayFault reads reads' out out' result) same
-      (subst (λ (n : ℕ). WorksOn (option_map (λ d. OfFile job d (Holds bytes)) held') MayFault n reads' out out' result) quiet on))
+  bytes_file bytes told' mid same quiet is out' result on = record {
+    directory = on.directory;
+    text = Holds bytes;
+    agrees = subst (λ (o : Option Directory). IfSome o (λ held. on.directory ≡ held)) same on.agrees;
+    read = text_read told job.file (Holds bytes) is;
+    is = subst (λ (n : ℕ). WorksOn (Some (OfFile job on.directory (Holds bytes))) MayFault n reads' out out' result) quiet on.is;
+  }
+
+  -- memory was wanted, or the files' count rose
+  pub stopped_file : (text : Option FileText) (reason : Stop) → Fetches text reads reads' (Err reason) → OfJob job told (OnAsked out (Err reason))
+  stopped_file text reason h = for_job job told (OnAsked out (Err reason)) (λ d t. stopped_on (Some (OfFile job d t)) MayFault text reads reads' out reason h)
 
 -- ---- what the bytes come to
 
@@ -101,21 +115,36 @@ module _ (job : Job) (bytes : List ℕ) (held : Option Directory) (MayFault : Ty
       faultless reads reads' quiet out result tells
 
   -- a fault of the text, or memory was wanted before it was known what the text comes to
-  pub faulty_file : (fault : CheckFault) (result : Result Ending Stop) → Finds (ComesOnlyTo bytes) (Err fault) → reads' ≡ reads → TellsFault fault result
+  faulty_in : (fault : CheckFault) (result : Result Ending Stop) → Finds (ComesOnlyTo bytes) (Err fault) → reads' ≡ reads → TellsFault fault result
       → WorksOn (text_asked job (Holds bytes) held) MayFault reads reads' out out result
-  faulty_file (check.Lex lexical) result found quiet tells = told_file (check.Lex lexical) Syntax (lex_fault_text lexical) refl tt found.is quiet result tells
-  faulty_file (check.Syntax at place) result found quiet tells = told_file (check.Syntax at place) Syntax (position_text place ++ codes ": syntax") refl tt found.is quiet result tells
-  faulty_file (check.Ill kind place) result found quiet tells = told_file (check.Ill kind place) Ill (ill_text kind place) refl tt found.is quiet result tells
-  faulty_file (check.Limit passed) result found quiet tells = told_file (check.Limit passed) Limit (limit_text passed.name passed.place) refl tt found.is quiet result tells
-  faulty_file check.NoMemory result found quiet tells =
+  faulty_in (check.Lex lexical) result found quiet tells = told_file (check.Lex lexical) Syntax (lex_fault_text lexical) refl tt found.is quiet result tells
+  faulty_in (check.Syntax at place) result found quiet tells = told_file (check.Syntax at place) Syntax (position_text place ++ codes ": syntax") refl tt found.is quiet result tells
+  faulty_in (check.Ill kind place) result found quiet tells = told_file (check.Ill kind place) Ill (ill_text kind place) refl tt found.is quiet result tells
+  faulty_in (check.Limit passed) result found quiet tells = told_file (check.Limit passed) Limit (limit_text passed.name passed.place) refl tt found.is quiet result tells
+  faulty_in check.NoMemory result found quiet tells =
       subst (λ r. WorksOn (text_asked job (Holds bytes) held) MayFault reads reads' out out r) (sym tells)
       (record { works = record { read_faults = quiet; out_faults = refl; front = gains_nothing (text_asked job (Holds bytes) held) out.taken }; status = tt; fault = tt })
 
-  pub checked_file : (p : Program) (ds : List Diag) → ComesTo bytes (Listed p ds) → (out' : Port) (result : Result Ending Stop)
+  checked_in : (p : Program) (ds : List Diag) → ComesTo bytes (Listed p ds) → (out' : Port) (result : Result Ending Stop)
       → WorksOn (program_asked job.command p ds held) MayFault reads reads' out out' result → WorksOn (text_asked job (Holds bytes) held) MayFault reads reads' out out' result
   unfolding text_asked program_asked
-  checked_file p ds is out' result on =
+  checked_in p ds is out' result on =
       on_as held (λ d. OfProgram job.command d p ds) (λ d. OfFile job d (Holds bytes))
       (λ d a answers. record { finding = Listed p ds; file = is; answered = answers })
       (λ d a answers. to_finding d job.command bytes (Listed p ds) a is answers)
       MayFault MayFault (λ may. may) reads reads' out out' result on
+
+-- ---- .. of the files that are told, or some
+
+module _ (job : Job) (bytes : List ℕ) (told : Option Directory) (MayFault : Type 0) (reads reads' : ℕ) (out : Port) where
+  abbrev OnText : Port → Result Ending Stop → Option Directory → Type 0
+  OnText out' result held = WorksOn (text_asked job (Holds bytes) held) MayFault reads reads' out out' result
+
+  pub faulty_file : (fault : CheckFault) (result : Result Ending Stop) → Finds (ComesOnlyTo bytes) (Err fault) → reads' ≡ reads → TellsFault fault result → OfFiles told (OnText out result)
+  faulty_file fault result found quiet tells = for_any told (OnText out result) (λ d. faulty_in job bytes (Some d) MayFault reads reads' out fault result found quiet tells)
+
+  pub checked_file : (p : Program) (ds : List Diag) → ComesTo bytes (Listed p ds) → (out' : Port) (result : Result Ending Stop)
+      → OfFiles told (λ held. WorksOn (program_asked job.command p ds held) MayFault reads reads' out out' result) → OfFiles told (OnText out' result)
+  checked_file p ds is out' result on =
+      files_then told (λ held. WorksOn (program_asked job.command p ds held) MayFault reads reads' out out' result) (OnText out' result)
+      (λ d on_program. checked_in job bytes (Some d) MayFault reads reads' out p ds is out' result on_program) on

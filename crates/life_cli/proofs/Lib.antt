@@ -1,7 +1,9 @@
+pub mod Accepting
 pub mod Admitted
 pub mod Endings
 pub mod Entries
 pub mod Fetching
+pub mod Files
 pub mod FewSteps
 pub mod Fronts
 pub mod Functions

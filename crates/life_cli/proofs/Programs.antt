@@ -1,11 +1,12 @@
 -- The arms of a command, by what is diagnosed.
-use Rattle.std.proofs.Common.{◌≡◌, ℕ, true, false, List, [], ◌∷◌, Option, Result, refl, sym, subst}
+use Rattle.std.proofs.Common.{◌≡◌, ℕ, true, false, List, [], ◌∷◌, Option, Some, Result, refl, sym, subst}
 use Rattle.std.specs.Prelude.{option_map}
 use Rattle.life_base.specs.Edges.{Directory}
 use Rattle.life_core.specs.Function.{Program}
 use Rattle.life_report.specs.Reports.{report_text}
 use Rattle.life_rules.specs.declared.diag.Diag.{Diag}
 use Rattle.life_store.specs.NoFault.{NoFault}
+use Rattle.life_cli.proofs.Files.{files_then, for_any}
 use Rattle.life_cli.proofs.Served.{text_serves}
 use Rattle.life_cli.proofs.Statuses.{faultless_fits, fits_as, verdict_faultless}
 use Rattle.life_cli.proofs.Working.{are_asked, on_as, serves_on}
@@ -13,8 +14,8 @@ use Rattle.life_cli.specs.Answer.{Answer}
 use Rattle.life_cli.specs.Concluding.{Concludes, RanDiagnosed, RanJob, not_run, reported, verdict}
 use Rattle.life_cli.specs.Ends.{Port, Reports, Serves, WorksOn}
 use Rattle.life_cli.specs.InputFile.{input_of}
-use Rattle.life_cli.specs.Question.{OfProgram, OfRun, program_asked, run_asked}
-use Rattle.life_cli.specs.Words.{Check, IsUnchecked, Run, RunJob}
+use Rattle.life_cli.specs.Question.{OfFiles, OfProgram, OfRun, program_asked, run_asked}
+use Rattle.life_cli.specs.Words.{Check, Command, IsUnchecked, Run, RunJob}
 use Rattle.life_cli.specs.declared.status.Status.TheVariants.{Diagnosed}
 use Rattle.life_cli.specs.declared.stop.Ending.{Ending}
 use Rattle.life_cli.specs.declared.stop.Stop.{Stop}
@@ -27,10 +28,10 @@ none_of d ds e = absurd (clash e)
 
 module _ (p : Program) (held : Option Directory) (reads reads' : ℕ) (out out' : Port) (result : Result Ending Stop) where
   -- a report on out
-  pub report_on : (ds : List Diag) (MayFault : Type 0) → (ds ≡ [] → NoFault p) → reads' ≡ reads → Serves (λ a. a ≡ reported p ds) out out' result
+  report_on_in : (ds : List Diag) (MayFault : Type 0) → (ds ≡ [] → NoFault p) → reads' ≡ reads → Serves (λ a. a ≡ reported p ds) out out' result
       → WorksOn (program_asked Check p ds held) MayFault reads reads' out out' result
   unfolding program_asked
-  report_on ds MayFault safe quiet serves =
+  report_on_in ds MayFault safe quiet serves =
       serves_on (option_map (λ d. OfProgram Check d p ds) held) MayFault (λ a. a ≡ reported p ds)
       (are_asked held (λ d. OfProgram Check d p ds) (λ a. a ≡ reported p ds) (λ d a is. record { safe = safe; concluded = is }) (λ d a is. is.concluded))
       (λ a is. fits_as MayFault a (reported p ds) is (faultless_fits MayFault (verdict ds) (verdict_faultless ds))) reads reads' quiet out out' result serves
@@ -45,28 +46,56 @@ module _ (p : Program) (held : Option Directory) (reads reads' : ℕ) (out out' 
       (λ d a is. record { safe = safe; concluded = to d a is }) (λ d a is. back d a is.concluded)
       (NoFault p → ⊥) (IsUnchecked (Run run)) may reads reads' out out' result on
 
-  pub accepted_run : (run : RunJob) → NoFault p → WorksOn (run_asked run.options run.function p run.input held) (NoFault p → ⊥) reads reads' out out' result
+  accepted_run_in : (run : RunJob) → NoFault p → WorksOn (run_asked run.options run.function p run.input held) (NoFault p → ⊥) reads reads' out out' result
       → WorksOn (program_asked (Run run) p [] held) (IsUnchecked (Run run)) reads reads' out out' result
-  accepted_run run safe on = run_on run [] (λ d a is. is) (λ d a is. is) (λ _. safe) (λ unsafe. absurd (unsafe safe)) on
+  accepted_run_in run safe on = run_on run [] (λ d a is. is) (λ d a is. is) (λ _. safe) (λ unsafe. absurd (unsafe safe)) on
 
-  pub unchecked_run : (run : RunJob) → run.options.unchecked ≡ true → (ds : List Diag) → (ds ≡ [] → ⊥) → WorksOn (run_asked run.options run.function p run.input held) (NoFault p → ⊥) reads reads' out out' result
+  unchecked_run_in : (run : RunJob) → run.options.unchecked ≡ true → (ds : List Diag) → (ds ≡ [] → ⊥) → WorksOn (run_asked run.options run.function p run.input held) (NoFault p → ⊥) reads reads' out out' result
       → WorksOn (program_asked (Run run) p ds held) (IsUnchecked (Run run)) reads reads' out out' result
-  unchecked_run run checks [] some on = absurd (some refl)
-  unchecked_run run checks (x ∷ xs) some on =
+  unchecked_run_in run checks [] some on = absurd (some refl)
+  unchecked_run_in run checks (x ∷ xs) some on =
       run_on run (x ∷ xs)
       (λ d a is. subst (λ b. RanDiagnosed b run d p (x ∷ xs) a) (sym checks) is)
       (λ d a is. subst (λ b. RanDiagnosed b run d p (x ∷ xs) a) checks is)
       (λ e. none_of x xs e) (λ _. checks) on
 
--- a report on err, in place of a run
-pub not_run_on : (p : Program) (held : Option Directory) (reads reads' : ℕ) (out : Port) (told : Result Ending Stop) (run : RunJob) (MayFault : Type 0) → run.options.unchecked ≡ false → (ds : List Diag) → (ds ≡ [] → ⊥)
+-- a report on err, in place of a run, of these files
+not_run_in : (p : Program) (held : Option Directory) (reads reads' : ℕ) (out : Port) (told : Result Ending Stop) (run : RunJob) (MayFault : Type 0) → run.options.unchecked ≡ false → (ds : List Diag) → (ds ≡ [] → ⊥)
     → reads' ≡ reads → Reports Diagnosed (report_text p ds) told → WorksOn (program_asked (Run run) p ds held) MayFault reads reads' out out told
 unfolding program_asked
-not_run_on p held reads reads' out told run MayFault checks [] some quiet reports = absurd (some refl)
-not_run_on p held reads reads' out told run MayFault checks (x ∷ xs) some quiet reports =
+not_run_in p held reads reads' out told run MayFault checks [] some quiet reports = absurd (some refl)
+not_run_in p held reads reads' out told run MayFault checks (x ∷ xs) some quiet reports =
     serves_on (option_map (λ d. OfProgram (Run run) d p (x ∷ xs)) held) MayFault (λ a. a ≡ not_run p (x ∷ xs))
     (are_asked held (λ d. OfProgram (Run run) d p (x ∷ xs)) (λ a. a ≡ not_run p (x ∷ xs))
     (λ d a is. record { safe = λ e. none_of x xs e; concluded = subst (λ b. RanDiagnosed b run d p (x ∷ xs) a) (sym checks) is })
     (λ d a is. subst (λ b. RanDiagnosed b run d p (x ∷ xs) a) checks is.concluded))
     (λ a is. fits_as MayFault a (not_run p (x ∷ xs)) is (faultless_fits MayFault Diagnosed tt)) reads reads' quiet out out told
     (text_serves (λ a. a ≡ not_run p (x ∷ xs)) Diagnosed (report_text p (x ∷ xs)) out told refl reports)
+
+-- ---- of the files that are told, or some
+
+module _ (p : Program) (told : Option Directory) (reads reads' : ℕ) (out out' : Port) (result : Result Ending Stop) where
+  -- the work on the program's question
+  abbrev OnProgram : Command → List Diag → Type 0 → Option Directory → Type 0
+  OnProgram command ds MayFault held = WorksOn (program_asked command p ds held) MayFault reads reads' out out' result
+
+  -- .. and on that of its run
+  abbrev OnRun : RunJob → Option Directory → Type 0
+  OnRun run held = WorksOn (run_asked run.options run.function p run.input held) (NoFault p → ⊥) reads reads' out out' result
+
+  pub report_on : (ds : List Diag) (MayFault : Type 0) → (ds ≡ [] → NoFault p) → reads' ≡ reads → Serves (λ a. a ≡ reported p ds) out out' result → OfFiles told (OnProgram Check ds MayFault)
+  report_on ds MayFault safe quiet serves = for_any told (OnProgram Check ds MayFault) (λ d. report_on_in p (Some d) reads reads' out out' result ds MayFault safe quiet serves)
+
+  pub accepted_run : (run : RunJob) → NoFault p → OfFiles told (OnRun run) → OfFiles told (OnProgram (Run run) [] (IsUnchecked (Run run)))
+  accepted_run run safe on =
+      files_then told (OnRun run) (OnProgram (Run run) [] (IsUnchecked (Run run))) (λ d on_run. accepted_run_in p (Some d) reads reads' out out' result run safe on_run) on
+
+  pub unchecked_run : (run : RunJob) → run.options.unchecked ≡ true → (ds : List Diag) → (ds ≡ [] → ⊥) → OfFiles told (OnRun run) → OfFiles told (OnProgram (Run run) ds (IsUnchecked (Run run)))
+  unchecked_run run checks ds some on =
+      files_then told (OnRun run) (OnProgram (Run run) ds (IsUnchecked (Run run))) (λ d on_run. unchecked_run_in p (Some d) reads reads' out out' result run checks ds some on_run) on
+
+-- a report on err, in place of a run
+pub not_run_on : (p : Program) (told : Option Directory) (reads reads' : ℕ) (out : Port) (result : Result Ending Stop) (run : RunJob) (MayFault : Type 0) → run.options.unchecked ≡ false → (ds : List Diag) → (ds ≡ [] → ⊥)
+    → reads' ≡ reads → Reports Diagnosed (report_text p ds) result → OfFiles told (OnProgram p told reads reads' out out result (Run run) ds MayFault)
+not_run_on p told reads reads' out result run MayFault checks ds some quiet reports =
+    for_any told (OnProgram p told reads reads' out out result (Run run) ds MayFault) (λ d. not_run_in p (Some d) reads reads' out result run MayFault checks ds some quiet reports)

@@ -11,7 +11,7 @@ use Rattle.life_cli.proofs.Served.{text_serves}
 use Rattle.life_cli.proofs.Statuses.{Fits, faultless_fits, fits_as, settled_of_job}
 use Rattle.life_cli.specs.Answer.{Answer, line, refusal}
 use Rattle.life_cli.specs.Ends.{GainsFront, IsReady, Port, Serves, ServesFront, Tells, Works, WorksOn}
-use Rattle.life_cli.specs.FileText.{FileText, Fetches, file_text}
+use Rattle.life_cli.specs.FileText.{FileText, Fetches}
 use Rattle.life_cli.specs.Question.{IsAnswer, Question}
 use Rattle.life_cli.specs.Status.{IsFaultless, IsOfJob, IsSettled}
 use Rattle.life_cli.specs.declared.status.Status.{Status}
@@ -92,18 +92,7 @@ on_as held G H to back May May' may reads reads' out out' result h = record {
   fault = IfOk-weaker result (λ (e : Ending). e.status ≡ Fault → May) (λ (e : Ending). e.status ≡ Fault → May') (λ e f same. may (f same)) h.fault;
 }
 
--- ---- files
-
-module _ (held : Option Directory) (F : Directory → FileText → Question) (name : List ℕ) (text : FileText) (MayFault : Type 0) (reads reads' : ℕ) (out out' : Port) (result : Result Ending Stop) where
-  -- what works on the text that was fetched works on the file of the name
-  pub fetched_on : IfSome (option_map (λ d. file_text (d name)) held) (λ t. t ≡ text) → WorksOn (option_map (λ d. F d text) held) MayFault reads reads' out out' result
-      → WorksOn (option_map (λ d. F d (file_text (d name))) held) MayFault reads reads' out out' result
-  fetched_on is h =
-      elim held as (λ o. IfSome (option_map (λ d. file_text (d name)) o) (λ t. t ≡ text) → WorksOn (option_map (λ d. F d text) o) MayFault reads reads' out out' result
-      → WorksOn (option_map (λ d. F d (file_text (d name))) o) MayFault reads reads' out out' result) [
-        | None ↦ λ _ on. on
-        | Some d ↦ λ same on. subst (λ t. WorksOn (Some (F d t)) MayFault reads reads' out out' result) (sym same) on
-      ] is h
+-- ---- what was not read
 
 -- memory was wanted, or the files' count rose, before anything was written
 pub stopped_on : (asked : Option Question) (MayFault : Type 0) (text : Option FileText) (reads reads' : ℕ) (out : Port) (reason : Stop) → Fetches text reads reads' (Err reason) → WorksOn asked MayFault reads reads' out out (Err reason)

@@ -1,3 +1,4 @@
+pub mod Accepting
 pub mod Answer
 pub mod CheckedFile
 pub mod Concluding

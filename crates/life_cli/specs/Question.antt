@@ -33,7 +33,7 @@ IsAnswer (OfFile job directory text) answer = AnswersText job directory text ans
 IsAnswer (OfProgram command directory p ds) answer = AnswersProgram command directory p ds answer
 IsAnswer (OfRun options entry p input) answer = RanWith options entry p input answer
 
--- ---- what is asked, as far as the files tell what it rests on
+-- ---- what is asked of files
 
 -- .. of a job whose file is this
 unfoldable pub text_asked : Job → FileText → Option Directory → Option Question
@@ -46,9 +46,26 @@ program_asked command p ds held = option_map (λ directory. OfProgram command di
 unfoldable pub run_asked : RunOptions → List ℕ → Program → Option (List ℕ) → Option Directory → Option Question
 run_asked options entry p name held = option_map (λ directory. OfRun options entry p (input_of name directory)) held
 
-abbrev pub asked : Option Job → Option Directory → Option Question
-asked None held = Some NoJob
-asked (Some job) held = option_map (λ directory. OfFile job directory (file_text (directory job.file))) held
+-- ---- files that don't tell what they hold: then something was read of them, and it is as if they held this
+
+-- it holds of the files that are told, or of some, where nothing is told
+pub record OfFiles (told : Option Directory) (P : Option Directory → Type 0) : Type 0 where
+  pub directory : Directory
+  pub agrees : IfSome told (λ held. directory ≡ held)
+  pub is : P (Some directory)
+
+-- .. of what is asked by a job of its file, whose text is that of the name, or some, where nothing is told
+pub record OfJob (job : Job) (told : Option Directory) (P : Option Question → Type 0) : Type 0 where
+  pub directory : Directory
+  pub text : FileText
+  pub agrees : IfSome told (λ held. directory ≡ held)
+  pub read : IfSome told (λ held. text ≡ file_text (held job.file))
+  pub is : P (Some (OfFile job directory text))
+
+-- .. of what the words ask, which are a job or none
+abbrev pub Asks : Option Job → Option Directory → (Option Question → Type 0) → Type 0
+Asks None told P = P (Some NoJob)
+Asks (Some job) told P = OfJob job told P
 
 -- ---- answers
 

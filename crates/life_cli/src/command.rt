@@ -1,8 +1,12 @@
 // The one call.
-ghost use Rattle.std.specs.Prelude.{◌≡◌, None, map, string_bytes};
+ghost use Rattle.std.specs.Prelude.{◌≡◌, ℕ, List, None, Some, map, string_bytes, IfSome};
+ghost use Rattle.life_check.specs.CheckedText.{IsProgramOf};
+ghost use Rattle.life_core.specs.Function.{Program};
+ghost use Rattle.life_store.specs.NoFault.{NoFault};
+ghost use Rattle.life_cli.specs.Accepting.{Accepts};
 ghost use Rattle.life_cli.specs.Ends.{Closes, Ends, status_of, text_of};
-ghost use Rattle.life_cli.specs.Question.{asked};
-ghost use Rattle.life_cli.specs.Words.{job_of, AsksUnchecked};
+ghost use Rattle.life_cli.specs.Question.{Asks};
+ghost use Rattle.life_cli.specs.Words.{job_of, AsksUnchecked, Job};
 ghost use Rattle.life_cli.specs.declared.status.Status.TheVariants.{Fault, Usage};
 
 use crate::Status;
@@ -20,14 +24,19 @@ pub fn run_command<F: Files, O: Sink, E: Sink>(
     out: &mut O,
     err: &mut E,
 ) -> Status
-    ensures ends { Ends (asked (job_of (map string_bytes words.now)) (F.held files.old))
+    // Whenever it accepts a file, there is the program of the file's bytes, and no run of it uses what is
+    // null, dangling or moved from.
+    ensures accepted { (job : Job) → job_of (map string_bytes words.now) ≡ Some job → Accepts job.command result
+        → (bytes : List ℕ) × (IfSome (F.held files.old) (λ held. held job.file ≡ Some bytes)
+        × ((p : Program) × (IsProgramOf bytes p × NoFault p))) }
+    // It answers what is asked of the files that are held; where that isn't told, some bytes were read,
+    // and it answers what is asked of these.
+    ensures ends { Asks (job_of (map string_bytes words.now)) (F.held files.old) (λ asked. Ends asked
         (F.faults files.old) (F.faults files.new)
         (record { taken = O.taken out.old; faults = O.faults out.old })
         (record { taken = O.taken out.new; faults = O.faults out.new })
         (record { taken = E.taken err.old; faults = E.faults err.old })
-        (record { taken = E.taken err.new; faults = E.faults err.new }) result }
-
-    // These hold of files that don't tell what they hold, too.
+        (record { taken = E.taken err.new; faults = E.faults err.new }) result) }
     ensures no_job { result ≡ Usage → job_of (map string_bytes words.now) ≡ None }
     ensures faults_unchecked { result ≡ Fault → AsksUnchecked (job_of (map string_bytes words.now)) }
 {

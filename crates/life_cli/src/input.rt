@@ -7,7 +7,7 @@ ghost use Rattle.life_check.specs.WholeProgram.{IsWholeProgram};
 ghost use Rattle.life_cli.specs.Ends.{Serves, WorksOn};
 ghost use Rattle.life_cli.specs.FileText.{most_bytes};
 ghost use Rattle.life_cli.specs.InputFile.{numbers_or};
-ghost use Rattle.life_cli.specs.Question.{run_asked};
+ghost use Rattle.life_cli.specs.Question.{run_asked, OfFiles};
 ghost use Rattle.life_cli.specs.Runs.{RanWith};
 ghost use Rattle.life_cli.specs.Words.{most_steps};
 
@@ -32,10 +32,10 @@ pub fn run_job<F: Files, O: Sink>(
 ) -> Result<Ending, Stop>
     requires whole { IsWholeProgram (program_of program.now) }
     requires few { run.options.steps ≤ most_steps }
-    ensures { WorksOn (run_asked run.entry.options run.entry.function.now (program_of program.now) (option_map (λ s. s.now) run.entry.input) (F.held files.old))
+    ensures { OfFiles (F.held files.old) (λ held. WorksOn (run_asked run.entry.options run.entry.function.now (program_of program.now) (option_map (λ s. s.now) run.entry.input) held)
         (NoFault (program_of program.now) → ⊥) (F.faults files.old) (F.faults files.new)
         (record { taken = O.taken out.old; faults = O.faults out.old })
-        (record { taken = O.taken out.new; faults = O.faults out.new }) result }
+        (record { taken = O.taken out.new; faults = O.faults out.new }) result) }
 {
     match run.input {
         Some(name) => run_on_file(alloc, run.options, run.function, program, name, files, out),
@@ -55,10 +55,10 @@ fn run_on_file<F: Files, O: Sink>(
 ) -> Result<Ending, Stop>
     requires whole { IsWholeProgram (program_of program.now) }
     requires few { options.steps ≤ most_steps }
-    ensures { WorksOn (run_asked options function.now (program_of program.now) (Some name.now) (F.held files.old))
+    ensures { OfFiles (F.held files.old) (λ held. WorksOn (run_asked options function.now (program_of program.now) (Some name.now) held)
         (NoFault (program_of program.now) → ⊥) (F.faults files.old) (F.faults files.new)
         (record { taken = O.taken out.old; faults = O.faults out.old })
-        (record { taken = O.taken out.new; faults = O.faults out.new }) result }
+        (record { taken = O.taken out.new; faults = O.faults out.new }) result) }
 {
     match fetch(alloc, name, files) {
         Ok(Fetched::Absent) => refuse_name(alloc, name),

@@ -8,7 +8,7 @@ ghost use Rattle.life_cli.specs.Answer.{answer_in};
 ghost use Rattle.life_check.specs.WholeProgram.{IsWholeProgram};
 ghost use Rattle.life_cli.specs.Concluding.{reported, verdict};
 ghost use Rattle.life_cli.specs.Ends.{Reports, Serves, WorksOn};
-ghost use Rattle.life_cli.specs.Question.{program_asked};
+ghost use Rattle.life_cli.specs.Question.{program_asked, OfFiles};
 ghost use Rattle.life_cli.specs.Words.{command_seen, HasFewSteps, IsUnchecked};
 ghost use Rattle.life_cli.specs.declared.status.Status.TheVariants.{Diagnosed};
 
@@ -36,10 +36,10 @@ pub fn serve_accepted<F: Files, O: Sink>(
     requires listed { AreProgramDiagnostics (program_of program.now) [] }
     requires safe { NoFault (program_of program.now) }
     requires few { HasFewSteps (command_seen command) }
-    ensures { WorksOn (program_asked (command_seen command.entry) (program_of program.now) [] (F.held files.old))
+    ensures { OfFiles (F.held files.old) (λ held. WorksOn (program_asked (command_seen command.entry) (program_of program.now) [] held)
         (IsUnchecked (command_seen command.entry)) (F.faults files.old) (F.faults files.new)
         (record { taken = O.taken out.old; faults = O.faults out.old })
-        (record { taken = O.taken out.new; faults = O.faults out.new }) result }
+        (record { taken = O.taken out.new; faults = O.faults out.new }) result) }
 {
     match command {
         Command::Check => report(alloc, program, &[], out),
@@ -60,10 +60,10 @@ pub fn serve_rejected<F: Files, O: Sink>(
     requires listed { AreProgramDiagnostics (program_of program.now) found.now }
     requires some { found.now ≢ [] }
     requires few { HasFewSteps (command_seen command) }
-    ensures { WorksOn (program_asked (command_seen command.entry) (program_of program.now) found.now (F.held files.old))
+    ensures { OfFiles (F.held files.old) (λ held. WorksOn (program_asked (command_seen command.entry) (program_of program.now) found.now held)
         (IsUnchecked (command_seen command.entry)) (F.faults files.old) (F.faults files.new)
         (record { taken = O.taken out.old; faults = O.faults out.old })
-        (record { taken = O.taken out.new; faults = O.faults out.new }) result }
+        (record { taken = O.taken out.new; faults = O.faults out.new }) result) }
 {
     match command {
         Command::Check => report(alloc, program, found, out),

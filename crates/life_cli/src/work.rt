@@ -1,8 +1,8 @@
 // The work of a command: it reads the file and serves its bytes.
-ghost use Rattle.std.specs.Prelude.{◌≡◌, ◌≤◌, None, Some, IfOk, length, map, string_bytes};
+ghost use Rattle.std.specs.Prelude.{◌≡◌, ◌≤◌, None, IfOk, length, map, string_bytes};
 ghost use Rattle.life_cli.specs.Ends.{Works, WorksOn};
 ghost use Rattle.life_cli.specs.FileText.{Holds, most_bytes};
-ghost use Rattle.life_cli.specs.Question.{asked, text_asked};
+ghost use Rattle.life_cli.specs.Question.{text_asked, Asks, OfFiles, OfJob};
 ghost use Rattle.life_cli.specs.Words.{command_seen, job_of, job_seen, AsksUnchecked, HasFewSteps, IsUnchecked};
 ghost use Rattle.life_cli.specs.declared.status.Status.TheVariants.{Fault, Usage};
 
@@ -27,10 +27,10 @@ pub fn work<F: Files, O: Sink>(
     files: &mut F,
     out: &mut O,
 ) -> Result<Ending, Stop>
-    ensures works { Works (asked (job_of (map string_bytes words.now)) (F.held files.old))
+    ensures works { Asks (job_of (map string_bytes words.now)) (F.held files.old) (λ asked. Works asked
         (F.faults files.old) (F.faults files.new)
         (record { taken = O.taken out.old; faults = O.faults out.old })
-        (record { taken = O.taken out.new; faults = O.faults out.new }) result }
+        (record { taken = O.taken out.new; faults = O.faults out.new }) result) }
     ensures no_job { IfOk result (λ ending. ending.status ≡ Usage → job_of (map string_bytes words.now) ≡ None) }
     ensures faults_unchecked { IfOk result (λ ending. ending.status ≡ Fault → AsksUnchecked (job_of (map string_bytes words.now))) }
 {
@@ -52,10 +52,10 @@ fn serve_job<F: Files, O: Sink>(
     out: &mut O,
 ) -> Result<Ending, Stop>
     requires { HasFewSteps (command_seen job.command) }
-    ensures { WorksOn (asked (Some (job_seen job.entry)) (F.held files.old)) (IsUnchecked (command_seen job.entry.command))
+    ensures { OfJob (job_seen job.entry) (F.held files.old) (λ asked. WorksOn asked (IsUnchecked (command_seen job.entry.command))
         (F.faults files.old) (F.faults files.new)
         (record { taken = O.taken out.old; faults = O.faults out.old })
-        (record { taken = O.taken out.new; faults = O.faults out.new }) result }
+        (record { taken = O.taken out.new; faults = O.faults out.new }) result) }
 {
     match fetch(alloc, job.file, files) {
         Ok(Fetched::Absent) => refuse_name(alloc, job.file),
@@ -75,10 +75,10 @@ fn serve_bytes<F: Files, O: Sink>(
 ) -> Result<Ending, Stop>
     requires short { length bytes.now ≤ most_bytes }
     requires few { HasFewSteps (command_seen job.command) }
-    ensures { WorksOn (text_asked (job_seen job.entry) (Holds bytes.now) (F.held files.old))
+    ensures { OfFiles (F.held files.old) (λ held. WorksOn (text_asked (job_seen job.entry) (Holds bytes.now) held)
         (IsUnchecked (command_seen job.entry.command)) (F.faults files.old) (F.faults files.new)
         (record { taken = O.taken out.old; faults = O.faults out.old })
-        (record { taken = O.taken out.new; faults = O.faults out.new }) result }
+        (record { taken = O.taken out.new; faults = O.faults out.new }) result) }
 {
     match checked(alloc, bytes) {
         Ok(Checked::Accepted(accepted)) => {

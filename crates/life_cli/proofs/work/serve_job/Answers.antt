@@ -1,6 +1,5 @@
 use Rattle.std.specs.Prelude.{option_map}
-use Rattle.life_cli.proofs.Leaves.{absent_file, bytes_file, long_file}
-use Rattle.life_cli.proofs.Working.{stopped_on}
+use Rattle.life_cli.proofs.Leaves.{absent_file, bytes_file, long_file, stopped_file}
 use Rattle.life_cli.specs.FileText.{file_text}
 use Rattle.life_cli.specs.Words.{job_seen}
 use Rattle.life_cli.proofs.work.serve_job.Goals as goal
@@ -27,4 +26,4 @@ returns-in-Ok-Bytes g c =
 
 pub returns-in-Err : goal.returns-in-Err
 returns-in-Err g c =
-    stopped_on _ _ (option_map (λ directory. file_text (directory c.args.job.file.now)) (g.F.Files.held c.args.files.now)) _ _ _ c.in-Err.stop c.in-Err.ensures.fetches
+    stopped_file (job_seen c.args.job) _ _ _ _ _ (option_map (λ directory. file_text (directory c.args.job.file.now)) (g.F.Files.held c.args.files.now)) c.in-Err.stop c.in-Err.ensures.fetches
