@@ -20,4 +20,8 @@ pub mod Standing
 pub mod StoreLemmas
 pub mod Waiting
 pub mod WholeLocals
+mod Worked
+mod WorkedCalls
 mod WorkedOwners
+mod WorkedValues
+mod WorkedViews

@@ -1,36 +1,27 @@
--- Small cases of owners, iterators and views, worked out by hand.
-use Rattle.std.proofs.Common.{◌≡◌, ℕ, true, false, List, [], ◌∷◌, Option, Some, None, refl}
+-- What instructions on owners do, worked out by hand: Live, End, Move and Make; of Copy and Change their parts.
+use Rattle.std.proofs.Common.{◌≡◌, ◌∙◌, ℕ, true, false, arith, List, [], ◌∷◌, Option, Some, None, refl}
 use Rattle.std.specs.Prelude.{ℤ, pos}
 use Rattle.life_types.specs.Types.{Types}
-use Rattle.life_types.specs.declared.ty.Ty.TheVariants as variant
-use Rattle.life_types.specs.declared.ty.TyId.{TyId}
 use Rattle.life_core.specs.Function.{Function}
-use Rattle.life_core.specs.Operands.{Location}
-use Rattle.life_core.specs.declared.instr.Direction.TheVariants as direction
-use Rattle.life_store.specs.Cells.{at, at-unset_same}
-use Rattle.life_store.specs.Content.{Slot, Object, Content, resized, is_settled, are_settled, without}
-use Rattle.life_store.specs.Doing.{Effect, Traps, Faults, Got, GotTrap, GotFault, Wrong, behind, giving, on_character, target_at}
+use Rattle.life_core.specs.Operands.{Location, object_named, whole}
+use Rattle.life_core.specs.Step.{Live, End, Move, Make}
+use Rattle.life_core.specs.declared.instr.Form.TheVariants as form
+use Rattle.life_core.specs.declared.instr.Made.TheVariants as made
+use Rattle.life_store.specs.Cells.{at, at-set_other, at-unset_other, at-unset_same}
+use Rattle.life_store.specs.Content.{Object, Content, live_words_of, resized, is_settled, are_settled, with_birth, with_object, with_rename, without}
+use Rattle.life_store.specs.Doing.{Effect, Next, Traps, Faults, Got, GotFault, Wrong, Spot, behind, does, giving, on_character, remade, target_at, wrote_spot}
 use Rattle.life_store.specs.Edits.{grown}
 use Rattle.life_store.specs.Effects.{got_or}
-use Rattle.life_store.specs.Held.{filled_slots, owned_in, owner_word, pointer_in, pointer_words}
-use Rattle.life_store.specs.Iterators.{below, directed, last_of, same_position, up_to}
+use Rattle.life_store.specs.Held.{filled_slots, owned_in, owner_word, pointer_in, pointer_words, resized_at, wrote}
+use Rattle.life_store.specs.Owners.{taken}
 use Rattle.life_store.specs.Parts.{Single, Raw, Text, Vector, Unique, Member, NoMember, parts_at, target_type, type_within, width, word_within}
-use Rattle.life_store.specs.State.{Pointer, Null, Wild, To, Static, State}
-use Rattle.life_store.specs.Views.{are_same, part_count}
+use Rattle.life_store.specs.State.{Pointer, Null, Wild, To, Static, Cell, Empty, Named, Number, Points, State}
 use Rattle.life_store.specs.declared.run.FaultKind.TheVariants as fault
 use Rattle.life_store.specs.declared.run.Growth.TheVariants as growth
 use Rattle.life_store.specs.declared.run.TrapKind.TheVariants as trap
+use Rattle.life_store.proofs.Worked.{id, object, register, single, state, table, three, with_locals, within}
 
-abbrev id : ℕ → TyId
-id n = record { 0 = n }
-
--- ---- types: struct S { int n; std::vector<int> v; int* p; std::unique_ptr<S'> u; }, S' being struct { std::string s; }
-
-abbrev table : Types
-table = record {
-  types = variant.Int ∷ variant.Vector (id 0) ∷ variant.Raw (id 0) false ∷ variant.Text ∷ variant.Struct 0 ∷ variant.Unique (id 4) ∷ variant.Struct 1 ∷ [];
-  structs = (id 3 ∷ []) ∷ (id 0 ∷ id 1 ∷ id 2 ∷ id 5 ∷ []) ∷ [];
-}
+-- ---- types: struct S of the table, and its unique_ptr's struct S'
 
 struct_parts : parts_at table (id 6) ≡ Member Single (Member (Vector (id 1) Single) (Member Raw (Member (Unique (id 5) (Member (Text (id 3)) NoMember)) NoMember)))
 struct_parts = refl
@@ -65,12 +56,6 @@ owner_back None = refl
 owner_back (Some n) = refl
 
 -- ---- a buffer with room for four, of three elements that stand since the moment 5
-
-abbrev one : ℕ → Slot
-one word = record { words = word ∷ []; stamp = 5 }
-
-abbrev three : Object
-three = record { ty = id 1; width = 1; capacity = 4; slots = one 1 ∷ one 2 ∷ one 3 ∷ []; end = 5 }
 
 -- a push_back at the clock 6 stamps the new slot and the end: what pointed to an element stays, and what was the end is no more
 abbrev four : Object
@@ -132,35 +117,66 @@ characters : (texts : List (List ℕ)) (go : ℤ → Effect) → (on_character (
     × (on_character ((97 ∷ 98 ∷ []) ∷ texts) (record { text = Some 0; index = 2; count = 1 }) go ≡ Traps trap.Bounds)
 characters texts go = (refl, refl)
 
--- ---- indices and steps
+-- ---- what the instructions do
 
-elements : (below 2 3 ≡ Got 2) × (below 3 3 ≡ GotTrap trap.Bounds) × (last_of 3 ≡ Got 2) × (last_of 0 ≡ GotTrap trap.Bounds)
-elements = (refl, refl, refl, refl)
+-- two vectors, a unique_ptr of int, a string, an int as a register, and two iterators
+abbrev f : Function
+f = with_locals (object 1 ∷ object 1 ∷ object 11 ∷ object 3 ∷ register 0 ∷ register 7 ∷ register 7 ∷ [])
 
--- to the end, past it, and before the begin
-steps : (up_to 3 (pos 3) ≡ Got 3) × (up_to 3 (pos 4) ≡ GotTrap trap.Bounds) × (up_to 3 (directed direction.Backward (pos 1)) ≡ GotTrap trap.Bounds)
-steps = (refl, refl, refl)
+abbrev cells : (first second pointer string : Cell) → (number : ℤ) → (at into : Pointer) → List Cell
+cells v w u s z i j = v ∷ w ∷ u ∷ s ∷ Number z ∷ Points i ∷ Points j ∷ []
 
-abbrev aims : (object index : ℕ) → Pointer
-aims n i = To (record { object = n; index = i; word = 0; count = 1; moment = 0 })
+-- .. where only the vectors matter, or only another owner
+abbrev with_vectors : (first second : Cell) → (number : ℤ) → List Cell
+with_vectors v w z = cells v w Empty Empty z Wild Wild
 
-abbrev reads : Option ℕ → ℕ → Pointer
-reads text i = Static (record { text = text; index = i; count = 1 })
+abbrev with_pointer : Cell → List Cell
+with_pointer u = cells Empty Empty u Empty (pos 9) Wild Wild
 
-iterators : (same_position (aims 1 2) (aims 1 2) ≡ Got true) × (same_position (aims 1 2) (aims 1 3) ≡ Got false) × (same_position (aims 1 2) (aims 2 2) ≡ GotTrap trap.ForeignIterator)
-iterators = (refl, refl, refl)
+abbrev with_string : Cell → List Cell
+with_string s = cells Empty Empty Empty s (pos 9) Wild Wild
 
--- into one text, into two, and into an empty view of none
-text_iterators : (same_position (reads (Some 0) 1) (reads (Some 0) 1) ≡ Got true) × (same_position (reads (Some 0) 1) (reads (Some 1) 1) ≡ GotTrap trap.ForeignIterator) × (same_position (reads None 0) (reads None 0) ≡ Got true)
-text_iterators = (refl, refl, refl)
+-- the first word of an object
+abbrev first_of : ℕ → Spot
+first_of n = record { object = n; index = 0; word = 0 }
 
--- ---- parts of a span and of a view of three
+-- ---- Live, End: a vector is born with a buffer of no room, and ends with what it has
 
-subspans : (part_count true 1 (Some 2) 3 ≡ Got 2) × (part_count true 2 (Some 2) 3 ≡ GotTrap trap.Bounds) × (part_count true 3 (Some 0) 3 ≡ Got 0)
-subspans = (refl, refl, refl)
+abbrev newly : Content → Content
+newly c = resized_at c.births 1 0 (with_birth (id 1) 1 1 c)
 
-substrings : (part_count false 1 (Some 9) 3 ≡ Got 2) × (part_count false 4 (Some 0) 3 ≡ GotTrap trap.Bounds) × (part_count false 3 None 3 ≡ Got 0)
-substrings = (refl, refl, refl)
+born : (c : Content) → live_words_of c ≡ 7 → live_words_of (newly c) ≡ 10 → does (within 12) table f (Live 0 form.Plain) (state c (with_vectors Empty Empty (pos 0)))
+    ≡ Next (state (wrote c.births 0 0 (owner_word (Some (newly c).births) ∷ []) (with_birth (id 1) 1 0 (newly c))) (with_vectors (Named c.births) Empty (pos 0)))
+born c first second = rw (first, second) refl
 
-views : (are_same (1 ∷ 2 ∷ []) (1 ∷ 2 ∷ []) ≡ true) × (are_same (1 ∷ []) (1 ∷ 2 ∷ []) ≡ false)
-views = (refl, refl)
+no_room : (c : Content) → live_words_of c ≡ 7 → live_words_of (newly c) ≡ 10 → does (within 11) table f (Live 0 form.Plain) (state c (with_vectors Empty Empty (pos 0))) ≡ Traps trap.Cells
+no_room c first second = rw (first, second) refl
+
+ended : (c : Content) → at c.objects 1 ≡ Some (single 1 4) → at c.objects 3 ≡ Some three → does (within 9) table f (End (0 ∷ [])) (state c (with_vectors (Named 1) Empty (pos 0)))
+    ≡ Next (state (without 1 (without 3 c)) (with_vectors Empty Empty (pos 0)))
+ended c owner held = rw (owner, held) refl
+
+-- ---- Move: the buffer of the one goes to the other, and what that had ends
+
+moved : (c : Content) → at c.objects 1 ≡ Some (single 1 4) → at c.objects 2 ≡ Some (single 1 5) → at c.objects 3 ≡ Some three → does (within 9) table f (Move (object_named 0) 1) (state c (with_vectors (Named 1) (Named 2) (pos 0)))
+    ≡ Next (state (with_object 1 (single 1 5) (without 3 (with_object 2 (single 1 0) c))) (with_vectors (Named 1) (Named 2) (pos 0)))
+moved c to from held =
+    let other : at (with_object 2 (single 1 0) c).objects 1 ≡ Some (single 1 4) = at-set_other c.objects 2 1 (single 1 0) (λ e. omega (arith, e)) ∙ to in
+    let old : at (with_object 2 (single 1 0) c).objects 3 ≡ Some three = at-set_other c.objects 2 3 (single 1 0) (λ e. omega (arith, e)) ∙ held in
+    let left : at (without 3 (with_object 2 (single 1 0) c)).objects 1 ≡ Some (single 1 4) = at-unset_other (with_object 2 (single 1 0) c).objects 3 1 (λ e. omega (arith, e)) ∙ other in
+    rw (to, from, other, old, left) refl
+
+-- a string's buffer has another number then, so what pointed to its characters dangles
+string_taken : (c : Content) → at c.objects 3 ≡ Some three → taken (Text (id 3)) (owner_word (Some 3) ∷ []) c ≡ (owner_word (Some c.births) ∷ [], with_rename 3 three c)
+string_taken c held = rw held refl
+
+-- ---- Make
+
+made_null : (c : Content) → at c.objects 1 ≡ Some (single 11 4) → at c.objects 3 ≡ Some (single 11 7) → does (within 9) table f (Make (whole 2) made.Null) (state c (with_pointer (Named 1)))
+    ≡ Next (state (wrote_spot (first_of 1) (owner_word None ∷ []) (without 3 c)) (with_pointer (Named 1)))
+made_null c owner held = rw (owner, held) refl
+
+-- the new target is there before the old one ends
+made_of : (c : Content) → live_words_of c ≡ 7 → does (within 10) table f (Make (whole 2) (made.Of 4)) (state c (with_pointer (Named 1)))
+    ≡ Next (remade (Unique (id 11) Single) (first_of 1) (c.births, wrote c.births 0 0 (9 ∷ []) (resized_at c.births 1 0 (with_birth (id 11) 1 1 c))) (state c (with_pointer (Named 1))))
+made_of c full = rw full refl
