@@ -35,9 +35,9 @@ pub fn joined_line(alloc: Global, text: &str) -> Result<Vec<u8>, Refusal> {
 
 fn answered(alloc: Global, question: &str) -> Result<Vec<u8>, Refusal> {
     let words = words_of(alloc, question)?;
-    let wanted = wanted(&words)?;
-    let by_sets = joined::<SetRows>(alloc, wanted)?;
-    let by_bits = joined::<BitRows>(alloc, wanted)?;
+    let wanted = question_of(&words)?;
+    let by_sets = joined_twice::<SetRows>(alloc, wanted)?;
+    let by_bits = joined_twice::<BitRows>(alloc, wanted)?;
     let mut line = question.as_bytes().to_vec(alloc)?;
     line.push(b':')?;
     push_pairs(alloc, &by_sets.pairs, &mut line)?;
@@ -53,7 +53,7 @@ fn answered(alloc: Global, question: &str) -> Result<Vec<u8>, Refusal> {
     Ok(line)
 }
 
-fn wanted(words: &[&str]) -> Result<Wanted, Refusal> {
+fn question_of(words: &[&str]) -> Result<Wanted, Refusal> {
     if !fits("_ _ from _ _ into _ _", words) {
         return Err(Refusal::NoForm);
     }
@@ -72,7 +72,7 @@ fn pair(word: &str) -> Result<(u32, u32), Refusal> {
     }
 }
 
-fn joined<R: Rows>(alloc: Global, wanted: Wanted) -> Result<Joined, Refusal> {
+fn joined_twice<R: Rows>(alloc: Global, wanted: Wanted) -> Result<Joined, Refusal> {
     let from = row_with::<R>(alloc, wanted, wanted.from)?;
     let mut into = row_with::<R>(alloc, wanted, wanted.into)?;
     let gained = from.join_into(&mut into)?;
