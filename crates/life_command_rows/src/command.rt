@@ -29,7 +29,7 @@ impl Judge for Commands {
     ];
 
     fn differences(alloc: Global, row: &Row) -> Result<String, RowFault> {
-        let answer = answer(alloc, row)?;
+        let answer = run(alloc, row)?;
         let mut told = String::new(alloc);
         compare_all(&mut told, row, &answer)?;
         Ok(told)
@@ -51,7 +51,7 @@ struct Answer {
     err: MemSink,
 }
 
-fn answer(alloc: Global, row: &Row) -> Result<Answer, RowFault> {
+fn run(alloc: Global, row: &Row) -> Result<Answer, RowFault> {
     let mut files = files(alloc, row)?;
     let room = room(&row.numbers(alloc, "room on out")?);
     let mut out = sink(alloc, row, "writes to out", room)?;
