@@ -1,4 +1,5 @@
 -- A core program that passes no limit is within those that the rules ask for.
+use Rattle.life_core.specs.ByValue.{calls_by_value}
 use Rattle.std.proofs.Common.{◌≡◌, ◌≤◌, ◌<◌, ◌^◌, ℕ, zero, suc, ◌+◌, Bool, true, false, if◌then◌else◌, nat_lt, List, [], ◌∷◌, Option, None, Some, arith, length, refl, subst, sym, slice_get}
 use Rattle.std.specs.Prelude.{option_map}
 use Rattle.std.proofs.lemmas.Bool.Decides.{nat_tests}
@@ -20,7 +21,6 @@ use Rattle.life_elab.specs.Over.{first_of, over_function, over_functions, passes
 use Rattle.life_elab.specs.Programs.{Functions as Written, around, core_program, functions, with_function}
 use Rattle.life_typed.specs.Programs.{FunctionForm, ProgramForm}
 use Rattle.life_fix.specs.Programs.{IsProgramWithinLimits}
-use Rattle.life_proper.specs.Plain.{IsPlainProgram}
 use Rattle.life_proper.specs.ResultsWritten.{WritesResults}
 use Rattle.life_proper.specs.WellFormedPrograms.{IsWellFormedProgram}
 use Rattle.life_pset.specs.Elements.{AreShort, IsWithinLimits, elements_of, locations_of}
@@ -102,13 +102,12 @@ module _ (p : ProgramForm) (core : Program) (is : core ≡ core_program p) (none
   translated_within = subst IsProgramWithinLimits (sym is) its_limits
 
   -- so it is whole
-  pub translated_whole : IsProperProgram (core_program p) → IsWellFormedProgram (core_program p) → WritesResults (core_program p) → IsPlainProgram (core_program p) → IsWholeProgram core
+  pub translated_whole : IsProperProgram (core_program p) → IsWellFormedProgram (core_program p) → WritesResults (core_program p) → calls_by_value (core_program p) ≡ true → IsWholeProgram core
   translated_whole proper formed written plain = subst IsWholeProgram (sym is) (record {
     few = omega (arith, its_limits.few);
     points = few_points (core_program p).types (core_program p).functions its_limits.each;
     proper = proper;
     well_formed = formed;
     results_written = written;
-    longs = plain.longs;
-    by_value = plain.by_value;
+    by_value = plain;
   })

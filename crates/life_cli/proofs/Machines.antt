@@ -5,7 +5,7 @@ use Rattle.std.proofs.lemmas.Bool.Decides.{nat_tests}
 use Rattle.std.proofs.lemmas.Option.{IfSome_then, slice_get_within}
 use Rattle.life_base.specs.Edges.{AppendsFront}
 use Rattle.life_core.specs.Function.{Function, Program}
-use Rattle.life_core.specs.Limits.{HaveFewPoints, HaveLongNumbers}
+use Rattle.life_core.specs.Limits.{HaveFewPoints}
 use Rattle.life_core.specs.declared.program.FnId.{FnId}
 use Rattle.life_interp.specs.Runs.{RunEnds}
 use Rattle.life_interp.specs.Walking.{Sunk, Takes}
@@ -37,9 +37,6 @@ is_not_less : (a b : ℕ) → b ≤ a → nat_lt a b ≡ false
 is_not_less a b h = grind (arith, nat_tests)
 
 -- ---- what the machine asks of a whole program
-
-pub machine_longs : (p : Program) → IsWholeProgram p → HaveLongNumbers p.functions
-machine_longs p whole = whole.longs
 
 pub machine_points : (p : Program) → IsWholeProgram p → HaveFewPoints p.functions
 machine_points p whole = whole.points

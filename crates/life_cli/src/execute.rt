@@ -51,7 +51,7 @@ pub fn execute<O: Sink>(
 }
 
 // Runs the program from the function with this number.
-#[tactic(auto, using(crate::proofs::Machines::machine_longs, crate::proofs::Machines::machine_points))]
+#[tactic(auto, using(crate::proofs::Machines::machine_points))]
 fn run_from<O: Sink>(
     alloc: Global,
     options: RunOptions,

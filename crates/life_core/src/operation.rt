@@ -20,8 +20,8 @@ pub enum Operator {
 /// What a register of a value type is given.
 #[derive(Clone, Copy, Debug, PartialEq, Eq)]
 pub enum Operation {
-    /// The number of a literal, below 2^63.
-    Number(u64),
+    /// The number of a literal.
+    Number(i64),
     /// The value of the register with this number, converted to the type of the register that is
     /// written (ISO/IEC 14882:2017 [conv.integral], [conv.bool]).
     Convert(u32),

@@ -1,5 +1,6 @@
 -- Assignments and steps, part by part.
 use Rattle.std.proofs.Common.{◌≡◌, ℕ, Option, None, Some, sym, ap, ◌∙◌}
+use Rattle.std.specs.Prelude.{pos}
 use Rattle.life_types.specs.declared.place.Place.{Place}
 use Rattle.life_types.specs.declared.ty.Ty.{Ty}
 use Rattle.life_tree.specs.declared.operator.StepOperator.{StepOperator}
@@ -21,15 +22,15 @@ pub followed : {y z : State} (x : State) → y ≡ z → x ≡ y → x ≡ z
 followed x e is = is ∙ e
 
 pub stepped_gives : (a : Around) (target : Typed) (operator : StepOperator) (place : Place) (t common : Ty) (s reached took made after : State) (at from : Operand) (l r : ℕ) (by : Operator)
-    → common ≡ t → operand a (whole target) s ≡ gives at reached → from ≡ at → held target from common reached ≡ gives l took → computed None common place (constant 1) took ≡ gives r made
+    → common ≡ t → operand a (whole target) s ≡ gives at reached → from ≡ at → held target from common reached ≡ gives l took → computed None common place (constant (pos 1)) took ≡ gives r made
     → by ≡ step_operator operator → after ≡ put_back target at common place (operation.Binary by l r) made → after ≡ stepped a target operator place t s
 stepped_gives a target operator place t common s reached took made after at from l r by types first copy second third operates last =
     let same : held target at common reached ≡ gives l took = ap (λ (o : Operand). held target o common reached) (sym copy) ∙ second in
     last
     ∙ ap (λ (o : Operator). put_back target at common place (operation.Binary o l r) made) operates
     ∙ sym (ap (λ (w : Gives ℕ). put_back target at common place (operation.Binary (step_operator operator) l w.given) w.state) third)
-    ∙ sym (ap (λ (w : Gives ℕ). computed None common place (constant 1) w.state >> λ r s. put_back target at common place (operation.Binary (step_operator operator) w.given r) s) same)
-    ∙ sym (ap (λ (w : Gives Operand). held target w.given common w.state >> λ l s. computed None common place (constant 1) s >> λ r s. put_back target w.given common place (operation.Binary (step_operator operator) l r) s) first)
+    ∙ sym (ap (λ (w : Gives ℕ). computed None common place (constant (pos 1)) w.state >> λ r s. put_back target at common place (operation.Binary (step_operator operator) w.given r) s) same)
+    ∙ sym (ap (λ (w : Gives Operand). held target w.given common w.state >> λ l s. computed None common place (constant (pos 1)) s >> λ r s. put_back target w.given common place (operation.Binary (step_operator operator) l r) s) first)
     ∙ ap (λ (u : Ty). stepped a target operator place u s) types
 
 pub same_common : (x : TypedExpr) (own common : Ty) → own ≡ own_type (out-TypedExpr x).ty → common ≡ promoted own own → common ≡ promoted (type_in (typed_view x)) (type_in (typed_view x))

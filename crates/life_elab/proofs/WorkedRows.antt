@@ -1,6 +1,6 @@
 -- Programs worked out by hand.
 use Rattle.std.proofs.Common.{◌≡◌, ℕ, false, List, [], ◌∷◌, Some, None, map, refl}
-use Rattle.std.specs.Prelude.{◌++◌}
+use Rattle.std.specs.Prelude.{◌++◌, pos}
 use Rattle.life_types.specs.declared.place.Place.{Place}
 use Rattle.life_types.specs.declared.ty.Ty.{Ty}
 use Rattle.life_types.specs.declared.ty.Ty.TheVariants.{Bool, Int, Raw}
@@ -94,7 +94,7 @@ places p = map (λ (f : Function). map (λ (l : Local). l.place) f.locals) p.fun
 -- local 0 is the result, 1 the register of the 4, 2 is x and 3 is p
 abbrev core : Tree
 core =
-    Then (Acts (at 22) (Eval 1 (Number 4)))
+    Then (Acts (at 22) (Eval 1 (Number (pos 4))))
     (Then (Acts (at 18) (Live 2 Plain))
     (Then (Acts (at 18) (Save (object_named 2) 1))
     (Then (Acts (at 34) (Aim (operands.whole 3) (Aimed (object_named 2))))
@@ -160,12 +160,12 @@ loop_program = record { names = []; texts = []; types = base_types; structs = []
 -- local 0 is b, 1 the register of the 0, and 2 is i
 abbrev loop_core : Tree
 loop_core = trees (
-    Acts (at 31) (Eval 1 (Number 0))
+    Acts (at 31) (Eval 1 (Number (pos 0)))
     ∷ Acts (at 27) (Live 2 Plain)
     ∷ Acts (at 27) (Save (object_named 2) 1)
     ∷ Turns
     (Then
-    (trees (Acts (at 34) (Load 3 (object_named 2)) ∷ Acts (at 38) (Eval 4 (Number 2)) ∷ Acts (at 36) (Eval 5 (Binary Less 3 4)) ∷ []))
+    (trees (Acts (at 34) (Load 3 (object_named 2)) ∷ Acts (at 38) (Eval 4 (Number (pos 2))) ∷ Acts (at 36) (Eval 5 (Binary Less 3 4)) ∷ []))
     (Asks (at 36) (NonZero 5)))
     (trees (
     Choice
@@ -177,7 +177,7 @@ loop_core = trees (
     ∷ []))
     (trees (
     Acts (at 43) (Load 8 (object_named 2))
-    ∷ Acts (at 41) (Eval 9 (Number 1))
+    ∷ Acts (at 41) (Eval 9 (Number (pos 1)))
     ∷ Acts (at 41) (Eval 10 (Binary Add 8 9))
     ∷ Acts (at 41) (Save (object_named 2) 10)
     ∷ []))

@@ -1,5 +1,5 @@
 -- Assignments, steps and calls.
-use Rattle.std.specs.Prelude.{ℕ, Option, Some, None, if◌then◌else◌}
+use Rattle.std.specs.Prelude.{ℕ, Option, Some, None, if◌then◌else◌, pos}
 use Rattle.life_types.specs.declared.place.Place.{Place}
 use Rattle.life_types.specs.declared.ty.Ty.{Ty}
 use Rattle.life_types.specs.declared.ty.Ty.TheVariants as ty
@@ -76,7 +76,7 @@ step_operator step.Decrement = core.Subtract
 abbrev pub stepped : Around → (target : Typed) → StepOperator → Place → Ty → State → State
 stepped a target operator place t s =
     operand a (whole target) s >> λ at s. held target at t s >> λ l s.
-    computed None t place (constant 1) s >> λ r s. put_back target at t place (operation.Binary (step_operator operator) l r) s
+    computed None t place (constant (pos 1)) s >> λ r s. put_back target at t place (operation.Binary (step_operator operator) l r) s
 
 -- ---- calls whose answer is thrown away
 

@@ -1,5 +1,5 @@
 -- Statements.
-use Rattle.std.specs.Prelude.{ℕ, List, [], ◌∷◌, Option, Some, None, length}
+use Rattle.std.specs.Prelude.{ℕ, List, [], ◌∷◌, Option, Some, None, length, pos}
 use Rattle.life_types.specs.declared.place.Place.{Place}
 use Rattle.life_types.specs.declared.ty.Ty.TheVariants as ty
 use Rattle.life_typed.specs.TypedForm.{Typed}
@@ -31,7 +31,7 @@ looped test body step s =
 
 -- a condition that is left out always holds
 abbrev pub condition_or_true : Around → (keyword : Place) → Option Typed → State → Gives Tree
-condition_or_true a keyword None s = non_zero keyword (computed None ty.Bool keyword (constant 1)) s
+condition_or_true a keyword None s = non_zero keyword (computed None ty.Bool keyword (constant (pos 1))) s
 condition_or_true a keyword (Some e) s = condition a (form.whole e) s
 
 abbrev pub started : Around → Option ForStartForm → State → State

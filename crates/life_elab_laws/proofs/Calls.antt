@@ -9,14 +9,13 @@ use Rattle.life_types.specs.declared.ty.TyId.{TyId}
 use Rattle.life_built.specs.Built.{is_void}
 use Rattle.life_typed.specs.BaseTypes.{is_value, type_at}
 use Rattle.life_typed.specs.Programs.{FunctionForm}
-use Rattle.life_core.specs.ByValue.{is_pointer, takes_pointer}
+use Rattle.life_core.specs.ByValue.{is_by_value, is_pointer, takes_pointer}
 use Rattle.life_core.specs.Function.{Function}
 use Rattle.life_core.specs.Operands.{Argument, Value, whole}
 use Rattle.life_core.specs.Proper.{Holding, AnObject, ANumber, Blank, parameter_sorts, result_sort, sort_of}
 use Rattle.life_proper.specs.declared.known.Known.{Known}
 use Rattle.life_proper.specs.declared.known.Known.TheVariants as known
 use Rattle.life_proper.specs.Knowing.{known_as, known_at, same}
-use Rattle.life_proper.specs.Plain.{is_plain_step}
 use Rattle.life_proper.specs.ReadyKnown.{are_arguments_ready, holds, is_call_ready, is_local, is_sort, is_step_ready, is_target_ready}
 use Rattle.life_writer.specs.Calls.{called, called_alone, handed}
 use Rattle.life_writer.specs.Registers.{computed}
@@ -94,7 +93,7 @@ module _ (types : Types) (fs : List Function) (f : Function) where
   taken_plain : (g : ℕ) (table : Types) (of : FunctionForm) → IsCallee table types fs g of → takes_pointer types (slice_get fs g) ≡ false
   taken_plain g table of callee = ap (takes_pointer types) callee.there ∙ ap (list_any is_pointer) callee.takes ∙ no_pointers (parameter_types (Some of))
 
-  call_plain : (g : ℕ) (xs : List Argument) (table : Types) (of : FunctionForm) (r : ℕ) → IsCallee table types fs g of → is_pointer (sort_of types f r) ≡ false → is_plain_step types fs f (called g xs r) ≡ true
+  call_plain : (g : ℕ) (xs : List Argument) (table : Types) (of : FunctionForm) (r : ℕ) → IsCallee table types fs g of → is_pointer (sort_of types f r) ≡ false → is_by_value types fs f (called g xs r) ≡ true
   call_plain g xs table of r callee e = ap not (ap (λ (b : Bool). b || is_pointer (sort_of types f r)) (taken_plain g table of callee) ∙ e)
 
   pub call_ready : (g : ℕ) (xs : List Argument) (n : ℕ) (table : Types) (of : FunctionForm) (r : ℕ) (k : List Known) → IsCallee table types fs g of → is_value (type_at table of.result) ≡ true
@@ -125,7 +124,7 @@ module _ (types : Types) (fs : List Function) (f : Function) where
       ap (λ (o : Option Function). is_call_ready types f k o None xs) callee.there
       ∙ and_from (are_arguments_ready k (map known_as (parameter_sorts types callee.core)) xs) true (arguments_ready g xs n table of k callee numbers) refl
 
-  pub alone_plain : (g : ℕ) (xs : List Argument) (table : Types) (of : FunctionForm) → IsCallee table types fs g of → is_plain_step types fs f (called_alone g xs) ≡ true
+  pub alone_plain : (g : ℕ) (xs : List Argument) (table : Types) (of : FunctionForm) → IsCallee table types fs g of → is_by_value types fs f (called_alone g xs) ≡ true
   alone_plain g xs table of callee = ap not (ap (λ (b : Bool). b || false) (taken_plain g table of callee))
 
   pub born_ready : (g : ℕ) (xs : List Argument) (n : ℕ) (table : Types) (of : FunctionForm) (x : ℕ) (k : List Known) → IsCallee table types fs g of → is_value (type_at table of.result) ≡ true
@@ -137,5 +136,5 @@ module _ (types : Types) (fs : List Function) (f : Function) where
       (ap (λ (h : Holding). is_target_ready types f k (known_as h) (Some (whole x))) (callee.number v)
       ∙ or_right (is_local types f (whole x) ANumber) _ (and_from (is_local types f (whole x) AnObject) (holds k x Blank) (ap (λ (h : Holding). is_sort h AnObject) e) (ap (λ (b : Known). same b known.Blank) blank)))
 
-  pub born_plain : (g : ℕ) (xs : List Argument) (table : Types) (of : FunctionForm) (x : ℕ) → IsCallee table types fs g of → sort_of types f x ≡ AnObject → is_plain_step types fs f (called g xs x) ≡ true
+  pub born_plain : (g : ℕ) (xs : List Argument) (table : Types) (of : FunctionForm) (x : ℕ) → IsCallee table types fs g of → sort_of types f x ≡ AnObject → is_by_value types fs f (called g xs x) ≡ true
   born_plain g xs table of x callee e = call_plain g xs table of x callee (ap is_pointer e)

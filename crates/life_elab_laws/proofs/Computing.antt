@@ -1,4 +1,5 @@
 -- What is written for assignments that compute, and for steps, is ready.
+use Rattle.std.specs.Prelude.{pos}
 use Rattle.std.proofs.Common.{◌≡◌, ◌≤◌, ℕ, Bool, true, false, cond, Contains, List, length, None, refl, subst, arith}
 use Rattle.std.proofs.lemmas.Bool.{and_from}
 use Rattle.life_types.specs.Types.{Types}
@@ -132,8 +133,8 @@ module _ (types : Types) (fs : List Function) (f : Function) where
         let x = held target u.given t u.state in
         let second = held_made target u.given (length u.state.locals) t u.state (own_value target.ty n) v opened in
         let later = opened_later u.state x.state opened second.grown in
-        let y = computed None t place (constant_step 1) x.state in
-        let third = constant_made types fs f None t place 1 x.state v tt (omega arith) in
+        let y = computed None t place (constant_step (pos 1)) x.state in
+        let third = constant_made types fs f None t place (pos 1) x.state v tt in
         let P : List Known → Type 0 = λ k. IsNumber x.given (length x.state.locals) k × IsPlace u.given (length x.state.locals) k in
         and_then types fs f None s u _ Always (IsPlace u.given (length u.state.locals)) IsPlace Done stands.opened first
         (and_given types fs f None u.state x _ (IsPlace u.given (length u.state.locals)) P IsNumber Done opened second

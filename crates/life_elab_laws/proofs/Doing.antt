@@ -2,6 +2,7 @@
 use Rattle.std.proofs.Common.{◌≡◌, ◌≤◌, ℕ, Bool, true, false, List, [], ◌∷◌, ◌++◌, length, take, Option, Some, None, refl, sym, ap, ◌∙◌, subst, arith, append_assoc, append-nil}
 use Rattle.life_types.specs.Types.{Types}
 use Rattle.life_types.specs.declared.place.Place.{Place}
+use Rattle.life_core.specs.ByValue.{is_by_value}
 use Rattle.life_core.specs.Function.{Function}
 use Rattle.life_core.specs.Shape.{is_statement, tests_straight}
 use Rattle.life_core.specs.Step.{Step}
@@ -9,7 +10,7 @@ use Rattle.life_core.specs.Tree.{Tree, Acts, trees}
 use Rattle.life_proper.specs.declared.known.Known.{Known}
 use Rattle.life_proper.specs.Checking.{Flow, flow}
 use Rattle.life_proper.specs.Knowing.{State as Knowing}
-use Rattle.life_proper.specs.Plain.{is_plain_step, is_plain_tree}
+use Rattle.life_proper.specs.Plain.{is_plain_tree}
 use Rattle.life_proper.specs.ReadyKnown.{is_step_ready, known_after}
 use Rattle.life_proper.specs.ResultsKnown.{ReturnsKnown}
 use Rattle.life_well_typed.specs.Visible.{Visible}
@@ -179,7 +180,7 @@ module _ (types : Types) (fs : List Function) (f : Function) where
 
   pub acted : (place : Place) (i : Step) (s : State) (P : List Known → Type 0)
       → (Begins types f s → (k : List Known) → Alive types fs f s k → P k → is_step_ready types fs f k i ≡ true)
-      → ((k : List Known) → P k → Keeps types fs f (length s.locals) None k (known_after types f i k)) → is_plain_step types fs f i ≡ true
+      → ((k : List Known) → P k → Keeps types fs f (length s.locals) None k (known_after types f i k)) → is_by_value types fs f i ≡ true
       → Makes types fs f None s (gives tt (emit place i s)) P (λ (x : Unit {0}) n k. Unit {0})
   acted place i s P ready after plain = record {
     grown = record {

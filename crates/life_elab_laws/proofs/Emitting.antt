@@ -7,6 +7,7 @@ use Rattle.life_types.specs.declared.place.Place.{Place}
 use Rattle.life_types.specs.declared.ty.NameId.{NameId}
 use Rattle.life_types.specs.declared.ty.Ty.{Ty}
 use Rattle.life_typed.specs.BaseTypes.{is_value}
+use Rattle.life_core.specs.ByValue.{is_by_value}
 use Rattle.life_core.specs.Function.{Function}
 use Rattle.life_core.specs.Proper.{Holding, ANumber, held_if, sort_of}
 use Rattle.life_core.specs.Step.{Step}
@@ -16,7 +17,6 @@ use Rattle.life_core.specs.declared.program.LocalKind.{LocalKind}
 use Rattle.life_core.specs.declared.program.LocalKind.TheVariants.{Register}
 use Rattle.life_proper.specs.declared.known.Known.{Known}
 use Rattle.life_proper.specs.Knowing.{known_as, known_at}
-use Rattle.life_proper.specs.Plain.{is_plain_step}
 use Rattle.life_proper.specs.ReadyKnown.{is_step_ready, known_after}
 use Rattle.life_writer.specs.Registers.{new_register, target}
 use Rattle.life_writer.specs.Writing.{State, Gives, emit, gives}
@@ -129,7 +129,7 @@ module _ (types : Types) (fs : List Function) (f : Function) where
       → Targets h into s w
       → ((r : ℕ) → sort_of types f r ≡ h → (k : List Known) → Alive types fs f s k → P k → is_step_ready types fs f k (step r) ≡ true)
       → ((r : ℕ) → sort_of types f r ≡ h → (k : List Known) → known_after types f (step r) k ≡ slice_set k r (known_as h))
-      → ((r : ℕ) → sort_of types f r ≡ h → is_plain_step types fs f (step r) ≡ true)
+      → ((r : ℕ) → sort_of types f r ≡ h → is_by_value types fs f (step r) ≡ true)
       → ((k : List Known) → w.given < length w.state.locals → known_at k w.given ≡ known_as h → sort_of types f w.given ≡ h → O x (length w.state.locals) k)
       → Makes types fs f into s (gives x (emit place (step w.given) w.state)) P O
   emitted into s w h place step x P O t ready after plain given = record {

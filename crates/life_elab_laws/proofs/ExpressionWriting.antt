@@ -1,5 +1,6 @@
 -- What is written for a well typed expression is ready: its value, its place, what it gives a pointer, and its condition.
-use Rattle.std.proofs.Common.{◌≡◌, ◌<◌, ◌^◌, ◌⊎◌, inl, inr, ℕ, zero, suc, Bool, true, false, ◌||◌, cond, List, [], ◌∷◌, Contains, length, slice_get, Option, Some, None, refl, sym, ap, ◌∙◌, subst, arith, true≢false}
+use Rattle.std.specs.Prelude.{pos}
+use Rattle.std.proofs.Common.{◌≡◌, ◌⊎◌, inl, inr, ℕ, zero, suc, Bool, true, false, ◌||◌, cond, List, [], ◌∷◌, Contains, length, slice_get, Option, Some, None, refl, sym, ap, ◌∙◌, subst, true≢false}
 use Rattle.std.proofs.lemmas.Bool.{and_parts, false≢true}
 use Rattle.life_types.specs.Trees.{HasPartsBelow}
 use Rattle.life_types.specs.Types.{Types}
@@ -370,10 +371,6 @@ module _ (a : Around) (visible : List ℕ) (types : Types) (fs : List Function) 
       named (ty.Reference target constant) h = value_place (sym v ∙ ap (λ (y : Typed). y.category) h)
       named _ h = value_place (sym v ∙ ap (λ (y : Typed). y.category) h)
 
-  few : (x : Bool) → values.truth x < 2 ^ 63
-  few true = omega arith
-  few false = omega arith
-
   negated_made : (place : Place) (t : Ty) (first : State → Gives ℕ) (into : Option ℕ) (s : State) → is_value t ≡ true → IsInto s into → Standing s → Valued None s (first s)
       → Valued into s (computed into t place (values.negated (first s).given) (first s).state)
   negated_made place t first into s v wanted stands made =
@@ -409,9 +406,9 @@ module _ (a : Around) (visible : List ℕ) (types : Types) (fs : List Function) 
 
     made_made : (form : Form) (e : Typed) → is_built_form form ≡ true → MadeOf e form → e.category ≡ category.Value → is_number e.ty ≡ true → (place : Place) → decision a form place ≡ None → (into : Option ℕ) (s : State) → IsInto s into → Standing s
         → Valued into s (made a form place (own_type e.ty) into s)
-    made_made (number m) e b h is n place none into s wanted stands = constant_made types fs f into (own_type e.ty) place m s (own_value e.ty n) wanted h.1
-    made_made (character c) e b h is n place none into s wanted stands = constant_made types fs f into (own_type e.ty) place c s (own_value e.ty n) wanted h.1
-    made_made (boolean x) e b h is n place none into s wanted stands = constant_made types fs f into (own_type e.ty) place (values.truth x) s (own_value e.ty n) wanted (few x)
+    made_made (number m) e b h is n place none into s wanted stands = constant_made types fs f into (own_type e.ty) place (values.long m) s (own_value e.ty n) wanted
+    made_made (character c) e b h is n place none into s wanted stands = constant_made types fs f into (own_type e.ty) place (pos c) s (own_value e.ty n) wanted
+    made_made (boolean x) e b h is n place none into s wanted stands = constant_made types fs f into (own_type e.ty) place (values.truth x) s (own_value e.ty n) wanted
     made_made null e b h is n place none into s wanted stands = absurd (false≢true (sym (ap is_number h.0) ∙ n))
     made_made (local x) e b h is n place none into s wanted stands = absurd (variable_category x e (slice_get a.function.locals x) h.1 is)
     made_made (call g arguments closing) e b h is n place none into s wanted stands =

@@ -1,4 +1,5 @@
 -- What is written for a well typed statement is well formed: by recursion over statements.
+use Rattle.std.specs.Prelude.{pos}
 use Rattle.std.proofs.Common.{◌≡◌, ℕ, Bool, true, false, ◌&&◌, List, [], drop, length, nat_lt, reverse, slice_get, Option, Some, None, refl}
 use Rattle.std.proofs.lemmas.Bool.{and_parts, false≢true}
 use Rattle.life_types.specs.Types.{Types}
@@ -60,7 +61,7 @@ module _ (a : Around) (types : Types) (texts : ℕ) (fs : List Function) (f : Fu
   asked_or_true : (v : Visible) (keyword : Place) (e : Option Typed) (s : State) → is_built_if_any e ≡ true → DecidesIfAny a.program a.function.locals a.function.result v.visible e → Follows types fs f a v s
       → Asking types texts fs f s (condition_or_true a keyword e s)
   asked_or_true v keyword None s b h follows =
-      non_zero_writes types texts fs f keyword ty.Bool (computed None ty.Bool keyword (constant 1)) s (constant_writes types texts fs f None ty.Bool keyword 1 (with_code [] s) refl tt)
+      non_zero_writes types texts fs f keyword ty.Bool (computed None ty.Bool keyword (constant (pos 1))) s (constant_writes types texts fs f None ty.Bool keyword (pos 1) (with_code [] s) refl tt)
   asked_or_true v keyword (Some e) s b h follows = asked v e s b h follows
 
   step_forms : (v : Visible) (it : Option SimpleForm) (s : State) → is_built_step it ≡ true → IsSimpleIfAny a.program a.function.locals a.function.result v.visible it → Follows types fs f a v s → Forms types texts fs f s (simple_if a it s)

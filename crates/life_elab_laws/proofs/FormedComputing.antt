@@ -1,4 +1,5 @@
 -- Assignments that compute, and steps, are well formed, where the place that they write isn't const.
+use Rattle.std.specs.Prelude.{pos}
 use Rattle.std.proofs.Common.{◌≡◌, ℕ, true, false, not, List, slice_get, Some, None, refl, sym, ap, ◌∙◌, subst}
 use Rattle.std.proofs.lemmas.Bool.{and_from}
 use Rattle.life_types.specs.Types.{Types}
@@ -134,10 +135,10 @@ module _ (a : Around) (visible : List ℕ) (types : Types) (texts : ℕ) (fs : L
       let u = own_type target.ty in
       let at = operand a (whole_form target) s in
       let l = held target at.given t at.state in
-      let r = computed None t place (constant_step 1) l.state in
+      let r = computed None t place (constant_step (pos 1)) l.state in
       let first = target_writes target s b h is stands in
       let second = held_writes types texts fs f target at.given t at.state is.worth v in
-      let third = constant_writes types texts fs f None t place 1 l.state v tt in
+      let third = constant_writes types texts fs f None t place (pos 1) l.state v tt in
       let P : Type 0 = IsPlaceOf types texts fs f u false at.given in
       let L : Type 0 = IsNumberOf types texts fs f t l.given in
       and_writes types texts fs f s at _ Freely P (IsPlaceOf types texts fs f u false) (Done types texts fs f) first

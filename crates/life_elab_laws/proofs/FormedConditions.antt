@@ -1,4 +1,5 @@
 -- Conditions are well formed, and so are values that are decided by them.
+use Rattle.std.specs.Prelude.{ℤ, pos}
 use Rattle.std.proofs.Common.{◌≡◌, ℕ, Bool, true, false, ◌&&◌, cond, List, [], ◌∷◌, ◌++◌, Option, Some, None, refl}
 use Rattle.std.proofs.lemmas.Bool.{and_from, or_left}
 use Rattle.life_types.specs.Types.{Types}
@@ -93,7 +94,7 @@ module _ (types : Types) (texts : ℕ) (fs : List Function) (f : Function) where
 
   -- ---- an answer in a register
 
-  answer_formed : (place : Place) (n : ℕ) (t : Ty) (r : ℕ) → IsNumberOf types texts fs f t r → IsFormedTree (answer place n r)
+  answer_formed : (place : Place) (n : ℤ) (t : Ty) (r : ℕ) → IsNumberOf types texts fs f t r → IsFormedTree (answer place n r)
   answer_formed place n t r e = and_from (is_well_formed_step types texts fs f (constant n r)) true (eval_formed types texts fs f t r (operation.Number n) e refl) refl
 
   pub by_branch_writes : (into : Option ℕ) (t : Ty) (place : Place) (condition : State → Gives Tree) (s : State) → is_value t ≡ true → IsIntoOf t s into
@@ -104,14 +105,14 @@ module _ (types : Types) (texts : ℕ) (fs : List Function) (f : Function) where
       made : (w : Gives ℕ) → Writes types texts fs f (condition s).state w Freely (IsNumberOf types texts fs f t)
           → Writes types texts fs f s (branched place (condition s).given w.given w.state) Freely (IsNumberOf types texts fs f t)
       made w into = record {
-        grown = grows_coded s w.state (w.state.code ++ Choice (condition s).given (answer place 1 w.given) (answer place 0 w.given) ∷ []) (grows_then s (condition s).state w.state test.grown into.grown);
+        grown = grows_coded s w.state (w.state.code ++ Choice (condition s).given (answer place (pos 1) w.given) (answer place (pos 0) w.given) ∷ []) (grows_then s (condition s).state w.state test.grown into.grown);
         formed = λ b r c.
             let here : Begins types f w.state = record { locals = b.locals; table = b.table } in
             let before = begins_before types f (condition s).state w.state into.grown here in
             let e = into.gives here tt in
-            formed_more types texts fs f w.state.code (Choice (condition s).given (answer place 1 w.given) (answer place 0 w.given)) (into.formed here tt (test.formed before tt c))
+            formed_more types texts fs f w.state.code (Choice (condition s).given (answer place (pos 1) w.given) (answer place (pos 0) w.given)) (into.formed here tt (test.formed before tt c))
             (and_from (is_well_formed_tree types texts fs f (condition s).given) _ (test.gives before tt)
-            (and_from (is_well_formed_tree types texts fs f (answer place 1 w.given)) (is_well_formed_tree types texts fs f (answer place 0 w.given)) (answer_formed place 1 t w.given e) (answer_formed place 0 t w.given e)));
+            (and_from (is_well_formed_tree types texts fs f (answer place (pos 1) w.given)) (is_well_formed_tree types texts fs f (answer place (pos 0) w.given)) (answer_formed place (pos 1) t w.given e) (answer_formed place (pos 0) t w.given e)));
         gives = λ b r. into.gives (record { locals = b.locals; table = b.table }) tt;
       }
 

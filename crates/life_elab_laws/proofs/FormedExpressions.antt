@@ -1,4 +1,5 @@
 -- What is written for a well typed expression is well formed: its value, its place, what it gives a pointer, and its condition.
+use Rattle.std.specs.Prelude.{pos}
 use Rattle.std.proofs.Common.{◌≡◌, ◌⊎◌, inl, inr, ℕ, zero, suc, Bool, true, false, ◌&&◌, ◌||◌, cond, List, [], ◌∷◌, ◌++◌, Contains, slice_get, Option, Some, None, Ok, refl, sym, ap, ◌∙◌, subst, unwrap_or}
 use Rattle.std.proofs.lemmas.Bool.{and_from, and_parts, false≢true}
 use Rattle.life_types.specs.Types.{Types}
@@ -400,8 +401,8 @@ module _ (a : Around) (visible : List ℕ) (types : Types) (texts : ℕ) (fs : L
 
     made_writes : (form : Form) (e : Typed) → is_built_form form ≡ true → MadeOf e form → e.category ≡ category.Value → is_number e.ty ≡ true → (place : Place) → decision a form place ≡ None → (into : Option ℕ) (s : State) → IsIntoOf (own_type e.ty) s into → Standing s
         → Valued (own_type e.ty) s (made a form place (own_type e.ty) into s)
-    made_writes (number m) e b h is n place none into s wanted stands = constant_writes types texts fs f into (own_type e.ty) place m s (own_value e.ty n) wanted
-    made_writes (character c) e b h is n place none into s wanted stands = constant_writes types texts fs f into (own_type e.ty) place c s (own_value e.ty n) wanted
+    made_writes (number m) e b h is n place none into s wanted stands = constant_writes types texts fs f into (own_type e.ty) place (values.long m) s (own_value e.ty n) wanted
+    made_writes (character c) e b h is n place none into s wanted stands = constant_writes types texts fs f into (own_type e.ty) place (pos c) s (own_value e.ty n) wanted
     made_writes (boolean x) e b h is n place none into s wanted stands = constant_writes types texts fs f into (own_type e.ty) place (values.truth x) s (own_value e.ty n) wanted
     made_writes null e b h is n place none into s wanted stands = absurd (false≢true (sym (ap is_number h.0) ∙ n))
     made_writes (local x) e b h is n place none into s wanted stands = absurd (variable_category a visible types fs f setting x e (slice_get a.function.locals x) h.1 is)

@@ -1,4 +1,5 @@
 -- Single instructions of expressions are well formed: what computes, converts, reads and points.
+use Rattle.std.specs.Prelude.{ℤ}
 use Rattle.std.proofs.Common.{◌≡◌, ℕ, Bool, true, false, ◌&&◌, cond, List, Option, None, refl, sym, subst}
 use Rattle.std.proofs.lemmas.Bool.{and_from}
 use Rattle.life_types.specs.Types.{Types}
@@ -46,7 +47,7 @@ module _ (types : Types) (texts : ℕ) (fs : List Function) (f : Function) where
       and_from (is_number types f r) (is_operation_of types texts fs f (type_at types f r) o) (number_any types f t r e)
       (subst (λ (u : Ty). is_operation_of types texts fs f u o ≡ true) (number_typed types f t r e) h)
 
-  pub constant_writes : (into : Option ℕ) (t : Ty) (place : Place) (n : ℕ) (s : State) → is_value t ≡ true → IsIntoOf t s into
+  pub constant_writes : (into : Option ℕ) (t : Ty) (place : Place) (n : ℤ) (s : State) → is_value t ≡ true → IsIntoOf t s into
       → Writes types texts fs f s (computed into t place (constant n) s) Freely (IsNumberOf t)
   constant_writes into t place n s v wanted =
       computed_writes types texts fs f into t place (constant n) s Freely v wanted (λ r e h. eval_formed t r (operation.Number n) e refl)

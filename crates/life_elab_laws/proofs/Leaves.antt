@@ -1,12 +1,14 @@
 -- Single instructions that write a register, and what reads and converts.
-use Rattle.std.proofs.Common.{◌≡◌, ◌<◌, ◌^◌, ◌≤◌, ℕ, Bool, true, false, ◌&&◌, cond, List, length, slice_set, Option, None, refl, ap, ◌∙◌, arith}
-use Rattle.std.proofs.lemmas.Bool.{and_from, lt-ltb}
+use Rattle.std.specs.Prelude.{ℤ}
+use Rattle.std.proofs.Common.{◌≡◌, ◌≤◌, ℕ, Bool, true, false, ◌&&◌, cond, List, length, slice_set, Option, None, refl, ap, ◌∙◌, arith}
+use Rattle.std.proofs.lemmas.Bool.{and_from}
 use Rattle.life_types.specs.Trees.{HasPartsBelow}
 use Rattle.life_types.specs.Types.{Types}
 use Rattle.life_types.specs.contracts.ty.TyPartialEq.TheImpl.{ghosts as compared}
 use Rattle.life_types.specs.declared.place.Place.{Place}
 use Rattle.life_types.specs.declared.ty.Ty.{Ty}
 use Rattle.life_typed.specs.BaseTypes.{is_raw, is_value}
+use Rattle.life_core.specs.ByValue.{is_by_value}
 use Rattle.life_core.specs.Function.{Function}
 use Rattle.life_core.specs.Operands.{Location, Operand, Source, Null, Place as Aimed, whole}
 use Rattle.life_core.specs.Proper.{Holding, AnObject, ANumber, APointer, sort_of}
@@ -15,7 +17,6 @@ use Rattle.life_core.specs.declared.operation.Operator.{Operator}
 use Rattle.life_proper.specs.declared.known.Known.{Known}
 use Rattle.life_proper.specs.declared.known.Known.TheVariants as known
 use Rattle.life_proper.specs.Knowing.{known_as, known_at, same}
-use Rattle.life_proper.specs.Plain.{is_plain_step}
 use Rattle.life_proper.specs.ReadyKnown.{holds, is_operand_ready, is_sort, is_source_ready, is_step_ready, known_after}
 use Rattle.life_writer.specs.Pointers.{At, located}
 use Rattle.life_writer.specs.Registers.{as_type, computed, constant, conversion, load, new_register, target}
@@ -61,18 +62,18 @@ module _ (types : Types) (fs : List Function) (f : Function) where
   pub computed_made : (into : Option ℕ) (t : Ty) (place : Place) (step : ℕ → Step) (s : State) (P : List Known → Type 0) → is_value t ≡ true → IsInto s into
       → ((r : ℕ) → sort_of types f r ≡ ANumber → (k : List Known) → Alive types fs f s k → P k → is_step_ready types fs f k (step r) ≡ true)
       → ((r : ℕ) → sort_of types f r ≡ ANumber → (k : List Known) → known_after types f (step r) k ≡ slice_set k r known.Number)
-      → ((r : ℕ) → sort_of types f r ≡ ANumber → is_plain_step types fs f (step r) ≡ true)
+      → ((r : ℕ) → sort_of types f r ≡ ANumber → is_by_value types fs f (step r) ≡ true)
       → Makes types fs f into s (computed into t place step s) P IsNumber
   computed_made into t place step s P v wanted ready after plain =
       emitted types fs f into s (target place into t s) ANumber place step (target place into t s).given P IsNumber (targeted types fs f place t s into v wanted) ready after plain (λ k lt e sort. (lt, e))
 
-  pub constant_made : (into : Option ℕ) (t : Ty) (place : Place) (n : ℕ) (s : State) → is_value t ≡ true → IsInto s into → n < 2 ^ 63
-      → Makes types fs f into s (computed into t place (constant n) s) Always IsNumber
-  constant_made into t place n s v wanted few =
-      computed_made into t place (constant n) s Always v wanted
+  pub constant_made : (into : Option ℕ) (t : Ty) (place : Place) (z : ℤ) (s : State) → is_value t ≡ true → IsInto s into
+      → Makes types fs f into s (computed into t place (constant z) s) Always IsNumber
+  constant_made into t place z s v wanted =
+      computed_made into t place (constant z) s Always v wanted
       (λ r e k alive p. and_from (is_sort (sort_of types f r) ANumber) true (number_sort (sort_of types f r) e) refl)
       (λ r e k. refl)
-      (λ r e. and_from _ true (lt-ltb n (2 ^ 63) few) refl)
+      (λ r e. refl)
 
   pub input_made : (into : Option ℕ) (t : Ty) (place : Place) (s : State) → is_value t ≡ true → IsInto s into
       → Makes types fs f into s (computed into t place values.input s) Always IsNumber

@@ -3,11 +3,12 @@ use Rattle.std.proofs.Common.{◌≡◌, Bool, true, ◌&&◌, List, [], ◌∷�
 use Rattle.std.proofs.lemmas.Bool.{and_from, and_parts}
 use Rattle.life_types.specs.Types.{Types}
 use Rattle.life_types.specs.declared.place.Place.{Place}
+use Rattle.life_core.specs.ByValue.{is_by_value}
 use Rattle.life_core.specs.Function.{Function}
 use Rattle.life_core.specs.Shape.{is_condition, is_statement, is_straight, test_straight, tests_straight}
 use Rattle.life_core.specs.Step.{Step, Test}
 use Rattle.life_core.specs.Tree.{Tree, Skip, Then, Acts, Asks, Both, Either, Negated, Choice, trees}
-use Rattle.life_proper.specs.Plain.{is_plain_step, is_plain_tree}
+use Rattle.life_proper.specs.Plain.{is_plain_tree}
 
 -- a test that holds of two parts where it holds of both
 module _ (P : Tree → Bool) (skip : P Skip ≡ true) (both : (a b : Tree) → P (Then a b) ≡ (P a && P b)) where
@@ -36,8 +37,8 @@ module _ (types : Types) (fs : List Function) (f : Function) where
     plain = all_append (is_plain_tree types fs f) refl (λ a b. refl) c d first.plain second.plain;
   }
 
-  pub fine_acts : (place : Place) (i : Step) → is_plain_step types fs f i ≡ true → IsFine (Acts place i ∷ [])
-  fine_acts place i e = record { statement = refl; straight = refl; tests = refl; plain = and_from (is_plain_step types fs f i) true e refl }
+  pub fine_acts : (place : Place) (i : Step) → is_by_value types fs f i ≡ true → IsFine (Acts place i ∷ [])
+  fine_acts place i e = record { statement = refl; straight = refl; tests = refl; plain = and_from (is_by_value types fs f i) true e refl }
 
   -- .. of a condition
   pub record IsFineTest (t : Tree) : Type 0 where

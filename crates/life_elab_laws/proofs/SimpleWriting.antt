@@ -15,6 +15,7 @@ use Rattle.life_typed.specs.declared.typed_expr.ExprType.{ExprType}
 use Rattle.life_typed.specs.declared.typed_expr.ExprType.TheVariants.{Of, NullPointer, TextLiteral}
 use Rattle.life_type_stmt.specs.Simples.{is_place}
 use Rattle.life_type_stmt.specs.Simples as typing
+use Rattle.life_core.specs.ByValue.{is_by_value}
 use Rattle.life_core.specs.Function.{Function}
 use Rattle.life_core.specs.Operands.{Location, Source, Null, Place as Aimed, whole}
 use Rattle.life_core.specs.Proper.{Holding, ANumber, APointer, sort_of}
@@ -22,7 +23,6 @@ use Rattle.life_core.specs.Step.{Save}
 use Rattle.life_proper.specs.declared.known.Known.{Known}
 use Rattle.life_proper.specs.declared.known.Known.TheVariants as known
 use Rattle.life_proper.specs.Knowing.{known_as, known_at}
-use Rattle.life_proper.specs.Plain.{is_plain_step}
 use Rattle.life_proper.specs.ReadyKnown.{holds, holds_at, is_local, is_operand_ready, is_repoint_ready, is_sort, is_source_ready, is_step_ready, known_after}
 use Rattle.life_well_typed.specs.Expressions.{IsExpression}
 use Rattle.life_well_typed.specs.Given.{is_given, is_number}
@@ -133,7 +133,7 @@ module _ (types : Types) (fs : List Function) (f : Function) where
   pointed_ready : (l : Location) (n m : ℕ) (pt : Pointing) (k : List Known) → IsPointer types f l n k → IsPointing types f pt m k → is_step_ready types fs f k (pointed l pt) ≡ true
   pointed_ready l n m pt k h g = ap (λ (q : Location). is_step_ready types fs f k (pointed q pt)) h.is ∙ aimed_ready h.local m pt k h.sort g
 
-  pub pointed_plain : (l : Location) (pt : Pointing) → is_plain_step types fs f (pointed l pt) ≡ true
+  pub pointed_plain : (l : Location) (pt : Pointing) → is_by_value types fs f (pointed l pt) ≡ true
   pointed_plain l (At source) = refl
   pointed_plain l (As q) = refl
 

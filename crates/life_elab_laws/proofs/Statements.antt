@@ -1,5 +1,6 @@
 -- What is written for a well typed statement is ready: by recursion over statements.
-use Rattle.std.proofs.Common.{◌≡◌, Bool, true, false, ◌&&◌, List, [], ◌∷◌, drop, length, reverse, Option, Some, None, refl, arith}
+use Rattle.std.specs.Prelude.{pos}
+use Rattle.std.proofs.Common.{◌≡◌, Bool, true, false, ◌&&◌, List, [], ◌∷◌, drop, length, reverse, Option, Some, None, refl}
 use Rattle.std.proofs.lemmas.Bool.{and_from, and_parts, false≢true, or_left}
 use Rattle.life_types.specs.Types.{Types}
 use Rattle.life_types.specs.declared.place.Place.{Place}
@@ -75,7 +76,7 @@ module _ (a : Around) (types : Types) (fs : List Function) (f : Function) (setti
 
   pub decided_or_true : (v : Visible) (keyword : Place) (e : Option Typed) (s : State) → is_built_if_any e ≡ true → DecidesIfAny a.program a.function.locals a.function.result v.visible e → Follows types fs f a v s
       → Tests types fs f s (condition_or_true a keyword e s)
-  decided_or_true v keyword None s b h follows = non_zero_made types fs f keyword (computed None ty.Bool keyword (constant 1)) s (constant_made types fs f None ty.Bool keyword 1 (with_code [] s) refl tt (omega arith))
+  decided_or_true v keyword None s b h follows = non_zero_made types fs f keyword (computed None ty.Bool keyword (constant (pos 1))) s (constant_made types fs f None ty.Bool keyword (pos 1) (with_code [] s) refl tt)
   decided_or_true v keyword (Some e) s b h follows = decided v e s b h follows
 
   pub stepped : (v : Visible) (it : Option SimpleForm) (s : State) → is_built_step it ≡ true → IsSimpleIfAny a.program a.function.locals a.function.result v.visible it → Follows types fs f a v s → DoesLevel types fs f a v false s (simple_if a it s)

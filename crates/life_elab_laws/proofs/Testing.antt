@@ -1,4 +1,5 @@
 -- Conditions, and values that are decided by them.
+use Rattle.std.specs.Prelude.{ℤ, pos}
 use Rattle.std.proofs.Common.{◌≡◌, ◌<◌, ℕ, Bool, true, false, cond, List, [], ◌∷◌, ◌++◌, length, slice_set, Option, Some, None, refl, sym, ap, ◌∙◌, subst, arith}
 use Rattle.std.proofs.lemmas.Bool.{and_from}
 use Rattle.std.proofs.lemmas.Option.{slice_get_within}
@@ -187,7 +188,7 @@ module _ (types : Types) (fs : List Function) (f : Function) where
 
   -- ---- an answer in a register
 
-  answered : (place : Place) (n : ℕ) (r : ℕ) (k : List Known) → sort_of types f r ≡ ANumber → Falls types fs f (Acts place (constant n r) ∷ []) k (slice_set k r known.Number)
+  answered : (place : Place) (n : ℤ) (r : ℕ) (k : List Known) → sort_of types f r ≡ ANumber → Falls types fs f (Acts place (constant n r) ∷ []) k (slice_set k r known.Number)
   answered place n r k e = falls_acts types fs f place (constant n r) k (and_from (is_sort (sort_of types f r) ANumber) true (number_sort (sort_of types f r) e) refl)
 
   pub by_branch_made : (into : Option ℕ) (t : Ty) (place : Place) (condition : State → Gives Tree) (s : State) → is_value t ≡ true → IsInto s into → IsOpen types fs f s
@@ -196,13 +197,13 @@ module _ (types : Types) (fs : List Function) (f : Function) where
       made (target place into t (condition s).state) (targeted types fs f place t (condition s).state into v (into_later s (condition s).state into test.grown wanted))
     where
       chosen : ℕ → Tree
-      chosen r = Choice (condition s).given (answer place 1 r) (answer place 0 r)
+      chosen r = Choice (condition s).given (answer place (pos 1) r) (answer place (pos 0) r)
 
       run : (w : Gives ℕ) → Targets types fs f ANumber into (condition s).state w → IsNameless types fs f ANumber w.given → AsksAll s (condition s).given
           → Runs types fs f into s (branched place (condition s).given w.given w.state) Always IsNumber (chosen w.given ∷ [])
       run w target is asks = record {
-        fine = fine_choice types fs f (condition s).given (Acts place (constant 1 w.given) ∷ []) (Acts place (constant 0 w.given) ∷ []) asks.fine
-            (fine_acts types fs f place (constant 1 w.given) refl) (fine_acts types fs f place (constant 0 w.given) refl);
+        fine = fine_choice types fs f (condition s).given (Acts place (constant (pos 1) w.given) ∷ []) (Acts place (constant (pos 0) w.given) ∷ []) asks.fine
+            (fine_acts types fs f place (constant (pos 1) w.given) refl) (fine_acts types fs f place (constant (pos 0) w.given) refl);
         goes = λ k alive p. went k alive (asks.goes k alive);
       }
         where
@@ -220,8 +221,8 @@ module _ (types : Types) (fs : List Function) (f : Function) where
           went : (k : List Known) → Alive types fs f s k → Asked s (condition s).given k → Goes types fs f into s (branched place (condition s).given w.given w.state) IsNumber (chosen w.given ∷ []) k
           went k alive g = record {
             after = agreed_all (slice_set g.on w.given known.Number) (slice_set g.off w.given known.Number);
-            falls = falls_choice types fs f (condition s).given (Acts place (constant 1 w.given) ∷ []) (Acts place (constant 0 w.given) ∷ []) k g.on g.off
-                (slice_set g.on w.given known.Number) (slice_set g.off w.given known.Number) g.decides (answered place 1 w.given g.on is.sort) (answered place 0 w.given g.off is.sort);
+            falls = falls_choice types fs f (condition s).given (Acts place (constant (pos 1) w.given) ∷ []) (Acts place (constant (pos 0) w.given) ∷ []) k g.on g.off
+                (slice_set g.on w.given known.Number) (slice_set g.off w.given known.Number) g.decides (answered place (pos 1) w.given g.on is.sort) (answered place (pos 0) w.given g.off is.sort);
             keeps = keeps_agreed (length s.locals) into k (slice_set g.on w.given known.Number) (slice_set g.off w.given known.Number) (written k g.on g.keeps_on) (written k g.off g.keeps_off);
             gives = (
               target.below,

@@ -4,7 +4,7 @@ ghost use Rattle.life_core.specs.Proper.{IsProperProgram};
 ghost use Rattle.life_elab.specs.Bounds.{HaveShortPlaces};
 ghost use Rattle.life_elab.specs.Programs.{core_program};
 ghost use Rattle.life_proper.specs.Checking.{checked};
-ghost use Rattle.life_proper.specs.Plain.{IsPlainProgram};
+ghost use Rattle.life_core.specs.ByValue.{calls_by_value};
 ghost use Rattle.life_proper.specs.ResultsWritten.{WritesResults};
 ghost use Rattle.life_proper.specs.WellFormedPrograms.{IsWellFormedProgram};
 ghost use Rattle.life_typed.specs.Programs.{ProgramForm};
@@ -24,9 +24,9 @@ pub fn translations_are_proper()
     ensures { (p : ProgramForm) → IsWellTyped p → HasResults p → IsTrue (is_built p) → IsProperProgram (core_program p) }
 {}
 
-/// .. and plain: the numbers of its literals are longs, and its calls hand over values alone.
+/// .. and plain: its calls hand over values alone.
 pub fn translations_are_plain()
-    ensures { (p : ProgramForm) → IsWellTyped p → HasResults p → IsTrue (is_built p) → IsPlainProgram (core_program p) }
+    ensures { (p : ProgramForm) → IsWellTyped p → HasResults p → IsTrue (is_built p) → IsTrue (calls_by_value (core_program p)) }
 {}
 
 /// .. and well formed at each point, also where no way comes to: each number names something that is there, each operand has a type that the instruction takes,

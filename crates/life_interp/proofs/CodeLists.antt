@@ -6,7 +6,7 @@ use Rattle.std.specs.declared.alloc.Global.{Global}
 use Rattle.std.specs.declared.vec.Vec.{Vec}
 use Rattle.std.specs.Prelude.{slice_get, option_map}
 use Rattle.life_core.specs.Function.{Function, function_of}
-use Rattle.life_core.specs.Limits.{HaveFewPoints, HaveLongNumbers, HaveLongs, NodeHasLong}
+use Rattle.life_core.specs.Limits.{HaveFewPoints}
 use Rattle.life_core.specs.Link.{link_seen}
 use Rattle.life_core.specs.Linked.{Linked, code_of, numbered, points_of}
 use Rattle.life_core.specs.declared.link.LinkRef.{LinkRef}
@@ -19,11 +19,6 @@ use Rattle.life_interp.specs.Runs.{links_seen}
 pub numbered_is : (ls : List LinkRef) (n : ℕ) (o : Option LinkRef) → (n ≡ 0 → ⊥) → o ≡ slice_get ls (n - 1) → option_map link_seen o ≡ numbered (map link_seen ls) n
 numbered_is ls zero o ne e = absurd (ne refl)
 numbered_is ls (suc n) o ne e = let k : suc n - 1 ≡ n = omega arith in ap (option_map link_seen) (e ∙ ap (slice_get ls) k) ∙ sym (slice_get-map link_seen ls n)
-
-pub long_at : (code : List Linked) (k : ℕ) (l : Linked) → HaveLongs code → slice_get code k ≡ Some l → NodeHasLong l.spot.node
-long_at [] k l h e = absurd (none-some l e)
-long_at (x ∷ xs) zero l h e = subst (λ (y : Linked). NodeHasLong y.spot.node) (same_Some x l e) h.0
-long_at (x ∷ xs) (suc k) l h e = long_at xs k l h.1 e
 
 -- ---- functions
 
@@ -42,11 +37,6 @@ pub few_at : (fs : List Function) (i : ℕ) (f : Function) → HaveFewPoints fs 
 few_at [] i f h e = absurd (none-some f e)
 few_at (x ∷ xs) zero f h e = subst (λ (y : Function). points_of y < 2 ^ 31) (same_Some x f e) h.0
 few_at (x ∷ xs) (suc i) f h e = few_at xs i f h.1 e
-
-pub longs_at : (fs : List Function) (i : ℕ) (f : Function) → HaveLongNumbers fs → slice_get fs i ≡ Some f → HaveLongs (code_of f)
-longs_at [] i f h e = absurd (none-some f e)
-longs_at (x ∷ xs) zero f h e = subst (λ (y : Function). HaveLongs (code_of y)) (same_Some x f e) h.0
-longs_at (x ∷ xs) (suc i) f h e = longs_at xs i f h.1 e
 
 pub code_at : (codes : List (Vec LinkRef Global)) (fs : List Function) (i : ℕ) (v : Vec LinkRef Global) (f : Function) → map links_seen codes ≡ map code_of fs → slice_get codes i ≡ Some v → slice_get fs i ≡ Some f → links_seen v ≡ code_of f
 code_at codes fs i v f e there here =

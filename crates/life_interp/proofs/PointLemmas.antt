@@ -1,11 +1,9 @@
 -- What is done at a point is what the walk does there.
-use Rattle.std.proofs.Common.{◌≡◌, ◌<◌, ℕ, zero, suc, List, [], ◌++◌, length, map, Option, Some, None, Result, Ok, Err, refl, sym, ap, ◌∙◌, append-nil, arith}
+use Rattle.std.proofs.Common.{◌≡◌, ◌<◌, ℕ, List, [], ◌++◌, length, map, Option, Some, Result, Ok, Err, refl, sym, ap, ◌∙◌, append-nil, arith}
 use Rattle.std.specs.declared.alloc.Global.{Global}
 use Rattle.std.specs.declared.vec.Vec.{Vec}
-use Rattle.std.proofs.lemmas.Option.{none-some}
 use Rattle.std.specs.Prelude.{ℤ, option_and_then, option_map, slice_get}
 use Rattle.life_core.specs.Function.{Function, Program, function_of}
-use Rattle.life_core.specs.Limits.{HaveLongs, NodeHasLong}
 use Rattle.life_core.specs.Link.{link_seen}
 use Rattle.life_core.specs.Linked.{Linked, code_of, numbered}
 use Rattle.life_core.specs.Tree.{Node}
@@ -33,7 +31,7 @@ use Rattle.life_interp.specs.declared.ending.Halt.{Halt}
 use Rattle.life_interp.specs.declared.ending.Halt.TheVariants as halt
 use Rattle.life_interp.specs.declared.frames.Frames.{Frames}
 use Rattle.life_interp.specs.declared.value.Cell.{Cell}
-use Rattle.life_interp.proofs.CodeLists.{code_at, long_at, there_at}
+use Rattle.life_interp.proofs.CodeLists.{code_at, there_at}
 
 -- what isn't a call
 pub own_else : (i : Instr) → ((target : Option Location) (f : FnId) (xs : Vec Argument Global) → i ≡ instrs.Call target f xs → ⊥) → IsOwn (step_of i)
@@ -116,11 +114,6 @@ module _ (s : Setting) (p : Program) (frames : Frames) (c : Content) (ins : List
     act_ends k ending.WriteFault h = (h.0, record frames { point = to }, h.1, act_goes c frames.cells.items ins h.0 h.2)
 
 -- ---- the point of the frame at hand
-
-pub long_to : (code : List Linked) (to : Option ℕ) (l : Linked) → HaveLongs code → option_and_then (numbered code) to ≡ Some l → NodeHasLong l.spot.node
-long_to code None l h e = absurd (none-some l e)
-long_to code (Some zero) l h e = absurd (none-some l e)
-long_to code (Some (suc k)) l h e = long_at code k l h e
 
 -- what is done is another thing
 pub leads_as : {A : Type 0} (at other : Doing) (fs : List Function) (c : Content) (ins : List ℤ) (new : Frames) (d : Content) (rest : List ℤ) (k : Sunk) (result : Result A Halt)

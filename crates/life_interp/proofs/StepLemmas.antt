@@ -1,10 +1,8 @@
 -- What the machine's functions do is what the steps of the meaning do.
-use Rattle.std.proofs.Common.{◌≡◌, ◌<◌, ◌^◌, ℕ, List, Option, Some, None, Result, Ok, Err, refl, sym, ap, subst, ◌∙◌, arith}
-use Rattle.std.proofs.lemmas.Int.{ints}
+use Rattle.std.proofs.Common.{◌≡◌, ℕ, List, Option, Some, None, Result, Ok, Err, refl, sym, ap, subst, ◌∙◌}
 use Rattle.std.proofs.lemmas.List.{map-set}
 use Rattle.std.proofs.lemmas.Option.{none-some, same_Some, slice_get-map}
-use Rattle.std.specs.Int.{cast_signed, w64}
-use Rattle.std.specs.Prelude.{ℤ, pos, slice_get, slice_set, option_map}
+use Rattle.std.specs.Prelude.{ℤ, slice_get, slice_set, option_map}
 use Rattle.life_core.specs.Operands.{Operand, Name, Through}
 use Rattle.life_store.specs.Content.{Content, Object}
 use Rattle.life_store.specs.Doing.{Effect, Strays, Found, named_by, on_found, on_number, on_pointer, put_cell}
@@ -19,12 +17,6 @@ use Rattle.life_interp.specs.declared.ending.Ending.{Ending}
 use Rattle.life_interp.specs.declared.ending.Ending.TheVariants as ending
 use Rattle.life_interp.specs.declared.places.Position.{Position}
 use Rattle.life_interp.specs.declared.value.Cell.{Cell}
-
--- ---- numbers
-
--- a long as 64 bits is itself
-pub cast_small : (n : ℕ) → n < 2 ^ 63 → cast_signed w64 n ≡ pos n
-cast_small n lt = omega (arith, ints)
 
 -- ---- cells
 

@@ -4,7 +4,7 @@ ghost use Rattle.life_core.specs.Function.{program_of};
 ghost use Rattle.life_core.specs.Linked.{code_of};
 ghost use Rattle.life_core.specs.Proper.{IsProperProgram};
 ghost use Rattle.life_interp.specs.Runs.{links_seen, RunEnds};
-ghost use Rattle.life_core.specs.Limits.{HaveFewPoints, HaveLongNumbers};
+ghost use Rattle.life_core.specs.Limits.{HaveFewPoints};
 ghost use Rattle.life_store.specs.Meaning.{run_of, IsAdmitted};
 ghost use Rattle.life_store.specs.declared.run.Growth.{Growth as AnyGrowth};
 
@@ -41,7 +41,6 @@ pub(crate) fn run_entry<'p, O: Sink>(
 ) -> Outcome
     requires linked { map links_seen code.now ≡ map code_of (program_of program.now).functions }
     requires proper { IsProperProgram (program_of program.now) }
-    requires long { HaveLongNumbers (program_of program.now).functions }
     requires entry { entry.0 < length (program_of program.now).functions }
     requires steps { steps ≤ MOST_STEPS }
     requires admitted { IfSome (slice_get (program_of program.now).functions entry.0) (λ f. IsAdmitted (program_of program.now) f input.now) }

@@ -4,7 +4,7 @@ ghost use Rattle.life_core.specs.Function.{program_of};
 ghost use Rattle.life_core.specs.Linked.{code_of};
 ghost use Rattle.life_core.specs.Proper.{IsProperProgram};
 ghost use Rattle.life_interp.specs.Runs.{links_seen, RunEnds};
-ghost use Rattle.life_core.specs.Limits.{HaveFewPoints, HaveLongNumbers};
+ghost use Rattle.life_core.specs.Limits.{HaveFewPoints};
 ghost use Rattle.life_store.specs.Meaning.{run_of, IsAdmitted};
 
 use crate::entry::{all_links, run_entry};
@@ -57,7 +57,6 @@ impl<'p> Machine<'p> {
         out: &mut O,
     ) -> Outcome
         requires proper { IsProperProgram (program_of self.old.program.now) }
-        requires long { HaveLongNumbers (program_of self.old.program.now).functions }
         requires entry { entry.0 < length (program_of self.old.program.now).functions }
         requires steps { steps ≤ MOST_STEPS }
         requires admitted { IfSome (slice_get (program_of self.old.program.now).functions entry.0) (λ f. IsAdmitted (program_of self.old.program.now) f input.now) }

@@ -1,7 +1,6 @@
 // One point.
 ghost use Rattle.std.specs.Prelude.{◌≡◌, ◌<◌, drop, map, List, OnOk, ℤ};
 ghost use Rattle.life_core.specs.Function.{program_of, Program};
-ghost use Rattle.life_core.specs.Limits.{HasLong, HaveLongNumbers};
 ghost use Rattle.life_core.specs.Link.{leads_seen};
 ghost use Rattle.life_core.specs.Linked.{code_of};
 ghost use Rattle.life_core.specs.Step.{asked_of, step_of};
@@ -39,7 +38,6 @@ pub(crate) fn pass<'p, S: Store, O: Sink>(
     out: &mut O,
 ) -> Result<(), Halt>
     requires linked { map links_seen code.now ≡ map code_of (program_of program.now).functions }
-    requires long { HaveLongNumbers (program_of program.now).functions }
     requires begin { AllBegin (program_of program.now).functions }
     requires frames { AreFrames (program_of program.now).functions frames.old }
     requires fits { IsFit (S.content store.old) (S.rows store.old) (all_cells frames.old) }
@@ -91,7 +89,6 @@ fn act<'p, S: Store, O: Sink>(
     taken: &mut usize,
     out: &mut O,
 ) -> Result<(), Halt>
-    requires long { HasLong (step_of instr.now) }
     requires begin { AllBegin (program_of program.now).functions }
     requires frames { AreFrames (program_of program.now).functions frames.old }
     requires fits { IsFit (S.content store.old) (S.rows store.old) (all_cells frames.old) }

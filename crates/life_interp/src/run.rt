@@ -1,7 +1,6 @@
 // The run of a function from an empty store.
 ghost use Rattle.std.specs.Prelude.{◌≡◌, ◌≤◌, ◌<◌, length, map, slice_get, IfOk, IfSome, OnOk};
 ghost use Rattle.life_core.specs.Function.{function_of, program_of};
-ghost use Rattle.life_core.specs.Limits.{HaveLongNumbers};
 ghost use Rattle.life_core.specs.Linked.{code_of};
 ghost use Rattle.life_core.specs.Proper.{IsProperProgram};
 ghost use Rattle.life_interp.specs.Cells.{cell_seen, cells_seen};
@@ -49,7 +48,6 @@ pub(crate) fn run_on<'p, S: Store, O: Sink>(
 ) -> Outcome
     requires proper { IsProperProgram (program_of program.now) }
     requires linked { map links_seen code.now ≡ map code_of (program_of program.now).functions }
-    requires long { HaveLongNumbers (program_of program.now).functions }
     requires entry { entry.0 < length (program_of program.now).functions }
     requires admitted { IfSome (slice_get (program_of program.now).functions entry.0) (λ f. IsAdmitted (program_of program.now) f input.now) }
     requires depth { 1 ≤ limits.depth }

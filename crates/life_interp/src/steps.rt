@@ -1,7 +1,6 @@
 // One instruction of any kind.
 ghost use Rattle.std.specs.Prelude.{◌≡◌, drop, OnOk};
 ghost use Rattle.life_core.specs.Function.{function_of, program_of};
-ghost use Rattle.life_core.specs.Limits.{HasLong};
 ghost use Rattle.life_core.specs.Step.{step_of};
 ghost use Rattle.life_interp.specs.Fits.{CanStep, Grows, IsFit, Later};
 ghost use Rattle.life_interp.specs.Steps.{IsSet, LeavesBoth};
@@ -33,7 +32,6 @@ pub(crate) fn perform<S: Store, O: Sink>(
     out: &mut O,
 ) -> Result<(), Ending>
     requires own { IsOwn (step_of instr.now) }
-    requires long { HasLong (step_of instr.now) }
     requires fits { IsFit (S.content store.old) (S.rows store.old) cells.old.items }
     requires countable { CanStep (S.content store.old) }
     ensures step { (s : Setting) → IsSet s (S.limit store.old) (program_of program.now).texts
@@ -61,7 +59,6 @@ fn act<S: Store>(
 ) -> Result<(), Ending>
     requires quiet { IsQuiet (step_of instr.now) }
     requires own { IsOwn (step_of instr.now) }
-    requires long { HasLong (step_of instr.now) }
     requires fits { IsFit (S.content store.old) (S.rows store.old) cells.old.items }
     requires countable { CanStep (S.content store.old) }
     ensures step { (s : Setting) → IsSet s (S.limit store.old) (program_of program.now).texts

@@ -4,7 +4,6 @@ ghost use Rattle.life_core.specs.Function.{function_of};
 ghost use Rattle.life_core.specs.Operands.{operand_of};
 ghost use Rattle.life_interp.specs.Fits.{CellsFit, IsFit, Later};
 ghost use Rattle.life_interp.specs.Steps.{loaded, stored, LeavesBoth, LeavesCells};
-ghost use Rattle.life_core.specs.Limits.{FitsLong};
 ghost use Rattle.life_store.specs.Content.{Content};
 ghost use Rattle.life_store.specs.References.{Rows};
 ghost use Rattle.life_store.specs.Doing.{as_bool, as_char, as_int, computed_into, converted, evaluated, type_of};
@@ -26,13 +25,12 @@ pub(crate) fn evaluate(
     operation: Operation,
     cells: &mut Vec<Cell>,
 ) -> Result<(), Ending>
-    requires { FitsLong operation }
     ensures step { (c : Content) → LeavesCells (evaluated types.now (function_of f.now) into operation) c cells.old.items cells.new.items result }
     ensures fits { (c : Content) (rows : Rows) → CellsFit c rows cells.old.items → OnOk result (CellsFit c rows cells.new.items) }
 {
     match operation {
-        Operation::Number(n) => {
-            put_cell(cells, into, Cell::Number(n as i64));
+        Operation::Number(value) => {
+            put_cell(cells, into, Cell::Number(value));
             Ok(())
         }
         Operation::Convert(from) => match number_at(cells, from) {

@@ -1,7 +1,6 @@
 // The walk over the points of a program's functions.
 ghost use Rattle.std.specs.Prelude.{◌≡◌, ◌<◌, [], drop, map};
 ghost use Rattle.life_core.specs.Function.{program_of};
-ghost use Rattle.life_core.specs.Limits.{HaveLongNumbers};
 ghost use Rattle.life_core.specs.Linked.{code_of};
 ghost use Rattle.life_interp.specs.Fits.{most_births, CanWalk, IsFit};
 ghost use Rattle.life_interp.specs.Frames.{all_cells, AllBegin, AreFrames};
@@ -33,7 +32,6 @@ pub(crate) fn walk<'p, S: Store, O: Sink>(
     out: &mut O,
 ) -> Halt
     requires linked { map links_seen code.now ≡ map code_of (program_of program.now).functions }
-    requires long { HaveLongNumbers (program_of program.now).functions }
     requires begin { AllBegin (program_of program.now).functions }
     requires frames { AreFrames (program_of program.now).functions frames.old }
     requires fits { IsFit (S.content store.old) (S.rows store.old) (all_cells frames.old) }

@@ -1,5 +1,6 @@
 -- Instructions that are well formed, and some that aren't, of each kind.
 use Rattle.std.proofs.Common.{◌≡◌, ℕ, Bool, true, false, List, [], ◌∷◌, Option, Some, None, refl}
+use Rattle.std.specs.Prelude.{pos}
 use Rattle.life_types.specs.Trees.{tree_at}
 use Rattle.life_types.specs.Types.{Types}
 use Rattle.life_types.specs.declared.ty.NameId.{NameId}
@@ -81,7 +82,7 @@ good_4 = refl
 good_5 : well_formed (End (21 ∷ 13 ∷ 8 ∷ [])) ≡ true
 good_5 = refl
 
-good_6 : well_formed (Eval 3 (operation.Number 7)) ≡ true
+good_6 : well_formed (Eval 3 (operation.Number (pos 7))) ≡ true
 good_6 = refl
 
 good_7 : well_formed (Eval 4 (operation.Convert 3)) ≡ true
@@ -293,11 +294,11 @@ bad_5 : well_formed (End (3 ∷ [])) ≡ false
 bad_5 = refl
 
 -- an object
-bad_6 : well_formed (Eval 21 (operation.Number 7)) ≡ false
+bad_6 : well_formed (Eval 21 (operation.Number (pos 7))) ≡ false
 bad_6 = refl
 
 -- a pointer
-bad_7 : well_formed (Eval 11 (operation.Number 0)) ≡ false
+bad_7 : well_formed (Eval 11 (operation.Number (pos 0))) ≡ false
 bad_7 = refl
 
 -- an int as a long

@@ -1,41 +1,15 @@
--- Plain programs: the numbers of their literals are longs, and no raw pointer and no reference goes through their calls. And a walk over the
--- trees of their functions that tests it.
-use Rattle.std.specs.Prelude.{◌≡◌, ◌^◌, Bool, true, ◌&&◌, List, [], ◌∷◌, nat_lt}
+-- A walk over the trees of a program's functions that tests that no raw pointer and no reference goes through their calls.
+use Rattle.std.specs.Prelude.{Bool, true, ◌&&◌, List, [], ◌∷◌}
 use Rattle.life_types.specs.Types.{Types}
-use Rattle.life_core.specs.ByValue.{calls_by_value, is_by_value}
+use Rattle.life_core.specs.ByValue.{is_by_value}
 use Rattle.life_core.specs.Function.{Function, Program}
-use Rattle.life_core.specs.Limits.{HaveLongNumbers}
-use Rattle.life_core.specs.Step.{Step, Eval}
-use Rattle.life_core.specs.Tree.{Tree, Skip, Then, Acts, Asks, Both, Either, Negated, Choice, Turns, Breaks, Continues, Returns, Stops, Node, Action}
-use Rattle.life_core.specs.declared.operation.Operation.{Operation}
-use Rattle.life_core.specs.declared.operation.Operation.TheVariants as operation
-
-pub record IsPlainProgram (p : Program) : Type 0 where
-  pub longs : HaveLongNumbers p.functions
-  pub by_value : calls_by_value p ≡ true
-
--- ---- the walk
-
-abbrev pub fits_long : Operation → Bool
-fits_long (operation.Number n) = nat_lt n (2 ^ 63)
-fits_long _ = true
-
-abbrev pub has_long : Step → Bool
-has_long (Eval r o) = fits_long o
-has_long _ = true
-
-abbrev pub is_plain_step : Types → List Function → Function → Step → Bool
-is_plain_step types fs f i = has_long i && is_by_value types fs f i
-
-abbrev pub is_plain_node : Types → List Function → Function → Node → Bool
-is_plain_node types fs f (Action i) = is_plain_step types fs f i
-is_plain_node types fs f _ = true
+use Rattle.life_core.specs.Tree.{Tree, Skip, Then, Acts, Asks, Both, Either, Negated, Choice, Turns, Breaks, Continues, Returns, Stops}
 
 -- each point of a tree
 abbrev pub is_plain_tree : Types → List Function → Function → Tree → Bool
 is_plain_tree types fs f Skip = true
 is_plain_tree types fs f (Then a b) = is_plain_tree types fs f a && is_plain_tree types fs f b
-is_plain_tree types fs f (Acts place i) = is_plain_step types fs f i
+is_plain_tree types fs f (Acts place i) = is_by_value types fs f i
 is_plain_tree types fs f (Asks place t) = true
 is_plain_tree types fs f (Both a b) = is_plain_tree types fs f a && is_plain_tree types fs f b
 is_plain_tree types fs f (Either a b) = is_plain_tree types fs f a && is_plain_tree types fs f b

@@ -7,7 +7,6 @@ mod flow;
 mod knowing;
 mod known;
 mod laws;
-mod longs;
 mod passing;
 mod plain;
 mod ready;

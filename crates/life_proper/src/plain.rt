@@ -1,22 +1,20 @@
-// Whether a program's numbers are longs and its calls hand over values and views alone.
-ghost use Rattle.std.specs.Prelude.{◌≡◌, map, Decides};
+// Whether a program's calls hand over values and views alone.
+ghost use Rattle.std.specs.Prelude.{◌≡◌, map};
+ghost use Rattle.life_core.specs.ByValue.{calls_by_value};
 ghost use Rattle.life_core.specs.Function.{function_of, program_of};
-ghost use Rattle.life_core.specs.Step.{step_of};
 ghost use Rattle.life_core.specs.Tree.{condition_tree, tree_of};
-ghost use Rattle.life_proper.specs.Plain.{are_plain, is_plain_step, is_plain_tree, IsPlainProgram};
+ghost use Rattle.life_proper.specs.Plain.{are_plain, is_plain_tree};
 
 use crate::by_value::is_by_value;
-use crate::longs::has_long;
 use crate::scope::Scope;
-use life_core::{Condition, CoreFn, CoreProgram, Instr, Stmt};
+use life_core::{Condition, CoreFn, CoreProgram, Stmt};
 use life_types::TypeTable;
 
-/// Whether the number of each literal is a long, and no raw pointer and no reference goes through a
-/// call. It takes no memory, and goes once over the text and, at each call, once over what the called
-/// function takes. It is for programs that are made by hand, as those of tests: a translation is plain by a
-/// law, and isn't asked.
+/// Whether no raw pointer and no reference goes through a call. It takes no memory, and goes once over the
+/// text and, at each call, once over what the called function takes. It is for programs that are made by
+/// hand, as those of tests: a translation is plain by a law, and isn't asked.
 pub fn is_plain_program(p: &CoreProgram) -> bool
-    ensures { Decides result (IsPlainProgram (program_of p.now)) }
+    ensures { result ≡ calls_by_value (program_of p.now) }
 {
     are_plain(&p.types, &p.functions)
 }
@@ -37,12 +35,6 @@ fn are_plain(types: &TypeTable, functions: &[CoreFn]) -> bool
     true
 }
 
-fn is_plain_instr(instr: &Instr, at: &Scope) -> bool
-    ensures { result ≡ is_plain_step at.now.types.now (map function_of at.now.functions.now) (function_of at.now.function.now) (step_of instr.now) }
-{
-    has_long(instr) && is_by_value(instr, at)
-}
-
 /// Whether all points of the statement are plain.
 #[cycle(plain)]
 fn is_plain(s: &Stmt, at: &Scope) -> bool
@@ -57,7 +49,7 @@ fn is_plain(s: &Stmt, at: &Scope) -> bool
             }
             true
         }
-        Stmt::Do(_, instr) => is_plain_instr(instr, at),
+        Stmt::Do(_, instr) => is_by_value(instr, at),
         Stmt::Branch(condition, first, second)
         | Stmt::Loop {
             condition,

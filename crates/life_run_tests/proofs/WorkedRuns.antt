@@ -6,7 +6,7 @@ use Rattle.life_types.specs.Types.{Types, class}
 use Rattle.life_types.specs.declared.ty.Ty.{Ty}
 use Rattle.life_types.specs.declared.ty.Ty.TheVariants as ty
 use Rattle.life_core.specs.Function.{Function, Program}
-use Rattle.life_core.specs.Limits.{HaveFewPoints, HaveLongNumbers}
+use Rattle.life_core.specs.Limits.{HaveFewPoints}
 use Rattle.life_core.specs.Linked.{Lead, Linked, code_of, goes, numbered}
 use Rattle.life_core.specs.Operands.{whole}
 use Rattle.life_core.specs.Proper.{Blank, ANumber, Holdings, held_if, result_if, result_sort, entry_holdings, holdings_after, holdings_past, IsNodeReady, IsResultReady, IsStepReady, IsTargetReady, Reaches, starts, goes_on, LeadOn, IsProper, AreProper, IsProperProgram}
@@ -119,9 +119,6 @@ worked_proper p w =
 
 pub worked_few : (p : Program) → IsWorked p → HaveFewPoints p.functions
 worked_few p w = subst HaveFewPoints (sym w.functions_are) (omega arith, (omega arith, tt))
-
-pub worked_long : (p : Program) → IsWorked p → HaveLongNumbers p.functions
-worked_long p w = subst HaveLongNumbers (sym w.functions_are) ((tt, (tt, (tt, tt))), ((tt, (tt, (tt, tt))), tt))
 
 pub worked_there : (p : Program) → IsWorked p → 0 < length p.functions
 worked_there p w = subst (λ (fs : List Function). 0 < length fs) (sym w.functions_are) (omega arith)

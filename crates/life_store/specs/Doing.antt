@@ -44,7 +44,7 @@ computed_into r (Ok z) st = Next (put_cell r (Number z) st)
 computed_into r (Err kind) st = Traps kind
 
 abbrev pub evaluated : Types → Function → ℕ → Operation → State → Effect
-evaluated types f r (operation.Number n) st = Next (put_cell r (Number (pos n)) st)
+evaluated types f r (operation.Number z) st = Next (put_cell r (Number z) st)
 evaluated types f r (operation.Convert q) st = on_number (cell st q) (λ z. Next (put_cell r (Number (converted (type_of types f r) z)) st))
 evaluated types f r (operation.Negate q) st = on_number (cell st q) (λ z. computed_into r (negated (type_of types f r) z) st)
 evaluated types f r (operation.IsZero q) st = on_number (cell st q) (λ z. computed_into r (truth (is_zero z)) st)

@@ -2,6 +2,7 @@ pub mod Decided
 pub mod Following
 pub mod Giving
 pub mod Handing
+pub mod LongLiterals
 pub mod Made
 pub mod Opened
 pub mod Seen

@@ -1,5 +1,5 @@
 -- Conditions: tests, and what is decided by them.
-use Rattle.std.specs.Prelude.{ℕ, Bool, true, false, [], Option, Some, None, option_map, if◌then◌else◌}
+use Rattle.std.specs.Prelude.{ℕ, Bool, true, false, [], Option, Some, None, option_map, if◌then◌else◌, ℤ, pos}
 use Rattle.life_types.specs.declared.place.Place.{Place}
 use Rattle.life_types.specs.declared.ty.Ty.{Ty}
 use Rattle.life_typed.specs.BaseTypes.{is_raw}
@@ -72,11 +72,11 @@ decided _ place left right pointer = None
 -- ---- conditions as values
 
 -- an answer in a register: 1 where the condition holds, else 0
-abbrev pub answer : Place → ℕ → ℕ → Tree
-answer place n r = Then (Acts place (constant n r)) Skip
+abbrev pub answer : Place → ℤ → ℕ → Tree
+answer place z r = Then (Acts place (constant z r)) Skip
 
 abbrev pub branched : Place → Tree → ℕ → State → Gives ℕ
-branched place test r s = gives r (write (Choice test (answer place 1 r) (answer place 0 r)) s)
+branched place test r s = gives r (write (Choice test (answer place (pos 1) r) (answer place (pos 0) r)) s)
 
 abbrev pub by_branch : Option ℕ → Ty → Place → (State → Gives Tree) → State → Gives ℕ
 by_branch into t place condition s = condition s >> λ test s. target place into t s >> λ r s. branched place test r s

@@ -1,5 +1,5 @@
 -- Expressions: their values, places, pointers and conditions, part by part in the order of evaluation.
-use Rattle.std.specs.Prelude.{ℕ, List, [], ◌∷◌, Option, Some, None}
+use Rattle.std.specs.Prelude.{ℕ, List, [], ◌∷◌, Option, Some, None, pos}
 use Rattle.life_types.specs.declared.place.Place.{Place}
 use Rattle.life_types.specs.declared.ty.Ty.{Ty}
 use Rattle.life_types.specs.declared.ty.TyId.{TyId}
@@ -39,8 +39,8 @@ module _ (a : Around) where
 
     -- .. of its own type, where it is neither a place nor decided by tests
     pub made : Form → Place → Ty → Option ℕ → State → Gives ℕ
-    made (number n) place t into s = computed into t place (constant n) s
-    made (character c) place t into s = computed into t place (constant c) s
+    made (number n) place t into s = computed into t place (constant (values.long n)) s
+    made (character c) place t into s = computed into t place (constant (pos c)) s
     made (boolean b) place t into s = computed into t place (constant (values.truth b)) s
     made (call f arguments closing) place t into s =
         handed_over arguments (parameter_types a f) s >> λ given s. computed into t place (called f given) s

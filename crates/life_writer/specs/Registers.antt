@@ -1,5 +1,5 @@
 -- Registers, and what is written to them.
-use Rattle.std.specs.Prelude.{ℕ, zero, suc, false, List, [], ◌∷◌, ◌++◌, Option, Some, None, length, if◌then◌else◌}
+use Rattle.std.specs.Prelude.{ℕ, zero, suc, false, List, [], ◌∷◌, ◌++◌, Option, Some, None, length, if◌then◌else◌, ℤ}
 use Rattle.life_types.specs.Types.{with_type}
 use Rattle.life_types.specs.contracts.ty.TyPartialEq.TheImpl.{ghosts as compared}
 use Rattle.life_types.specs.declared.place.Place.{Place}
@@ -58,8 +58,8 @@ computed into t place step s = target place into t s >> λ r s. gives r (emit pl
 abbrev pub eval : Operation → ℕ → Step
 eval operation r = Eval r operation
 
-abbrev pub constant : ℕ → ℕ → Step
-constant n = eval (operation.Number n)
+abbrev pub constant : ℤ → ℕ → Step
+constant z = eval (operation.Number z)
 
 abbrev pub conversion : ℕ → ℕ → Step
 conversion from = eval (operation.Convert from)

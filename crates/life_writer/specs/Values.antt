@@ -1,5 +1,6 @@
 -- Values: how what is computed and what is read comes into a register.
-use Rattle.std.specs.Prelude.{ℕ, Bool, true, false, Option, Some, None}
+use Rattle.std.specs.Int.{cast_signed, w64}
+use Rattle.std.specs.Prelude.{ℕ, Bool, true, false, Option, Some, None, ℤ, pos}
 use Rattle.life_types.specs.declared.place.Place.{Place}
 use Rattle.life_types.specs.declared.ty.Ty.{Ty}
 use Rattle.life_typed.specs.declared.typed_expr.BinaryOperator.{BinaryOperator}
@@ -16,9 +17,13 @@ use Rattle.life_writer.specs.Conditions.{by_branch}
 use Rattle.life_writer.specs.Registers.{computed, eval, load}
 use Rattle.life_writer.specs.Writing.{State, Gives, ◌>>◌}
 
-abbrev pub truth : Bool → ℕ
-truth true = 1
-truth false = 0
+abbrev pub truth : Bool → ℤ
+truth true = pos 1
+truth false = pos 0
+
+-- the long that is written for the number of a literal, which it is: each number that a file can write is a long
+abbrev pub long : ℕ → ℤ
+long n = cast_signed w64 n
 
 abbrev pub negated : ℕ → ℕ → Step
 negated operand = eval (operation.Negate operand)

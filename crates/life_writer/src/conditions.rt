@@ -77,7 +77,7 @@ pub(crate) fn join(
 }
 
 // An answer in a register.
-fn answer(alloc: Global, place: Place, number: u64, into: u32) -> Result<Stmt, NoMemory>
+fn answer(alloc: Global, place: Place, number: i64, into: u32) -> Result<Stmt, NoMemory>
     ensures { IfOk result (λ s. tree_of s ≡ spec.answer place number into) }
 {
     let mut code = Vec::new(alloc);

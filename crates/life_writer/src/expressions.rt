@@ -185,8 +185,8 @@ impl Writer {
     {
         let place = node.place;
         match node.shape {
-            Shape::Number(number) => self.eval(into, ty, place, Operation::Number(number)),
-            Shape::Char(code) => { self.eval(into, ty, place, Operation::Number(u64::from(code))) }
+            Shape::Number(number) => self.eval(into, ty, place, Operation::Number(number as i64)),
+            Shape::Char(code) => { self.eval(into, ty, place, Operation::Number(i64::from(code))) }
             Shape::Bool(value) => { self.eval(into, ty, place, Operation::Number(truth(value))) }
             Shape::Call {
                 function,

@@ -28,7 +28,7 @@ pub(crate) fn operator_of(operator: BinaryOperator) -> Operator
 }
 
 /// The number of `true` and of `false`.
-pub(crate) fn truth(value: bool) -> u64
+pub(crate) fn truth(value: bool) -> i64
     ensures { result ≡ spec.truth value }
 {
     if value { 1 } else { 0 }

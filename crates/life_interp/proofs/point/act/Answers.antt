@@ -20,7 +20,6 @@ perform-requires g c =
     let frames = c.args.frames.now in
     record {
       own = own_else c.args.instr.now (λ target f xs e. c.in_default.not-Call target f xs e);
-      long = c.requires.long;
       fits = record { housed = c.requires.fits.housed; held = fit_behind _ _ (waiting_cells frames.waiting.items) frames.cells.items c.requires.fits.held };
       countable = c.requires.countable;
     }

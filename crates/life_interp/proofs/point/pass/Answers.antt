@@ -1,35 +1,17 @@
-use Rattle.std.proofs.Common.{drop, ap, refl, subst, sym, ◌∙◌, arith}
+use Rattle.std.proofs.Common.{drop, ap, refl, sym, ◌∙◌, arith}
 use Rattle.std.proofs.lemmas.List.{length-map}
 use Rattle.std.proofs.lemmas.Option.{slice_get_read}
 use Rattle.std.specs.Prelude.{option_map}
 use Rattle.life_core.specs.Function.{function_of, program_of}
-use Rattle.life_core.specs.Limits.{NodeHasLong}
 use Rattle.life_core.specs.Link.{leads_seen, link_seen}
-use Rattle.life_core.specs.Linked.{code_of}
 use Rattle.life_core.specs.Node.{node_seen}
 use Rattle.life_core.specs.Step.{asked_of, step_of}
 use Rattle.life_core.specs.Tree.{Action, Question, Return, Stop}
-use Rattle.life_interp.specs.Frames.{function_at}
 use Rattle.life_interp.specs.Walking.{acts, asks, returns, Sunk}
-use Rattle.life_interp.proofs.CodeLists.{codes_length, longs_at, there_at}
-use Rattle.life_interp.proofs.PointLemmas.{leads_as, leads_quiet, long_to, passes_at, passes_node, point_seen}
+use Rattle.life_interp.proofs.CodeLists.{codes_length}
+use Rattle.life_interp.proofs.PointLemmas.{leads_as, leads_quiet, passes_at, passes_node, point_seen}
 use Rattle.life_interp.proofs.WalkLemmas.{untouched}
 use Rattle.life_interp.proofs.point.pass.Goals as goal
-
-pub act-requires-clause-long : goal.act-requires-clause-long
-act-requires-clause-long g c =
-    let p = program_of c.args.program.now in
-    let functions = c.args.program.now.functions.items in
-    let frames = c.args.frames.now in
-    let codes = c.args.code.now in
-    let lt = c.requires.frames.here in
-    let v = c.index-code-frames.result in
-    let there = slice_get_read codes _ frames.function v refl (omega (arith, lt, codes_length codes functions c.requires.linked, length-map functions function_of)) c.index-code-frames.is in
-    let point = point_seen p frames codes functions c.requires.linked refl lt v there c.deref.result.now c.deref.ensures.value c.link_at.result c.link_at.ensures in
-    let l = link_seen c.in-Some.link in
-    let at = point ∙ ap (option_map link_seen) c.in-Some.is in
-    subst NodeHasLong (ap node_seen c.in-Action.is)
-    (long_to (code_of (function_at p.functions frames.function)) frames.point l (longs_at p.functions frames.function (function_at p.functions frames.function) c.requires.long (there_at p.functions frames.function lt)) at)
 
 pub returns-in-None-clause-step : goal.returns-in-None-clause-step
 returns-in-None-clause-step g c = λ s set depth.

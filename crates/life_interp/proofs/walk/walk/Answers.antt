@@ -22,7 +22,6 @@ pass-requires g c =
     let h = c.loop-left.invariant in
     record {
       linked = c.requires.linked;
-      long = c.requires.long;
       begin = c.requires.begin;
       frames = h.there;
       fits = h.fits;
