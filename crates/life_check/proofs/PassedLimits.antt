@@ -1,5 +1,4 @@
--- A core program that passes no limit is within those that the rules ask for.
-use Rattle.life_core.specs.ByValue.{calls_by_value}
+-- A translation that passes no limit is within those that proper programs are within.
 use Rattle.std.proofs.Common.{◌≡◌, ◌≤◌, ◌<◌, ◌^◌, ℕ, zero, suc, ◌+◌, Bool, true, false, if◌then◌else◌, nat_lt, List, [], ◌∷◌, Option, None, Some, arith, length, refl, subst, sym, slice_get}
 use Rattle.std.specs.Prelude.{option_map}
 use Rattle.std.proofs.lemmas.Bool.Decides.{nat_tests}
@@ -12,19 +11,15 @@ use Rattle.life_tree.specs.declared.limit.LimitName.{LimitName}
 use Rattle.life_tree.specs.declared.limit.LimitName.TheVariants.{Functions, Locations, Points, Elements}
 use Rattle.life_core.specs.Function.{Function, Program}
 use Rattle.life_core.specs.Linked.{points_of}
-use Rattle.life_core.specs.Limits.{HaveFewPoints}
-use Rattle.life_core.specs.Proper.{IsProperProgram}
 use Rattle.life_elab.specs.Bounds.{HaveNumberedLocals, HaveShortPlaces}
 use Rattle.life_elab.specs.Functions.{function_from, written}
 use Rattle.life_elab.specs.Over as over
 use Rattle.life_elab.specs.Over.{first_of, over_function, over_functions, passes}
 use Rattle.life_elab.specs.Programs.{Functions as Written, around, core_program, functions, with_function}
 use Rattle.life_typed.specs.Programs.{FunctionForm, ProgramForm}
-use Rattle.life_fix.specs.Programs.{IsProgramWithinLimits}
-use Rattle.life_proper.specs.ResultsWritten.{WritesResults}
-use Rattle.life_proper.specs.WellFormedPrograms.{IsWellFormedProgram}
+use Rattle.life_proper.specs.ProperPrograms.{IsProperProgram}
+use Rattle.life_pset.specs.Limits.{IsProgramWithinLimits}
 use Rattle.life_pset.specs.Elements.{AreShort, IsWithinLimits, elements_of, locations_of}
-use Rattle.life_check.specs.WholeProgram.{IsWholeProgram}
 
 first_none : (a b : Option LimitFault) → first_of a b ≡ None → (a ≡ None) × (b ≡ None)
 first_none None b h = (refl, h)
@@ -64,13 +59,6 @@ each_within types (g ∷ gs) none numbered short zero f at =
 each_within types (g ∷ gs) none numbered short (suc i) f at =
     each_within types gs (first_none (over_function types g) (over_functions types gs) none).1 numbered.1 short.1 i f at
 
-few_points : (types : Types) (fs : List Function) → ((i : ℕ) (f : Function) → slice_get fs i ≡ Some f → IsWithinLimits types f) → HaveFewPoints fs
-few_points types [] within = tt
-few_points types (f ∷ fs) within = (few (points_of f) (within 0 f refl).points, few_points types fs (λ i g at. within (suc i) g at))
-  where
-    few : (n : ℕ) → n ≤ 1024 → n < 2 ^ 31
-    few n h = omega arith
-
 -- ---- translated programs
 
 count_functions : (p : ProgramForm) (fs : List FunctionForm) (w : Written) → length (functions p fs w).functions ≡ length w.functions + length fs
@@ -98,16 +86,10 @@ module _ (p : ProgramForm) (core : Program) (is : core ≡ core_program p) (none
         each = each_within (core_program p).types (core_program p).functions both.1 (subst (λ (c : Program). HaveNumberedLocals c.functions) is numbered) short;
       }
 
-  pub translated_within : IsProgramWithinLimits core
-  translated_within = subst IsProgramWithinLimits (sym is) its_limits
+  -- so it is proper where it is proper within them
+  pub translated_proper : (IsProgramWithinLimits (core_program p) → IsProperProgram (core_program p)) → IsProperProgram core
+  translated_proper proper = subst IsProperProgram (sym is) (proper its_limits)
 
-  -- so it is whole
-  pub translated_whole : IsProperProgram (core_program p) → IsWellFormedProgram (core_program p) → WritesResults (core_program p) → calls_by_value (core_program p) ≡ true → IsWholeProgram core
-  translated_whole proper formed written plain = subst IsWholeProgram (sym is) (record {
-    few = omega (arith, its_limits.few);
-    points = few_points (core_program p).types (core_program p).functions its_limits.each;
-    proper = proper;
-    well_formed = formed;
-    results_written = written;
-    by_value = plain;
-  })
+-- a proper program is within them
+pub proper_within : (p : Program) → IsProperProgram p → IsProgramWithinLimits p
+proper_within p proper = proper.limits

@@ -3,4 +3,3 @@ pub mod Faults
 pub mod Findings
 pub mod Laws
 pub mod Steps
-pub mod WholeProgram

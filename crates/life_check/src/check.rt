@@ -1,7 +1,7 @@
 // The check of the text of a file.
 ghost use Rattle.std.specs.Prelude.{◌≡◌, ◌<◌, ◌^◌, length};
 ghost use Rattle.life_core.specs.Function.{program_of};
-ghost use Rattle.life_fix.specs.Programs.{IsProgramWithinLimits};
+ghost use Rattle.life_proper.specs.ProperPrograms.{IsProperProgram};
 ghost use Rattle.life_rules.specs.Listing.{AreProgramDiagnostics};
 ghost use Rattle.life_typed.specs.Programs.{program_view};
 ghost use Rattle.life_typing.specs.Resolves.{resolved};
@@ -10,17 +10,13 @@ ghost use Rattle.life_check.specs.Faults as spec;
 ghost use Rattle.life_check.specs.Findings.{Finds, IsSound, finding_of};
 ghost use Rattle.life_check.specs.Laws.{IsRead, IsTyped};
 ghost use Rattle.life_check.specs.Steps.{TakesFew};
-ghost use Rattle.life_check.specs.WholeProgram.{IsWholeProgram};
 
 use crate::checked::Checked;
 use crate::fault::CheckFault;
 use life_base::Steps;
 use life_core::CoreProgram;
 use life_elab::{elaborate, is_built};
-use life_elab_laws::{
-    translations_are_plain, translations_are_proper, translations_are_well_formed,
-    translations_have_short_places, translations_write_results,
-};
+use life_elab_laws::{translations_are_proper, translations_have_short_places};
 use life_fix::program_diagnostics;
 use life_parse::parse;
 use life_parse_laws::{trees_have_longs, trees_have_names};
@@ -92,21 +88,18 @@ fn check_typed<L: Ledger>(
     }
     let program = elaborate(alloc, typed)?;
     translations_are_proper();
-    translations_are_well_formed();
-    translations_write_results();
-    translations_are_plain();
     translations_have_short_places();
     check_program(alloc, program, steps)
 }
 
-// A core program that passes no limit: what is diagnosed in it decides.
+// A proper core program: what is diagnosed in it decides.
+#[tactic(auto, using(crate::proofs::PassedLimits::proper_within))]
 fn check_program<L: Ledger>(
     alloc: Global,
     program: CoreProgram,
     steps: &mut Steps<L>,
 ) -> Result<Checked, CheckFault>
-    requires whole { IsWholeProgram (program_of program) }
-    requires within { IsProgramWithinLimits (program_of program) }
+    requires { IsProperProgram (program_of program) }
     ensures finds { Finds (IsListed (program_of program)) result }
     ensures ticks { TakesFew (IsListed (program_of program)) steps.old steps.new }
 {
@@ -116,7 +109,7 @@ fn check_program<L: Ledger>(
 
 // The program is accepted where the list is empty.
 fn decided(program: CoreProgram, diagnostics: Vec<Diag>) -> Checked
-    requires whole { IsWholeProgram (program_of program) }
+    requires proper { IsProperProgram (program_of program) }
     requires listed { AreProgramDiagnostics (program_of program) diagnostics.items }
     ensures finding { finding_of result ≡ Listed (program_of program) diagnostics.items }
     ensures sound { IsSound result }

@@ -1,5 +1,5 @@
 -- The functions of a program, and those that diagnostics are about.
-use Rattle.std.proofs.Common.{◌<◌, ◌^◌, List, length, map, arith}
+use Rattle.std.proofs.Common.{◌<◌, ◌≤◌, ◌^◌, List, length, map, arith}
 use Rattle.std.specs.Prelude.{Contains}
 use Rattle.std.proofs.lemmas.Option.{slice_get_within}
 use Rattle.std.proofs.lemmas.List.{length-map}
@@ -17,5 +17,5 @@ have_functions p ds listed =
     (λ d h. let is = listed.only d h in slice_get_within p.functions d.function is.0 is.1.0) ds (All-contains_itself ds)
 
 -- the numbers tell the functions apart
-pub few_functions : (fs : List CoreFn) → length (map function_of fs) < 2 ^ 32 → length fs < 2 ^ 32
+pub few_functions : (fs : List CoreFn) → length (map function_of fs) ≤ 1024 → length fs < 2 ^ 32
 few_functions fs few = omega (arith, length-map fs function_of, few)

@@ -5,7 +5,6 @@ use Rattle.std.proofs.lemmas.Bool.Decides.{nat_tests}
 use Rattle.std.proofs.lemmas.Option.{IfSome_then, slice_get_within}
 use Rattle.life_base.specs.Edges.{AppendsFront}
 use Rattle.life_core.specs.Function.{Function, Program}
-use Rattle.life_core.specs.Limits.{HaveFewPoints}
 use Rattle.life_core.specs.declared.program.FnId.{FnId}
 use Rattle.life_interp.specs.Runs.{RunEnds}
 use Rattle.life_interp.specs.Walking.{Sunk, Takes}
@@ -17,7 +16,6 @@ use Rattle.life_cli.proofs.Admitted.{admitted}
 use Rattle.life_cli.proofs.Fronts.{whole_front}
 use Rattle.life_cli.proofs.Served.{text_serves}
 use Rattle.life_cli.specs.Answer.{Answer, line}
-use Rattle.life_check.specs.WholeProgram.{IsWholeProgram}
 use Rattle.life_cli.specs.Ends.{Port, Serves, ServesFront, Tells}
 use Rattle.life_cli.specs.Entry.{Absent, Entry, IsEntry, NotValue}
 use Rattle.life_cli.specs.Runs.{IsEnd, Ran, RanFrom, RanUnless, ended_as, entry_text, fault_end, run_with, steps_end, trap_end, value_end, with_output}
@@ -35,11 +33,6 @@ is_less a b h = grind (arith, nat_tests)
 
 is_not_less : (a b : ℕ) → b ≤ a → nat_lt a b ≡ false
 is_not_less a b h = grind (arith, nat_tests)
-
--- ---- what the machine asks of a whole program
-
-pub machine_points : (p : Program) → IsWholeProgram p → HaveFewPoints p.functions
-machine_points p whole = whole.points
 
 -- ---- how a run ends
 

@@ -3,7 +3,7 @@ ghost use Rattle.std.specs.Prelude.{◌≡◌, ◌≤◌, ◌<◌, ◌++◌, IfS
 ghost use Rattle.life_types.specs.Places.{position_text};
 ghost use Rattle.life_core.specs.Function.{program_of};
 ghost use Rattle.life_store.specs.Meaning.{IsAdmitted};
-ghost use Rattle.life_check.specs.WholeProgram.{IsWholeProgram};
+ghost use Rattle.life_proper.specs.ProperPrograms.{IsProperProgram};
 ghost use Rattle.life_cli.specs.Ends.{Serves, Tells};
 ghost use Rattle.life_cli.specs.Entry.{entry_of};
 ghost use Rattle.life_cli.specs.Runs.{fault_name, trap_name, Ran, RanFrom};
@@ -32,7 +32,7 @@ pub fn execute<O: Sink>(
     input: &[i64],
     out: &mut O,
 ) -> Result<Ending, Stop>
-    requires whole { IsWholeProgram (program_of program.now) }
+    requires proper { IsProperProgram (program_of program.now) }
     requires few { options.steps ≤ most_steps }
     ensures { Serves (RanFrom options function.now (program_of program.now) input.now (entry_of (program_of program.now) function.now))
         (record { taken = O.taken out.old; faults = O.faults out.old })
@@ -51,7 +51,6 @@ pub fn execute<O: Sink>(
 }
 
 // Runs the program from the function with this number.
-#[tactic(auto, using(crate::proofs::Machines::machine_points))]
 fn run_from<O: Sink>(
     alloc: Global,
     options: RunOptions,
@@ -60,7 +59,7 @@ fn run_from<O: Sink>(
     input: &[i64],
     out: &mut O,
 ) -> Result<Ending, Stop>
-    requires whole { IsWholeProgram (program_of program.now) }
+    requires proper { IsProperProgram (program_of program.now) }
     requires few { options.steps ≤ most_steps }
     requires there { number.0 < length (program_of program.now).functions }
     requires admitted { IfSome (slice_get (program_of program.now).functions number.0) (λ f. IsAdmitted (program_of program.now) f input.now) }

@@ -3,7 +3,7 @@ ghost use Rattle.std.specs.Prelude.{◌≤◌, Some, length, option_map};
 ghost use Rattle.life_core.specs.Function.{program_of};
 ghost use Rattle.life_input.specs.Input.{numbers_in};
 ghost use Rattle.life_store.specs.NoFault.{NoFault};
-ghost use Rattle.life_check.specs.WholeProgram.{IsWholeProgram};
+ghost use Rattle.life_proper.specs.ProperPrograms.{IsProperProgram};
 ghost use Rattle.life_cli.specs.Ends.{Serves, WorksOn};
 ghost use Rattle.life_cli.specs.FileText.{most_bytes};
 ghost use Rattle.life_cli.specs.InputFile.{numbers_or};
@@ -30,7 +30,7 @@ pub fn run_job<F: Files, O: Sink>(
     files: &mut F,
     out: &mut O,
 ) -> Result<Ending, Stop>
-    requires whole { IsWholeProgram (program_of program.now) }
+    requires proper { IsProperProgram (program_of program.now) }
     requires few { run.options.steps ≤ most_steps }
     ensures { OfFiles (F.held files.old) (λ held. WorksOn (run_asked run.entry.options run.entry.function.now (program_of program.now) (option_map (λ s. s.now) run.entry.input) held)
         (NoFault (program_of program.now) → ⊥) (F.faults files.old) (F.faults files.new)
@@ -53,7 +53,7 @@ fn run_on_file<F: Files, O: Sink>(
     files: &mut F,
     out: &mut O,
 ) -> Result<Ending, Stop>
-    requires whole { IsWholeProgram (program_of program.now) }
+    requires proper { IsProperProgram (program_of program.now) }
     requires few { options.steps ≤ most_steps }
     ensures { OfFiles (F.held files.old) (λ held. WorksOn (run_asked options function.now (program_of program.now) (Some name.now) held)
         (NoFault (program_of program.now) → ⊥) (F.faults files.old) (F.faults files.new)
@@ -77,7 +77,7 @@ fn run_on_bytes<O: Sink>(
     bytes: &[u8],
     out: &mut O,
 ) -> Result<Ending, Stop>
-    requires whole { IsWholeProgram (program_of program.now) }
+    requires proper { IsProperProgram (program_of program.now) }
     requires few { options.steps ≤ most_steps }
     requires short { length bytes.now ≤ most_bytes }
     ensures { Serves (RanWith options function.now (program_of program.now) (numbers_or (numbers_in bytes.now)))

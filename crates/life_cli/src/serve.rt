@@ -5,7 +5,7 @@ ghost use Rattle.life_report.specs.Reports.{report_text, HaveFunctions};
 ghost use Rattle.life_rules.specs.Listing.{AreProgramDiagnostics};
 ghost use Rattle.life_store.specs.NoFault.{NoFault};
 ghost use Rattle.life_cli.specs.Answer.{answer_in};
-ghost use Rattle.life_check.specs.WholeProgram.{IsWholeProgram};
+ghost use Rattle.life_proper.specs.ProperPrograms.{IsProperProgram};
 ghost use Rattle.life_cli.specs.Concluding.{reported, verdict};
 ghost use Rattle.life_cli.specs.Ends.{Reports, Serves, WorksOn};
 ghost use Rattle.life_cli.specs.Question.{program_asked, OfFiles};
@@ -32,7 +32,7 @@ pub fn serve_accepted<F: Files, O: Sink>(
     files: &mut F,
     out: &mut O,
 ) -> Result<Ending, Stop>
-    requires whole { IsWholeProgram (program_of program.now) }
+    requires proper { IsProperProgram (program_of program.now) }
     requires listed { AreProgramDiagnostics (program_of program.now) [] }
     requires safe { NoFault (program_of program.now) }
     requires few { HasFewSteps (command_seen command) }
@@ -56,7 +56,7 @@ pub fn serve_rejected<F: Files, O: Sink>(
     files: &mut F,
     out: &mut O,
 ) -> Result<Ending, Stop>
-    requires whole { IsWholeProgram (program_of program.now) }
+    requires proper { IsProperProgram (program_of program.now) }
     requires listed { AreProgramDiagnostics (program_of program.now) found.now }
     requires some { found.now ≢ [] }
     requires few { HasFewSteps (command_seen command) }

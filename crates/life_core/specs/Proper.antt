@@ -1,4 +1,5 @@
--- Proper functions: on every way through the text each local is ready where it is used, each operand is of its sort, and no way runs past the end.
+-- Ready ways: on every way through the text of a function each local is ready where it is used, each operand is of its sort, and no way runs past
+-- the end.
 use Rattle.std.specs.Prelude.{◌≡◌, ◌⊎◌, ℕ, zero, suc, ◌+◌, List, [], ◌∷◌, Option, Some, None, IsSome, IsTrue, Contains, slice_get, slice_set, take}
 use Rattle.life_types.specs.Types.{Types, class_at}
 use Rattle.life_types.specs.declared.ty.Class.{Class}
@@ -248,16 +249,17 @@ LeadOn [] = Unit {0}
 LeadOn (l ∷ ls) = IsSome l.to × LeadOn ls
 
 -- a function of a program with these functions
-pub record IsProper (types : Types) (fs : List Function) (f : Function) : Type 0 where
+pub record HasReadyWays (types : Types) (fs : List Function) (f : Function) : Type 0 where
   pub statement : IsTrue (is_statement f.body)
   pub straight : IsTrue (tests_straight f.body)
   pub begins : IsSome (enter f.body 1 no_exits)
   pub ready : (p : ℕ) (hs : Holdings) (l : Linked) → Reaches types f p hs → numbered (code_of f) p ≡ Some l → IsNodeReady types fs f hs l.spot.node
   pub leads_on : (p : ℕ) (hs : Holdings) (l : Linked) → Reaches types f p hs → numbered (code_of f) p ≡ Some l → LeadOn l.leads
 
-abbrev pub AreProper : Types → List Function → List Function → Type 0
-AreProper types fs [] = Unit {0}
-AreProper types fs (g ∷ gs) = IsProper types fs g × AreProper types fs gs
+abbrev pub HaveReadyWays : Types → List Function → List Function → Type 0
+HaveReadyWays types fs [] = Unit {0}
+HaveReadyWays types fs (g ∷ gs) = HasReadyWays types fs g × HaveReadyWays types fs gs
 
-abbrev pub IsProperProgram : Program → Type 0
-IsProperProgram p = AreProper p.types p.functions p.functions
+-- a whole program
+abbrev pub IsReadyProgram : Program → Type 0
+IsReadyProgram p = HaveReadyWays p.types p.functions p.functions

@@ -35,6 +35,22 @@ abbrev mutual
   is_condition (Returns place) = false
   is_condition (Stops place) = false
 
+-- break and continue stand in the body of a loop, where the tree itself stands in one or not
+abbrev pub breaks_inside : (in_loop : Bool) → Tree → Bool
+breaks_inside b Skip = true
+breaks_inside b (Then x y) = breaks_inside b x && breaks_inside b y
+breaks_inside b (Acts place i) = true
+breaks_inside b (Asks place t) = true
+breaks_inside b (Both x y) = breaks_inside b x && breaks_inside b y
+breaks_inside b (Either x y) = breaks_inside b x && breaks_inside b y
+breaks_inside b (Negated x) = breaks_inside b x
+breaks_inside b (Choice t x y) = breaks_inside b t && (breaks_inside b x && breaks_inside b y)
+breaks_inside b (Turns t body step) = breaks_inside b t && (breaks_inside true body && breaks_inside b step)
+breaks_inside b Breaks = b
+breaks_inside b Continues = b
+breaks_inside b (Returns place) = true
+breaks_inside b (Stops place) = true
+
 -- control leaves it at its end alone: it has no loop, and neither breaks, continues nor returns
 abbrev pub is_straight : Tree → Bool
 is_straight Skip = true

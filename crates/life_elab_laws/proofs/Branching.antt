@@ -4,7 +4,7 @@ use Rattle.std.proofs.lemmas.Bool.{and_from}
 use Rattle.life_types.specs.Types.{Types}
 use Rattle.life_types.specs.declared.place.Place.{Place}
 use Rattle.life_core.specs.Function.{Function}
-use Rattle.life_core.specs.Shape.{is_condition, is_statement, test_straight, tests_straight}
+use Rattle.life_core.specs.Shape.{breaks_inside, is_condition, is_statement, test_straight, tests_straight}
 use Rattle.life_core.specs.Tree.{Tree, Skip, Choice, Stops, trees}
 use Rattle.life_proper.specs.declared.known.Known.{Known}
 use Rattle.life_proper.specs.Checking.{Flow, before_both, flow, joined}
@@ -127,6 +127,7 @@ module _ (types : Types) (fs : List Function) (f : Function) where
           stated = record {
             statement = and_from _ true (and_from (is_condition w.given) _ asks.fine.condition (and_from (is_statement (trees first.does.code)) (is_statement (trees second.does.code)) one.stated.statement other.stated.statement)) refl;
             tests = and_from _ true (and_from (test_straight w.given) _ asks.fine.straight (and_from (tests_straight (trees first.does.code)) (tests_straight (trees second.does.code)) one.stated.tests other.stated.tests)) refl;
+            breaks = and_from _ true (and_from (breaks_inside in_loop w.given) _ (asks.fine.breaks in_loop) (and_from (breaks_inside in_loop (trees first.does.code)) (breaks_inside in_loop (trees second.does.code)) one.stated.breaks other.stated.breaks)) refl;
             plain = and_from _ true (and_from (is_plain_tree types fs f w.given) _ asks.fine.plain (and_from (is_plain_tree types fs f (trees first.does.code)) (is_plain_tree types fs f (trees second.does.code)) one.stated.plain other.stated.plain)) refl;
           };
           ways = leaves_may types fs f in_loop s.living r.living (take s.outside s.living) (trees (chosen ∷ [])) went;
@@ -160,6 +161,7 @@ module _ (types : Types) (fs : List Function) (f : Function) where
       stated = record {
         statement = and_from _ true (and_from (is_condition w.given) true asks.fine.condition refl) refl;
         tests = and_from _ true (and_from (test_straight w.given) true asks.fine.straight refl) refl;
+        breaks = and_from _ true (and_from (breaks_inside in_loop w.given) true (asks.fine.breaks in_loop) refl) refl;
         plain = and_from _ true (and_from (is_plain_tree types fs f w.given) true asks.fine.plain refl) refl;
       };
       ways = leaves_may types fs f in_loop s.living w.state.living (take s.outside s.living) (trees (Choice w.given Skip (Stops keyword) ∷ [])) went;

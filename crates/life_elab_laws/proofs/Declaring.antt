@@ -218,7 +218,7 @@ module _ (types : Types) (fs : List Function) (f : Function) (a : Around) (front
 
     acting : Begins types f (with_new (variable_local a u) w.state) → Acting types fs f in_loop s done (made.code ++ code)
     acting b = record {
-      stated = stated_append types fs f made.code code (fine_stated types fs f made.code (made.runs before).fine) (fine_stated types fs f code (fine b));
+      stated = stated_append types fs f in_loop made.code code (fine_stated types fs f in_loop made.code (made.runs before).fine) (fine_stated types fs f in_loop code (fine b));
       ways = leaves_may types fs f in_loop s.living (w.state.living ++ length w.state.locals ∷ []) (take s.outside s.living) (trees (made.code ++ code)) went;
     }
       where

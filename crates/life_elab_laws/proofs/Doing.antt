@@ -4,7 +4,7 @@ use Rattle.life_types.specs.Types.{Types}
 use Rattle.life_types.specs.declared.place.Place.{Place}
 use Rattle.life_core.specs.ByValue.{is_by_value}
 use Rattle.life_core.specs.Function.{Function}
-use Rattle.life_core.specs.Shape.{is_statement, tests_straight}
+use Rattle.life_core.specs.Shape.{breaks_inside, is_statement, tests_straight}
 use Rattle.life_core.specs.Step.{Step}
 use Rattle.life_core.specs.Tree.{Tree, Acts, trees}
 use Rattle.life_proper.specs.declared.known.Known.{Known}
@@ -31,23 +31,25 @@ use Rattle.life_elab_laws.proofs.WrittenLocals.{AreWrittenLocals, locals_added, 
 module _ (types : Types) (fs : List Function) (f : Function) where
   -- ---- statements and lists of them
 
-  pub record IsStated (code : List Tree) : Type 0 where
+  pub record IsStated (in_loop : Bool) (code : List Tree) : Type 0 where
     pub statement : is_statement (trees code) ≡ true
     pub tests : tests_straight (trees code) ≡ true
+    pub breaks : breaks_inside in_loop (trees code) ≡ true
     pub plain : is_plain_tree types fs f (trees code) ≡ true
 
-  pub stated_append : (c d : List Tree) → IsStated c → IsStated d → IsStated (c ++ d)
-  stated_append c d first second = record {
+  pub stated_append : (in_loop : Bool) (c d : List Tree) → IsStated in_loop c → IsStated in_loop d → IsStated in_loop (c ++ d)
+  stated_append in_loop c d first second = record {
     statement = all_append is_statement refl (λ a b. refl) c d first.statement second.statement;
     tests = all_append tests_straight refl (λ a b. refl) c d first.tests second.tests;
+    breaks = all_append (breaks_inside in_loop) refl (λ a b. refl) c d first.breaks second.breaks;
     plain = all_append (is_plain_tree types fs f) refl (λ a b. refl) c d first.plain second.plain;
   }
 
-  pub fine_stated : (c : List Tree) → IsFine types fs f c → IsStated c
-  fine_stated c h = record { statement = h.statement; tests = h.tests; plain = h.plain }
+  pub fine_stated : (in_loop : Bool) (c : List Tree) → IsFine types fs f c → IsStated in_loop c
+  fine_stated in_loop c h = record { statement = h.statement; tests = h.tests; breaks = h.breaks in_loop; plain = h.plain }
 
   pub record Acting (in_loop : Bool) (s s' : State) (code : List Tree) : Type 0 where
-    pub stated : IsStated code
+    pub stated : IsStated in_loop code
     pub ways : (o : Knowing) → MayKnow types fs f s.living o → Leaves types fs f in_loop s'.living (take s.outside s.living) (flow types fs f (trees code) o)
 
   pub record Does (a : Around) (v : Visible) (in_loop : Bool) (s s' : State) : Type 0 where
@@ -87,13 +89,13 @@ module _ (types : Types) (fs : List Function) (f : Function) where
     follows = h;
     code = [];
     written = sym (append-nil s.code);
-    acts = λ b. record { stated = record { statement = refl; tests = refl; plain = refl }; ways = λ o k. record { fine = refl; next = k; on_break = none_leaves in_loop (take s.outside s.living); on_continue = none_leaves in_loop (take s.outside s.living); on_true = refl; on_false = refl } };
+    acts = λ b. record { stated = record { statement = refl; tests = refl; breaks = refl; plain = refl }; ways = λ o k. record { fine = refl; next = k; on_break = none_leaves in_loop (take s.outside s.living); on_continue = none_leaves in_loop (take s.outside s.living); on_true = refl; on_false = refl } };
     returns = λ b gives o k. tt;
   }
 
   pub acts_then : (in_loop : Bool) (s t r : State) (c d : List Tree) → s.outside ≤ length s.living → Adds types fs f s t → Acting in_loop s t c → Acting in_loop t r d → Acting in_loop s r (c ++ d)
   acts_then in_loop s t r c d h adds p q = record {
-    stated = stated_append c d p.stated q.stated;
+    stated = stated_append in_loop c d p.stated q.stated;
     ways = λ o k.
         let w = p.ways o k in
         subst (λ (x : Flow). Leaves types fs f in_loop r.living (take s.outside s.living) x) (sym (flow_append types fs f c d o))
@@ -154,7 +156,7 @@ module _ (types : Types) (fs : List Function) (f : Function) where
 
     pub made_acts : Begins types f w.state → Acting in_loop s w.state made.code
     made_acts b = record {
-      stated = fine_stated made.code (made.runs b).fine;
+      stated = fine_stated in_loop made.code (made.runs b).fine;
       ways = leaves_may in_loop s.living w.state.living (take s.outside s.living) (trees made.code) went;
     }
       where

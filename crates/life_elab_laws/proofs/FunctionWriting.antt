@@ -7,7 +7,7 @@ use Rattle.life_built.specs.Built.{is_built_statement}
 use Rattle.life_typed.specs.Programs.{FunctionForm, ProgramForm}
 use Rattle.life_typed.specs.TypedStatement.{StmtForm, block}
 use Rattle.life_core.specs.Function.{Function}
-use Rattle.life_core.specs.Shape.{is_statement, tests_straight}
+use Rattle.life_core.specs.Shape.{breaks_inside, is_statement, tests_straight}
 use Rattle.life_core.specs.Tree.{Tree, Returns, trees}
 use Rattle.life_proper.specs.Checking.{Flow, body_flow, flow, is_checked, is_over}
 use Rattle.life_proper.specs.Knowing.{State as Knowing, entry_known}
@@ -104,6 +104,9 @@ module _ (p : ProgramForm) (form : FunctionForm) (T types : Types) (fs : List Fu
           and_from (is_statement f.body) _ (ap is_statement body_is ∙ acting.stated.statement)
           (and_from (tests_straight f.body) (is_over (body_flow types fs f)) (ap tests_straight body_is ∙ acting.stated.tests)
           (ap (λ (t : Tree). is_over (flow types fs f t (Some (entry_known types f)))) body_is ∙ over))
+
+      pub function_breaks : breaks_inside false f.body ≡ true
+      function_breaks = ap (breaks_inside false) body_is ∙ acting.stated.breaks
 
       pub function_plain : is_plain_tree types fs f f.body ≡ true
       function_plain = ap (is_plain_tree types fs f) body_is ∙ acting.stated.plain

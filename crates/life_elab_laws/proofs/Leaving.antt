@@ -78,7 +78,7 @@ module _ (types : Types) (fs : List Function) (f : Function) where
 
     ended_acts : (e : IsEnded (reverse (drop (length s.living) t.living)) place t) → Begins types f t → Acting types fs f in_loop s (behind_block e.code) (inner.code ++ e.code)
     ended_acts e b = record {
-      stated = stated_append types fs f inner.code e.code (inner.acts b).stated (fine_stated types fs f e.code e.fine);
+      stated = stated_append types fs f in_loop inner.code e.code (inner.acts b).stated (fine_stated types fs f in_loop e.code e.fine);
       ways = ways;
     }
       where
@@ -128,11 +128,11 @@ module _ (types : Types) (fs : List Function) (f : Function) where
 
   -- ---- control goes elsewhere
 
-  module _ (a : Around) (v : Visible) (in_loop : Bool) (s : State) (h : Follows types fs f a v s) (n : ℕ) (place : Place) (t : Tree) (stated : IsStated types fs f (t ∷ []))
+  module _ (a : Around) (v : Visible) (in_loop : Bool) (s : State) (h : Follows types fs f a v s) (n : ℕ) (place : Place) (t : Tree) (stated : IsStated types fs f in_loop (t ∷ []))
       (leaves : (k : List Known) → Knows types fs f (take n s.living) k → Leaves types fs f in_loop s.living (take s.outside s.living) (flow types fs f (trees (t ∷ [])) (Some k))) where
     pub left_acts : (e : IsEnded (reverse (drop n s.living)) place s) → Begins types f s → Acting types fs f in_loop s (write t (with_code (s.code ++ e.code) s)) (e.code ++ t ∷ [])
     left_acts e b = record {
-      stated = stated_append types fs f e.code (t ∷ []) (fine_stated types fs f e.code e.fine) stated;
+      stated = stated_append types fs f in_loop e.code (t ∷ []) (fine_stated types fs f in_loop e.code e.fine) stated;
       ways = leaves_may types fs f in_loop s.living s.living (take s.outside s.living) (trees (e.code ++ t ∷ [])) went;
     }
       where

@@ -57,6 +57,7 @@ pub mod OperatorTypes
 pub mod OrderedTypes
 pub mod ProgramNames
 pub mod Programs
+pub mod ProperTranslations
 pub mod ResultRegisters
 pub mod Returning
 pub mod Setting

@@ -5,7 +5,7 @@ use Rattle.std.proofs.lemmas.Option.{same_Some}
 use Rattle.life_types.specs.Types.{Types}
 use Rattle.life_types.specs.declared.ty.NameId.{NameId}
 use Rattle.life_core.specs.Function.{Function}
-use Rattle.life_core.specs.Shape.{is_condition, is_statement, test_straight, tests_straight}
+use Rattle.life_core.specs.Shape.{breaks_inside, is_condition, is_statement, test_straight, tests_straight}
 use Rattle.life_core.specs.Tree.{Tree, Turns, trees}
 use Rattle.life_core.specs.declared.program.Local.{Local}
 use Rattle.life_proper.specs.declared.known.Known.{Known}
@@ -30,6 +30,7 @@ use Rattle.life_elab_laws.proofs.Growing.{Begins}
 use Rattle.life_elab_laws.proofs.OrderedTypes.{order_then}
 use Rattle.life_elab_laws.proofs.Shaped.{AreShaped, IsVariable, shaped_at}
 use Rattle.life_elab_laws.proofs.Testing.{Asked, AsksAll, Tests}
+use Rattle.life_elab_laws.proofs.Shaping.{breaks_anywhere}
 use Rattle.life_elab_laws.proofs.WrittenLocals.{locals_added}
 
 -- ---- at the head nothing is known of intermediate values, and the same of all others
@@ -240,6 +241,7 @@ module _ (types : Types) (fs : List Function) (f : Function) where
           stated = record {
             statement = and_from _ true (and_from (is_condition w.given) _ asks.fine.condition (and_from (is_statement (trees body.does.code)) (is_statement (trees step.does.code)) one.stated.statement other.stated.statement)) refl;
             tests = and_from _ true (and_from (test_straight w.given) _ asks.fine.straight (and_from (tests_straight (trees body.does.code)) (tests_straight (trees step.does.code)) one.stated.tests other.stated.tests)) refl;
+            breaks = and_from _ true (and_from (breaks_inside in_loop w.given) _ (asks.fine.breaks in_loop) (and_from (breaks_inside true (trees body.does.code)) (breaks_inside in_loop (trees step.does.code)) one.stated.breaks (breaks_anywhere in_loop (trees step.does.code) other.stated.breaks))) refl;
             plain = and_from _ true (and_from (is_plain_tree types fs f w.given) _ asks.fine.plain (and_from (is_plain_tree types fs f (trees body.does.code)) (is_plain_tree types fs f (trees step.does.code)) one.stated.plain other.stated.plain)) refl;
           };
           ways = leaves_may types fs f in_loop s.living r.living (take s.outside s.living) (trees (turns ∷ [])) went;

@@ -178,7 +178,7 @@ module _ (types : Types) (fs : List Function) (f : Function) where
     code = [];
     written = sym (no_more s.code);
     runs = λ b. record {
-      fine = record { statement = refl; straight = refl; tests = refl; plain = refl };
+      fine = record { statement = refl; straight = refl; tests = refl; breaks = λ in_loop. refl; plain = refl };
       goes = λ k alive p. record { after = k; falls = refl; keeps = keeps_all (length s.locals) None k; gives = q b k alive p };
     };
   }

@@ -2,6 +2,7 @@
 use Rattle.std.proofs.Common.{◌≡◌, ◌<◌, ◌⊎◌, ℕ, zero, suc, true, List, [], ◌∷◌, ◌++◌, length, map, slice_get, take, Some, option_map, refl, sym, ap, ◌∙◌, subst, arith, append_assoc, append-nil}
 use Rattle.std.proofs.lemmas.Bool.{and_from, and_parts}
 use Rattle.std.proofs.lemmas.Option.{none-some, same_Some, slice_get-map}
+use Rattle.std.specs.List.{list_all}
 use Rattle.life_types.specs.Types.{Types}
 use Rattle.life_types.specs.declared.ty.Ty.{Ty}
 use Rattle.life_types.specs.declared.ty.TyId.{TyId}
@@ -12,6 +13,7 @@ use Rattle.life_core.specs.Function.{Function}
 use Rattle.life_core.specs.Proper.{ANumber, Blank, result_sort}
 use Rattle.life_proper.specs.Checking.{are_checked, checked, is_checked}
 use Rattle.life_proper.specs.Knowing.{entry_known}
+use Rattle.life_proper.specs.ProperPrograms.{has_own_breaks, have_own_breaks}
 use Rattle.life_proper.specs.Plain.{are_plain, is_plain, is_plain_tree}
 use Rattle.life_proper.specs.ResultsKnown.{ReturnsKnown}
 use Rattle.life_pset.specs.Elements.{AreShort, elements_of}
@@ -27,7 +29,7 @@ use Rattle.life_elab_laws.proofs.Calls.{IsCallee}
 use Rattle.life_elab_laws.proofs.ExpressionKinds.{function_built}
 use Rattle.life_elab_laws.proofs.FormedLocals.{HasFormedHead, all_at, head_formed}
 use Rattle.life_elab_laws.proofs.Fronts.{IsFront, front_itself, front_then}
-use Rattle.life_elab_laws.proofs.FunctionWriting.{function_checked, function_finished, function_plain, function_returns}
+use Rattle.life_elab_laws.proofs.FunctionWriting.{function_breaks, function_checked, function_finished, function_plain, function_returns}
 use Rattle.life_elab_laws.proofs.GivingBack.{GivesValue}
 use Rattle.life_elab_laws.proofs.Growing.{Begins}
 use Rattle.life_elab_laws.proofs.OrderedTypes.{KeepsOrder, order_none, order_then}
@@ -239,6 +241,13 @@ module _ (p : ProgramForm) (typed : IsWellTyped p) (built : are_built_functions 
       function_returns p f w.before whole.types whole.functions core (written_setting n f at core w) is.parameters (parts n f at) is.body t.0 t.1 w.table
       (written_begins n f at core w) (count n f at core w) (locals n f at core w) (ap (λ (c : Function). c.body) w.is)
 
+  one_breaks : (n : ℕ) (f : FunctionForm) → slice_get p.functions n ≡ Some f → (core : Function) → IsWritten p whole.types f core → has_own_breaks core ≡ true
+  one_breaks n f at core w =
+      let t = result_at p.types p.functions n f results at in
+      let is = typed_at p p.functions n f typed at in
+      function_breaks p f w.before whole.types whole.functions core (written_setting n f at core w) is.parameters (parts n f at) is.body t.0 t.1 w.table
+      (written_begins n f at core w) (count n f at core w) (locals n f at core w) (ap (λ (c : Function). c.body) w.is)
+
   one_plain : (n : ℕ) (f : FunctionForm) → slice_get p.functions n ≡ Some f → (core : Function) → IsWritten p whole.types f core → is_plain_tree whole.types whole.functions core core.body ≡ true
   one_plain n f at core w =
       let t = result_at p.types p.functions n f results at in
@@ -276,6 +285,12 @@ module _ (p : ProgramForm) (typed : IsWellTyped p) (built : are_built_functions 
       and_from (is_plain_tree whole.types whole.functions core core.body) (are_plain whole.types whole.functions cores) (each zero f refl core h.0) (all_plain fs cores (λ n. each (suc n)) h.1)
   all_plain _ _ each h = absurd h
 
+  all_breaks : (fs : List FunctionForm) (cores : List Function) → ((n : ℕ) (f : FunctionForm) → slice_get fs n ≡ Some f → (core : Function) → IsWritten p whole.types f core → has_own_breaks core ≡ true)
+      → AreWritten p whole.types fs cores → list_all has_own_breaks cores ≡ true
+  all_breaks [] [] each h = refl
+  all_breaks (f ∷ fs) (core ∷ cores) each h = and_from (has_own_breaks core) (list_all has_own_breaks cores) (each zero f refl core h.0) (all_breaks fs cores (λ n. each (suc n)) h.1)
+  all_breaks _ _ each h = absurd h
+
   all_short : (fs : List FunctionForm) (cores : List Function) → ((n : ℕ) (f : FunctionForm) → slice_get fs n ≡ Some f → (core : Function) → IsWritten p whole.types f core → AreShort (elements_of whole.types core))
       → AreWritten p whole.types fs cores → HaveShortPlaces whole.types cores
   all_short [] [] each h = tt
@@ -287,6 +302,9 @@ module _ (p : ProgramForm) (typed : IsWellTyped p) (built : are_built_functions 
 
   pub program_plain : is_plain (core_program p) ≡ true
   program_plain = all_plain p.functions whole.functions one_plain each_written
+
+  pub program_breaks : have_own_breaks (core_program p) ≡ true
+  program_breaks = all_breaks p.functions whole.functions one_breaks each_written
 
   pub program_short : HaveShortPlaces whole.types whole.functions
   program_short = all_short p.functions whole.functions one_short each_written
@@ -301,6 +319,9 @@ translation_checked p typed results b = program_checked p typed (functions_built
 
 pub translation_plain : (p : ProgramForm) → IsWellTyped p → HasResults p → is_built p ≡ true → is_plain (core_program p) ≡ true
 translation_plain p typed results b = program_plain p typed (functions_built p b) results
+
+pub translation_breaks : (p : ProgramForm) → IsWellTyped p → HasResults p → is_built p ≡ true → have_own_breaks (core_program p) ≡ true
+translation_breaks p typed results b = program_breaks p typed (functions_built p b) results
 
 pub translation_short : (p : ProgramForm) → IsWellTyped p → HasResults p → is_built p ≡ true → HaveShortPlaces (core_program p).types (core_program p).functions
 translation_short p typed results b = program_short p typed (functions_built p b) results

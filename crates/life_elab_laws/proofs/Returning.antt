@@ -73,7 +73,7 @@ module _ (a : Around) (types : Types) (fs : List Function) (f : Function) (setti
   module _ (s : State) (h : Follows types fs f a v s) where
     pub break_does : in_loop ≡ true → (keyword : Place) → DoesLevel types fs f a v in_loop s (left s.outside keyword Breaks s)
     break_does e keyword = record {
-      does = left_does types fs f a v in_loop s h s.outside keyword Breaks (record { statement = refl; tests = refl; plain = refl })
+      does = left_does types fs f a v in_loop s h s.outside keyword Breaks (record { statement = refl; tests = refl; breaks = and_from in_loop true e refl; plain = refl })
           (λ k knows. record {
             fine = refl;
             next = tt;
@@ -88,7 +88,7 @@ module _ (a : Around) (types : Types) (fs : List Function) (f : Function) (setti
 
     pub continue_does : in_loop ≡ true → (keyword : Place) → DoesLevel types fs f a v in_loop s (left s.outside keyword Continues s)
     continue_does e keyword = record {
-      does = left_does types fs f a v in_loop s h s.outside keyword Continues (record { statement = refl; tests = refl; plain = refl })
+      does = left_does types fs f a v in_loop s h s.outside keyword Continues (record { statement = refl; tests = refl; breaks = and_from in_loop true e refl; plain = refl })
           (λ k knows. record {
             fine = refl;
             next = tt;
@@ -104,7 +104,7 @@ module _ (a : Around) (types : Types) (fs : List Function) (f : Function) (setti
     -- control returns where no value has to be given back
     pub return_does : (GivesValue a → ⊥) → (keyword : Place) → DoesLevel types fs f a v in_loop s (left 0 keyword (Returns keyword) s)
     return_does never keyword = record {
-      does = left_does types fs f a v in_loop s h 0 keyword (Returns keyword) (record { statement = refl; tests = refl; plain = refl }) (λ k knows. return_leaves s keyword k) (λ gives o. absurd (never gives));
+      does = left_does types fs f a v in_loop s h 0 keyword (Returns keyword) (record { statement = refl; tests = refl; breaks = refl; plain = refl }) (λ k knows. return_leaves s keyword k) (λ gives o. absurd (never gives));
       level = left_level types fs f s 0 keyword (Returns keyword);
     }
 
@@ -185,7 +185,7 @@ module _ (a : Around) (types : Types) (fs : List Function) (f : Function) (setti
             acting b =
                 acts_then types fs f in_loop s w.state behind made.code back h.outside (grows_adds types fs f s w.state made.grown)
                 (made_acts types fs f a v in_loop (Some (result_local a)) s w IsNumber h made b)
-                (left_acts types fs f a v in_loop w.state later 0 keyword (Returns keyword) (record { statement = refl; tests = refl; plain = refl }) (λ k knows. return_leaves w.state keyword k) d b)
+                (left_acts types fs f a v in_loop w.state later 0 keyword (Returns keyword) (record { statement = refl; tests = refl; breaks = refl; plain = refl }) (λ k knows. return_leaves w.state keyword k) d b)
 
       pub value_returned : DoesLevel types fs f a v in_loop s (left 0 keyword (Returns keyword) w.state)
       value_returned =

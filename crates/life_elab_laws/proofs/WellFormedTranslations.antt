@@ -1,4 +1,4 @@
--- The core program of a well typed program that is built is well formed.
+-- The core program of a well typed program that is built is well formed, and leaves alone what is given over.
 use Rattle.std.proofs.Common.{◌≡◌, ◌<◌, ◌⊎◌, inl, inr, ℕ, zero, suc, true, List, [], ◌∷◌, length, nat_le, nat_lt, slice_get, Some, refl, sym, ap, ◌∙◌, subst, arith, length-append}
 use Rattle.std.specs.List.{list_all}
 use Rattle.std.proofs.lemmas.Bool.{and_from, and_parts}
@@ -10,7 +10,7 @@ use Rattle.life_built.specs.Built.{are_built_functions, has_built_types, has_no_
 use Rattle.life_typed.specs.Programs.{FunctionForm, ProgramForm}
 use Rattle.life_core.specs.Function.{Function}
 use Rattle.life_core.specs.declared.program.Local.{Local}
-use Rattle.life_proper.specs.GivenOver.{all_keep_given}
+use Rattle.life_proper.specs.GivenOver.{all_keep_given, keeps_all_given}
 use Rattle.life_proper.specs.WellFormed.{is_well_formed_tree}
 use Rattle.life_proper.specs.WellFormedPrograms.{IsWellFormedProgram, are_well_formed_locals, is_name, is_result_of, is_well_formed_function, names_parameters}
 use Rattle.life_well_typed.specs.Functions.{IsWellTyped}
@@ -85,9 +85,10 @@ module _ (p : ProgramForm) (typed : IsWellTyped p) (built : are_built_functions 
         (and_from (nat_le core.parameters (length core.locals)) _ head.count
         (and_from (names_parameters core.parameters core.promise) _ head.promise
         (and_from (is_result_of types core.result (slice_get types.types core.result.0) (slice_get core.locals core.parameters)) _ head.result
-        (and_from (are_well_formed_locals types names core.parameters 0 core.locals) _ head.locals
-        (and_from (is_well_formed_tree types texts functions core core.body) (all_keep_given types core) body_formed
-        (keeps_all types core (gives_nothing types texts functions core (flat_locals types core local_type) body_formed)))))))
+        (and_from (are_well_formed_locals types names core.parameters 0 core.locals) (is_well_formed_tree types texts functions core core.body) head.locals body_formed))))
+
+    one_keeps : all_keep_given types core ≡ true
+    one_keeps = keeps_all types core (gives_nothing types texts functions core (flat_locals types core local_type) body_formed)
 
   -- ---- all of them
 
@@ -97,6 +98,16 @@ module _ (p : ProgramForm) (typed : IsWellTyped p) (built : are_built_functions 
   all_formed (f ∷ fs) (core ∷ cores) each h =
       and_from (is_well_formed_function types names texts functions core) (list_all (is_well_formed_function types names texts functions) cores) (each zero f refl core h.0) (all_formed fs cores (λ n. each (suc n)) h.1)
   all_formed _ _ each h = absurd h
+
+  all_keep : (fs : List FunctionForm) (cores : List Function) → ((n : ℕ) (f : FunctionForm) → slice_get fs n ≡ Some f → (core : Function) → IsWritten p types f core → all_keep_given types core ≡ true)
+      → AreWritten p types fs cores → list_all (all_keep_given types) cores ≡ true
+  all_keep [] [] each h = refl
+  all_keep (f ∷ fs) (core ∷ cores) each h =
+      and_from (all_keep_given types core) (list_all (all_keep_given types) cores) (each zero f refl core h.0) (all_keep fs cores (λ n. each (suc n)) h.1)
+  all_keep _ _ each h = absurd h
+
+  program_keeps : keeps_all_given (core_program p) ≡ true
+  program_keeps = all_keep p.functions functions one_keeps (each_written p typed built results)
 
   program_formed : HasNames p → IsOrdered p.types → p.types.structs ≡ [] → has_no_structs p.structs ≡ true → IsWellFormedProgram (core_program p)
   program_formed named ordered structs none =
@@ -111,3 +122,6 @@ module _ (p : ProgramForm) (typed : IsWellTyped p) (built : are_built_functions 
 pub program_well_formed : (p : ProgramForm) → IsWellTyped p → HasResults p → HasNames p → IsOrdered p.types → p.types.structs ≡ [] → is_built p ≡ true → IsWellFormedProgram (core_program p)
 program_well_formed p typed results named ordered structs b =
     program_formed p typed (functions_built p b) results named ordered structs (and_parts (has_no_structs p.structs) (are_built_functions p.types p.functions) (and_parts (has_built_types p.types) _ b).1).0
+
+pub program_keeps_given : (p : ProgramForm) → IsWellTyped p → HasResults p → is_built p ≡ true → keeps_all_given (core_program p) ≡ true
+program_keeps_given p typed results b = program_keeps p typed (functions_built p b) results

@@ -1,19 +1,13 @@
--- Programs within their limits, and what is wrong in a function, beside the lines that it prints.
-use Rattle.std.specs.Prelude.{◌≡◌, ◌≤◌, ◌+◌, ◌↔◌, ◌++◌, ℕ, List, [], ◌∷◌, Some, Contains, length, map, slice_get}
+-- What is wrong in a function, beside the lines that it prints, and how many steps finding it takes.
+use Rattle.std.specs.Prelude.{◌≡◌, ◌+◌, ◌↔◌, ◌++◌, ℕ, List, [], ◌∷◌, Contains, map}
 use Rattle.life_types.specs.Types.{Types}
 use Rattle.life_core.specs.Function.{Function, Program}
-use Rattle.life_pset.specs.Elements.{IsWithinLimits}
 use Rattle.life_rules.specs.Diagnosing.{IsDiagnosed}
 use Rattle.life_rules.specs.Lines.{line_of}
 use Rattle.life_rules.specs.Texts.{Naming}
 use Rattle.life_rules.specs.declared.diag.Diag.{Diag}
 use Rattle.life_fix.specs.Candidates.{Lined, lined}
 use Rattle.life_fix.specs.Solving.{most_steps}
-
--- at most 1,024 functions, each of which passes no limit
-pub record IsProgramWithinLimits (p : Program) : Type 0 where
-  pub few : length p.functions ≤ 1024
-  pub each : (i : ℕ) (f : Function) → slice_get p.functions i ≡ Some f → IsWithinLimits p.types f
 
 -- the diagnostics of a function, with their lines, stand behind what was there
 pub record AddsDiagnosed (names : Naming) (types : Types) (function : ℕ) (f : Function) (before after : List Lined) : Type 0 where

@@ -2,9 +2,10 @@
 ghost use Rattle.std.specs.Prelude.{◌↔◌, ◌+◌, ◌≤◌, Contains, IfOk, OnOk, map};
 ghost use Rattle.life_core.specs.Function.{function_of, program_of};
 ghost use Rattle.life_fix.specs.Candidates.{candidate_seen};
-ghost use Rattle.life_fix.specs.Programs.{AddsDiagnosed, IsProgramWithinLimits, most_program_steps};
+ghost use Rattle.life_fix.specs.Programs.{AddsDiagnosed, most_program_steps};
 ghost use Rattle.life_fix.specs.Solving.{most_steps};
 ghost use Rattle.life_pset.specs.Elements.{IsWithinLimits};
+ghost use Rattle.life_pset.specs.Limits.{IsProgramWithinLimits};
 ghost use Rattle.life_rules.specs.Diagnosing.{IsDiagnosed};
 ghost use Rattle.life_rules.specs.Listing.{AreProgramDiagnostics};
 ghost use Rattle.life_rules.specs.Texts.{naming_of};

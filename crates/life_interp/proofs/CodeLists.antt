@@ -1,16 +1,16 @@
 -- Points and functions by their numbers, as the code finds them.
-use Rattle.std.proofs.Common.{◌≡◌, ℕ, zero, suc, ◌-◌, ◌<◌, ◌^◌, List, [], ◌∷◌, length, map, Option, Some, refl, sym, ap, subst, ◌∙◌, arith}
+use Rattle.std.proofs.Common.{◌≡◌, ℕ, zero, suc, ◌-◌, ◌<◌, ◌≤◌, ◌^◌, List, [], ◌∷◌, length, map, Option, Some, refl, sym, ap, subst, ◌∙◌, arith}
 use Rattle.std.proofs.lemmas.List.{length-map}
 use Rattle.std.proofs.lemmas.Option.{none-some, same_Some, slice_get-map}
 use Rattle.std.specs.declared.alloc.Global.{Global}
 use Rattle.std.specs.declared.vec.Vec.{Vec}
 use Rattle.std.specs.Prelude.{slice_get, option_map}
-use Rattle.life_core.specs.Function.{Function, function_of}
-use Rattle.life_core.specs.Limits.{HaveFewPoints}
+use Rattle.life_core.specs.Function.{Function, Program, function_of}
 use Rattle.life_core.specs.Link.{link_seen}
 use Rattle.life_core.specs.Linked.{Linked, code_of, numbered, points_of}
 use Rattle.life_core.specs.declared.link.LinkRef.{LinkRef}
 use Rattle.life_core.specs.declared.program.CoreFn.{CoreFn}
+use Rattle.life_pset.specs.Limits.{IsProgramWithinLimits}
 use Rattle.life_interp.specs.Frames.{function_at}
 use Rattle.life_interp.specs.Runs.{links_seen}
 
@@ -33,10 +33,11 @@ there_at [] n lt = absurd (omega (arith, lt))
 there_at (g ∷ gs) zero lt = refl
 there_at (g ∷ gs) (suc n) lt = there_at gs n (omega (arith, lt))
 
-pub few_at : (fs : List Function) (i : ℕ) (f : Function) → HaveFewPoints fs → slice_get fs i ≡ Some f → points_of f < 2 ^ 31
-few_at [] i f h e = absurd (none-some f e)
-few_at (x ∷ xs) zero f h e = subst (λ (y : Function). points_of y < 2 ^ 31) (same_Some x f e) h.0
-few_at (x ∷ xs) (suc i) f h e = few_at xs i f h.1 e
+pub few_at : (p : Program) → IsProgramWithinLimits p → (i : ℕ) (f : Function) → slice_get p.functions i ≡ Some f → points_of f < 2 ^ 31
+few_at p within i f there = few (points_of f) (within.each i f there).points
+  where
+    few : (n : ℕ) → n ≤ 1024 → n < 2 ^ 31
+    few n h = omega (arith, h)
 
 pub code_at : (codes : List (Vec LinkRef Global)) (fs : List Function) (i : ℕ) (v : Vec LinkRef Global) (f : Function) → map links_seen codes ≡ map code_of fs → slice_get codes i ≡ Some v → slice_get fs i ≡ Some f → links_seen v ≡ code_of f
 code_at codes fs i v f e there here =

@@ -14,7 +14,7 @@ use Rattle.life_core.specs.Step.{Step, Live, End, Eval, Load, Save, Copy, Move, 
 use Rattle.life_core.specs.Tree.{Tree, Skip, Then, Acts, Asks, Both, Either, Negated, Choice, Turns, Breaks, Continues, Returns, Stops, size, Action, Question, Return, Stop as StopHere}
 use Rattle.life_core.proofs.EntryLemmas.{enter_then, enter_same}
 use Rattle.life_core.proofs.SpotLemmas.{linked_length}
-use Rattle.life_core.specs.Proper.{Holding, IsProper, IsProperProgram, IsCallReady, IsStepReady, entry_holdings, parameter_sorts, result_sort}
+use Rattle.life_core.specs.Proper.{Holding, HasReadyWays, IsReadyProgram, IsCallReady, IsStepReady, entry_holdings, parameter_sorts, result_sort}
 use Rattle.life_store.specs.Calls as whole
 use Rattle.life_store.specs.Calls.{lent}
 use Rattle.life_store.specs.Doing as doing
@@ -80,7 +80,7 @@ pub record IsLeft (types : Types) (f : Function) (outer : List Cell) (st : State
   pub first : AreFirst st.cells
 
 module _ (s : Setting) (p : Program) (ws : List Waiting) (f : Function) (call : Callee) (come : CallsCome s p ws call)
-    (outer : List Cell) (proper : IsProper p.types p.functions f) (callee : GoodCallee p.types p.functions call) where
+    (outer : List Cell) (proper : HasReadyWays p.types p.functions f) (callee : GoodCallee p.types p.functions call) where
   abbrev types : Types
   types = p.types
 
@@ -477,7 +477,7 @@ module _ (s : Setting) (p : Program) (ws : List Waiting) (f : Function) (call : 
 -- ---- calls in calls
 
 -- a frame that is entered stands at the first point
-pub enters_standing : (s : Setting) (p : Program) (k : Function) (outer xs : List Cell) (w : World) → IsProper p.types p.functions k → AreSuited (parameter_sorts p.types k) xs → Housed w.content (outer ++ xs) → AreFirst xs
+pub enters_standing : (s : Setting) (p : Program) (k : Function) (outer xs : List Cell) (w : World) → HasReadyWays p.types p.functions k → AreSuited (parameter_sorts p.types k) xs → Housed w.content (outer ++ xs) → AreFirst xs
     → (st : State) → whole.parameters_given s p.types k 0 xs (frame k w) ≡ Next st → InvAt (Stands p.types k (outer ++ xs)) (enter k.body 1 no_exits) st
 enters_standing s p k outer xs w proper suited housed first st e =
     let gives = subst (Gives (outer ++ xs) (entry_holdings p.types k)) e (entry_gives outer s p.types k xs w housed suited) in
@@ -488,8 +488,8 @@ enters_standing s p k outer xs w proper suited housed first st e =
     go None g h = g
     go (Some q) g h = (g, h)
 
-module _ (s : Setting) (p : Program) (proper : IsProperProgram p) (d : ℕ) (ws : List Waiting) (v : Waiting) (come : CallsCome s p (v ∷ ws) (calls s p d)) (n : ℕ) (w : World) where
-  begun_comes : (k : Function) (outer : List Cell) → IsProper p.types p.functions k → (e : Effect) → ((st : State) → e ≡ Next st → InvAt (Stands p.types k outer) (enter k.body 1 no_exits) st)
+module _ (s : Setting) (p : Program) (proper : IsReadyProgram p) (d : ℕ) (ws : List Waiting) (v : Waiting) (come : CallsCome s p (v ∷ ws) (calls s p d)) (n : ℕ) (w : World) where
+  begun_comes : (k : Function) (outer : List Cell) → HasReadyWays p.types p.functions k → (e : Effect) → ((st : State) → e ≡ Next st → InvAt (Stands p.types k outer) (enter k.body 1 no_exits) st)
       → Comes s p ws v w n (result_sort p.types k) (let_in (walk s p n (v ∷ ws) k (enter k.body 1 no_exits)) v.place w e) (begun e w (λ st. finish p.types k (exec s p.types k (calls s p d) k.body n st)))
   begun_comes k outer one (Next st) stands = comes_back s p (v ∷ ws) k (calls s p d) come outer one (calls_good s p proper d) v ws refl w n st (stands st refl)
   begun_comes k outer one (Traps kind) stands = refl
@@ -507,7 +507,7 @@ module _ (s : Setting) (p : Program) (proper : IsProperProgram p) (d : ℕ) (ws 
       (subst (λ x. Comes s p ws v w n (result_sort p.types k) (let_in (walk s p n (v ∷ ws) k (enter k.body 1 no_exits)) v.place w x) (begun e w body)) same
       (begun_comes k (outer ++ xs) one e (enters_standing s p k outer xs w one suited housed first)))
 
-module _ (s : Setting) (p : Program) (proper : IsProperProgram p) where
+module _ (s : Setting) (p : Program) (proper : IsReadyProgram p) where
   -- as many calls may stand in calls as there is room for frames
   pub calls_come : (d : ℕ) (ws : List Waiting) → length ws + 1 + d ≡ s.given.depth → CallsCome s p ws (calls s p d)
   calls_come zero ws room v g k outer xs n w is suited housed first =

@@ -2,9 +2,8 @@
 ghost use Rattle.std.specs.Prelude.{◌≡◌, ◌≤◌, ◌<◌, IfOk, IfSome, length, map, slice_get};
 ghost use Rattle.life_core.specs.Function.{program_of};
 ghost use Rattle.life_core.specs.Linked.{code_of};
-ghost use Rattle.life_core.specs.Proper.{IsProperProgram};
+ghost use Rattle.life_proper.specs.ProperPrograms.{IsProperProgram};
 ghost use Rattle.life_interp.specs.Runs.{links_seen, RunEnds};
-ghost use Rattle.life_core.specs.Limits.{HaveFewPoints};
 ghost use Rattle.life_store.specs.Meaning.{run_of, IsAdmitted};
 ghost use Rattle.life_store.specs.declared.run.Growth.{Growth as AnyGrowth};
 
@@ -18,7 +17,7 @@ use std::alloc::Global;
 
 /// The points of each function, each with its ways on.
 pub(crate) fn all_links(alloc: Global, p: &CoreProgram) -> Result<Vec<Vec<LinkRef>>, NoMemory>
-    requires { HaveFewPoints (program_of p.now).functions }
+    requires { IsProperProgram (program_of p.now) }
     ensures { IfOk result (λ code. map links_seen code.items ≡ map code_of (program_of p.now).functions) }
 {
     let mut code = Vec::new(alloc);

@@ -2,9 +2,8 @@
 ghost use Rattle.std.specs.Prelude.{◌≡◌, ◌≤◌, ◌<◌, IfOk, IfSome, length, map, slice_get};
 ghost use Rattle.life_core.specs.Function.{program_of};
 ghost use Rattle.life_core.specs.Linked.{code_of};
-ghost use Rattle.life_core.specs.Proper.{IsProperProgram};
+ghost use Rattle.life_proper.specs.ProperPrograms.{IsProperProgram};
 ghost use Rattle.life_interp.specs.Runs.{links_seen, RunEnds};
-ghost use Rattle.life_core.specs.Limits.{HaveFewPoints};
 ghost use Rattle.life_store.specs.Meaning.{run_of, IsAdmitted};
 
 use crate::entry::{all_links, run_entry};
@@ -33,7 +32,7 @@ impl<'p> Machine<'p> {
         p: &'p CoreProgram,
         limits: Limits,
     ) -> Result<Machine<'p>, NoMemory>
-        requires { HaveFewPoints (program_of p.now).functions }
+        requires { IsProperProgram (program_of p.now) }
         ensures program { IfOk result (λ machine. machine.program.now ≡ p.now) }
         ensures limits { IfOk result (λ machine. machine.limits ≡ limits) }
     {

@@ -2,7 +2,7 @@
 ghost use Rattle.std.specs.Prelude.{◌≡◌, ◌≤◌, ◌<◌, length, map, slice_get, IfOk, IfSome, OnOk};
 ghost use Rattle.life_core.specs.Function.{function_of, program_of};
 ghost use Rattle.life_core.specs.Linked.{code_of};
-ghost use Rattle.life_core.specs.Proper.{IsProperProgram};
+ghost use Rattle.life_proper.specs.ProperPrograms.{IsProperProgram};
 ghost use Rattle.life_interp.specs.Cells.{cell_seen, cells_seen};
 ghost use Rattle.life_interp.specs.Fits.{most_births, CanStep, CellFits, CellsFit, Grows, IsFit, IsHoused};
 ghost use Rattle.life_interp.specs.Runs.{barred_as, links_seen, IsBarred, RunEnds};

@@ -1,4 +1,4 @@
--- What the checker lets through is proper.
+-- What the checker lets through is ready on every way.
 use Rattle.std.proofs.Common.{◌≡◌, ◌&&◌, ℕ, zero, suc, List, [], ◌∷◌, Option, Some, None, IsSome, Contains, is_none, refl, sym, ◌∙◌, subst, arith}
 use Rattle.std.proofs.lemmas.Bool.{and_parts, false≢true}
 use Rattle.std.proofs.lemmas.Option.{same_Some}
@@ -6,7 +6,7 @@ use Rattle.std.specs.Prelude.{IsTrue}
 use Rattle.life_types.specs.Types.{Types}
 use Rattle.life_core.specs.Function.{Function, Program}
 use Rattle.life_core.specs.Linked.{Lead, Linked, code_of, enter, no_exits, numbered}
-use Rattle.life_core.specs.Proper.{AreProper, Holdings, IsProper, IsProperProgram, LeadOn, Reaches, entry_holdings, goes_on, holdings_past, starts}
+use Rattle.life_core.specs.Proper.{HaveReadyWays, Holdings, HasReadyWays, IsReadyProgram, LeadOn, Reaches, entry_holdings, goes_on, holdings_past, starts}
 use Rattle.life_core.specs.Shape.{is_statement, tests_straight}
 use Rattle.life_proper.specs.Checking.{Flow, are_checked, body_flow, checked, is_checked, is_over}
 use Rattle.life_proper.specs.Knowing.{State, entry_known}
@@ -108,7 +108,7 @@ module _ (types : Types) (fs : List Function) (f : Function) (e : IsTrue (is_che
       let here = sound_at p hs l (reached p hs before) at in
       subst (λ (o : Option ℕ). Comes Q o (holdings_past types f l.spot.node hs)) to (lead_comes Q (holdings_past types f l.spot.node hs) l.leads lead here.leads among)
 
-  pub proper : IsProper types fs f
+  pub proper : HasReadyWays types fs f
   proper = record {
     statement = outer.0;
     straight = inner.0;
@@ -117,11 +117,11 @@ module _ (types : Types) (fs : List Function) (f : Function) (e : IsTrue (is_che
     leads_on = λ p hs l way at. leads_on Q (holdings_past types f l.spot.node hs) l.leads (sound_at p hs l (reached p hs way) at).leads;
   }
 
-all_proper : (types : Types) (fs gs : List Function) → IsTrue (are_checked types fs gs) → AreProper types fs gs
+all_proper : (types : Types) (fs gs : List Function) → IsTrue (are_checked types fs gs) → HaveReadyWays types fs gs
 all_proper types fs [] e = tt
 all_proper types fs (g ∷ gs) e =
     let both = and_parts (is_checked types fs g) (are_checked types fs gs) e in
     (proper types fs g both.0, all_proper types fs gs both.1)
 
-pub proper_program : (p : Program) → IsTrue (checked p) → IsProperProgram p
-proper_program p e = all_proper p.types p.functions p.functions e
+pub ready_program : (p : Program) → IsTrue (checked p) → IsReadyProgram p
+ready_program p e = all_proper p.types p.functions p.functions e

@@ -4,7 +4,7 @@ use Rattle.std.specs.List.{list_all, list_any}
 use Rattle.life_types.specs.Types.{Types}
 use Rattle.life_core.specs.declared.instr.Made.{Made}
 use Rattle.life_core.specs.declared.instr.Made.TheVariants as made
-use Rattle.life_core.specs.Function.{Function}
+use Rattle.life_core.specs.Function.{Function, Program}
 use Rattle.life_core.specs.Operands.{Argument, GivenOver, Slot, Base, Location, Operand, Name, Through, Source}
 use Rattle.life_core.specs.Operands as source
 use Rattle.life_core.specs.Step.{Step, Move, Aim, Element, Cursor, Changes, Make, Call, Change, PushBack, Erase}
@@ -89,3 +89,7 @@ module _ (types : Types) (f : Function) where
 
   abbrev pub all_keep_given : Bool
   all_keep_given = list_all spot_keeps_given (spots f.body)
+
+-- .. in a whole program
+abbrev pub keeps_all_given : Program → Bool
+keeps_all_given p = list_all (all_keep_given p.types) p.functions

@@ -13,7 +13,6 @@ use Rattle.life_core.specs.declared.program.LocalKind.TheVariants.{Object, Regis
 use Rattle.life_core.specs.Function.{Function, Program, Promise, Default, Listed}
 use Rattle.life_pset.specs.Shapes.{is_pointer, shape, ty_of}
 use Rattle.life_proper.specs.Knowing.{is_register}
-use Rattle.life_proper.specs.GivenOver.{all_keep_given}
 use Rattle.life_proper.specs.OperandTypes.{is_composed, is_value, is_void}
 use Rattle.life_proper.specs.WellFormed.{is_well_formed_tree}
 
@@ -96,7 +95,7 @@ is_well_formed_function types names texts fs f =
     && (nat_le f.parameters (length f.locals)
     && (names_parameters f.parameters f.promise
     && (is_result_of types f.result (slice_get types.types f.result.0) (slice_get f.locals f.parameters)
-    && (are_well_formed_locals types names f.parameters 0 f.locals && (is_well_formed_tree types texts fs f f.body && all_keep_given types f)))))
+    && (are_well_formed_locals types names f.parameters 0 f.locals && is_well_formed_tree types texts fs f f.body))))
 
 -- ---- programs
 

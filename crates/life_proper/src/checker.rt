@@ -11,12 +11,12 @@ use life_core::CoreProgram;
 use life_types::NoMemory;
 use std::alloc::Global;
 
-/// Whether the program is proper: on every way through its functions what an instruction uses was
-/// written before and is alive, what comes to life isn't alive, each operand is of its sort, and no
-/// way runs past the end. It goes once over the text. A false answer is no proof that the program
-/// isn't proper: what is known of a local is what all ways agree on. It is for programs
-/// that are made by hand, as those of tests: a translation is proper by a law, and isn't asked. `NoMemory`
-/// says that memory was wanted.
+/// Whether the program is ready, as a proper one is: on every way through its functions what an
+/// instruction uses was written before and is alive, what comes to life isn't alive, each operand is of its
+/// sort, and no way runs past the end. Of what else is asked of a proper program it says nothing. It goes
+/// once over the text. A false answer is no proof that the program isn't ready: what is known of a local is
+/// what all ways agree on. It is for programs that are made by hand, as those of tests: a translation is
+/// proper by a law, and isn't asked. `NoMemory` says that memory was wanted.
 pub fn is_proper(alloc: Global, p: &CoreProgram) -> Result<bool, NoMemory>
     ensures { IfOk result (λ answer. answer ≡ checked (program_of p.now)) }
 {

@@ -1,4 +1,4 @@
-//! Whether a core program is proper: on every way through its text what is used is ready.
+//! What a proper core program is, and a checker of the part of it that hangs on the ways through its text.
 #![tactic(auto)]
 
 mod by_value;
@@ -17,5 +17,5 @@ mod walk;
 
 pub use checker::is_proper;
 pub use known::Known;
-pub use laws::{checked_functions_are_proper, checked_programs_are_proper};
+pub use laws::{checked_functions_are_ready, checked_programs_are_ready};
 pub use plain::is_plain_program;

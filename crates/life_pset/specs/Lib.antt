@@ -3,6 +3,7 @@ pub mod Causes
 pub mod Counts
 pub mod Elements
 pub mod Inputs
+pub mod Limits
 pub mod Listed
 pub mod Pairs
 pub mod PairSets

@@ -9,7 +9,7 @@ use Rattle.life_core.specs.Function.{Function, Program}
 use Rattle.life_core.specs.Limits.{HaveFewPoints}
 use Rattle.life_core.specs.Linked.{Lead, Linked, code_of, goes, numbered}
 use Rattle.life_core.specs.Operands.{whole}
-use Rattle.life_core.specs.Proper.{Blank, ANumber, Holdings, held_if, result_if, result_sort, entry_holdings, holdings_after, holdings_past, IsNodeReady, IsResultReady, IsStepReady, IsTargetReady, Reaches, starts, goes_on, LeadOn, IsProper, AreProper, IsProperProgram}
+use Rattle.life_core.specs.Proper.{Blank, ANumber, Holdings, held_if, result_if, result_sort, entry_holdings, holdings_after, holdings_past, IsNodeReady, IsResultReady, IsStepReady, IsTargetReady, Reaches, starts, goes_on, LeadOn, HasReadyWays, HaveReadyWays, IsReadyProgram}
 use Rattle.life_core.specs.Step.{Step}
 use Rattle.life_core.specs.Tree.{Action}
 use Rattle.life_core.specs.declared.program.Local.{Local}
@@ -84,7 +84,7 @@ module _ (types : Types) (fs : List Function) (line : ℕ) (l : Local) (a b : St
     leads_on_at (suc (suc (suc zero))) hs k held here = subst (λ (u : Linked). LeadOn u.leads) (some_same here) tt
     leads_on_at (suc (suc (suc (suc n)))) hs k held here = absurd held
 
-    one_proper : IsProper types fs f
+    one_proper : HasReadyWays types fs f
     one_proper = record {
       statement = refl;
       straight = refl;
@@ -103,19 +103,19 @@ module _ (types : Types) (l : Local) (kind : l.kind ≡ Register) (int : slice_g
   given_back : result_if (slice_get types.types l.ty.0) (held_if (class (slice_get types.types l.ty.0)) l.kind (slice_get types.types l.ty.0)) ≡ ANumber
   given_back = ap (λ (o : Option Ty). result_if o (held_if (class (slice_get types.types l.ty.0)) l.kind (slice_get types.types l.ty.0))) int ∙ sort
 
-  entry_proper : IsProper types (functions l) (worked 1 l calling negating)
+  entry_proper : HasReadyWays types (functions l) (worked 1 l calling negating)
   entry_proper =
       one_proper types (functions l) 1 l calling negating
       (tt, subst (λ h. IsTargetReady types (worked 1 l calling negating) (Blank ∷ []) h (Some (whole 0))) (sym given_back) (inl (refl, sort)))
       (sort, ap Some sort)
       (λ hs. subst (IsResultReady hs 0) (sym given_back) tt)
 
-  called_proper : IsProper types (functions l) (worked 2 l taking writing)
+  called_proper : HasReadyWays types (functions l) (worked 2 l taking writing)
   called_proper = one_proper types (functions l) 2 l taking writing sort refl (λ hs. subst (IsResultReady hs 0) (sym given_back) tt)
 
-pub worked_proper : (p : Program) → IsWorked p → IsProperProgram p
+pub worked_proper : (p : Program) → IsWorked p → IsReadyProgram p
 worked_proper p w =
-    subst (λ fs. AreProper p.types fs fs) (sym w.functions_are) (entry_proper p.types w.register w.kind w.int, (called_proper p.types w.register w.kind w.int, tt))
+    subst (λ fs. HaveReadyWays p.types fs fs) (sym w.functions_are) (entry_proper p.types w.register w.kind w.int, (called_proper p.types w.register w.kind w.int, tt))
 
 pub worked_few : (p : Program) → IsWorked p → HaveFewPoints p.functions
 worked_few p w = subst HaveFewPoints (sym w.functions_are) (omega arith, (omega arith, tt))

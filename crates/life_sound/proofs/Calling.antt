@@ -10,7 +10,7 @@ use Rattle.life_core.specs.ByValue.{is_pointer, takes_pointer, gives_pointer, is
 use Rattle.life_core.specs.Function.{Function}
 use Rattle.life_core.specs.Linked.{Linked, code_of, goes, numbered, parts, spot_at}
 use Rattle.life_core.specs.Operands.{Argument, Location}
-use Rattle.life_core.specs.Proper.{AreArgumentsReady, IsCallReady, IsProper, IsStepReady, IsTargetReady, parameter_sorts, result_sort}
+use Rattle.life_core.specs.Proper.{AreArgumentsReady, IsCallReady, HasReadyWays, IsStepReady, IsTargetReady, parameter_sorts, result_sort}
 use Rattle.life_core.specs.Step.{Step, Call, Test}
 use Rattle.life_core.specs.Tree.{Action, Question}
 use Rattle.life_core.specs.declared.exits.Exits.{Exits}
@@ -190,7 +190,7 @@ module _ (sigs : List Signature) (types : Types) (fs : List Function) (f : Funct
 
     -- ---- a proper function of which nothing is diagnosed keeps to this
 
-    pub sound_keeps : IsProper types fs f → ((d : Diag) → IsDiagnosed sigs types number f d → ⊥) → calls_in_by_value types fs f ≡ true
+    pub sound_keeps : HasReadyWays types fs f → ((d : Diag) → IsDiagnosed sigs types number f d → ⊥) → calls_in_by_value types fs f ≡ true
         → Keeps s types f call (Sound sigs types f outer before) (SoundlyLeft types f outer before) IsSafeStop
     sound_keeps proper none by_value = record {
       acts = acts;

@@ -6,7 +6,7 @@ use Rattle.life_types.specs.Types.{Types}
 use Rattle.life_core.specs.ByValue.{is_pointer, calls_in_by_value}
 use Rattle.life_core.specs.Function.{Function}
 use Rattle.life_core.specs.Linked.{enter, no_exits}
-use Rattle.life_core.specs.Proper.{Holdings, IsProper, entry_holdings, parameter_sorts}
+use Rattle.life_core.specs.Proper.{Holdings, HasReadyWays, entry_holdings, parameter_sorts}
 use Rattle.life_pset.specs.declared.element.Fact.{Fact}
 use Rattle.life_contract.specs.Signatures.{Signature}
 use Rattle.life_rules.specs.Diagnosing.{IsDiagnosed}
@@ -77,7 +77,7 @@ module _ (s : Setting) (sigs : List Signature) (types : Types) (fs : List Functi
   first_sound st None plain is fresh a = a
   first_sound st (Some p) plain is fresh a = record { standing = a; known = first_known types f (FactsAt sigs types f p) st is plain fresh.1; spared = fresh.0 }
 
-  pub entered_safe : GoodCallee types fs call → SafeCallee types fs call → IsProper types fs f → ((d : Diag) → IsDiagnosed sigs types number f d → ⊥) → calls_in_by_value types fs f ≡ true
+  pub entered_safe : GoodCallee types fs call → SafeCallee types fs call → HasReadyWays types fs f → ((d : Diag) → IsDiagnosed sigs types number f d → ⊥) → calls_in_by_value types fs f ≡ true
       → list_any is_pointer (parameter_sorts types f) ≡ false → AreSuited (parameter_sorts types f) xs → Housed w.content (outer ++ xs) → IsTimely w.content → SafeCalled outer w.content (entered s types (Some f) call xs n w)
   entered_safe callee safe proper none by_value plain suited h timely =
       begun_safe (parameters_given s types f 0 xs (frame f w)) (λ st. finish types f (exec s types f call f.body n st)) (entry_gives outer s types f xs w h suited)

@@ -2,10 +2,11 @@
 use Rattle.std.proofs.Common.{◌≡◌, ℕ, zero, suc, List, [], ◌∷◌, length, Some, refl, sym, ap, subst, ◌∙◌, true, arith}
 use Rattle.std.specs.Prelude.{slice_get}
 use Rattle.life_types.specs.declared.place.Place.{Place}
-use Rattle.life_core.specs.ByValue.{calls_by_value, calls_in_by_value}
+use Rattle.life_core.specs.ByValue.{calls_in_by_value}
 use Rattle.life_core.specs.Function.{Function, Program}
-use Rattle.life_core.specs.Proper.{IsProperProgram, parameter_sorts}
+use Rattle.life_core.specs.Proper.{parameter_sorts}
 use Rattle.life_contract.specs.Signatures.{signatures_of}
+use Rattle.life_proper.specs.ProperPrograms.{IsProperProgram}
 use Rattle.life_rules.specs.Diagnosing.{IsDiagnosed}
 use Rattle.life_rules.specs.Listing.{IsProgramDiagnosed, AreProgramDiagnostics}
 use Rattle.life_rules.specs.declared.diag.Diag.{Diag}
@@ -28,7 +29,7 @@ use Rattle.life_sound.proofs.Entering.{entered_safe}
 
 -- ---- all calls of a program
 
-module _ (p : Program) (proper : IsProperProgram p) (by_value : calls_by_value p ≡ true) (none : (d : Diag) → IsProgramDiagnosed p d → ⊥) where
+module _ (p : Program) (proper : IsProperProgram p) (none : (d : Diag) → IsProgramDiagnosed p d → ⊥) where
   undiagnosed : (k : ℕ) (f : Function) → slice_get p.functions k ≡ Some f → (d : Diag) → IsDiagnosed (signatures_of p.functions) p.types k f d → ⊥
   undiagnosed k f is d h =
       let own : d.function ≡ k = own_function (signatures_of p.functions) p.types k f d h in
@@ -38,8 +39,8 @@ module _ (p : Program) (proper : IsProperProgram p) (by_value : calls_by_value p
   calls_safe s zero k g outer xs n w is plain suited h timely = tt
   calls_safe s (suc depth) k g outer xs n w is plain suited h timely =
       subst (λ o. SafeCalled outer w.content (entered s p.types o (calls s p depth) xs n w)) (sym is)
-      (entered_safe s (signatures_of p.functions) p.types p.functions g k (calls s p depth) outer xs n w (calls_good s p proper depth) (calls_safe s depth)
-      (proper_at p.types p.functions p.functions k g proper is) (undiagnosed k g is) (all_get (calls_in_by_value p.types p.functions) p.functions k g by_value is) plain suited h timely)
+      (entered_safe s (signatures_of p.functions) p.types p.functions g k (calls s p depth) outer xs n w (calls_good s p proper.ready depth) (calls_safe s depth)
+      (proper_at p.types p.functions p.functions k g proper.ready is) (undiagnosed k g is) (all_get (calls_in_by_value p.types p.functions) p.functions k g proper.so_far.by_value is) plain suited h timely)
 
 -- ---- runs
 
@@ -54,10 +55,10 @@ called_safe entry outer before (Quit Exhausted w) g = tt
 nothing_timely : IsTimely empty_content
 nothing_timely n o e = absurd (none_some (sym (at-none n) ∙ e))
 
-pub soundness : (p : Program) → IsProperProgram p → calls_by_value p ≡ true → ((d : Diag) → IsProgramDiagnosed p d → ⊥) → NoFault p
-soundness p proper by_value none given entry f input n is admitted =
+pub soundness : (p : Program) → IsProperProgram p → ((d : Diag) → IsProgramDiagnosed p d → ⊥) → NoFault p
+soundness p proper none given entry f input n is admitted =
     called_safe f.place empty_content (first_world f input) (first_called given p entry f input n)
-    (calls_safe p proper by_value none (setting_of given p) given.depth entry f [] (entry_arguments p.types f 0 f.parameters input) n (first_world f input) is
+    (calls_safe p proper none (setting_of given p) given.depth entry f [] (entry_arguments p.types f 0 f.parameters input) n (first_world f input) is
     (objects_plain (parameter_sorts p.types f) admitted.values) (first_suited p f input admitted) (first_housed p.types f f.parameters input) nothing_timely)
 
 -- where the list of the diagnostics is empty, nothing is diagnosed
@@ -65,5 +66,5 @@ no_items : {A : Type 0} (xs : List A) → length xs ≡ 0 → xs ≡ []
 no_items [] e = refl
 no_items (x ∷ xs) e = absurd (omega (arith, e))
 
-pub sound_if_empty : (p : Program) (ds : List Diag) → IsProperProgram p → calls_by_value p ≡ true → AreProgramDiagnostics p ds → length ds ≡ 0 → NoFault p
-sound_if_empty p ds proper by_value all empty = soundness p proper by_value (nothing_wrong (subst (AreProgramDiagnostics p) (no_items ds empty) all))
+pub sound_if_empty : (p : Program) (ds : List Diag) → IsProperProgram p → AreProgramDiagnostics p ds → length ds ≡ 0 → NoFault p
+sound_if_empty p ds proper all empty = soundness p proper (nothing_wrong (subst (AreProgramDiagnostics p) (no_items ds empty) all))

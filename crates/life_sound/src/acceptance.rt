@@ -1,8 +1,7 @@
 // Programs that are accepted, and programs that are rejected.
-ghost use Rattle.std.specs.Prelude.{◌≡◌, ◌≢◌, [], true, MatchResult};
-ghost use Rattle.life_core.specs.ByValue.{calls_by_value};
+ghost use Rattle.std.specs.Prelude.{◌≡◌, ◌≢◌, [], MatchResult};
 ghost use Rattle.life_core.specs.Function.{program_of};
-ghost use Rattle.life_core.specs.Proper.{IsProperProgram};
+ghost use Rattle.life_proper.specs.ProperPrograms.{IsProperProgram};
 ghost use Rattle.life_rules.specs.Listing.{AreProgramDiagnostics};
 ghost use Rattle.life_store.specs.NoFault.{NoFault};
 
@@ -40,11 +39,10 @@ pub struct Rejected {
     pub diagnostics: Vec<Diag>,
 }
 
-/// Accepts a proper program of which nothing is diagnosed, and through whose calls no raw pointer and no
-/// reference goes. Either way the program, and what was found, come back as they were. It takes no memory.
+/// Accepts a proper program of which nothing is diagnosed. Either way the program, and what was found, come
+/// back as they were. It takes no memory.
 pub fn accept(program: CoreProgram, diagnostics: Vec<Diag>) -> Result<Accepted, Rejected>
     requires proper { IsProperProgram (program_of program) }
-    requires by_value { calls_by_value (program_of program) ≡ true }
     requires all { AreProgramDiagnostics (program_of program) diagnostics.items }
     ensures { MatchResult result
         (λ accepted. (accepted ≡ program) × (diagnostics.items ≡ []))

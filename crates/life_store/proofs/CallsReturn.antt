@@ -4,7 +4,7 @@ use Rattle.std.specs.Prelude.{pos, IsSome, slice_get}
 use Rattle.std.proofs.lemmas.Bool.{false≢true}
 use Rattle.life_core.specs.Function.{Function, Program}
 use Rattle.life_core.specs.Linked.{enter, no_exits}
-use Rattle.life_core.specs.Proper.{Holding, Blank, AnObject, ANumber, APointer, AView, Reaches, starts, IsProper, AreProper, IsProperProgram, IsResultReady, entry_holdings, parameter_sorts, result_sort}
+use Rattle.life_core.specs.Proper.{Holding, Blank, AnObject, ANumber, APointer, AView, Reaches, starts, HasReadyWays, HaveReadyWays, IsReadyProgram, IsResultReady, entry_holdings, parameter_sorts, result_sort}
 use Rattle.life_types.specs.Types.{Types}
 use Rattle.life_types.specs.declared.ty.Ty.{Ty}
 use Rattle.life_store.specs.Calls.{number_or_zero, pointer_back, given_back, slots_back, parameters_given}
@@ -65,7 +65,7 @@ pub first_stands : (types : Types) (f : Function) (outer : List Cell) (st : Stat
 first_stands types f outer st None e some is h = absurd (false≢true some)
 first_stands types f outer st (Some p) e some is h = record { reached = subst (Reaches types f p) (sym is) (starts e); housed = h }
 
-entered_good : (s : Setting) (types : Types) (fs : List Function) (f : Function) (call : Callee) (outer xs : List Cell) (n : ℕ) (w : World) → GoodCallee types fs call → IsProper types fs f
+entered_good : (s : Setting) (types : Types) (fs : List Function) (f : Function) (call : Callee) (outer xs : List Cell) (n : ℕ) (w : World) → GoodCallee types fs call → HasReadyWays types fs f
     → AreSuited (parameter_sorts types f) xs → Housed w.content (outer ++ xs) → GoodCalled types f outer (entered s types (Some f) call xs n w)
 entered_good s types fs f call outer xs n w callee proper suited h =
     begun_good types f outer xs (parameters_given s types f 0 xs (frame f w)) w (λ st. finish types f (exec s types f call f.body n st)) (entry_gives outer s types f xs w h suited)
@@ -75,12 +75,12 @@ entered_good s types fs f call outer xs n w callee proper suited h =
 
 -- ---- all calls of a program
 
-pub proper_at : (types : Types) (all fs : List Function) (n : ℕ) (f : Function) → AreProper types all fs → slice_get fs n ≡ Some f → IsProper types all f
+pub proper_at : (types : Types) (all fs : List Function) (n : ℕ) (f : Function) → HaveReadyWays types all fs → slice_get fs n ≡ Some f → HasReadyWays types all f
 proper_at types all [] n f proper e = absurd (none_some e)
-proper_at types all (g ∷ gs) zero f proper e = subst (IsProper types all) (some_same e) proper.0
+proper_at types all (g ∷ gs) zero f proper e = subst (HasReadyWays types all) (some_same e) proper.0
 proper_at types all (g ∷ gs) (suc n) f proper e = proper_at types all gs n f proper.1 e
 
-pub calls_good : (s : Setting) (p : Program) → IsProperProgram p → (depth : ℕ) → GoodCallee p.types p.functions (calls s p depth)
+pub calls_good : (s : Setting) (p : Program) → IsReadyProgram p → (depth : ℕ) → GoodCallee p.types p.functions (calls s p depth)
 calls_good s p proper zero k g outer xs n w is suited h = tt
 calls_good s p proper (suc depth) k g outer xs n w is suited h =
     subst (λ o. GoodCalled p.types g outer (entered s p.types o (calls s p depth) xs n w)) (sym is)

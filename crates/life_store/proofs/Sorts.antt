@@ -5,7 +5,7 @@ use Rattle.std.proofs.lemmas.Option.{slice_get-map}
 use Rattle.life_types.specs.Types.{Types}
 use Rattle.life_core.specs.Function.{Function}
 use Rattle.life_core.specs.Operands.{Location}
-use Rattle.life_core.specs.Proper.{Holding, Blank, AnObject, ANumber, Holdings, Holds, held_by, sort_of, blanked, given_holdings, target_after, port_after, holdings_after, holdings_past, IsPortReady, IsStepReady, IsNodeReady, Reaches, starts, goes_on, IsProper}
+use Rattle.life_core.specs.Proper.{Holding, Blank, AnObject, ANumber, Holdings, Holds, held_by, sort_of, blanked, given_holdings, target_after, port_after, holdings_after, holdings_past, IsPortReady, IsStepReady, IsNodeReady, Reaches, starts, goes_on, HasReadyWays}
 use Rattle.life_core.specs.Step.{Step, Live, End, Eval, Load, Save, Copy, Move, Aim, Repoint, Element, Cursor, Advance, Cut, Size, Same, Changes, Make, Call, Port, Ports, Writes, WritesView, Takes}
 use Rattle.life_core.specs.Tree.{Node, Action, Question, Return, Stop}
 use Rattle.life_core.specs.declared.program.Local.{Local}
@@ -91,6 +91,6 @@ module _ (types : Types) (fs : List Function) (f : Function) where
   past_sorted Stop hs ready s = s
 
   -- so it is at each point that is reached
-  pub reached_sorted : IsProper types fs f → {p : ℕ} {hs : Holdings} → Reaches types f p hs → IsSorted types f hs
+  pub reached_sorted : HasReadyWays types fs f → {p : ℕ} {hs : Holdings} → Reaches types f p hs → IsSorted types f hs
   reached_sorted proper (starts e) = given_sorted types f.parameters f.locals
   reached_sorted proper (goes_on {p = p} {hs = hs} {l = l} reached at among leads) = past_sorted l.spot.node hs (proper.ready p hs l reached at) (reached_sorted proper reached)

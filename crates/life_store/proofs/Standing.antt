@@ -6,7 +6,7 @@ use Rattle.std.proofs.lemmas.Bool.{false≢true}
 use Rattle.life_core.specs.Function.{Function}
 use Rattle.life_core.specs.Linked.{Lead, Linked, code_of, numbered, spot_at, goes, parts}
 use Rattle.life_core.specs.Operands.{Argument, Location}
-use Rattle.life_core.specs.Proper.{Holdings, Reaches, goes_on, IsProper, holdings_past, target_after, parameter_sorts, result_sort, IsResultReady, IsTestReady, IsCallReady, IsStepReady}
+use Rattle.life_core.specs.Proper.{Holdings, Reaches, goes_on, HasReadyWays, holdings_past, target_after, parameter_sorts, result_sort, IsResultReady, IsTestReady, IsCallReady, IsStepReady}
 use Rattle.life_core.specs.Step.{Step, Call, Test, NonZero, NotNull}
 use Rattle.life_core.specs.Tree.{Action, Question}
 use Rattle.life_core.specs.declared.exits.Exits.{Exits}
@@ -147,7 +147,7 @@ module _ (types : Types) (f : Function) (outer : List Cell) where
 
     -- ---- a proper function keeps to this
 
-    pub proper_keeps : IsProper types fs f → Keeps s types f call (Standing types f outer) (Leaving types f outer) IsHeld
+    pub proper_keeps : HasReadyWays types fs f → Keeps s types f call (Standing types f outer) (Leaving types f outer) IsHeld
     proper_keeps proper = record {
       acts = acts;
       asks = λ b place t held failed here n st inv.

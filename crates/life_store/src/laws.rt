@@ -1,7 +1,7 @@
 // What holds of the meaning of all programs.
 ghost use Rattle.std.specs.Prelude.{◌≡◌, ℕ, ℤ, List, Some, slice_get};
 ghost use Rattle.life_core.specs.Function.{Function, Program};
-ghost use Rattle.life_core.specs.Proper.{IsProperProgram};
+ghost use Rattle.life_proper.specs.ProperPrograms.{IsProperProgram};
 ghost use Rattle.life_store.specs.Doing.{Given};
 ghost use Rattle.life_store.specs.Meaning.{IsAdmitted, IsFound, run_of};
 

@@ -11,7 +11,7 @@ use Rattle.life_types.specs.declared.ty.Ty.TheVariants as type
 use Rattle.life_core.specs.ByValue.{calls_by_value, calls_in_by_value}
 use Rattle.life_core.specs.Function.{Function, Program}
 use Rattle.life_core.specs.Linked.{Lead, Linked, code_of, edges_of, goes, numbered, spot_at, spot_of}
-use Rattle.life_core.specs.Proper.{Holding, Blank, APointer, Holdings, held_by, sort_of, entry_holdings, holdings_after, holdings_past, IsStepReady, IsNodeReady, Reaches, starts, goes_on, LeadOn, IsProper, AreProper, IsProperProgram}
+use Rattle.life_core.specs.Proper.{Holding, Blank, APointer, Holdings, held_by, sort_of, entry_holdings, holdings_after, holdings_past, IsStepReady, IsNodeReady, Reaches, starts, goes_on, LeadOn, HasReadyWays, HaveReadyWays, IsReadyProgram}
 use Rattle.life_core.specs.Step.{Step, Live}
 use Rattle.life_core.specs.Tree.{Action, Stop, Spot}
 use Rattle.life_core.specs.declared.instr.Form.TheVariants.{Plain}
@@ -109,7 +109,7 @@ module _ (types : Types) (l : Local) (i : Step) (sort : held_by types (Some l) �
   leads_on_at (suc (suc (suc zero))) hs k held here = subst (λ (u : Linked). LeadOn u.leads) (some_same here) tt
   leads_on_at (suc (suc (suc (suc n)))) hs k held here = absurd held
 
-  pub worked_proper : IsProper types (worked l i ∷ []) (worked l i)
+  pub worked_proper : HasReadyWays types (worked l i ∷ []) (worked l i)
   worked_proper = record {
     statement = refl;
     straight = refl;
@@ -129,19 +129,19 @@ no_use_ready types l sort = inl ((refl, sort), (refl, refl))
 written : (types : Types) (l : Local) → held_by types (Some l) ≡ APointer → held_by types (Some l) ∷ [] ≡ APointer ∷ []
 written types l sort = ap (λ (h : Holding). h ∷ []) sort
 
-one_proper : (p : Program) (f : Function) → p.functions ≡ f ∷ [] → IsProper p.types (f ∷ []) f → IsProperProgram p
-one_proper p f is proper = subst (λ (fs : List Function). AreProper p.types fs fs) (sym is) (proper, tt)
+one_proper : (p : Program) (f : Function) → p.functions ≡ f ∷ [] → HasReadyWays p.types (f ∷ []) f → IsReadyProgram p
+one_proper p f is proper = subst (λ (fs : List Function). HaveReadyWays p.types fs fs) (sym is) (proper, tt)
 
 one_by_value : (p : Program) (f : Function) → p.functions ≡ f ∷ [] → list_all (calls_in_by_value p.types (f ∷ [])) (f ∷ []) ≡ true → calls_by_value p ≡ true
 one_by_value p f is by_value = subst (λ (fs : List Function). list_all (calls_in_by_value p.types fs) fs ≡ true) (sym is) by_value
 
-pub misuse_proper : (p : Program) (l : Local) → p.functions ≡ worked l misuse ∷ [] → held_by p.types (Some l) ≡ APointer → IsProperProgram p
+pub misuse_proper : (p : Program) (l : Local) → p.functions ≡ worked l misuse ∷ [] → held_by p.types (Some l) ≡ APointer → IsReadyProgram p
 misuse_proper p l is sort = one_proper p (worked l misuse) is (worked_proper p.types l misuse sort (misuse_ready p.types l sort) (written p.types l sort))
 
 pub misuse_by_value : (p : Program) (l : Local) → p.functions ≡ worked l misuse ∷ [] → calls_by_value p ≡ true
 misuse_by_value p l is = one_by_value p (worked l misuse) is refl
 
-pub no_use_proper : (p : Program) (l : Local) → p.functions ≡ worked l no_use ∷ [] → held_by p.types (Some l) ≡ APointer → IsProperProgram p
+pub no_use_proper : (p : Program) (l : Local) → p.functions ≡ worked l no_use ∷ [] → held_by p.types (Some l) ≡ APointer → IsReadyProgram p
 no_use_proper p l is sort = one_proper p (worked l no_use) is (worked_proper p.types l no_use sort (no_use_ready p.types l sort) (written p.types l sort))
 
 pub no_use_by_value : (p : Program) (l : Local) → p.functions ≡ worked l no_use ∷ [] → calls_by_value p ≡ true

@@ -3,7 +3,7 @@ use Rattle.std.proofs.lemmas.Result.{err_from_is_err_and}
 use Rattle.life_core.specs.Function.{program_of}
 use Rattle.life_typed.specs.Programs.{program_view}
 use Rattle.life_check.proofs.Checking.{core_finds, limited_finds, unbuilt_finds}
-use Rattle.life_check.proofs.PassedLimits.{translated_whole, translated_within}
+use Rattle.life_check.proofs.PassedLimits.{translated_proper}
 use Rattle.life_check.proofs.check.check_typed.Goals as goal
 
 pub returns-then-not-is_built-clause-finds : goal.returns-then-not-is_built-clause-finds
@@ -15,23 +15,15 @@ returns-in_err-program-clause-finds g c =
     rw (e.1, e.2)
     (limited_finds (program_view c.args.typed.now) (sym c.is_built.ensures ∙ c.if-not-is_built.false) c.in_err-program.field-0.0 c.in_err-program.ensures.program)
 
-pub check_program-requires-clause-whole : goal.check_program-requires-clause-whole
-check_program-requires-clause-whole g c =
+pub check_program-requires : goal.check_program-requires
+check_program-requires g c =
     let p = program_view c.args.typed.now in
     let built = sym c.is_built.ensures ∙ c.if-not-is_built.false in
     let typed = c.requires.well_typed built in
     let results = c.requires.results built in
-    translated_whole p (program_of c.in_ok-program.program) c.in_ok-program.ensures.program.0 c.in_ok-program.ensures.program.1 c.in_ok-program.ensures.numbered
-    (c.translations_have_short_places.ensures p typed results built) (c.translations_are_proper.ensures p typed results built)
-    (c.translations_are_well_formed.ensures p typed results (c.requires.table built) c.requires.names built) (c.translations_write_results.ensures p typed results (c.requires.mains built) built)
-    (c.translations_are_plain.ensures p typed results built)
-
-pub check_program-requires-clause-within : goal.check_program-requires-clause-within
-check_program-requires-clause-within g c =
-    let p = program_view c.args.typed.now in
-    let built = sym c.is_built.ensures ∙ c.if-not-is_built.false in
-    translated_within p (program_of c.in_ok-program.program) c.in_ok-program.ensures.program.0 c.in_ok-program.ensures.program.1 c.in_ok-program.ensures.numbered
-    (c.translations_have_short_places.ensures p (c.requires.well_typed built) (c.requires.results built) built)
+    translated_proper p (program_of c.in_ok-program.program) c.in_ok-program.ensures.program.0 c.in_ok-program.ensures.program.1 c.in_ok-program.ensures.numbered
+    (c.translations_have_short_places.ensures p typed results built)
+    (c.translations_are_proper.ensures p typed results (c.requires.table built) c.requires.names (c.requires.mains built) built)
 
 pub returns-clause-finds : goal.returns-clause-finds
 returns-clause-finds g c =

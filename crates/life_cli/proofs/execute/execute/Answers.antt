@@ -6,7 +6,7 @@ use Rattle.life_cli.specs.Entry.{entry_of}
 use Rattle.life_cli.proofs.execute.execute.Goals as goal
 
 pub find_entry-requires : goal.find_entry-requires
-find_entry-requires g c = few_functions c.args.program.now.functions.items c.requires.whole.few
+find_entry-requires g c = few_functions c.args.program.now.functions.items c.requires.proper.limits.few
 
 pub returns-in-Absent : goal.returns-in-Absent
 returns-in-Absent g c =

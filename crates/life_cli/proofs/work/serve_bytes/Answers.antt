@@ -7,10 +7,10 @@ use Rattle.life_cli.proofs.Leaves.{checked_file, faulty_file}
 use Rattle.life_cli.specs.Words.{job_seen}
 use Rattle.life_cli.proofs.work.serve_bytes.Goals as goal
 
-pub serve_accepted-requires-clause-whole : goal.serve_accepted-requires-clause-whole
-serve_accepted-requires-clause-whole g c =
+pub serve_accepted-requires-clause-proper : goal.serve_accepted-requires-clause-proper
+serve_accepted-requires-clause-proper g c =
     let is = rw c.in-Ok-Accepted.field-0-is at c.in-Ok-Accepted.ensures in
-    rw c.program.ensures.program is.1.0.whole
+    rw c.program.ensures.program is.1.0.proper
 
 pub serve_accepted-requires-clause-listed : goal.serve_accepted-requires-clause-listed
 serve_accepted-requires-clause-listed g c =
@@ -23,9 +23,9 @@ returns-in-Ok-Accepted g c =
     let file = subst (λ (p : CoreProgram). ComesTo c.args.bytes.now (Listed (program_of p) [])) (sym c.program.ensures.program) is.0.is in
     checked_file (job_seen c.args.job) c.args.bytes.now _ _ _ _ _ (program_of c.program.result.now) [] file _ c.serve_accepted.result c.serve_accepted.ensures
 
-pub serve_rejected-requires-clause-whole : goal.serve_rejected-requires-clause-whole
-serve_rejected-requires-clause-whole g c =
-    let is = rw c.in-Ok-Refused.field-0-is at c.in-Ok-Refused.ensures in is.1.0.whole
+pub serve_rejected-requires-clause-proper : goal.serve_rejected-requires-clause-proper
+serve_rejected-requires-clause-proper g c =
+    let is = rw c.in-Ok-Refused.field-0-is at c.in-Ok-Refused.ensures in is.1.0.proper
 
 pub serve_rejected-requires-clause-listed : goal.serve_rejected-requires-clause-listed
 serve_rejected-requires-clause-listed g c =

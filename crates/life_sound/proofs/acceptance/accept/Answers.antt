@@ -9,4 +9,4 @@ pub invariant_of-result : goal.invariant_of-result
 invariant_of-result c =
     let none : vec_len c.args.diagnostics ≡ 0 = eqb-true (vec_len c.args.diagnostics) 0 (sym c.is_empty.ensures ∙ c.if-is_empty.true) in
     let empty : length c.args.diagnostics.items ≡ 0 = sym c.args.diagnostics.ok.0 ∙ none in
-    sound_if_empty (program_of c.args.program) c.args.diagnostics.items c.requires.proper c.requires.by_value c.requires.all empty
+    sound_if_empty (program_of c.args.program) c.args.diagnostics.items c.requires.proper c.requires.all empty
