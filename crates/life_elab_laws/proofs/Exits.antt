@@ -1,5 +1,5 @@
 -- What is known between statements: each living variable is there, and no other one is.
-use Rattle.std.proofs.Common.{◌≡◌, ℕ, zero, suc, Bool, true, false, List, [], ◌∷◌, length, slice_get, Option, Some, None, refl, sym, ap, ◌∙◌, subst, arith}
+use Rattle.std.proofs.Common.{◌≡◌, ℕ, zero, suc, Bool, true, false, ◌&&◌, ◌||◌, is_none, List, [], ◌∷◌, length, slice_get, Option, Some, None, refl, sym, ap, ◌∙◌, subst, arith}
 use Rattle.std.proofs.lemmas.Bool.{and_from}
 use Rattle.life_types.specs.Types.{Types}
 use Rattle.life_types.specs.declared.ty.NameId.{NameId}
@@ -9,7 +9,7 @@ use Rattle.life_core.specs.declared.program.Local.{Local}
 use Rattle.life_proper.specs.declared.known.Known.{Known}
 use Rattle.life_proper.specs.declared.known.Known.TheVariants as known
 use Rattle.life_proper.specs.Checking.{Flow, before_next, joined}
-use Rattle.life_proper.specs.Knowing.{State, agreed_all, are_implied, forgotten, is_implied, is_intermediate, known_as, known_at, met, same}
+use Rattle.life_proper.specs.Knowing.{State, agreed_all, are_implied, forgotten, is_implied, is_intermediate, known_as, known_at, met, same, is_blank, is_forgotten, is_register}
 use Rattle.life_elab_laws.proofs.Among.{Among}
 use Rattle.life_elab_laws.proofs.Knowledge.{agreed_length, at_agreed}
 use Rattle.life_elab_laws.proofs.Making.{Keeps}
@@ -113,6 +113,15 @@ module _ (types : Types) (fs : List Function) (f : Function) where
   implied_same known.Pointer b e = implied_itself known.Pointer b e refl
   implied_same known.View b e = implied_itself known.View b e refl
 
+  -- what is kept at the head of a loop is no intermediate register
+  kept_there : (l : Local) (a : Known) → is_forgotten l a ≡ false → is_intermediate l ≡ false
+  kept_there l a e = go (is_register l.kind) (is_none l.name) (is_blank a) e
+    where
+      go : (register nameless blank : Bool) → (nameless && (register || blank)) ≡ false → (register && nameless) ≡ false
+      go true true blank h = h
+      go true false blank h = refl
+      go false nameless blank h = refl
+
   -- what is known at the head is known on the way back, where both know the same of all but intermediate registers
   pub forgotten_implied : (ls : List Local) (k j : List Known) → length k ≡ length ls → length j ≡ length ls
       → ((y : ℕ) (l : Local) → slice_get ls y ≡ Some l → is_intermediate l ≡ false → known_at j y ≡ known_at k y) → are_implied (forgotten ls k) j ≡ true
@@ -120,8 +129,8 @@ module _ (types : Types) (fs : List Function) (f : Function) where
   forgotten_implied [] (x ∷ k) j a b h = absurd (omega (arith, a))
   forgotten_implied (l ∷ ls) [] j a b h = refl
   forgotten_implied (l ∷ ls) (x ∷ k) [] a b h = absurd (omega (arith, b))
-  forgotten_implied (l ∷ ls) (x ∷ k) (y ∷ j) a b h = go (is_intermediate l) refl (forgotten_implied ls k j (omega (arith, a)) (omega (arith, b)) (λ n. h (suc n)))
+  forgotten_implied (l ∷ ls) (x ∷ k) (y ∷ j) a b h = go (is_forgotten l x) refl (forgotten_implied ls k j (omega (arith, a)) (omega (arith, b)) (λ n. h (suc n)))
     where
-      go : (m : Bool) → is_intermediate l ≡ m → are_implied (forgotten ls k) j ≡ true → are_implied (forgotten (l ∷ ls) (x ∷ k)) (y ∷ j) ≡ true
+      go : (m : Bool) → is_forgotten l x ≡ m → are_implied (forgotten ls k) j ≡ true → are_implied (forgotten (l ∷ ls) (x ∷ k)) (y ∷ j) ≡ true
       go true e rest = rw e rest
-      go false e rest = rw e (and_from (is_implied x y) (are_implied (forgotten ls k) j) (implied_same x y (h zero l refl e)) rest)
+      go false e rest = rw e (and_from (is_implied x y) (are_implied (forgotten ls k) j) (implied_same x y (h zero l refl (kept_there l x e))) rest)

@@ -1,5 +1,5 @@
 -- Loops: what is known at the head of a loop is known again wherever control comes back to it.
-use Rattle.std.proofs.Common.{◌≡◌, ◌⊎◌, inl, inr, ℕ, zero, suc, Bool, true, false, ◌&&◌, List, [], ◌∷◌, ◌++◌, length, slice_get, take, Option, Some, None, refl, sym, ap, ◌∙◌, subst, arith, is_none}
+use Rattle.std.proofs.Common.{◌≡◌, ◌⊎◌, inl, inr, ℕ, zero, suc, Bool, true, false, ◌&&◌, ◌||◌, List, [], ◌∷◌, ◌++◌, length, slice_get, take, Option, Some, None, refl, sym, ap, ◌∙◌, subst, arith, is_none}
 use Rattle.std.proofs.lemmas.Bool.{and_from}
 use Rattle.std.proofs.lemmas.Option.{same_Some}
 use Rattle.life_types.specs.Types.{Types}
@@ -10,7 +10,7 @@ use Rattle.life_core.specs.Tree.{Tree, Turns, trees}
 use Rattle.life_core.specs.declared.program.Local.{Local}
 use Rattle.life_proper.specs.declared.known.Known.{Known}
 use Rattle.life_proper.specs.Checking.{Flow, flow, joined, of_body, of_step, of_test}
-use Rattle.life_proper.specs.Knowing.{State as Knowing, are_implied, comes_back, forgotten, is_intermediate, is_register, known_at, met}
+use Rattle.life_proper.specs.Knowing.{State as Knowing, are_implied, comes_back, forgotten, is_intermediate, is_register, known_at, met, is_blank, is_forgotten}
 use Rattle.life_proper.specs.Plain.{is_plain_tree}
 use Rattle.life_proper.specs.ResultsKnown.{ReturnsKnown}
 use Rattle.life_proper.proofs.Joining.{joined_end}
@@ -35,25 +35,21 @@ use Rattle.life_elab_laws.proofs.WrittenLocals.{locals_added}
 
 -- ---- at the head nothing is known of intermediate values, and the same of all others
 
-and_false : (b : Bool) → (b && false) ≡ false
-and_false true = refl
-and_false false = refl
-
-named_stays : (l : Local) (name : NameId) → l.name ≡ Some name → is_intermediate l ≡ false
-named_stays l name e = ap (λ (o : Option NameId). is_register l.kind && is_none o) e ∙ and_false (is_register l.kind)
+named_stays : (l : Local) (name : NameId) → l.name ≡ Some name → is_none l.name ≡ false
+named_stays l name e = ap is_none e
 
 forgotten_length : (ls : List Local) (k : List Known) → length (forgotten ls k) ≡ length k
 forgotten_length [] k = refl
 forgotten_length (l ∷ ls) [] = refl
 forgotten_length (l ∷ ls) (x ∷ k) = ap suc (forgotten_length ls k)
 
-forgotten_at : (ls : List Local) (k : List Known) (y : ℕ) (l : Local) → slice_get ls y ≡ Some l → is_intermediate l ≡ false → known_at (forgotten ls k) y ≡ known_at k y
+forgotten_at : (ls : List Local) (k : List Known) (y : ℕ) (l : Local) → slice_get ls y ≡ Some l → is_none l.name ≡ false → known_at (forgotten ls k) y ≡ known_at k y
 forgotten_at [] k y l at e = refl
 forgotten_at (u ∷ ls) [] y l at e = refl
 forgotten_at (u ∷ ls) (x ∷ k) zero l at e = rw here refl
   where
-    here : is_intermediate u ≡ false
-    here = ap is_intermediate (same_Some u l at) ∙ e
+    here : is_forgotten u x ≡ false
+    here = ap (λ (b : Bool). b && (is_register u.kind || is_blank x)) (ap (λ (v : Local). is_none v.name) (same_Some u l at) ∙ e)
 forgotten_at (u ∷ ls) (x ∷ k) (suc y) l at e = forgotten_at ls k y l at e
 
 module _ (types : Types) (fs : List Function) (f : Function) where

@@ -6,7 +6,7 @@ use Rattle.life_core.specs.declared.program.Local.{Local}
 use Rattle.life_core.specs.Proper.{Holding, Blank, AnObject, ANumber, APointer, AView, Holdings, Holds}
 use Rattle.life_proper.specs.declared.known.Known.{Known}
 use Rattle.life_proper.specs.declared.known.Known.TheVariants as known
-use Rattle.life_proper.specs.Knowing.{State, agreed, agreed_all, are_implied, at_head, comes_back, forgotten, is_implied, is_intermediate, known_as, met, same}
+use Rattle.life_proper.specs.Knowing.{State, agreed, agreed_all, are_implied, at_head, comes_back, forgotten, is_implied, is_forgotten, known_as, met, same}
 use Rattle.life_proper.specs.ReadyKnown.{holds, is_sort}
 
 -- ---- one local
@@ -121,7 +121,7 @@ meets_forgotten : (ls : List Local) (k : List Known) (hs : Holdings) → Meets k
 meets_forgotten [] k hs m = m
 meets_forgotten (l ∷ ls) [] hs m = m
 meets_forgotten (l ∷ ls) (a ∷ k) [] m = absurd m
-meets_forgotten (l ∷ ls) (a ∷ k) (h ∷ hs) m = (unless_known (is_intermediate l) a h m.0, meets_forgotten ls k hs m.1)
+meets_forgotten (l ∷ ls) (a ∷ k) (h ∷ hs) m = (unless_known (is_forgotten l a) a h m.0, meets_forgotten ls k hs m.1)
 
 -- ---- where some way comes
 

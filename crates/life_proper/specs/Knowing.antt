@@ -1,5 +1,5 @@
 -- What is known of the locals where a point is reached.
-use Rattle.std.specs.Prelude.{ℕ, Bool, true, false, ◌&&◌, if◌then◌else◌, List, [], ◌∷◌, Option, Some, None, is_none, map, slice_get}
+use Rattle.std.specs.Prelude.{ℕ, Bool, true, false, ◌&&◌, ◌||◌, if◌then◌else◌, List, [], ◌∷◌, Option, Some, None, is_none, map, slice_get}
 use Rattle.std.specs.Option.{unwrap_or}
 use Rattle.life_types.specs.Types.{Types}
 use Rattle.life_core.specs.declared.program.Local.{Local}
@@ -56,9 +56,16 @@ is_register _ = false
 abbrev pub is_intermediate : Local → Bool
 is_intermediate l = is_register l.kind && is_none l.name
 
--- .. of which nothing is known at the head of a loop
+-- .. of which nothing is known at the head of a loop, nor of an object or an iterator without a name that isn't there: a turn makes it or doesn't
+abbrev pub is_blank : Known → Bool
+is_blank known.Blank = true
+is_blank _ = false
+
+abbrev pub is_forgotten : Local → Known → Bool
+is_forgotten l a = is_none l.name && (is_register l.kind || is_blank a)
+
 abbrev pub forgotten : List Local → List Known → List Known
-forgotten (l ∷ ls) (a ∷ more) = (if is_intermediate l then known.Unknown else a) ∷ forgotten ls more
+forgotten (l ∷ ls) (a ∷ more) = (if is_forgotten l a then known.Unknown else a) ∷ forgotten ls more
 forgotten _ more = more
 
 -- at the entry of a function

@@ -5,12 +5,12 @@ use Rattle.life_core.specs.declared.program.Local.{Local}
 use Rattle.life_core.specs.Proper.{Blank, Holding, held_by}
 use Rattle.life_proper.specs.declared.known.Known.{Known}
 use Rattle.life_proper.specs.declared.known.Known.TheVariants as known
-use Rattle.life_proper.specs.Knowing.{is_intermediate}
+use Rattle.life_proper.specs.Knowing.{is_forgotten}
 
 -- at the head of a loop
 abbrev pub kept_by : Option Local → Known → Known
 kept_by None k = k
-kept_by (Some l) k = if is_intermediate l then known.Unknown else k
+kept_by (Some l) k = if is_forgotten l k then known.Unknown else k
 
 -- at the entry, where so many parameters are left
 abbrev pub held_first : Types → ℕ → Local → Holding

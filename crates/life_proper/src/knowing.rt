@@ -1,6 +1,6 @@
 // What is known of all locals of a function, in the order of their numbers.
 ghost use Rattle.std.specs.Prelude.{◌≡◌, if◌then◌else◌, IfOk, slice_get, slice_set};
-ghost use Rattle.life_proper.specs.Knowing.{agreed, agreed_all, are_implied, at_head, comes_back, forgotten, is_intermediate, known_at, met, same};
+ghost use Rattle.life_proper.specs.Knowing.{agreed, agreed_all, are_implied, at_head, comes_back, forgotten, is_blank, is_forgotten, is_register, known_at, met, same};
 ghost use Rattle.life_proper.specs.Seen.{state_seen};
 ghost use Rattle.life_proper.specs.Turns.{kept_by};
 ghost use Rattle.life_proper.specs.declared.known.Known.TheVariants as known;
@@ -132,7 +132,7 @@ fn kept_at(locals: &[Local], i: usize, k: Known) -> Known
 {
     match locals.get(i) {
         None => k,
-        Some(l) => unless(is_intermediate(l), k),
+        Some(l) => unless(is_forgotten(l, k), k),
     }
 }
 
@@ -152,12 +152,28 @@ pub(crate) fn copied(alloc: Global, here: &State) -> Result<State, NoMemory>
     }
 }
 
-/// Whether it is a register without a name, which holds an intermediate value or the result.
-fn is_intermediate(local: &Local) -> bool
-    ensures { result ≡ is_intermediate local.now }
+// Whether nothing is known of it at the head of a loop: it is a register without a name, which holds an
+// intermediate value or the result, or it has no name and isn't there.
+fn is_forgotten(local: &Local, k: Known) -> bool
+    ensures { result ≡ is_forgotten local.now k }
 {
-    match local.kind {
-        LocalKind::Register => local.name.is_none(),
+    local.name.is_none() && (is_register(local.kind) || is_blank(k))
+}
+
+fn is_register(kind: LocalKind) -> bool
+    ensures { result ≡ is_register kind }
+{
+    match kind {
+        LocalKind::Register => true,
+        _ => false,
+    }
+}
+
+fn is_blank(k: Known) -> bool
+    ensures { result ≡ is_blank k }
+{
+    match k {
+        Known::Blank => true,
         _ => false,
     }
 }
