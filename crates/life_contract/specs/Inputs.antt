@@ -1,14 +1,12 @@
 -- The inputs of a signature: the pointers that a caller hands over, by parameter and then by member.
-use Rattle.std.specs.Prelude.{ℕ, Bool, true, false, not, ◌&&◌, List, Option, Some, None, length, map, slice_get}
+use Rattle.std.specs.Prelude.{ℕ, Bool, false, not, ◌&&◌, List, Option, Some, None, length, map, slice_get}
 use Rattle.life_types.specs.Trees.{holds_owner}
 use Rattle.life_types.specs.Types.{Types}
 use Rattle.life_types.specs.declared.place.Place.{Place}
-use Rattle.life_types.specs.declared.ty.Ty.{Ty}
-use Rattle.life_types.specs.declared.ty.Ty.TheVariants as ty
 use Rattle.life_core.specs.declared.program.Local.{Local}
 use Rattle.life_core.specs.declared.program.LocalKind.TheVariants.{Object}
 use Rattle.life_pset.specs.Elements.{Input, inputs_from}
-use Rattle.life_pset.specs.Shapes.{is_raw, target_type, tree_if, ty_if}
+use Rattle.life_pset.specs.Shapes.{is_constant, is_raw, target_type, tree_if, ty_if}
 use Rattle.life_pset.specs.declared.element.Root.{Root}
 use Rattle.life_pset.specs.declared.element.Root.TheVariants as root
 use Rattle.life_contract.specs.Signatures.{Signature}
@@ -46,15 +44,6 @@ abbrev pub admits_null : Types → Signature → Input → Bool
 admits_null types sig i = may_be_null types (bears_nonnull (input_parameter sig i)) i
 
 -- ---- changes
-
--- nothing changes through a pointer of this type; a view never changes its characters
-abbrev pub is_constant : Ty → Bool
-is_constant ty.View = true
-is_constant (ty.Raw target constant) = constant
-is_constant (ty.Reference target constant) = constant
-is_constant (ty.Iterator target constant) = constant
-is_constant (ty.Span target constant) = constant
-is_constant _ = false
 
 abbrev pub bears_keeps : Option Param → Bool
 bears_keeps None = false

@@ -9,12 +9,12 @@ use Rattle.life_core.specs.Function.{Promise, Default, Listed}
 use Rattle.life_core.specs.declared.program.LocalKind.TheVariants.{Object}
 use Rattle.life_pset.specs.Elements.{Input, input_places, local_place, locations_in}
 use Rattle.life_pset.specs.Places.{path}
-use Rattle.life_pset.specs.Shapes.{is_pointer, is_raw, members_type, ty_if}
+use Rattle.life_pset.specs.Shapes.{is_constant, is_pointer, is_raw, members_type, ty_if}
 use Rattle.life_pset.specs.declared.element.AbsPlace.{AbsPlace}
 use Rattle.life_pset.specs.declared.element.Element.{Element}
 use Rattle.life_pset.specs.declared.element.Element.TheVariants as element
 use Rattle.life_pset.specs.declared.element.Fact.{Fact}
-use Rattle.life_contract.specs.Inputs.{inputs_of_signature, is_constant, parameter_number}
+use Rattle.life_contract.specs.Inputs.{inputs_of_signature, parameter_number}
 use Rattle.life_contract.specs.Positions.{pointee, position_type}
 use Rattle.life_contract.specs.Signatures.{Signature}
 

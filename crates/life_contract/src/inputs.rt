@@ -3,7 +3,8 @@ ghost use Rattle.std.specs.Option.{option_copied};
 ghost use Rattle.std.specs.Prelude.{◌≡◌, ◌++◌, ◌<◌, ◌^◌, length, map, IfOk, OnOk};
 ghost use Rattle.life_pset.specs.Elements.{inputs_from};
 ghost use Rattle.life_pset.specs.Inputs.{input_seen};
-ghost use Rattle.life_contract.specs.Inputs.{admits_null, bears_keeps, bears_nonnull, input_parameter, inputs_of_signature, is_constant, is_mutating, may_be_null, parameter_in, parameter_local, parameter_number};
+ghost use Rattle.life_pset.specs.Shapes.{is_constant};
+ghost use Rattle.life_contract.specs.Inputs.{admits_null, bears_keeps, bears_nonnull, input_parameter, inputs_of_signature, is_mutating, may_be_null, parameter_in, parameter_local, parameter_number};
 
 use crate::param::Param;
 use crate::signature::Signature;

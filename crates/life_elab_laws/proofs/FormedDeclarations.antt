@@ -158,7 +158,7 @@ module _ (a : Around) (visible : List ℕ) (types : Types) (texts : ℕ) (fs : L
       let place = first.gives early tt in
       let later = type_later a.program.types types setting.front target worth in
       formed_more types texts fs f w.state.code (Acts e.place (Aim (whole (length w.state.locals)) (Aimed w.given))) (first.formed early tt c)
-      (ap (λ (t : Ty). aims_at types t (placed.type_of types f w.given) && keeps_const (operands.is_constant t) (is_const_place types f w.given)) (reference_declared v w.state here target constant found worth)
+      (ap (λ (t : Ty). aims_at types t (placed.type_of types f w.given) && keeps_const (shapes.is_constant t) (is_const_place types f w.given)) (reference_declared v w.state here target constant found worth)
       ∙ and_from (same (shapes.ty_of types target) (placed.type_of types f w.given)) (keeps_const constant (is_const_place types f w.given))
       (ap (same (shapes.ty_of types target)) (place.typed ∙ sym later) ∙ value_same (shapes.ty_of types target) (ap operands.is_value later ∙ value_either (type_at a.program.types target) worth))
       (keeps_further constant held (is_const_place types f w.given) kept place.held))

@@ -44,7 +44,8 @@ use Rattle.life_elab_laws.proofs.Setting.{Setting}
 use Rattle.life_elab_laws.proofs.TypedKinds.{AreEquated, HasKind, IsCombined, IsKind, IsOperand, a_null, a_number, a_pointer, answer_value, as_numbers, combined_as, equated_kinds, err_ok, joined_kinds, no_value, none_some, null_left, null_right, ok_same, operand_kind, place_same, promoted_value, some_same, value_place}
 use Rattle.life_elab_laws.proofs.Types.{type_added}
 use Rattle.life_elab_laws.proofs.VariablePlaces.{Stands, named_raw, stands_apart, stands_later}
-use Rattle.life_proper.specs.OperandTypes.{aims_at, is_constant, is_promoted, keeps_const}
+use Rattle.life_pset.specs.Shapes.{is_constant}
+use Rattle.life_proper.specs.OperandTypes.{aims_at, is_promoted, keeps_const}
 use Rattle.life_proper.specs.OperandTypes as operands
 use Rattle.life_proper.specs.Placed.{is_const_place, type_in}
 use Rattle.life_proper.specs.Placed as placed

@@ -26,7 +26,8 @@ use Rattle.life_writer.specs.Writing.{State, gives}
 use Rattle.life_elab.specs.Simples.{pointer_assigned, value_assigned}
 use Rattle.life_elab_laws.proofs.Setting.{Setting}
 use Rattle.life_elab_laws.proofs.VariablePlaces.{Stands, stands_later}
-use Rattle.life_proper.specs.OperandTypes.{aims_at, is_constant, keeps_const, same, takes}
+use Rattle.life_pset.specs.Shapes.{is_constant}
+use Rattle.life_proper.specs.OperandTypes.{aims_at, keeps_const, same, takes}
 use Rattle.life_proper.specs.Placed.{is_const_place, is_number_of, type_in, type_of}
 use Rattle.life_proper.specs.WellFormed.{is_source_of, is_well_formed_step}
 use Rattle.life_elab_laws.proofs.FormedCalls.{IsTypedCallee}

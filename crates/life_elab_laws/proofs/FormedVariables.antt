@@ -17,7 +17,7 @@ use Rattle.life_core.specs.Operands.{Location, Through, behind, object_named, wh
 use Rattle.life_core.specs.declared.program.Local.{Local}
 use Rattle.life_core.specs.declared.program.LocalKind.{LocalKind}
 use Rattle.life_core.specs.declared.program.LocalKind.TheVariants.{Object, Register}
-use Rattle.life_pset.specs.Shapes.{or_void, referred, shape_if, shape_of, target_of, ty_if, ty_of, unslotted}
+use Rattle.life_pset.specs.Shapes.{is_constant, or_void, referred, shape_if, shape_of, target_of, ty_if, ty_of, unslotted}
 use Rattle.life_writer.specs.Around.{Around}
 use Rattle.life_writer.specs.Variables.{kind, place_of, place_of_kind, variable, variable_place}
 use Rattle.life_writer.specs.Writing.{State}
@@ -25,7 +25,7 @@ use Rattle.life_elab_laws.proofs.Fronts.{IsFront}
 use Rattle.life_elab_laws.proofs.Growing.{Begins}
 use Rattle.life_elab_laws.proofs.TypedKinds.{place_same}
 use Rattle.life_elab_laws.proofs.VariablePlaces.{IsVariableAt, IsVariableType, a_raw, a_reference, a_value, variable_type}
-use Rattle.life_proper.specs.OperandTypes.{is_constant, is_void, keeps_const, pointee}
+use Rattle.life_proper.specs.OperandTypes.{is_void, keeps_const, pointee}
 use Rattle.life_proper.specs.Placed as placed
 use Rattle.life_elab_laws.proofs.FormedLeaves.{IsPlaceOf}
 use Rattle.life_elab_laws.proofs.OperandsThere.{object_there, type_there, value_either, value_no_reference}

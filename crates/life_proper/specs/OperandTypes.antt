@@ -5,7 +5,7 @@ use Rattle.life_types.specs.Types.{Types}
 use Rattle.life_types.specs.contracts.ty.TyPartialEq.TheImpl.{ghosts as compared}
 use Rattle.life_types.specs.declared.ty.Ty.{Ty}
 use Rattle.life_types.specs.declared.ty.Ty.TheVariants as ty
-use Rattle.life_pset.specs.Shapes.{is_pointer, ty_of}
+use Rattle.life_pset.specs.Shapes.{is_constant, is_pointer, ty_of}
 
 -- ---- values
 
@@ -61,15 +61,6 @@ is_view _ = false
 abbrev pub is_range : Ty → Bool
 is_range (ty.Span target constant) = true
 is_range t = is_view t
-
--- what it points to is const: for a view it always is
-abbrev pub is_constant : Ty → Bool
-is_constant ty.View = true
-is_constant (ty.Raw target constant) = constant
-is_constant (ty.Reference target constant) = constant
-is_constant (ty.Iterator target constant) = constant
-is_constant (ty.Span target constant) = constant
-is_constant _ = false
 
 -- a pointer to what isn't const takes nothing from one to what is ([conv.qual])
 abbrev pub keeps_const : (to from : Bool) → Bool

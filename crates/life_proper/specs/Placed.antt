@@ -12,8 +12,8 @@ use Rattle.life_core.specs.Function.{Function}
 use Rattle.life_core.specs.Operands.{Location, Operand, Name, Through, Base}
 use Rattle.life_core.specs.Operands as base
 use Rattle.life_proper.specs.Knowing.{is_register}
-use Rattle.life_pset.specs.Shapes.{local_type, location_type, operand_type, ty_if, ty_of}
-use Rattle.life_proper.specs.OperandTypes.{is_constant, is_value, is_void, owned_element, owned_target, pointee, same, seen_element}
+use Rattle.life_pset.specs.Shapes.{is_constant, local_type, location_type, operand_type, ty_if, ty_of}
+use Rattle.life_proper.specs.OperandTypes.{is_value, is_void, owned_element, owned_target, pointee, same, seen_element}
 
 abbrev pub is_object : LocalKind → Bool
 is_object Object = true

@@ -42,6 +42,15 @@ is_pointer (ty.Iterator target constant) = true
 is_pointer (ty.Span target constant) = true
 is_pointer _ = false
 
+-- what it points to is const: for a view it always is
+abbrev pub is_constant : Ty → Bool
+is_constant ty.View = true
+is_constant (ty.Raw target constant) = constant
+is_constant (ty.Reference target constant) = constant
+is_constant (ty.Iterator target constant) = constant
+is_constant (ty.Span target constant) = constant
+is_constant _ = false
+
 -- of the pointers only a raw one may be null
 abbrev pub is_raw : Ty → Bool
 is_raw (ty.Raw target constant) = true

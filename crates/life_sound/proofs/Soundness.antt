@@ -1,5 +1,5 @@
 -- No run of a proper program of which nothing is diagnosed, and whose calls are by value, ends in a fault.
-use Rattle.std.proofs.Common.{◌≡◌, ℕ, zero, suc, List, [], ◌∷◌, length, Some, refl, sym, ap, subst, ◌∙◌, true, arith}
+use Rattle.std.proofs.Common.{◌≡◌, ℕ, zero, suc, List, [], ◌∷◌, length, Some, refl, sym, ap, subst, ◌∙◌, arith}
 use Rattle.std.specs.Prelude.{slice_get}
 use Rattle.life_types.specs.declared.place.Place.{Place}
 use Rattle.life_core.specs.ByValue.{calls_in_by_value}
