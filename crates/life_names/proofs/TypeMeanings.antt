@@ -13,6 +13,10 @@ pub type_made : (t : TypeName) (place : Place) (scope : Scope) (types : Types)
 unfolding type_meaning base_meaning
 type_made t place scope types = rw fold_out-TypeName
 
+pub base_made : (t : TypeName) → (type_meaning t).base ≡ base_meaning (out-TypeName t).base
+unfolding type_meaning base_meaning
+base_made t = rw fold_out-TypeName
+
 pub argument_made : (a : TypeArgument) → argument_meaning a ≡ type_meaning (out-TypeArgument a).ty.value
 unfolding argument_meaning type_meaning
 argument_made a = rw fold_out-TypeArgument

@@ -32,9 +32,10 @@ use Rattle.life_names.specs.declared.written.Written.{Written}
 abbrev pub Meaning : Type 0
 Meaning = Place → Scope → Types → Checked TyId
 
--- .. and whether `const` stands first in it
+-- .. whether `const` stands first in it, and what it means without the `*` or `&` behind it
 pub record NameMeaning : Type 0 where
   pub constant : Bool
+  pub base : Meaning
   pub written : Meaning
 
 -- ---- what a type may be made of
@@ -123,6 +124,7 @@ suffixed constant (Some (suffix.Reference at)) place id types = sound (target_fa
 abbrev pub type_step : type_open.TypeName-F Meaning NameMeaning NameMeaning → NameMeaning
 type_step t = record {
   constant = is_some t.constant;
+  base = t.base;
   written = λ place scope types. t.base place scope types >>= (λ x. suffixed (is_some t.constant) t.suffix place x.0 x.1);
 }
 
@@ -143,6 +145,10 @@ type_meaning = fold-TypeName Meaning NameMeaning NameMeaning base_step argument_
 -- the type that is written in the declaration of a name at this place
 abbrev pub written : TypeName → Place → Scope → Types → Checked TyId
 written t place scope types = (type_meaning t).written place scope types
+
+-- .. without what stands behind it
+abbrev pub written_base : TypeName → Place → Scope → Types → Checked TyId
+written_base t place scope types = (type_meaning t).base place scope types
 
 -- .. as the element of a `std::vector` or what stands in its place
 abbrev pub written_argument : TypeArgument → Place → Scope → Types → Checked TyId

@@ -11,4 +11,6 @@ pub use environment::{Entity, Environment, MemberType, Signature, Structure};
 pub use fault::{IllFault, IllKind};
 pub use found::{allowed, ill};
 pub use table::{add_type, has_room, is_there, type_at};
-pub use written::{Written, is_const_value, made_element, written_local, written_type};
+pub use written::{
+    Written, is_const_value, made_element, written_base, written_local, written_type,
+};

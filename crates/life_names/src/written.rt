@@ -303,6 +303,19 @@ pub fn written_type(
     whole(environment, types, ty, place)
 }
 
+/// The type that is written there, without the `*` or `&` behind it.
+#[tactic(auto, using(crate::proofs::TypeMeanings::base_made))]
+pub fn written_base(
+    environment: &Environment<'_>,
+    types: &mut TypeTable,
+    ty: &TypeName,
+    place: Place,
+) -> Result<TyId, IllFault>
+    ensures { Gives (λ id. id) types.new result (spec.written_base ty.now place environment.now types.old) }
+{
+    base(environment, types, &ty.base, place)
+}
+
 /// Whether what is declared with this type may not be changed itself.
 pub fn is_const_value(ty: &TypeName) -> bool
     ensures { result ≡ spec.is_const_value ty.now }

@@ -14,7 +14,7 @@ use Rattle.life_tree.specs.declared.type_name.TypeName.{TypeName}
 use Rattle.life_names.specs.Environment.{Scope, text_items}
 use Rattle.life_typing.specs.Progress.{ProgressView, nothing_defined}
 use Rattle.life_typing.specs.Resolves.{bodies_of, finished, no_flags, resolved, with_all_noted, with_definition, with_definition_noted, with_definitions}
-use Rattle.life_typing.specs.Structs.{is_reference_with, may_be_member, member_type, members_behind, with_structure}
+use Rattle.life_typing.specs.Structs.{is_reference, is_reference_with, member_type, members_behind, reference_member, value_member, with_structure}
 use Rattle.life_unique.specs.SettledPrograms.{settled_definition, settled_member, settled_program, settled_structure}
 use Rattle.life_unique.specs.SettledTypes.{settled_type}
 use Rattle.life_unique.specs.Standing.{settled_list}
@@ -22,15 +22,21 @@ use Rattle.life_unique.proofs.OutsSeen.{suffix_seen}
 use Rattle.life_unique.proofs.ProgramsFound.{one_program}
 use Rattle.life_typing.proofs.BlindFunctions.{body_known, function_blind}
 use Rattle.life_typing.proofs.BlindSteps.{then_as}
-use Rattle.life_typing.proofs.BlindTypes.{const_blind, written_blind}
+use Rattle.life_typing.proofs.BlindTypes.{base_blind, const_blind, written_blind}
 
 -- ---- structs
 
-may_blind : (t : TypeName) → may_be_member (settled_type t) ≡ may_be_member t
-may_blind t = λ i. not (const_blind t i) && not (is_reference_with (suffix_seen t i))
+reference_blind : (t : TypeName) → is_reference (settled_type t) ≡ is_reference t
+reference_blind t = λ i. is_reference_with (suffix_seen t i)
+
+reference_member_blind : (m : Member) (scope : Scope) (types : Types) → reference_member (settled_member m) scope types ≡ reference_member m scope types
+reference_member_blind m scope types = then_as (base_blind m.ty m.name.place scope types) (λ x. refl)
+
+value_member_blind : (m : Member) (scope : Scope) (types : Types) → value_member (settled_member m) scope types ≡ value_member m scope types
+value_member_blind m scope types = then_as (written_blind m.ty m.name.place scope types) (λ x. rw (const_blind m.ty) refl)
 
 member_type_blind : (m : Member) (scope : Scope) (types : Types) → member_type (settled_member m) scope types ≡ member_type m scope types
-member_type_blind m scope types = then_as (written_blind m.ty m.name.place scope types) (λ x. rw (may_blind m.ty) refl)
+member_type_blind m scope types = rw (reference_blind m.ty, reference_member_blind m scope types, value_member_blind m scope types) refl
 
 members_blind : (before : List NameId) (ms : List Member) (scope : Scope) (types : Types) →
     members_behind before (map settled_member ms) scope types ≡ members_behind before ms scope types

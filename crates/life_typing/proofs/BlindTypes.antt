@@ -6,7 +6,7 @@ use Rattle.life_types.specs.declared.place.Place.{Place}
 use Rattle.life_tree.specs.declared.type_name.TypeArgument.{TypeArgument}
 use Rattle.life_tree.specs.declared.type_name.TypeName.{TypeName}
 use Rattle.life_names.specs.Environment.{Scope}
-use Rattle.life_names.specs.WrittenTypes.{Meaning, NameMeaning, base_step, argument_step, type_step, argument_meaning, type_meaning, is_const_value, made_element, written, written_argument, written_local}
+use Rattle.life_names.specs.WrittenTypes.{Meaning, NameMeaning, base_step, argument_step, type_step, argument_meaning, type_meaning, is_const_value, made_element, written, written_argument, written_base, written_local}
 use Rattle.life_unique.specs.SettledTypes.{settled_argument, settled_type}
 use Rattle.life_unique.proofs.OutsSeen.{constant_seen, suffix_seen}
 use Rattle.life_unique.proofs.TypesSeen.{argument_seen, type_seen}
@@ -21,6 +21,9 @@ type_blind = type_seen Meaning NameMeaning NameMeaning base_step argument_step t
 
 pub written_blind : (t : TypeName) (place : Place) (scope : Scope) (types : Types) → written (settled_type t) place scope types ≡ written t place scope types
 written_blind t place scope types = λ i. (type_blind t i).written place scope types
+
+pub base_blind : (t : TypeName) (place : Place) (scope : Scope) (types : Types) → written_base (settled_type t) place scope types ≡ written_base t place scope types
+base_blind t place scope types = λ i. (type_blind t i).base place scope types
 
 pub made_blind : (a : TypeArgument) (place : Place) (scope : Scope) (types : Types) →
     made_element (settled_argument a) place scope types ≡ made_element a place scope types

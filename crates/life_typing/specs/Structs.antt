@@ -1,5 +1,5 @@
 -- Structs.
-use Rattle.std.specs.Prelude.{Bool, true, false, not, ◌&&◌, List, [], ◌∷◌, ◌++◌, Option, Some, None, Ok, Err}
+use Rattle.std.specs.Prelude.{Bool, true, false, not, if◌then◌else◌, List, [], ◌∷◌, ◌++◌, Option, Some, None, Ok, Err}
 use Rattle.std.specs.List.{list_any}
 use Rattle.life_types.specs.Types.{Types}
 use Rattle.life_types.specs.contracts.ty.NameIdPartialEq.TheImpl.{ghosts as names}
@@ -20,7 +20,7 @@ use Rattle.life_typing.specs.Pointing.{pointing_at, pointing_of_both, points_now
 use Rattle.life_typed.specs.Programs.{StructForm}
 use Rattle.life_typing.specs.Progress.{ProgressView}
 use Rattle.life_typing.specs.StructTypes.{structure_added}
-use Rattle.life_names.specs.WrittenTypes.{is_const_value, written}
+use Rattle.life_names.specs.WrittenTypes.{is_const_value, written, written_base}
 use Rattle.life_names.specs.declared.environment.MemberType.{MemberType}
 use Rattle.life_names.specs.declared.fault.IllKind.{IllKind}
 use Rattle.life_names.specs.declared.fault.IllKind.TheVariants as kinds
@@ -41,13 +41,17 @@ is_reference_with (Some (suffix.Reference at)) = true
 abbrev pub is_reference : TypeName → Bool
 is_reference t = is_reference_with (out-TypeName t).suffix
 
--- a member's type isn't `const` as a value, and no reference
-abbrev pub may_be_member : TypeName → Bool
-may_be_member ty = not (is_const_value ty) && not (is_reference ty)
+-- a member is no reference, whether what it would refer to is plain or not
+abbrev pub reference_member : Member → Scope → Types → Checked TyId
+reference_member m scope types = written_base m.ty m.name.place scope types >> λ x. broken kinds.WrongType m.name.place
+
+-- .. and not `const` as a value
+abbrev pub value_member : Member → Scope → Types → Checked TyId
+value_member m scope types =
+    written m.ty m.name.place scope types >> λ x. unless (not (is_const_value m.ty)) kinds.WrongType m.name.place >> λ _. Ok x
 
 abbrev pub member_type : Member → Scope → Types → Checked TyId
-member_type m scope types =
-    written m.ty m.name.place scope types >> λ x. unless (may_be_member m.ty) kinds.WrongType m.name.place >> λ _. Ok x
+member_type m scope types = if is_reference m.ty then reference_member m scope types else value_member m scope types
 
 -- a member's name is another one than those before it
 abbrev pub name_added : List NameId → Identifier → Answer (List NameId)

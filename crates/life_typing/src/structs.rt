@@ -12,7 +12,8 @@ use crate::progress::Progress;
 use crate::struct_types::add_structure;
 use indexmap::IndexSet;
 use life_names::{
-    Environment, IllFault, IllKind, MemberType, Structure, is_const_value, written_type,
+    Environment, IllFault, IllKind, MemberType, Structure, is_const_value, written_base,
+    written_type,
 };
 use life_tree::{Identifier, Member, StructDefinition, Suffix, TypeName};
 use life_typed::TypedStruct;
@@ -41,11 +42,35 @@ fn is_reference(ty: &TypeName) -> bool
     }
 }
 
-/// Whether a written type may be a member's: it isn't `const` as a value, and no reference.
-fn may_be_member(ty: &TypeName) -> bool
-    ensures { result ≡ spec.may_be_member ty.now }
+/// What is wrong with a member that is a reference: what it would refer to, or that it is one ([class.mem]).
+fn reference_member(
+    environment: &Environment<'_>,
+    types: &mut TypeTable,
+    member: &Member,
+) -> Result<TyId, IllFault>
+    ensures { Gives (λ x. x) types.new result (spec.reference_member member.now environment.now types.old) }
 {
-    !is_const_value(ty) && !is_reference(ty)
+    let place = member.name.place;
+    written_base(environment, types, &member.ty, place)?;
+    Err(IllFault::Ill {
+        kind: IllKind::WrongType,
+        place,
+    })
+}
+
+/// The type of a member that is no reference; it isn't `const` as a value.
+fn value_member(
+    alloc: Global,
+    environment: &Environment<'_>,
+    types: &mut TypeTable,
+    member: &Member,
+) -> Result<TyId, IllFault>
+    ensures { Gives (λ x. x) types.new result (spec.value_member member.now environment.now types.old) }
+{
+    let place = member.name.place;
+    let ty = written_type(alloc, environment, types, &member.ty, place)?;
+    unless(!is_const_value(&member.ty), IllKind::WrongType, place)?;
+    Ok(ty)
 }
 
 /// The type of a member.
@@ -57,10 +82,11 @@ fn member_type(
 ) -> Result<TyId, IllFault>
     ensures { Gives (λ x. x) types.new result (spec.member_type member.now environment.now types.old) }
 {
-    let place = member.name.place;
-    let ty = written_type(alloc, environment, types, &member.ty, place)?;
-    unless(may_be_member(&member.ty), IllKind::WrongType, place)?;
-    Ok(ty)
+    if is_reference(&member.ty) {
+        reference_member(environment, types, member)
+    } else {
+        value_member(alloc, environment, types, member)
+    }
 }
 
 /// A member's name is another one than those before it ([class.mem]).
