@@ -1,11 +1,11 @@
 -- Each expression that is read has a token, and so has each part of one that a loop reads.
 use Rattle.std.proofs.Common.{ℕ, zero, suc, false}
-use Rattle.life_expr.specs.Exprs.{named_form, parenthesized_form, std_form, input_form, or_form, and_form, equality_form, relational_form, additive_form, multiplicative_form, or_part_with, and_part_with, equality_part_with, relational_part_with, additive_part_with, multiplicative_part_with, later_expression_with}
+use Rattle.life_expr.specs.Exprs.{comma_form, named_form, parenthesized_form, std_form, input_form, or_form, and_form, equality_form, relational_form, additive_form, multiplicative_form, or_part_with, and_part_with, equality_part_with, relational_part_with, additive_part_with, multiplicative_part_with, later_expression_with}
 use Rattle.life_expr.specs.Readers.{Readers, argument_with, base_with, unqualified_with, type_with, args_with, list_with, primary_parts, primary_with, part_with, postfix_parts, postfix_with, unary_with, term_with, sum_with, order_with, equal_with, both_with, expr_with, rule_with, below}
 use Rattle.life_expr.specs.Types.{std_base}
 use Rattle.life_expr.proofs.Loop.{Shrinks}
 use Rattle.life_expr.proofs.Shrinks.{AllTake, Takes, form_takes, derived_takes, takes_shrinks}
-use Rattle.life_tree.specs.Grammar.{◌then◌, ◌or◌, comma, namespaced, rule}
+use Rattle.life_tree.specs.Grammar.{◌then◌, ◌or◌, namespaced, rule}
 use Rattle.life_tree.specs.Rules as rules
 use Rattle.life_tree.specs.declared.fixed.TheConstants as fixed
 
@@ -128,4 +128,4 @@ module _ (n : ℕ) where
   part_shrinks = takes_shrinks _ (part_takes n (below n) (shrinks_below n))
 
   pub later_expression_shrinks : Shrinks (later_expression_with (below n))
-  later_expression_shrinks = takes_shrinks _ (form_takes 0 (below n) (below n) (comma then rule rules.expr) (tt, (shrinks_below n).expr))
+  later_expression_shrinks = takes_shrinks _ (form_takes 0 (below n) (below n) (comma_form then rule rules.expr) (tt, (shrinks_below n).expr))

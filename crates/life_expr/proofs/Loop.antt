@@ -7,8 +7,7 @@ use Rattle.life_expr.specs.Gives.{Fails}
 use Rattle.life_expr.specs.Heads.{Kind}
 use Rattle.life_expr.specs.Read.{Tokens, Stop, ◌>>=◌, Read, Reader, starts, many_below, as_many}
 use Rattle.life_tree.specs.Tree.{Tree, nothing, ◌⨾◌}
-use Rattle.life_tree.specs.Views.{comma_tree, expr_tree, later_tree, list_tree}
-use Rattle.life_tree.specs.declared.expr.Expr.{Expr}
+use Rattle.life_tree.specs.Views.{list_tree}
 
 -- these trees, one after the other, and then t
 abbrev pub onto : List Tree → Tree → Tree
@@ -62,11 +61,15 @@ module _ (kinds : List Kind) {p : Reader} (s : Shrinks p) where
   many_ends ts h = rw h refl
 
   -- one more
+  pub reads_on : (front more : List Tree) (x : Tree) (ts rest : Tokens) (total : Read) → more ≡ front ++ x ∷ []
+      → with_front front (as_many kinds p ts) ≡ total → starts kinds ts ≡ true → p ts ≡ Ok (x, rest) → with_front more (as_many kinds p rest) ≡ total
+  reads_on front more x ts rest total pushed so_far h e =
+      rw pushed (sym (regroup front x (as_many kinds p rest)) ∙ ap (with_front front) (sym (many_more ts x rest h e)) ∙ so_far)
+
   pub goes_on : {A : Type 0} (view : A → Tree) (items more : List A) (x : A) (ts rest : Tokens) (total : Read) → more ≡ items ++ x ∷ []
       → with_front (map view items) (as_many kinds p ts) ≡ total → starts kinds ts ≡ true → p ts ≡ Ok (view x, rest) → with_front (map view more) (as_many kinds p rest) ≡ total
   goes_on view items more x ts rest total pushed so_far h e =
-      let one_more : map view more ≡ map view items ++ view x ∷ [] = ap (map view) pushed ∙ map_push view items x in
-      rw one_more (sym (regroup (map view items) (view x) (as_many kinds p rest)) ∙ ap (with_front (map view items)) (sym (many_more ts (view x) rest h e)) ∙ so_far)
+      reads_on (map view items) (map view more) (view x) ts rest total (ap (map view) pushed ∙ map_push view items x) so_far h e
 
   -- the next can't be read
   pub fails : (front : List Tree) (ts : Tokens) (total : Read) (e : Fault) → with_front front (as_many kinds p ts) ≡ total
@@ -78,11 +81,3 @@ module _ (kinds : List Kind) {p : Reader} (s : Shrinks p) where
   -- there is no other
   pub ends : (front : List Tree) (ts : Tokens) (total : Read) → with_front front (as_many kinds p ts) ≡ total → starts kinds ts ≡ false → total ≡ Ok (list_tree front, ts)
   ends front ts total so_far h = sym so_far ∙ ap (with_front front) (many_ends ts h) ∙ ap (λ (t : Tree). Ok (t, ts)) (onto_nothing front)
-
--- an expression with the comma before it
-abbrev pub later_item : Expr → Tree
-later_item e = comma_tree ⨾ expr_tree e
-
-pub later_as_list : (items : List Expr) → list_tree (map later_item items) ≡ later_tree (map expr_tree items)
-later_as_list [] = refl
-later_as_list (x ∷ xs) = ap (λ (t : Tree). later_item x ⨾ t) (later_as_list xs)

@@ -1,13 +1,12 @@
 -- What is read is gone, and there is some where the form has a token.
 use Rattle.std.proofs.Common.{◌≡◌, ℕ, zero, suc, ◌≤◌, ◌+◌, nat_lt, Bool, true, false, ◌&&◌, ◌||◌, cond, List, [], ◌∷◌, length, Result, Ok, Err, refl, ap, arith}
-use Rattle.life_expr.specs.Heads.{Kind, is_of, quoted_kind, comma_kind, name_kind, number_kind, character_kind, text_kind, heads, may_be_empty, rule_may_be_empty}
+use Rattle.life_expr.specs.Heads.{Kind, is_of, quoted_kind, name_kind, number_kind, character_kind, text_kind, heads, may_be_empty, rule_may_be_empty}
 use Rattle.life_expr.specs.Read.{Tokens, Stop, refused, deep, ◌>>=◌, Read, Reader, starts, the_token, as_it_stands, opener, many_below, as_many, reads}
 use Rattle.life_expr.specs.Readers.{Readers, derived}
 use Rattle.life_expr.proofs.Loop.{Shrinks, behind}
-use Rattle.life_tree.specs.Grammar.{Form, form_of, none, no_else, quoted, comma, name, number, character, text, ◌then◌, ◌decides◌, ◌or◌, many, opens, rule, nowhere}
+use Rattle.life_tree.specs.Grammar.{Form, form_of, none, no_else, quoted, name, number, character, text, ◌then◌, ◌decides◌, ◌or◌, many, opens, rule}
 use Rattle.life_tree.specs.Rules.{Rule}
 use Rattle.life_tree.specs.Tree.{Tree, nothing, token, ◌⨾◌, construct, node}
-use Rattle.life_tree.specs.declared.fixed.TheConstants as fixed
 use Rattle.life_tree.specs.declared.key.TokenKey.TheVariants as keys
 use Rattle.life_tree.specs.declared.token.TreeToken.{TreeToken}
 use Rattle.life_types.specs.declared.place.Place.{Place}
@@ -83,7 +82,6 @@ unfolding as_many
 form_takes n inside same none h ts t rest e = let s = ap length (rest_is (_, ts) (t, rest) e) in omega arith
 form_takes n inside same no_else h ts t rest e = let s = ap length (rest_is (_, ts) (t, rest) e) in omega arith
 form_takes n inside same (quoted m) h ts t rest e = token_takes (quoted_kind m) (λ k. token (keys.Fixed m) k.place) ts t rest e
-form_takes n inside same comma h ts t rest e = token_takes comma_kind (λ k. token (keys.Fixed fixed.COMMA) nowhere) ts t rest e
 form_takes n inside same name h ts t rest e = token_takes name_kind as_it_stands ts t rest e
 form_takes n inside same number h ts t rest e = token_takes number_kind as_it_stands ts t rest e
 form_takes n inside same character h ts t rest e = token_takes character_kind as_it_stands ts t rest e

@@ -4,7 +4,7 @@ use Rattle.life_expr.specs.Heads.{heads}
 use Rattle.life_expr.specs.Read.{Reader, Read, ◌>>=◌, as_many, made, reads}
 use Rattle.life_expr.specs.Readers.{Readers, no_reader, args_with, both_with, equal_with, order_with, sum_with, term_with, unary_with, postfix_parts, primary_parts}
 use Rattle.life_expr.specs.Types.{flat}
-use Rattle.life_tree.specs.Grammar.{Form, quoted, name, comma, ◌then◌, ◌or◌, opens, rule, optional, parenthesized, separated, namespaced}
+use Rattle.life_tree.specs.Grammar.{Form, quoted, name, ◌then◌, ◌or◌, opens, rule, optional, parenthesized, separated, namespaced}
 use Rattle.life_tree.specs.Rules as rules
 use Rattle.life_tree.specs.Tree.{node, ◌⨾◌}
 use Rattle.life_tree.specs.Views.{at}
@@ -127,9 +127,12 @@ opens_primary m =
 abbrev pub expressions_with : Readers → Reader
 expressions_with inside = reads 0 inside inside (optional (separated (rule rules.expr)))
 
+abbrev pub comma_form : Form
+comma_form = quoted fixed.COMMA
+
 -- a comma and an expression
 abbrev pub later_expression_with : Readers → Reader
-later_expression_with inside us = reads 0 inside inside (comma then rule rules.expr) us
+later_expression_with inside us = reads 0 inside inside (comma_form then rule rules.expr) us
 
 abbrev pub later_expressions_with : Readers → Reader
-later_expressions_with inside ts = as_many (heads comma) (λ us. later_expression_with inside us) ts
+later_expressions_with inside ts = as_many (heads comma_form) (λ us. later_expression_with inside us) ts

@@ -1,6 +1,6 @@
 -- Which tokens a form can begin with.
 use Rattle.std.specs.Prelude.{ℕ, Bool, true, false, ◌==◌, ◌&&◌, ◌||◌, List, [], ◌∷◌, ◌++◌, if◌then◌else◌}
-use Rattle.life_tree.specs.Grammar.{Form, none, no_else, quoted, comma, name, number, character, text, ◌then◌, ◌decides◌, ◌or◌, many, opens, rule}
+use Rattle.life_tree.specs.Grammar.{Form, none, no_else, quoted, name, number, character, text, ◌then◌, ◌decides◌, ◌or◌, many, opens, rule}
 use Rattle.life_tree.specs.Rules as rules
 use Rattle.life_tree.specs.Rules.{Rule}
 use Rattle.life_tree.specs.declared.fixed.TheConstants as fixed
@@ -11,7 +11,6 @@ use Rattle.life_tree.specs.declared.token.TreeToken.{TreeToken}
 -- a kind of tokens
 pub data Kind : Type 0 where
   quoted_kind : ℕ → Kind
-  comma_kind : Kind
   name_kind : Kind
   number_kind : Kind
   character_kind : Kind
@@ -19,19 +18,13 @@ pub data Kind : Type 0 where
 
 abbrev pub key_is_of : Kind → TokenKey → Bool
 key_is_of (quoted_kind n) (keys.Fixed m) = m == n
-key_is_of comma_kind (keys.Fixed m) = m == fixed.COMMA
 key_is_of name_kind (keys.Name id) = true
 key_is_of number_kind (keys.Number n) = true
 key_is_of character_kind (keys.Char c) = true
 key_is_of text_kind (keys.Text n) = true
 key_is_of _ _ = false
 
-abbrev pub stands_nowhere : TreeToken → Bool
-stands_nowhere k = (k.place.line == 0) && (k.place.column == 0)
-
--- of a comma no place is kept
 abbrev pub is_of : Kind → TreeToken → Bool
-is_of comma_kind k = key_is_of comma_kind k.key && stands_nowhere k
 is_of kind k = key_is_of kind k.key
 
 -- it may have no token
@@ -122,7 +115,6 @@ heads_of rules.args = quoted_kind fixed.LEFT_PAREN ∷ []
 -- .. of a form
 abbrev pub heads : Form → List Kind
 heads (quoted n) = quoted_kind n ∷ []
-heads comma = comma_kind ∷ []
 heads name = name_kind ∷ []
 heads number = number_kind ∷ []
 heads character = character_kind ∷ []

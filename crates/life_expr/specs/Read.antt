@@ -1,13 +1,12 @@
 -- Reading from the front of a list of tokens. Every test looks at one token.
 use Rattle.std.specs.Prelude.{ℕ, zero, suc, Bool, false, nat_lt, ◌||◌, List, [], ◌∷◌, length, Result, Ok, Err, if◌then◌else◌}
-use Rattle.life_tree.specs.Grammar.{Form, none, no_else, quoted, comma, name, number, character, text, ◌then◌, ◌decides◌, ◌or◌, many, opens, rule, nowhere, optional}
+use Rattle.life_tree.specs.Grammar.{Form, none, no_else, quoted, name, number, character, text, ◌then◌, ◌decides◌, ◌or◌, many, opens, rule, optional}
 use Rattle.life_tree.specs.Rules.{Rule}
 use Rattle.life_tree.specs.Tree.{Tree, nothing, without_else, token, ◌⨾◌, construct}
-use Rattle.life_tree.specs.declared.fixed.TheConstants as fixed
 use Rattle.life_tree.specs.declared.key.TokenKey.TheVariants as keys
 use Rattle.life_tree.specs.declared.token.TreeToken.{TreeToken}
 use Rattle.life_types.specs.declared.place.Place.{Place}
-use Rattle.life_expr.specs.Heads.{Kind, is_of, quoted_kind, comma_kind, name_kind, number_kind, character_kind, text_kind, heads}
+use Rattle.life_expr.specs.Heads.{Kind, is_of, quoted_kind, name_kind, number_kind, character_kind, text_kind, heads}
 
 abbrev pub Tokens : Type 0
 Tokens = List TreeToken
@@ -54,9 +53,6 @@ mark n = the_token (quoted_kind n) (λ k. token (keys.Fixed n) k.place)
 abbrev pub name_mark : Reader
 name_mark = the_token name_kind as_it_stands
 
-abbrev pub comma_mark : Reader
-comma_mark = the_token comma_kind (λ k. token (keys.Fixed fixed.COMMA) nowhere)
-
 -- the token that opens a construct, where n more may be open
 abbrev pub opener : ℕ → ℕ → Tokens → Result (Place × Tokens) Stop
 opener n m [] = Err (refused [])
@@ -85,7 +81,6 @@ abbrev pub reads : ℕ → (Rule → Reader) → (Rule → Reader) → Form → 
 reads n inside same none ts = Ok (nothing, ts)
 reads n inside same no_else ts = Ok (without_else, ts)
 reads n inside same (quoted m) ts = mark m ts
-reads n inside same comma ts = comma_mark ts
 reads n inside same name ts = name_mark ts
 reads n inside same number ts = the_token number_kind as_it_stands ts
 reads n inside same character ts = the_token character_kind as_it_stands ts

@@ -4,7 +4,6 @@
 #![tactic(auto)]
 
 mod chains;
-mod commas;
 mod lists;
 mod literals;
 mod marks;
@@ -14,10 +13,9 @@ mod stop;
 mod types;
 
 pub use chains::{additive, boxed_expr};
-pub use commas::{comma, starts_comma};
 pub use lists::init_list;
 pub use literals::{starts_expr, starts_primary};
 pub use marks::{mark, name, opener, optional_mark, starts, starts_name};
 pub use operands::postfix;
-pub use stop::{Read, Stop};
+pub use stop::{Read, Separated, Stop};
 pub use types::{type_name, unqualified};

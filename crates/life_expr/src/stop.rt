@@ -3,6 +3,7 @@ ghost use Rattle.std.specs.Prelude.{◌≡◌};
 ghost use Rattle.life_expr.specs.declared.stop.Stop.TheVariants.{Memory};
 
 use life_tree::TreeToken;
+use life_types::Place;
 use std::alloc::{AllocError, AllocFailed};
 use thiserror::Error;
 
@@ -19,6 +20,9 @@ pub enum Stop<'a> {
 
 /// What was read, and the tokens behind it.
 pub type Read<'a, T> = Result<(T, &'a [TreeToken]), Stop<'a>>;
+
+/// Parts in their order, and the commas between them.
+pub type Separated<T> = (Vec<T>, Vec<Place>);
 
 impl<'a> From<AllocError> for Stop<'a> {
     ghost from_gives = { λ _ e. e ≡ Memory };

@@ -4,7 +4,7 @@ use Rattle.std.proofs.lemmas.List.Elements.{All-head, All-tail}
 use Rattle.std.specs.List.{list_any}
 use Rattle.std.specs.Prelude.{All}
 use Rattle.std.specs.Str.{bytes_eq}
-use Rattle.life_keys.specs.Keys.{Tables, with_text, with_name, names_with, texts_with, tables_with, tokens_from, tables_from, key_of, token_for, place_for, quoted_name}
+use Rattle.life_keys.specs.Keys.{Tables, with_text, with_name, names_with, texts_with, tables_with, tokens_from, tables_from, key_of, token_for, quoted_name}
 use Rattle.life_keys.specs.Values.{text_value}
 use Rattle.life_lex.specs.Answers.{lexeme, NumberFits}
 use Rattle.life_lex.specs.Readings.{Lexeme}
@@ -15,17 +15,14 @@ use Rattle.life_tree.specs.declared.key.TokenKey.{TokenKey}
 use Rattle.life_tree.specs.declared.token.TreeToken.{TreeToken}
 use Rattle.life_types.specs.declared.place.Place.{Place}
 
-abbrev record_of : TokenKey → Place → TreeToken
-record_of key place = record { key = key; place = place }
-
 -- each number among tokens is a long
 pub number_fits : (ts : List Token) (i : ℕ) (d : Token) → i < length ts → All NumberFits (map lexeme ts) → NumberFits (lexeme (get_or ts i d))
 number_fits [] i d h all = absurd (omega (arith, h))
 number_fits (t ∷ ts) zero d h all = All-head NumberFits (lexeme t) (map lexeme ts) all
 number_fits (t ∷ ts) (suc i) d h all = number_fits ts i d (omega (arith, h)) (All-tail NumberFits (lexeme t) (map lexeme ts) all)
 
-pub same_token : (key key' : TokenKey) (place place' : Place) → key ≡ key' → place ≡ place_for key place' → record_of key place ≡ token_for key' place'
-same_token key key' place place' k p = rw (p, k) refl
+pub same_token : (key key' : TokenKey) (place : Place) → key ≡ key' → token_for key place ≡ token_for key' place
+same_token key key' place k = ap (λ (found : TokenKey). token_for found place) k
 
 pub tokens_step : (tables tables' : Tables) (l : Lexeme) (ls : List Lexeme) (front more total : List TreeToken) (t : TreeToken)
     → front ++ tokens_from tables (l ∷ ls) ≡ total → more ≡ front ++ t ∷ [] → t ≡ token_for (key_of tables l.kind l.text) l.place

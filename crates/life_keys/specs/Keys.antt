@@ -10,7 +10,6 @@ use Rattle.life_lex.specs.Numbers.{value_of}
 use Rattle.life_lex.specs.Readings.{Lexeme}
 use Rattle.life_lex.specs.declared.token.TokenKind.{TokenKind}
 use Rattle.life_lex.specs.declared.token.TokenKind.TheVariants as kind
-use Rattle.life_tree.specs.Grammar.{nowhere}
 use Rattle.life_tree.specs.declared.fixed.TheConstants as fixed
 use Rattle.life_tree.specs.declared.key.TokenKey.{TokenKey}
 use Rattle.life_tree.specs.declared.key.TokenKey.TheVariants as keys
@@ -101,13 +100,8 @@ tables_with tables k text = record {
   texts = texts_with tables k text;
 }
 
--- of a comma no place is kept
-abbrev pub place_for : TokenKey → Place → Place
-place_for (keys.Fixed n) place = if n == fixed.COMMA then nowhere else place
-place_for key place = place
-
 abbrev pub token_for : TokenKey → Place → TreeToken
-token_for key place = record { key = key; place = place_for key place }
+token_for key place = record { key = key; place = place }
 
 -- ---- a whole file
 

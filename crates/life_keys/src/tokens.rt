@@ -5,36 +5,20 @@ ghost use Rattle.life_lex.specs.Answers.{lexeme, NumberFits};
 
 use crate::keyer::Keyer;
 use life_lex::Token;
-use life_tree::{TokenKey, TreeToken, fixed};
-use life_types::{NoMemory, Place};
+use life_tree::TreeToken;
+use life_types::NoMemory;
 use std::alloc::Global;
 
 /// The tokens of a file by their keys, with the tables of its names and texts.
 #[derive(Drop)]
 pub struct KeyedTokens {
-    /// The tokens in their order. Of a comma no place is kept.
+    /// The tokens in their order.
     pub tokens: Vec<TreeToken>,
     /// The names by their numbers: each once, in the order in which they first stand.
     pub names: Vec<Vec<u8>>,
     /// The contents of the string literals by their numbers: each once, in the order in which they
     /// first stand.
     pub texts: Vec<Vec<u8>>,
-}
-
-/// The place that a tree keeps of a token.
-fn place_for(key: TokenKey, place: Place) -> Place
-    ensures { result ≡ spec.place_for key place }
-{
-    match key {
-        TokenKey::Fixed(number) => {
-            if number == fixed::COMMA {
-                Place { line: 0, column: 0 }
-            } else {
-                place
-            }
-        }
-        TokenKey::Name(_) | TokenKey::Number(_) | TokenKey::Char(_) | TokenKey::Text(_) => place,
-    }
 }
 
 /// The tokens of a file by their keys, with the tables of its names and texts.
@@ -55,7 +39,7 @@ pub fn keyed(alloc: Global, lexed: &[Token]) -> Result<KeyedTokens, NoMemory>
         let key = keyer.key(token)?;
         tokens.push(TreeToken {
             key,
-            place: place_for(key, token.place),
+            place: token.place,
         })?;
     }
     let (names, texts) = keyer.finish()?;

@@ -5,14 +5,14 @@ use Rattle.life_parse.proofs.Begun.{Sample, Over, begun_nothing, begun_inside, o
 use Rattle.life_parse.proofs.Closed.{Stopped, Closed, Closed-pair, Closed-or, Closed-empty, Closed-many}
 use Rattle.life_parse.proofs.Laws.{IsTree}
 use Rattle.life_parse.proofs.Openers.{Passed, passed, unopened, opened, enclosed, construct_read}
-use Rattle.life_parse.proofs.Takes.{takes, refuses, quoted_token, comma_token}
+use Rattle.life_parse.proofs.Takes.{takes, refuses, quoted_token}
 use Rattle.life_parse.proofs.Wholes.{Whole, whole_construct}
-use Rattle.life_expr.specs.Heads.{Kind, quoted_kind, comma_kind, name_kind, number_kind, character_kind, text_kind, key_is_of, is_of, heads}
+use Rattle.life_expr.specs.Heads.{Kind, quoted_kind, name_kind, number_kind, character_kind, text_kind, key_is_of, is_of, heads}
 use Rattle.life_expr.specs.Read.{Tokens, Stop, refused, deep, ◌>>=◌, Read, Reader, the_token, as_it_stands, opener, starts, reads}
 use Rattle.life_expr.specs.Readers.{Readers}
-use Rattle.life_tree.specs.Grammar.{Form, none, no_else, quoted, comma, name, number, character, text, ◌then◌, ◌decides◌, ◌or◌, many, opens, rule, nowhere, Conforms, ends_open}
+use Rattle.life_tree.specs.Grammar.{Form, none, no_else, quoted, name, number, character, text, ◌then◌, ◌decides◌, ◌or◌, many, opens, rule, Conforms, ends_open}
 use Rattle.life_tree.specs.Rules.{Rule}
-use Rattle.life_tree.specs.Tree.{Tree, nothing, token, construct, tokens_of}
+use Rattle.life_tree.specs.Tree.{Tree, nothing, token, construct, tokens_of, nowhere}
 use Rattle.life_tree.specs.declared.fixed.TheConstants as fixed
 use Rattle.life_tree.specs.declared.key.TokenKey.{TokenKey}
 use Rattle.life_tree.specs.declared.key.TokenKey.TheVariants as keys
@@ -151,9 +151,6 @@ closed_parts a n i s P O g o none h =
     Closed-empty nothing none n refl refl (record { tree = nothing; fits = record { conforms = tt; elses = tt }; later = refl }) (record { conforms = tt; elses = tt })
 closed_parts a n i s P O g o no_else h = absurd h
 closed_parts a n i s P O g o (quoted m) h = Closed-quoted m n h
-closed_parts a n i s P O g o comma h =
-    Closed-token comma_kind (λ k. token (keys.Fixed fixed.COMMA) nowhere) comma n (token_sample (keys.Fixed fixed.COMMA) comma (refl, refl) refl)
-    (λ k is. (ap (λ (x : TreeToken). x ∷ []) (comma_token k is), record { conforms = (refl, refl); elses = tt }, refl))
 closed_parts a n i s P O g o name h =
     Closed-token name_kind as_it_stands name n (token_sample (keys.Name (record { 0 = 0 })) name tt refl) (λ k is. (refl, record { conforms = name_fits k.key k.place is; elses = tt }, refl))
 closed_parts a n i s P O g o number h =

@@ -4,7 +4,7 @@ use Rattle.life_expr.specs.Heads.{Kind, heads, heads_of, may_be_empty, rule_may_
 use Rattle.life_expr.specs.Read.{Tokens, is_in, starts}
 use Rattle.life_parse.proofs.Parts.{or_fits}
 use Rattle.life_parse.proofs.TokenKinds.{covers, covers_is, in_first, in_second, disjoint, disjoint_is}
-use Rattle.life_tree.specs.Grammar.{Form, none, no_else, quoted, comma, name, number, character, text, ◌then◌, ◌decides◌, ◌or◌, many, opens, rule, form_of, Conforms, TokenFits, NothingFits, NoElseFits, PartsFit, ConstructFits, NodeFits}
+use Rattle.life_tree.specs.Grammar.{Form, none, no_else, quoted, name, number, character, text, ◌then◌, ◌decides◌, ◌or◌, many, opens, rule, form_of, Conforms, TokenFits, NothingFits, NoElseFits, PartsFit, ConstructFits, NodeFits}
 use Rattle.life_tree.specs.Rules as rules
 use Rattle.life_tree.specs.Rules.{Rule}
 use Rattle.life_tree.specs.Tree.{Tree, nothing, without_else, token, ◌⨾◌, construct, node, tokens_of}
@@ -92,7 +92,6 @@ token_at key place = record { key = key; place = place }
 
 begins_token : (f : Form) (key : TokenKey) (place : Place) → TokenFits key place f → Begins f (token_at key place ∷ [])
 begins_token (quoted m) (keys.Fixed n) place c = with_head (token_at (keys.Fixed n) place) [] refl (rw (eq-eqb n m c) refl)
-begins_token comma (keys.Fixed n) place c = with_head (token_at (keys.Fixed n) place) [] refl (rw (c.0, c.1) refl)
 begins_token name (keys.Name id) place c = with_head (token_at (keys.Name id) place) [] refl refl
 begins_token number (keys.Number n) place c = with_head (token_at (keys.Number n) place) [] refl refl
 begins_token character (keys.Char n) place c = with_head (token_at (keys.Char n) place) [] refl refl

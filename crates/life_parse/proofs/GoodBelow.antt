@@ -1,16 +1,15 @@
 -- Good readers of short lists, and of single tokens.
 use Rattle.std.proofs.Common.{◌≡◌, ℕ, suc, ◌<◌, ◌≤◌, Bool, true, false, cond, [], ◌∷◌, ◌++◌, length, Ok, Err, refl, sym, ap, subst, arith}
 use Rattle.std.proofs.lemmas.Bool.{eq-eqb}
-use Rattle.life_expr.specs.Heads.{Kind, quoted_kind, comma_kind, name_kind, number_kind, character_kind, text_kind, is_of}
+use Rattle.life_expr.specs.Heads.{Kind, quoted_kind, name_kind, number_kind, character_kind, text_kind, is_of}
 use Rattle.life_expr.specs.Read.{Tokens, refused, Read, Reader, the_token, as_it_stands}
 use Rattle.life_parse.proofs.Binds.{ok_is}
 use Rattle.life_parse.proofs.Elses.{Closed}
 use Rattle.life_parse.proofs.Laws.{Good, IsTree, Stops}
-use Rattle.life_parse.proofs.Parts.{quoted_is, comma_is, name_is, number_is, character_is, text_is, none_is}
-use Rattle.life_parse.proofs.Takes.{quoted_token, comma_token}
-use Rattle.life_tree.specs.Grammar.{Form, none, quoted, comma, name, number, character, text, Conforms, TokenFits, nowhere}
+use Rattle.life_parse.proofs.Parts.{quoted_is, name_is, number_is, character_is, text_is, none_is}
+use Rattle.life_parse.proofs.Takes.{quoted_token}
+use Rattle.life_tree.specs.Grammar.{Form, none, quoted, name, number, character, text, Conforms, TokenFits}
 use Rattle.life_tree.specs.Tree.{Tree, nothing, token, tokens_of, depth}
-use Rattle.life_tree.specs.declared.fixed.TheConstants as fixed
 use Rattle.life_tree.specs.declared.key.TokenKey.{TokenKey}
 use Rattle.life_tree.specs.declared.key.TokenKey.TheVariants as keys
 use Rattle.life_tree.specs.declared.token.TreeToken.{TreeToken}
@@ -90,12 +89,6 @@ pub one_quoted : (m : ℕ) → OneToken (quoted_kind m) (λ k. token (keys.Fixed
 one_quoted m = record {
   made = λ k e. (keys.Fixed m, k.place, refl, quoted_token m k e, refl);
   back = λ t c. let q = quoted_is t m c in (token_at (keys.Fixed m) q.0, q.1, ap tokens_of q.1, eq-eqb m m refl);
-}
-
-pub one_comma : OneToken comma_kind (λ k. token (keys.Fixed fixed.COMMA) nowhere) comma
-one_comma = record {
-  made = λ k e. (keys.Fixed fixed.COMMA, nowhere, refl, comma_token k e, (refl, refl));
-  back = λ t c. let q = comma_is t c in (token_at (keys.Fixed fixed.COMMA) nowhere, q, ap tokens_of q, refl);
 }
 
 -- a form of tokens that stand as they are

@@ -1,13 +1,13 @@
 -- The reader of a form that passes a check is good, if those of the rules in it are.
 use Rattle.std.proofs.Common.{◌≡◌, ℕ, zero, suc, ◌<◌, ◌≤◌, ◌+◌, nat_lt, Bool, true, false, not, ◌&&◌, ◌||◌, ◌∷◌, ◌++◌, length, Ok, refl, sym, ap, subst, ◌∙◌, arith, true≢false}
 use Rattle.std.proofs.lemmas.Bool.{lt-ltb, eq-eqb, and_parts, not-true}
-use Rattle.life_expr.specs.Heads.{quoted_kind, comma_kind, name_kind, number_kind, character_kind, text_kind, heads, may_be_empty}
+use Rattle.life_expr.specs.Heads.{quoted_kind, name_kind, number_kind, character_kind, text_kind, heads, may_be_empty}
 use Rattle.life_expr.specs.Read.{Tokens, Reader, ◌>>=◌, opener, reads, as_it_stands}
 use Rattle.life_expr.specs.Readers.{Readers}
 use Rattle.life_parse.specs.Tails.{tails}
 use Rattle.life_parse.proofs.Binds.{bind_ok, ok_is}
 use Rattle.life_parse.proofs.FirstTokens.{sane}
-use Rattle.life_parse.proofs.GoodBelow.{Found, Sound, GoodBelow, below, good_none, good_token, one_quoted, one_comma, one_name, one_number, one_character, one_text}
+use Rattle.life_parse.proofs.GoodBelow.{Found, Sound, GoodBelow, below, good_none, good_token, one_quoted, one_name, one_number, one_character, one_text}
 use Rattle.life_parse.proofs.GoodChoice.{good_or, is_no_else}
 use Rattle.life_parse.proofs.GoodMany.{good_many}
 use Rattle.life_parse.proofs.GoodParts.{good_then, shorter_rest}
@@ -15,10 +15,9 @@ use Rattle.life_parse.proofs.Laws.{Good, IsTree, Stops}
 use Rattle.life_parse.proofs.Openers.{opened, passed}
 use Rattle.life_parse.proofs.Parts.{opens_parts}
 use Rattle.life_parse.proofs.TokenKinds.{disjoint}
-use Rattle.life_tree.specs.Grammar.{Form, nowhere, none, no_else, quoted, comma, name, number, character, text, ◌then◌, ◌decides◌, ◌or◌, many, opens, rule}
+use Rattle.life_tree.specs.Grammar.{Form, none, no_else, quoted, name, number, character, text, ◌then◌, ◌decides◌, ◌or◌, many, opens, rule}
 use Rattle.life_tree.specs.Rules.{Rule}
 use Rattle.life_tree.specs.Tree.{Tree, token, construct, tokens_of, depth}
-use Rattle.life_tree.specs.declared.fixed.TheConstants as fixed
 use Rattle.life_tree.specs.declared.key.TokenKey.{TokenKey}
 use Rattle.life_tree.specs.declared.key.TokenKey.TheVariants as keys
 use Rattle.life_tree.specs.declared.token.TreeToken.{TreeToken}
@@ -119,7 +118,6 @@ good_checked : (f : Form) (limit a n : ℕ) (inside same : Readers) → checked 
 good_checked none limit a n inside same c o e = good_none limit n
 good_checked no_else limit a n inside same c o e = absurd cc
 good_checked (quoted m) limit a n inside same c o e = good_token limit n (quoted_kind m) (λ k. token (keys.Fixed m) k.place) (quoted m) (one_quoted m)
-good_checked comma limit a n inside same c o e = good_token limit n comma_kind (λ k. token (keys.Fixed fixed.COMMA) nowhere) comma one_comma
 good_checked name limit a n inside same c o e = good_token limit n name_kind as_it_stands name one_name
 good_checked number limit a n inside same c o e = good_token limit n number_kind as_it_stands number one_number
 good_checked character limit a n inside same c o e = good_token limit n character_kind as_it_stands character one_character

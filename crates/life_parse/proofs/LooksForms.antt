@@ -1,13 +1,13 @@
 -- Reading a form looks at no token but the next, if the rules that it mentions do.
 use Rattle.std.proofs.Common.{◌≡◌, ℕ, Bool, true, false, not, ◌&&◌, Ok, refl, sym}
 use Rattle.std.proofs.lemmas.Bool.{and_parts, not-true}
-use Rattle.life_expr.specs.Heads.{quoted_kind, comma_kind, name_kind, number_kind, character_kind, text_kind, heads, may_be_empty, rule_may_be_empty}
+use Rattle.life_expr.specs.Heads.{quoted_kind, name_kind, number_kind, character_kind, text_kind, heads, may_be_empty, rule_may_be_empty}
 use Rattle.life_expr.specs.Read.{Reader, as_it_stands, reads, opener}
 use Rattle.life_expr.specs.Readers.{Readers, no_reader, derived}
 use Rattle.life_parse.proofs.Looks.{Law}
 use Rattle.life_parse.proofs.LooksOn.{Looks-done, Looks-refused, Law-token, Law-opener, Law-both, Law-when, Law-made}
 use Rattle.life_parse.proofs.LooksMany.{Law-many}
-use Rattle.life_tree.specs.Grammar.{Form, form_of, none, no_else, quoted, comma, name, number, character, text, ◌then◌, ◌decides◌, ◌or◌, many, opens, rule}
+use Rattle.life_tree.specs.Grammar.{Form, form_of, none, no_else, quoted, name, number, character, text, ◌then◌, ◌decides◌, ◌or◌, many, opens, rule}
 use Rattle.life_tree.specs.Rules.{Rule}
 use Rattle.life_tree.specs.Tree.{Tree, nothing, without_else, construct, ◌⨾◌, node}
 
@@ -35,7 +35,6 @@ pub reads_law : (n : ℕ) (inside same : Readers) → Laws inside → Laws same 
 reads_law n inside same i s none h = Law-done nothing
 reads_law n inside same i s no_else h = Law-done without_else
 reads_law n inside same i s (quoted m) h = Law-token false (quoted_kind m) _
-reads_law n inside same i s comma h = Law-token false comma_kind _
 reads_law n inside same i s name h = Law-token false name_kind as_it_stands
 reads_law n inside same i s number h = Law-token false number_kind as_it_stands
 reads_law n inside same i s character h = Law-token false character_kind as_it_stands

@@ -1,9 +1,8 @@
 -- What a tree of a form is made of.
-use Rattle.std.proofs.Common.{◌≡◌, ℕ, ◌⊎◌, inl, inr, refl, ap, subst, ◌∙◌}
-use Rattle.life_tree.specs.Grammar.{Form, none, no_else, quoted, comma, name, number, character, text, ◌then◌, ◌decides◌, ◌or◌, many, opens, rule, form_of, nowhere, Conforms, TokenFits}
+use Rattle.std.proofs.Common.{◌≡◌, ℕ, ◌⊎◌, inl, inr, refl, ap, subst}
+use Rattle.life_tree.specs.Grammar.{Form, none, no_else, quoted, name, number, character, text, ◌then◌, ◌decides◌, ◌or◌, many, opens, rule, form_of, Conforms, TokenFits}
 use Rattle.life_tree.specs.Rules.{Rule}
 use Rattle.life_tree.specs.Tree.{Tree, nothing, without_else, token, ◌⨾◌, construct, node}
-use Rattle.life_tree.specs.declared.fixed.TheConstants as fixed
 use Rattle.life_tree.specs.declared.key.TokenKey.{TokenKey}
 use Rattle.life_tree.specs.declared.key.TokenKey.TheVariants as keys
 use Rattle.life_types.specs.declared.place.Place.{Place}
@@ -108,11 +107,6 @@ pub quoted_is : (t : Tree) (m : ℕ) → Conforms t (quoted m) → (place : Plac
 quoted_is (token (keys.Fixed n) place) m c = (place, ap (λ (i : ℕ). token (keys.Fixed i) place) c)
 quoted_is (token key place) m c = absurd c
 quoted_is _ m c = absurd c
-
-pub comma_is : (t : Tree) → Conforms t comma → t ≡ token (keys.Fixed fixed.COMMA) nowhere
-comma_is (token (keys.Fixed n) place) c = ap (λ (i : ℕ). token (keys.Fixed i) place) c.0 ∙ ap (λ (p : Place). token (keys.Fixed fixed.COMMA) p) c.1
-comma_is (token key place) c = absurd c
-comma_is _ c = absurd c
 
 -- a token of a kind that no rule quotes
 pub name_is : (t : Tree) → Conforms t name → (key : TokenKey) × (place : Place) × (t ≡ token key place) × TokenFits key place name

@@ -2,10 +2,10 @@
 use Rattle.std.proofs.Common.{◌≡◌, ℕ, false, inl, inr, refl}
 use Rattle.life_parse.proofs.Begun.{Sample}
 use Rattle.life_parse.proofs.ElseTokens.{has_else, no_else_first, no_else_nearest}
-use Rattle.life_tree.specs.Grammar.{form_of, rule, nowhere, Conforms}
+use Rattle.life_tree.specs.Grammar.{form_of, rule, Conforms}
 use Rattle.life_tree.specs.Rules as rules
 use Rattle.life_tree.specs.Rules.{Rule}
-use Rattle.life_tree.specs.Tree.{Tree, nothing, without_else, token, ◌⨾◌, construct, node}
+use Rattle.life_tree.specs.Tree.{Tree, nothing, without_else, token, ◌⨾◌, construct, node, nowhere}
 use Rattle.life_tree.specs.declared.fixed.TheConstants as fixed
 use Rattle.life_tree.specs.declared.key.TokenKey.TheVariants as keys
 

@@ -1,13 +1,13 @@
 -- How the trees of a form begin, some tokens far: as one of given fronts, or as none.
 use Rattle.std.proofs.Common.{◌≡◌, ℕ, zero, suc, Bool, true, false, cond, ◌&&◌, ◌||◌, List, [], ◌∷◌, ◌++◌, Option, Some, None, refl, sym, ap, ◌∙◌, inl, inr, ⊎_elim, append_assoc}
 use Rattle.std.proofs.lemmas.Bool.{eq-eqb, and_parts}
-use Rattle.life_expr.specs.Heads.{Kind, quoted_kind, comma_kind, name_kind, number_kind, character_kind, text_kind, is_of}
+use Rattle.life_expr.specs.Heads.{Kind, quoted_kind, name_kind, number_kind, character_kind, text_kind, is_of}
 use Rattle.life_expr.specs.Read.{Tokens, as_it_stands}
 use Rattle.life_expr.specs.Readers.{begins, begins_as}
-use Rattle.life_parse.proofs.GoodBelow.{OneToken, one_quoted, one_comma, one_name, one_number, one_character, one_text}
+use Rattle.life_parse.proofs.GoodBelow.{OneToken, one_quoted, one_name, one_number, one_character, one_text}
 use Rattle.life_parse.proofs.Parts.{or_fits, fits_or, then_parts, many_parts, opens_parts, rule_parts, decides_parts, none_is, no_else_is}
 use Rattle.life_parse.proofs.TokenKinds.{same_kind, same_kind_is, apart, apart_is}
-use Rattle.life_tree.specs.Grammar.{Form, none, no_else, quoted, comma, name, number, character, text, ◌then◌, ◌decides◌, ◌or◌, many, opens, rule, form_of, nowhere, assignment, step, ending, is_starred, ends_in_arguments, Conforms}
+use Rattle.life_tree.specs.Grammar.{Form, none, no_else, quoted, name, number, character, text, ◌then◌, ◌decides◌, ◌or◌, many, opens, rule, form_of, assignment, step, ending, is_starred, ends_in_arguments, Conforms}
 use Rattle.life_tree.specs.Rules as rules
 use Rattle.life_tree.specs.Rules.{Rule}
 use Rattle.life_tree.specs.Tree.{Tree, token, ◌⨾◌, tokens_of}
@@ -123,7 +123,6 @@ settled (suc k) None want [] fronts = false
 settled (suc k) None want (none ∷ fs) fronts = settled k None want fs fronts
 settled (suc k) None want (no_else ∷ fs) fronts = settled k None want fs fronts
 settled (suc k) None want (quoted m ∷ fs) fronts = clear (quoted_kind m) fronts && settled k (verdict (advance (quoted_kind m) fronts)) want fs (advance (quoted_kind m) fronts)
-settled (suc k) None want (comma ∷ fs) fronts = clear comma_kind fronts && settled k (verdict (advance comma_kind fronts)) want fs (advance comma_kind fronts)
 settled (suc k) None want (name ∷ fs) fronts = clear name_kind fronts && settled k (verdict (advance name_kind fronts)) want fs (advance name_kind fronts)
 settled (suc k) None want (number ∷ fs) fronts = clear number_kind fronts && settled k (verdict (advance number_kind fronts)) want fs (advance number_kind fronts)
 settled (suc k) None want (character ∷ fs) fronts = clear character_kind fronts && settled k (verdict (advance character_kind fronts)) want fs (advance character_kind fronts)
@@ -176,8 +175,6 @@ settled_is (suc k) None want (no_else ∷ fs) fronts s h (t ∷ ts) fit rest =
     ap (λ (u : Tree). begins_as fronts (tokens_of u ++ spelled ts rest)) (no_else_is t fit.0) ∙ settled_is k None want fs fronts s tt ts fit.1 rest
 settled_is (suc k) None want (quoted m ∷ fs) fronts s h ts fit rest =
     one_token k want fs fronts (quoted_kind m) (λ i. token (keys.Fixed m) i.place) (quoted m) (one_quoted m) (settled_is k (verdict (advance (quoted_kind m) fronts)) want fs (advance (quoted_kind m) fronts)) s ts fit rest
-settled_is (suc k) None want (comma ∷ fs) fronts s h ts fit rest =
-    one_token k want fs fronts comma_kind (λ i. token (keys.Fixed fixed.COMMA) nowhere) comma one_comma (settled_is k (verdict (advance comma_kind fronts)) want fs (advance comma_kind fronts)) s ts fit rest
 settled_is (suc k) None want (name ∷ fs) fronts s h ts fit rest =
     one_token k want fs fronts name_kind as_it_stands name one_name (settled_is k (verdict (advance name_kind fronts)) want fs (advance name_kind fronts)) s ts fit rest
 settled_is (suc k) None want (number ∷ fs) fronts s h ts fit rest =

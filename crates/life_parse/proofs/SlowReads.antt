@@ -4,14 +4,13 @@ use Rattle.life_parse.proofs.Counts.{counts_further, over_at_once, over_further}
 use Rattle.life_parse.proofs.Laws.{IsOver}
 use Rattle.life_parse.proofs.Openers.{Passed, opened, construct_read}
 use Rattle.life_parse.proofs.Slows.{Outcome, TooDeep, Follows, Follows-pair, Follows-if, Follows-itself, Follows-none, Follows-empty, Follows-many}
-use Rattle.life_parse.proofs.Takes.{takes_all, quoted_token, comma_token}
-use Rattle.life_expr.specs.Heads.{Kind, quoted_kind, comma_kind, name_kind, number_kind, character_kind, text_kind, is_of, heads}
+use Rattle.life_parse.proofs.Takes.{takes_all, quoted_token}
+use Rattle.life_expr.specs.Heads.{Kind, quoted_kind, name_kind, number_kind, character_kind, text_kind, is_of, heads}
 use Rattle.life_expr.specs.Read.{Tokens, Reader, the_token, as_it_stands, starts, reads}
 use Rattle.life_expr.specs.Readers.{Readers}
-use Rattle.life_tree.specs.Grammar.{Form, none, no_else, quoted, comma, name, number, character, text, ◌then◌, ◌decides◌, ◌or◌, many, opens, rule, nowhere}
+use Rattle.life_tree.specs.Grammar.{Form, none, no_else, quoted, name, number, character, text, ◌then◌, ◌decides◌, ◌or◌, many, opens, rule}
 use Rattle.life_tree.specs.Rules.{Rule}
 use Rattle.life_tree.specs.Tree.{Tree, nothing, without_else, token, construct, tokens_of, depth, open_at}
-use Rattle.life_tree.specs.declared.fixed.TheConstants as fixed
 use Rattle.life_tree.specs.declared.key.TokenKey.TheVariants as keys
 use Rattle.life_tree.specs.declared.token.TreeToken.{TreeToken}
 use Rattle.life_types.specs.declared.place.Place.{Place}
@@ -64,7 +63,6 @@ pub follows_reads : (n b k : ℕ) (inside inside' same same' : Readers) → Inne
 follows_reads n b k i i' s s' h g none = Follows-empty nothing k refl refl
 follows_reads n b k i i' s s' h g no_else = Follows-empty without_else k refl refl
 follows_reads n b k i i' s s' h g (quoted m) = Follows-token (quoted_kind m) (λ l. token (keys.Fixed m) l.place) k (λ l is. (ap (λ (x : TreeToken). x ∷ []) (quoted_token m l is), refl))
-follows_reads n b k i i' s s' h g comma = Follows-token comma_kind (λ l. token (keys.Fixed fixed.COMMA) nowhere) k (λ l is. (ap (λ (x : TreeToken). x ∷ []) (comma_token l is), refl))
 follows_reads n b k i i' s s' h g name = Follows-token name_kind as_it_stands k (λ l is. (refl, refl))
 follows_reads n b k i i' s s' h g number = Follows-token number_kind as_it_stands k (λ l is. (refl, refl))
 follows_reads n b k i i' s s' h g character = Follows-token character_kind as_it_stands k (λ l is. (refl, refl))

@@ -1,16 +1,12 @@
 -- What a reader of one token takes.
-use Rattle.std.proofs.Common.{◌≡◌, ℕ, ◌==◌, Bool, true, false, [], ◌∷◌, ◌++◌, Ok, Err, if◌then◌else◌, refl, ap, ap₂, subst, ◌∙◌, eqb-true}
-use Rattle.std.proofs.lemmas.Bool.{and_parts}
+use Rattle.std.proofs.Common.{◌≡◌, ℕ, Bool, true, false, [], ◌∷◌, ◌++◌, Ok, Err, if◌then◌else◌, refl, ap, subst, ◌∙◌, eqb-true}
 use Rattle.life_parse.proofs.Binds.{ok_is, err_no_ok}
-use Rattle.life_expr.specs.Heads.{Kind, quoted_kind, comma_kind, key_is_of, stands_nowhere, is_of}
+use Rattle.life_expr.specs.Heads.{Kind, quoted_kind, key_is_of, is_of}
 use Rattle.life_expr.specs.Read.{Tokens, Stop, refused, Read, the_token}
-use Rattle.life_tree.specs.Grammar.{nowhere}
 use Rattle.life_tree.specs.Tree.{Tree, tokens_of, depth}
-use Rattle.life_tree.specs.declared.fixed.TheConstants as fixed
 use Rattle.life_tree.specs.declared.key.TokenKey.{TokenKey}
 use Rattle.life_tree.specs.declared.key.TokenKey.TheVariants as keys
 use Rattle.life_tree.specs.declared.token.TreeToken.{TreeToken}
-use Rattle.life_types.specs.declared.place.Place.{Place}
 
 -- one token of that kind, and its tree
 pub takes : (kind : Kind) (f : TreeToken → Tree) (ts : Tokens) (t : Tree) (rest : Tokens) → the_token kind f ts ≡ Ok (t, rest)
@@ -43,20 +39,6 @@ quoted_key n (keys.Text m) h = absurd cc
 
 pub quoted_token : (n : ℕ) (k : TreeToken) → is_of (quoted_kind n) k ≡ true → k ≡ record { key = keys.Fixed n; place = k.place }
 quoted_token n k h = ap (λ (key : TokenKey). record { key = key; place = k.place }) (quoted_key n k.key h)
-
-comma_key : (key : TokenKey) → key_is_of comma_kind key ≡ true → key ≡ keys.Fixed fixed.COMMA
-comma_key (keys.Fixed m) h = ap keys.Fixed (eqb-true m fixed.COMMA h)
-comma_key (keys.Name m) h = absurd cc
-comma_key (keys.Number m) h = absurd cc
-comma_key (keys.Char m) h = absurd cc
-comma_key (keys.Text m) h = absurd cc
-
-pub comma_token : (k : TreeToken) → is_of comma_kind k ≡ true → k ≡ record { key = keys.Fixed fixed.COMMA; place = nowhere }
-comma_token k h =
-    let a = and_parts (key_is_of comma_kind k.key) (stands_nowhere k) h in
-    let b = and_parts (k.place.line == 0) (k.place.column == 0) a.1 in
-    let place : k.place ≡ nowhere = ap₂ (λ (l c : ℕ). record { line = l; column = c }) (eqb-true k.place.line 0 b.0) (eqb-true k.place.column 0 b.1) in
-    ap₂ (λ (key : TokenKey) (p : Place). record { key = key; place = p }) (comma_key k.key a.0) place
 
 -- the tree of a token has that token, where the reader keeps it as it is
 pub takes_all : (kind : Kind) (f : TreeToken → Tree) → ((k : TreeToken) → is_of kind k ≡ true → (k ∷ [] ≡ tokens_of (f k)) × (depth (f k) ≡ 0))

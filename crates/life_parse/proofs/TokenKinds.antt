@@ -2,9 +2,8 @@
 use Rattle.std.proofs.Common.{◌≡◌, ℕ, ◌+◌, Bool, true, false, not, ◌&&◌, ◌||◌, ◌==◌, List, [], ◌∷◌, ◌++◌, refl, sym, ap, subst, ◌∙◌, inl, inr, true≢false}
 use Rattle.std.proofs.lemmas.Bool.Decides.{eqb_tells}
 use Rattle.std.proofs.lemmas.Bool.{eqb-true, and_parts}
-use Rattle.life_expr.specs.Heads.{Kind, quoted_kind, comma_kind, name_kind, number_kind, character_kind, text_kind, key_is_of, is_of, stands_nowhere}
+use Rattle.life_expr.specs.Heads.{Kind, quoted_kind, name_kind, number_kind, character_kind, text_kind, key_is_of, is_of}
 use Rattle.life_expr.specs.Read.{Tokens, is_in, starts}
-use Rattle.life_tree.specs.declared.fixed.TheConstants as fixed
 use Rattle.life_tree.specs.declared.key.TokenKey.{TokenKey}
 use Rattle.life_tree.specs.declared.key.TokenKey.TheVariants as keys
 use Rattle.life_tree.specs.declared.token.TreeToken.{TreeToken}
@@ -17,13 +16,12 @@ both_false false b e = (refl, e)
 
 -- ---- kinds by number
 
--- a number for each kind, where a comma is a quoted token
+-- a number for each kind
 abbrev pub number_of : Kind → ℕ
 number_of name_kind = 0
 number_of number_kind = 1
 number_of character_kind = 2
 number_of text_kind = 3
-number_of comma_kind = 4 + fixed.COMMA
 number_of (quoted_kind n) = 4 + n
 
 abbrev pub key_number : TokenKey → ℕ
@@ -35,7 +33,6 @@ key_number (keys.Fixed n) = 4 + n
 
 number_key : (x : Kind) (key : TokenKey) → key_is_of x key ≡ true → key_number key ≡ number_of x
 number_key (quoted_kind n) (keys.Fixed m) e = ap (λ (i : ℕ). 4 + i) (eqb-true m n e)
-number_key comma_kind (keys.Fixed m) e = ap (λ (i : ℕ). 4 + i) (eqb-true m fixed.COMMA e)
 number_key name_kind (keys.Name id) e = refl
 number_key number_kind (keys.Number n) e = refl
 number_key character_kind (keys.Char c) e = refl
@@ -43,12 +40,7 @@ number_key text_kind (keys.Text n) e = refl
 number_key _ _ e = absurd cc
 
 pub kind_number_is : (x : Kind) (k : TreeToken) → is_of x k ≡ true → key_number k.key ≡ number_of x
-kind_number_is comma_kind k e = number_key comma_kind k.key (and_parts (key_is_of comma_kind k.key) (stands_nowhere k) e).0
-kind_number_is (quoted_kind n) k e = number_key (quoted_kind n) k.key e
-kind_number_is name_kind k e = number_key name_kind k.key e
-kind_number_is number_kind k e = number_key number_kind k.key e
-kind_number_is character_kind k e = number_key character_kind k.key e
-kind_number_is text_kind k e = number_key text_kind k.key e
+kind_number_is x k e = number_key x k.key e
 
 -- ---- kinds without a common token
 
@@ -91,7 +83,6 @@ disjoint_is (x ∷ xs) ys k d e = go (disjoint_is xs ys k) (is_of x k) refl e
 
 abbrev pub same_kind : Kind → Kind → Bool
 same_kind (quoted_kind n) (quoted_kind m) = n == m
-same_kind comma_kind comma_kind = true
 same_kind name_kind name_kind = true
 same_kind number_kind number_kind = true
 same_kind character_kind character_kind = true
@@ -100,7 +91,6 @@ same_kind _ _ = false
 
 pub same_kind_is : (x y : Kind) → same_kind x y ≡ true → x ≡ y
 same_kind_is (quoted_kind n) (quoted_kind m) e = ap quoted_kind (eqb-true n m e)
-same_kind_is comma_kind comma_kind e = refl
 same_kind_is name_kind name_kind e = refl
 same_kind_is number_kind number_kind e = refl
 same_kind_is character_kind character_kind e = refl

@@ -2,13 +2,13 @@
 use Rattle.std.proofs.Common.{◌≡◌, ℕ, zero, suc, ◌<◌, true, false, cond, List, [], ◌∷◌, ◌++◌, length, Ok, Err, refl, sym, ap, ◌∙◌, arith}
 use Rattle.life_expr.specs.declared.stop.Stop.{Stop as Fault}
 use Rattle.life_expr.specs.declared.stop.Stop.TheVariants as faults
-use Rattle.life_stmt.specs.Fronts.{mapped, behind, before, later_before, separated_before}
+use Rattle.life_stmt.specs.Fronts.{mapped, behind, before}
 use Rattle.life_expr.specs.Gives.{Fails}
 use Rattle.life_expr.specs.Heads.{Kind}
 use Rattle.life_expr.specs.Read.{Tokens, Stop, ◌>>=◌, Read, Reader, starts, many_below, as_many}
 use Rattle.life_stmt.proofs.ShrinksReads.{Takes, shrinks}
 use Rattle.life_tree.specs.Tree.{Tree, nothing, ◌⨾◌}
-use Rattle.life_tree.specs.Views.{list_tree, comma_tree, later_tree, separated_tree}
+use Rattle.life_tree.specs.Views.{list_tree}
 
 -- ---- what stands in front
 
@@ -19,22 +19,6 @@ before_nothing (x ∷ xs) = ap (λ (t : Tree). x ⨾ t) (before_nothing xs)
 pub before_more : (xs : List Tree) (x t : Tree) → before xs (x ⨾ t) ≡ before (xs ++ x ∷ []) t
 before_more [] x t = refl
 before_more (y ∷ ys) x t = ap (λ (u : Tree). y ⨾ u) (before_more ys x t)
-
-later_nothing : (xs : List Tree) → later_before xs nothing ≡ later_tree xs
-later_nothing [] = refl
-later_nothing (x ∷ xs) = ap (λ (t : Tree). (comma_tree ⨾ x) ⨾ t) (later_nothing xs)
-
-later_more : (xs : List Tree) (x t : Tree) → later_before xs ((comma_tree ⨾ x) ⨾ t) ≡ later_before (xs ++ x ∷ []) t
-later_more [] x t = refl
-later_more (y ∷ ys) x t = ap (λ (u : Tree). (comma_tree ⨾ y) ⨾ u) (later_more ys x t)
-
-pub separated_nothing : (xs : List Tree) → separated_before xs nothing ≡ separated_tree xs
-separated_nothing [] = refl
-separated_nothing (x ∷ xs) = ap (λ (t : Tree). x ⨾ t) (later_nothing xs)
-
-pub separated_more : (xs : List Tree) (x t : Tree) → 0 < length xs → separated_before xs ((comma_tree ⨾ x) ⨾ t) ≡ separated_before (xs ++ x ∷ []) t
-separated_more [] x t some = absurd (omega arith)
-separated_more (y ∷ ys) x t some = ap (λ (u : Tree). y ⨾ u) (later_more ys x t)
 
 -- ---- the loop
 
@@ -78,6 +62,12 @@ module _ (kinds : List Kind) (p : Reader) (s : Takes false p) where
       → starts kinds ts ≡ true → p ts ≡ Ok (t, rest) → mapped front (as_many kinds p ts) ≡ total → mapped front' (as_many kinds p rest) ≡ total
   goes_on front front' ts t rest total same h e so_far =
       sym (mapped_same (λ u. front (t ⨾ u)) front' same (as_many kinds p rest)) ∙ sym (mapped_twice front t (as_many kinds p rest)) ∙ ap (mapped front) (sym (many_more ts t rest h e)) ∙ so_far
+
+  -- .. where these trees stand in front
+  pub reads_on : (front more : List Tree) (ts : Tokens) (t : Tree) (rest : Tokens) (total : Read) → more ≡ front ++ t ∷ [] → starts kinds ts ≡ true
+      → p ts ≡ Ok (t, rest) → mapped (before front) (as_many kinds p ts) ≡ total → mapped (before more) (as_many kinds p rest) ≡ total
+  reads_on front more ts t rest total one h e so_far =
+      rw one (goes_on (before front) (before (front ++ t ∷ [])) ts t rest total (λ u. before_more front t u) h e so_far)
 
   pub fails : (e : Fault) (front : Tree → Tree) (ts : Tokens) (total : Read) → starts kinds ts ≡ true → Fails e (p ts) → mapped front (as_many kinds p ts) ≡ total → Fails e total
   fails faults.Memory front ts total h f so_far = tt

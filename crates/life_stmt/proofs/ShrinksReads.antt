@@ -1,13 +1,12 @@
 -- Reading a form leaves no more tokens than there were, and fewer where the form has one.
 use Rattle.std.proofs.Common.{◌≡◌, ℕ, zero, suc, ◌+◌, ◌≤◌, ◌<◌, nat_lt, Bool, true, false, cond, ◌&&◌, ◌||◌, not, List, [], ◌∷◌, length, Result, Ok, Err, refl, ap, arith}
 use Rattle.life_stmt.specs.Fronts.{mapped, behind}
-use Rattle.life_expr.specs.Heads.{Kind, is_of, quoted_kind, comma_kind, name_kind, number_kind, character_kind, text_kind, heads, may_be_empty, rule_may_be_empty}
+use Rattle.life_expr.specs.Heads.{Kind, is_of, quoted_kind, name_kind, number_kind, character_kind, text_kind, heads, may_be_empty, rule_may_be_empty}
 use Rattle.life_expr.specs.Read.{Tokens, Stop, refused, deep, ◌>>=◌, Read, Reader, starts, the_token, as_it_stands, opener, many_below, as_many, reads}
 use Rattle.life_expr.specs.Readers.{Readers, no_reader, derived, begins_as, choose, chosen}
-use Rattle.life_tree.specs.Grammar.{Form, form_of, none, no_else, quoted, comma, name, number, character, text, ◌then◌, ◌decides◌, ◌or◌, many, opens, rule, nowhere}
+use Rattle.life_tree.specs.Grammar.{Form, form_of, none, no_else, quoted, name, number, character, text, ◌then◌, ◌decides◌, ◌or◌, many, opens, rule}
 use Rattle.life_tree.specs.Rules.{Rule}
 use Rattle.life_tree.specs.Tree.{Tree, ◌⨾◌, construct, node, nothing, token, without_else}
-use Rattle.life_tree.specs.declared.fixed.TheConstants as fixed
 use Rattle.life_tree.specs.declared.key.TokenKey.TheVariants as keys
 use Rattle.life_tree.specs.declared.token.TreeToken.{TreeToken}
 use Rattle.life_types.specs.declared.place.Place.{Place}
@@ -153,7 +152,6 @@ keeps_reads : (n : ℕ) (inside same : Readers) → TakesAll inside → TakesAll
 keeps_reads n inside same hi hs none ts t rest e = let h = rest_is (nothing, ts) (t, rest) e in omega arith
 keeps_reads n inside same hi hs no_else ts t rest e = let h = rest_is (without_else, ts) (t, rest) e in omega arith
 keeps_reads n inside same hi hs (quoted m) ts t rest e = let h = (Takes-token (quoted_kind m) (λ k. token (keys.Fixed m) k.place)).takes ts t rest e in omega arith
-keeps_reads n inside same hi hs comma ts t rest e = let h = (Takes-token comma_kind (λ k. token (keys.Fixed fixed.COMMA) nowhere)).takes ts t rest e in omega arith
 keeps_reads n inside same hi hs name ts t rest e = let h = (Takes-token name_kind as_it_stands).takes ts t rest e in omega arith
 keeps_reads n inside same hi hs number ts t rest e = let h = (Takes-token number_kind as_it_stands).takes ts t rest e in omega arith
 keeps_reads n inside same hi hs character ts t rest e = let h = (Takes-token character_kind as_it_stands).takes ts t rest e in omega arith
@@ -181,7 +179,6 @@ module _ (n : ℕ) (inside same : Readers) (hi : TakesAll inside) (hs : TakesAll
   takes_reads none h ts t rest e = keeps_reads n inside same hi hs none ts t rest e
   takes_reads no_else h ts t rest e = keeps_reads n inside same hi hs no_else ts t rest e
   takes_reads (quoted m) h ts t rest e = (Takes-token (quoted_kind m) (λ k. token (keys.Fixed m) k.place)).takes ts t rest e
-  takes_reads comma h ts t rest e = (Takes-token comma_kind (λ k. token (keys.Fixed fixed.COMMA) nowhere)).takes ts t rest e
   takes_reads name h ts t rest e = (Takes-token name_kind as_it_stands).takes ts t rest e
   takes_reads number h ts t rest e = (Takes-token number_kind as_it_stands).takes ts t rest e
   takes_reads character h ts t rest e = (Takes-token character_kind as_it_stands).takes ts t rest e
@@ -220,7 +217,6 @@ module _ (n : ℕ) (inside same : Readers) (hi : TakesAll inside) (hs : TakesAll
   choose_takes fronts none h = Takes-reads none h
   choose_takes fronts no_else h = Takes-reads no_else h
   choose_takes fronts (quoted m) h = Takes-reads (quoted m) h
-  choose_takes fronts comma h = Takes-reads comma h
   choose_takes fronts name h = Takes-reads name h
   choose_takes fronts number h = Takes-reads number h
   choose_takes fronts character h = Takes-reads character h

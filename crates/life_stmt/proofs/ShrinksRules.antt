@@ -1,11 +1,12 @@
 -- Every rule's reader leaves no more tokens than there were, and fewer where the rule has one.
 use Rattle.std.proofs.Common.{ℕ, zero, suc, true, false, length, refl}
 use Rattle.life_stmt.specs.Definitions.{later_with}
+use Rattle.life_expr.specs.Exprs.{comma_form}
 use Rattle.life_expr.specs.Heads.{rule_may_be_empty}
 use Rattle.life_expr.specs.Read.{Reader}
 use Rattle.life_expr.specs.Readers.{Readers, no_reader, declaration_fronts, print_fronts, end_of_line_fronts, argument_with, base_with, unqualified_with, type_with, args_with, list_with, primary_with, part_with, postfix_with, unary_with, term_with, sum_with, order_with, equal_with, both_with, expr_with, condition_with, initial_with, initializer_with, declared_type_with, declaration_with, target_with, simple_with, for_rest_with, for_clauses_with, for_head_with, item_with, print_part_with, sentence_with, block_with, plain_with, branches_with, statement_with, else_part_with, block_item_with, word_with, attribute_with, parameter_with, function_with, member_with, structure_with, definition_with, program_with, primary_parts, postfix_parts, initial_parts, initializer_parts, declaration_parts, simple_parts, for_rest_parts, for_parts, sentence_parts, plain_parts, statement_parts, block_item_parts, parameter_parts, function_parts, definition_parts, else_parts, else_part_below, rule_with, below}
 use Rattle.life_stmt.proofs.ShrinksReads.{Takes, TakesAll, Takes-any, Takes-none, Takes-reads, Takes-derived, Takes-chosen}
-use Rattle.life_tree.specs.Grammar.{comma, ◌then◌, rule}
+use Rattle.life_tree.specs.Grammar.{◌then◌, rule}
 use Rattle.life_tree.specs.Rules as rules
 use Rattle.life_tree.specs.Rules.{Rule}
 
@@ -329,4 +330,4 @@ Takes-below (suc n) r = record { takes = λ ts t rest e. (Takes-rule n (below n)
 
 -- what stands behind a comma
 pub Takes-later : (inside : Readers) → TakesAll inside → (r : Rule) → Takes false (later_with inside r)
-Takes-later inside hi r = record { takes = λ ts t rest e. (Takes-reads 0 inside inside hi hi (comma then rule r) refl).takes ts t rest e }
+Takes-later inside hi r = record { takes = λ ts t rest e. (Takes-reads 0 inside inside hi hi (comma_form then rule r) refl).takes ts t rest e }

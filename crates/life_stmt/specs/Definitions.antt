@@ -1,10 +1,11 @@
 -- Readers of parts of definitions, each as a function of the program reads one.
 use Rattle.std.specs.Prelude.{ℕ}
+use Rattle.life_expr.specs.Exprs.{comma_form}
 use Rattle.life_expr.specs.Heads.{heads_of}
 use Rattle.life_expr.specs.Read.{Reader, reads, made, pair, as_many, name_mark}
 use Rattle.life_expr.specs.Readers.{Readers, no_reader, function_parts, attribute_with}
 use Rattle.life_expr.specs.Types.{flat}
-use Rattle.life_tree.specs.Grammar.{name, quoted, comma, ◌then◌, ◌or◌, rule, optional, parenthesized, separated, some}
+use Rattle.life_tree.specs.Grammar.{name, quoted, ◌then◌, ◌or◌, rule, optional, parenthesized, separated, some}
 use Rattle.life_tree.specs.Rules as rules
 use Rattle.life_tree.specs.Rules.{Rule}
 use Rattle.life_tree.specs.Tree.{node}
@@ -13,7 +14,7 @@ use Rattle.life_tree.specs.declared.fixed.TheConstants as fixed
 -- ---- lists inside a construct
 
 abbrev pub later_with : Readers → Rule → Reader
-later_with inside r = reads 0 inside inside (comma then rule r)
+later_with inside r = reads 0 inside inside (comma_form then rule r)
 
 abbrev pub separated_with : Readers → Rule → Reader
 separated_with inside r = reads 0 inside inside (separated (rule r))

@@ -2,7 +2,6 @@
 use Rattle.std.specs.Prelude.{List, [], ◌∷◌, Ok}
 use Rattle.life_expr.specs.Read.{Read, ◌>>=◌}
 use Rattle.life_tree.specs.Tree.{Tree, ◌⨾◌}
-use Rattle.life_tree.specs.Views.{comma_tree}
 
 abbrev pub mapped : (Tree → Tree) → Read → Read
 mapped f read = read >>= λ x. Ok (f x.0, x.1)
@@ -14,13 +13,3 @@ behind t = mapped (λ u. t ⨾ u)
 abbrev pub before : List Tree → Tree → Tree
 before [] t = t
 before (x ∷ xs) t = x ⨾ before xs t
-
--- .. with a comma before each
-abbrev pub later_before : List Tree → Tree → Tree
-later_before [] t = t
-later_before (x ∷ xs) t = (comma_tree ⨾ x) ⨾ later_before xs t
-
--- .. but the first
-abbrev pub separated_before : List Tree → Tree → Tree
-separated_before [] t = t
-separated_before (x ∷ xs) t = x ⨾ later_before xs t

@@ -1,18 +1,19 @@
 // The parser of attributes: each function mirrors the reader of its name.
-ghost use Rattle.std.specs.Prelude.{◌∷◌, [], ◌<◌, length, map};
+ghost use Rattle.std.specs.Prelude.{◌∷◌, [], ◌<◌, map};
 ghost use Rattle.life_stmt.specs.Definitions as spec;
-ghost use Rattle.life_stmt.specs.Fronts.{mapped, separated_before};
 ghost use Rattle.life_expr.specs.Gives.{Gives};
 ghost use Rattle.life_expr.specs.Heads as heads;
-ghost use Rattle.life_expr.specs.Heads.{comma_kind};
+ghost use Rattle.life_expr.specs.Heads.{quoted_kind};
 ghost use Rattle.life_expr.specs.Read.{as_many};
 ghost use Rattle.life_expr.specs.Readers as readers;
 ghost use Rattle.life_tree.specs.Rules as rules;
 ghost use Rattle.life_tree.specs.Tree.{◌⨾◌};
-ghost use Rattle.life_tree.specs.Views.{attribute_arguments_tree, attribute_tree, attributes_tree, comma_tree, optional_tree, scope_tree, separated_tree, word_tree};
+ghost use Rattle.life_tree.specs.Views.{at, attribute_arguments_tree, attribute_tree, attributes_tree, later_tree, optional_tree, scope_tree, separated_tree, word_tree};
+ghost use Rattle.life_tree.specs.declared.fixed.TheConstants.{COMMA};
 
-use life_expr::{Read, comma, mark, name, opener, starts, starts_comma, starts_name};
+use life_expr::{Read, Separated, mark, name, opener, starts, starts_name};
 use life_tree::{Attribute, AttributeArguments, AttributeScope, AttributeWord, TreeToken, fixed};
+use life_types::Place;
 use std::alloc::Global;
 
 /// A name, or `static`.
@@ -36,45 +37,50 @@ fn word_below<'a>(left: usize, tokens: &'a [TreeToken]) -> Read<'a, AttributeWor
     word(left - 1, tokens)
 }
 
-/// A word behind a comma.
-fn later_word<'a>(left: usize, tokens: &'a [TreeToken]) -> Read<'a, AttributeWord>
+/// A comma and a word.
+fn later_word<'a>(left: usize, tokens: &'a [TreeToken]) -> Read<'a, (AttributeWord, Place)>
     requires { 0 < left }
-    ensures { Gives (λ x. (comma_tree ⨾ word_tree x.0, x.1.now)) result (spec.later_with (readers.below left) rules.word tokens.now) }
+    ensures { Gives (λ x. (at COMMA x.0.1 ⨾ word_tree x.0.0, x.1.now)) result (spec.later_with (readers.below left) rules.word tokens.now) }
 {
-    let (_, rest) = comma(tokens)?;
-    let (found, rest) = word_below(left, rest)?;
-    Ok((found, rest))
+    let (comma, rest) = mark(tokens, fixed::COMMA)?;
+    let (next, rest) = word_below(left, rest)?;
+    Ok(((next, comma), rest))
 }
 
-/// Words behind these, each with a comma before it.
+/// Words, a comma before each.
 fn later_words<'a>(
+    alloc: Global,
     left: usize,
-    before: Vec<AttributeWord>,
     tokens: &'a [TreeToken],
-) -> Read<'a, Vec<AttributeWord>>
-    requires depth { 0 < left }
-    requires some { 0 < length before.items }
-    ensures { Gives (λ x. (separated_tree (map word_tree x.0.items), x.1.now)) result (mapped (separated_before (map word_tree before.items)) (as_many (comma_kind ∷ []) (spec.later_with (readers.below left) rules.word) tokens.now)) }
+) -> Read<'a, Separated<AttributeWord>>
+    requires { 0 < left }
+    ensures { Gives (λ x. (later_tree x.0.1.items (map word_tree x.0.0.items), x.1.now)) result (as_many (quoted_kind COMMA ∷ []) (spec.later_with (readers.below left) rules.word) tokens.now) }
 {
     let mut rest = tokens;
-    let mut list = before;
-    'list: while starts_comma(rest) {
-        let (next, after) = later_word(left, rest)?;
+    let mut list = Vec::new(alloc);
+    let mut commas = Vec::new(alloc);
+    'list: while starts(rest, fixed::COMMA) {
+        let ((next, comma), after) = later_word(left, rest)?;
+        commas.push(comma)?;
         list.push(next)?;
         rest = after;
     }
-    Ok((list, rest))
+    Ok(((list, commas), rest))
 }
 
 /// Words with commas between.
-fn words<'a>(alloc: Global, left: usize, tokens: &'a [TreeToken]) -> Read<'a, Vec<AttributeWord>>
+fn words<'a>(
+    alloc: Global,
+    left: usize,
+    tokens: &'a [TreeToken],
+) -> Read<'a, Separated<AttributeWord>>
     requires { 0 < left }
-    ensures { Gives (λ x. (separated_tree (map word_tree x.0.items), x.1.now)) result (spec.separated_with (readers.below left) rules.word tokens.now) }
+    ensures { Gives (λ x. (separated_tree x.0.1.items (map word_tree x.0.0.items), x.1.now)) result (spec.separated_with (readers.below left) rules.word tokens.now) }
 {
     let (first, rest) = word_below(left, tokens)?;
-    let mut list = Vec::new(alloc);
-    list.push(first)?;
-    later_words(left, list, rest)
+    let ((mut list, commas), rest) = later_words(alloc, left, rest)?;
+    list.insert(0, first)?;
+    Ok(((list, commas), rest))
 }
 
 /// `::` and a name, where they stand.
@@ -100,11 +106,12 @@ fn attribute_arguments<'a>(
 {
     if starts(tokens, fixed::LEFT_PAREN) {
         let (opening, rest) = opener(left, tokens, fixed::LEFT_PAREN)?;
-        let (words, rest) = words(alloc, left, rest)?;
+        let ((words, commas), rest) = words(alloc, left, rest)?;
         let (closing, rest) = mark(rest, fixed::RIGHT_PAREN)?;
         let found = AttributeArguments {
             opening,
             words,
+            commas,
             closing,
         };
         return Ok((Some(found), rest));

@@ -1,19 +1,19 @@
 // The parser of functions: each function mirrors the reader of its name.
-ghost use Rattle.std.specs.Prelude.{◌∷◌, [], ◌<◌, length, map};
+ghost use Rattle.std.specs.Prelude.{◌∷◌, [], ◌<◌, map};
 ghost use Rattle.life_stmt.specs.Definitions as spec;
-ghost use Rattle.life_stmt.specs.Fronts.{mapped, separated_before};
 ghost use Rattle.life_expr.specs.Gives.{Gives};
-ghost use Rattle.life_expr.specs.Heads.{comma_kind};
+ghost use Rattle.life_expr.specs.Heads.{quoted_kind};
 ghost use Rattle.life_expr.specs.Read.{as_many};
 ghost use Rattle.life_expr.specs.Readers as readers;
 ghost use Rattle.life_tree.specs.Rules as rules;
 ghost use Rattle.life_tree.specs.Tree.{◌⨾◌};
-ghost use Rattle.life_tree.specs.Views.{body_tree, comma_tree, function_tree, parameter_tree, parenthesized_tree, result_tree, separated_tree};
+ghost use Rattle.life_tree.specs.Views.{at, body_tree, function_tree, later_tree, parameter_tree, parenthesized_tree, result_tree, separated_tree};
+ghost use Rattle.life_tree.specs.declared.fixed.TheConstants.{COMMA};
 
 use crate::attributes::attributes;
 use crate::fronts::starts_parameter;
 use crate::statements::block;
-use life_expr::{Read, comma, mark, name, opener, starts, starts_comma, type_name};
+use life_expr::{Read, Separated, mark, name, opener, starts, type_name};
 use life_tree::{Function, FunctionBody, Parameter, ResultType, TreeToken, fixed};
 use life_types::Place;
 use std::alloc::Global;
@@ -44,49 +44,57 @@ fn parameter_below<'a>(alloc: Global, left: usize, tokens: &'a [TreeToken]) -> R
     parameter(alloc, left - 1, tokens)
 }
 
-/// A parameter behind a comma.
-fn later_parameter<'a>(alloc: Global, left: usize, tokens: &'a [TreeToken]) -> Read<'a, Parameter>
+/// A comma and a parameter.
+fn later_parameter<'a>(
+    alloc: Global,
+    left: usize,
+    tokens: &'a [TreeToken],
+) -> Read<'a, (Parameter, Place)>
     requires { 0 < left }
-    ensures { Gives (λ x. (comma_tree ⨾ parameter_tree x.0, x.1.now)) result (spec.later_with (readers.below left) rules.parameter tokens.now) }
+    ensures { Gives (λ x. (at COMMA x.0.1 ⨾ parameter_tree x.0.0, x.1.now)) result (spec.later_with (readers.below left) rules.parameter tokens.now) }
 {
-    let (_, rest) = comma(tokens)?;
-    let (found, rest) = parameter_below(alloc, left, rest)?;
-    Ok((found, rest))
+    let (comma, rest) = mark(tokens, fixed::COMMA)?;
+    let (next, rest) = parameter_below(alloc, left, rest)?;
+    Ok(((next, comma), rest))
 }
 
-/// Parameters behind these, each with a comma before it.
+/// Parameters, a comma before each.
 fn later_parameters<'a>(
     alloc: Global,
     left: usize,
-    before: Vec<Parameter>,
     tokens: &'a [TreeToken],
-) -> Read<'a, Vec<Parameter>>
-    requires depth { 0 < left }
-    requires some { 0 < length before.items }
-    ensures { Gives (λ x. (separated_tree (map parameter_tree x.0.items), x.1.now)) result (mapped (separated_before (map parameter_tree before.items)) (as_many (comma_kind ∷ []) (spec.later_with (readers.below left) rules.parameter) tokens.now)) }
+) -> Read<'a, Separated<Parameter>>
+    requires { 0 < left }
+    ensures { Gives (λ x. (later_tree x.0.1.items (map parameter_tree x.0.0.items), x.1.now)) result (as_many (quoted_kind COMMA ∷ []) (spec.later_with (readers.below left) rules.parameter) tokens.now) }
 {
     let mut rest = tokens;
-    let mut list = before;
-    'list: while starts_comma(rest) {
-        let (next, after) = later_parameter(alloc, left, rest)?;
+    let mut list = Vec::new(alloc);
+    let mut commas = Vec::new(alloc);
+    'list: while starts(rest, fixed::COMMA) {
+        let ((next, comma), after) = later_parameter(alloc, left, rest)?;
+        commas.push(comma)?;
         list.push(next)?;
         rest = after;
     }
-    Ok((list, rest))
+    Ok(((list, commas), rest))
 }
 
 /// Parameters with commas between, where there are any.
-fn parameters<'a>(alloc: Global, left: usize, tokens: &'a [TreeToken]) -> Read<'a, Vec<Parameter>>
+fn parameters<'a>(
+    alloc: Global,
+    left: usize,
+    tokens: &'a [TreeToken],
+) -> Read<'a, Separated<Parameter>>
     requires { 0 < left }
-    ensures { Gives (λ x. (separated_tree (map parameter_tree x.0.items), x.1.now)) result (spec.separated_or_none_with (readers.below left) rules.parameter tokens.now) }
+    ensures { Gives (λ x. (separated_tree x.0.1.items (map parameter_tree x.0.0.items), x.1.now)) result (spec.separated_or_none_with (readers.below left) rules.parameter tokens.now) }
 {
-    let mut list = Vec::new(alloc);
     if starts_parameter(tokens) {
         let (first, rest) = parameter_below(alloc, left, tokens)?;
-        list.push(first)?;
-        return later_parameters(alloc, left, list, rest);
+        let ((mut list, commas), rest) = later_parameters(alloc, left, rest)?;
+        list.insert(0, first)?;
+        return Ok(((list, commas), rest));
     }
-    Ok((list, tokens))
+    Ok(((Vec::new(alloc), Vec::new(alloc)), tokens))
 }
 
 /// `void`, or a type.
@@ -122,6 +130,8 @@ pub struct ParameterList {
     pub opening: Place,
     /// The parameters in their order.
     pub list: Vec<Parameter>,
+    /// The commas between them.
+    pub commas: Vec<Place>,
     /// The `)`.
     pub closing: Place,
 }
@@ -129,15 +139,16 @@ pub struct ParameterList {
 /// Parameters with their parentheses.
 #[tactic(auto, unfolding(crate::specs::Definitions::parameters_with))]
 fn parenthesized<'a>(alloc: Global, left: usize, tokens: &'a [TreeToken]) -> Read<'a, ParameterList>
-    ensures { Gives (λ x. (parenthesized_tree x.0.opening (separated_tree (map parameter_tree x.0.list.items)) x.0.closing, x.1.now)) result (spec.parameters_with left (readers.below left) tokens.now) }
+    ensures { Gives (λ x. (parenthesized_tree x.0.opening (separated_tree x.0.commas.items (map parameter_tree x.0.list.items)) x.0.closing, x.1.now)) result (spec.parameters_with left (readers.below left) tokens.now) }
 {
     let (opening, rest) = opener(left, tokens, fixed::LEFT_PAREN)?;
-    let (list, rest) = parameters(alloc, left, rest)?;
+    let ((list, commas), rest) = parameters(alloc, left, rest)?;
     let (closing, rest) = mark(rest, fixed::RIGHT_PAREN)?;
     Ok((
         ParameterList {
             opening,
             list,
+            commas,
             closing,
         },
         rest,
@@ -156,6 +167,7 @@ fn function_by_parts<'a>(alloc: Global, left: usize, tokens: &'a [TreeToken]) ->
     let ParameterList {
         opening,
         list,
+        commas,
         closing,
     } = parameters;
     Ok((
@@ -165,6 +177,7 @@ fn function_by_parts<'a>(alloc: Global, left: usize, tokens: &'a [TreeToken]) ->
             name,
             opening,
             parameters: list,
+            commas,
             closing,
             body,
         },

@@ -1,3 +1,4 @@
 pub mod BranchKeys
 pub mod SeparatedKeys
+pub mod SeparatedTrees
 pub mod Written

@@ -12,6 +12,11 @@ ended F G items all i a whole old m new past none rest same start is =
     sym (append-nil new) ∙ ap (λ (ks : List TokenKey). new ++ ks) (sym none ∙ sym (at_drop_all F items i past)) ∙ rest
     ∙ ap (λ (ks : List TokenKey). ks ++ G items) start ∙ append_assoc old a (G items) ∙ ap (λ (ks : List TokenKey). old ++ ks) (ap (λ ts. a ++ G ts) same ∙ sym is)
 
+-- a list to its end, and then the last
+pub listed : {A : Type 0} (r : Result (Unit {0}) NoMemory) (F : List A → List TokenKey) (items : List A) (i : ℕ) (last whole old m new : List TokenKey) → length items ≤ i → F [] ≡ last → m ++ F (drop i items) ≡ old ++ whole → OnOk r (new ≡ m ++ last) → OnOk r (new ≡ old ++ whole)
+listed r F items i last whole old m new past none rest = on_ok_weaker r
+    (λ (e : new ≡ m ++ last). e ∙ ap (λ (ks : List TokenKey). m ++ ks) (sym none ∙ sym (at_drop_all F items i past)) ∙ rest)
+
 -- a part, and then the last
 pub both : (r : Result (Unit {0}) NoMemory) (a b whole old m new : List TokenKey) → m ≡ old ++ a → whole ≡ a ++ b → OnOk r (new ≡ m ++ b) → OnOk r (new ≡ old ++ whole)
 both r a b whole old m new start is = on_ok_weaker r

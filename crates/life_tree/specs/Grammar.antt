@@ -20,8 +20,6 @@ pub data Form : Type 0 where
   no_else : Form
   -- the token that a rule quotes, by its number
   quoted : ℕ → Form
-  -- a comma; trees do not keep where it stands
-  comma : Form
   -- a name, a number, a character literal, a string literal
   name : Form
   number : Form
@@ -59,7 +57,7 @@ some f = f then many f
 
 -- f { "," f }
 abbrev pub separated : Form → Form
-separated f = f then many (comma then f)
+separated f = f then many (quoted fixed.COMMA then f)
 
 -- f { operator f }
 abbrev pub chain : Form → Form → Form
@@ -179,14 +177,9 @@ form_of rules.args = parenthesized (optional (separated (rule rules.expr)))
 
 -- ---- trees of a form
 
--- the place that stands for that of a comma
-abbrev pub nowhere : Place
-nowhere = record { line = 0; column = 0 }
-
 -- a token, where no other part is wanted
 abbrev pub TokenFits : TokenKey → Place → Form → Type 0
 TokenFits (keys.Fixed n) place (quoted m) = n ≡ m
-TokenFits (keys.Fixed n) place comma = (n ≡ fixed.COMMA) × (place ≡ nowhere)
 TokenFits (keys.Name id) place name = Unit {0}
 TokenFits (keys.Number n) place number = Unit {0}
 TokenFits (keys.Char c) place character = Unit {0}

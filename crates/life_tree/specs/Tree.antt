@@ -21,6 +21,10 @@ pub data Tree : Type 0 where
   -- what a rule derives
   node : Rule → Tree → Tree
 
+-- a place that no token of a file has
+abbrev pub nowhere : Place
+nowhere = record { line = 0; column = 0 }
+
 -- the tokens of a tree in their order
 abbrev pub tokens_of : Tree → List TreeToken
 tokens_of nothing = []

@@ -1,7 +1,6 @@
 -- The trees that values of the program stand for.
 use Rattle.std.specs.Prelude.{ℕ, List, [], ◌∷◌, Option, Some, None, map, Box}
 use Rattle.life_types.specs.declared.place.Place.{Place}
-use Rattle.life_tree.specs.Grammar.{nowhere}
 use Rattle.life_tree.specs.Rules as rules
 use Rattle.life_tree.specs.Tree.{Tree, nothing, without_else, token, ◌⨾◌, construct, node}
 use Rattle.life_tree.specs.declared.fixed.TheConstants as fixed
@@ -117,18 +116,19 @@ abbrev pub list_tree : List Tree → Tree
 list_tree [] = nothing
 list_tree (t ∷ ts) = t ⨾ list_tree ts
 
-abbrev pub comma_tree : Tree
-comma_tree = token (keys.Fixed fixed.COMMA) nowhere
+-- each with the comma before it; where there are fewer of the ones than of the others, what is left stands alone
+abbrev pub later_trees : List Place → List Tree → List Tree
+later_trees [] ts = ts
+later_trees (comma ∷ commas) [] = at fixed.COMMA comma ∷ later_trees commas []
+later_trees (comma ∷ commas) (t ∷ ts) = (at fixed.COMMA comma ⨾ t) ∷ later_trees commas ts
 
--- with a comma before each
-abbrev pub later_tree : List Tree → Tree
-later_tree [] = nothing
-later_tree (t ∷ ts) = (comma_tree ⨾ t) ⨾ later_tree ts
+abbrev pub later_tree : List Place → List Tree → Tree
+later_tree commas ts = list_tree (later_trees commas ts)
 
--- with a comma before each but the first
-abbrev pub separated_tree : List Tree → Tree
-separated_tree [] = nothing
-separated_tree (t ∷ ts) = t ⨾ later_tree ts
+-- with these commas between
+abbrev pub separated_tree : List Place → List Tree → Tree
+separated_tree commas [] = later_tree commas []
+separated_tree commas (t ∷ ts) = t ⨾ later_tree commas ts
 
 abbrev pub parenthesized_tree : Place → Tree → Place → Tree
 parenthesized_tree opening t closing = construct fixed.LEFT_PAREN opening (t ⨾ at fixed.RIGHT_PAREN closing)
@@ -305,13 +305,13 @@ abbrev pub and_part : open_expr.AndPart-F Tree Tree Tree Tree Tree Tree Tree Tre
 and_part p = at fixed.AND_AND p.place ⨾ p.operand
 
 abbrev pub arguments_step : open_expr.Arguments-F Tree Tree Tree Tree Tree Tree Tree Tree Tree Tree Tree Tree Tree Tree Tree Tree Tree Tree → Tree
-arguments_step a = node rules.args (parenthesized_tree a.opening (separated_tree a.list.items) a.closing)
+arguments_step a = node rules.args (parenthesized_tree a.opening (separated_tree a.commas.items a.list.items) a.closing)
 
 abbrev pub expr_step : open_expr.Expr-F Tree Tree Tree Tree Tree Tree Tree Tree Tree Tree Tree Tree Tree Tree Tree Tree Tree Tree → Tree
 expr_step e = node rules.expr (e.first ⨾ list_tree e.more.items)
 
 abbrev pub init_list_step : open_expr.InitList-F Tree Tree Tree Tree Tree Tree Tree Tree Tree Tree Tree Tree Tree Tree Tree Tree Tree Tree → Tree
-init_list_step l = node rules.list (braced_tree l.opening (separated_tree l.list.items) l.closing)
+init_list_step l = node rules.list (braced_tree l.opening (separated_tree l.commas.items l.list.items) l.closing)
 
 abbrev pub logical_and_step : open_expr.LogicalAnd-F Tree Tree Tree Tree Tree Tree Tree Tree Tree Tree Tree Tree Tree Tree Tree Tree Tree Tree → Tree
 logical_and_step e = node rules.both (e.first ⨾ list_tree e.more.items)
@@ -629,7 +629,7 @@ abbrev pub scope_tree : AttributeScope → Tree
 scope_tree s = at fixed.SCOPE s.scope ⨾ name_tree s.name
 
 abbrev pub attribute_arguments_tree : AttributeArguments → Tree
-attribute_arguments_tree a = parenthesized_tree a.opening (separated_tree (map word_tree a.words.items)) a.closing
+attribute_arguments_tree a = parenthesized_tree a.opening (separated_tree a.commas.items (map word_tree a.words.items)) a.closing
 
 abbrev pub attribute_tree : Attribute → Tree
 attribute_tree a = node rules.attribute
@@ -653,7 +653,7 @@ body_tree (function_body.Declared place) = at fixed.SEMICOLON place
 abbrev pub function_tree : Function → Tree
 function_tree f = node rules.function
     (attributes_tree f.attributes.items ⨾ result_tree f.returned ⨾ name_tree f.name
-    ⨾ parenthesized_tree f.opening (separated_tree (map parameter_tree f.parameters.items)) f.closing ⨾ body_tree f.body)
+    ⨾ parenthesized_tree f.opening (separated_tree f.commas.items (map parameter_tree f.parameters.items)) f.closing ⨾ body_tree f.body)
 
 -- ---- programs
 

@@ -38,6 +38,8 @@ pub struct AttributeArguments {
     pub opening: Place,
     /// The words, at least one.
     pub words: Vec<AttributeWord>,
+    /// The commas between them.
+    pub commas: Vec<Place>,
     /// The `)`.
     pub closing: Place,
 }

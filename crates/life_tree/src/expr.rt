@@ -50,6 +50,8 @@ pub struct Arguments {
     pub opening: Place,
     /// The arguments in their order.
     pub list: Vec<Expr>,
+    /// The commas between them.
+    pub commas: Vec<Place>,
     /// The `)`.
     pub closing: Place,
 }
@@ -62,6 +64,8 @@ pub struct InitList {
     pub opening: Place,
     /// The elements in their order.
     pub list: Vec<Expr>,
+    /// The commas between them.
+    pub commas: Vec<Place>,
     /// The `}`.
     pub closing: Place,
 }

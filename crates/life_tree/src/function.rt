@@ -19,6 +19,8 @@ pub struct Function {
     pub opening: Place,
     /// Its parameters.
     pub parameters: Vec<Parameter>,
+    /// The commas between them.
+    pub commas: Vec<Place>,
     /// The `)`.
     pub closing: Place,
     /// Its body.

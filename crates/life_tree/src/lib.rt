@@ -2,8 +2,7 @@
 //!
 //! The grammar is a subset of ISO/IEC 14882:2017 [gram]. It has no preprocessor, no templates but
 //! the named ones of the library, one declarator a declaration, and no statements that the lifetime
-//! profile does not speak of. Each node keeps where the tokens of its own rule stand; of commas it
-//! does not.
+//! profile does not speak of. Each node keeps where the tokens of its own rule stand.
 #![tactic(auto)]
 
 mod arithmetic;

@@ -2,8 +2,7 @@
 use crate::key::TokenKey;
 use life_types::Place;
 
-/// A token by its kind and value, and where it stands. Of a comma trees do not keep that: a comma's
-/// place is in line 0 and column 0.
+/// A token by its kind and value, and where it stands.
 #[derive(Clone, Copy, Debug, PartialEq, Eq)]
 pub struct TreeToken {
     /// Its kind and value.

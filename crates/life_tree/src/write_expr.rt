@@ -1,7 +1,7 @@
 // The tokens of expressions.
-ghost use Rattle.std.specs.Prelude.{◌≡◌, ◌++◌, OnOk};
+ghost use Rattle.std.specs.Prelude.{◌≡◌, ◌++◌, OnOk, map};
 ghost use Rattle.life_tree.specs.Tree.{keys_of};
-ghost use Rattle.life_tree.specs.Views.{additive_tree, arguments_tree, equality_tree, expr_tree, init_list_tree, logical_and_tree, multiplicative_tree, postfix_part_tree, postfix_tree, primary_tree, relational_tree, unary_tree};
+ghost use Rattle.life_tree.specs.Views.{additive_tree, arguments_tree, equality_tree, expr_tree, init_list_tree, logical_and_tree, multiplicative_tree, postfix_part_tree, postfix_tree, primary_tree, relational_tree, separated_tree, unary_tree};
 
 use crate::arithmetic::{Additive, Multiplicative};
 use crate::comparison::{Equality, Relational};
@@ -9,9 +9,9 @@ use crate::expr::{Arguments, Expr, InitList, LogicalAnd};
 use crate::fixed;
 use crate::key::TokenKey;
 use crate::primary::{Postfix, PostfixPart, Primary, Unary};
-use crate::write_token::{write_fixed, write_name, write_qualified, write_separator};
+use crate::write_token::{write_comma, write_commas, write_fixed, write_name, write_qualified};
 use crate::write_type::write_argument;
-use life_types::NoMemory;
+use life_types::{NoMemory, Place};
 
 /// Adds the tokens of an expression.
 #[cycle(exprs)]
@@ -208,33 +208,41 @@ fn write_primary(primary: &Primary, keys: &mut Vec<TokenKey>) -> Result<(), NoMe
     Ok(())
 }
 
+/// Adds the tokens of expressions with commas between.
 #[cycle(exprs)]
 #[tactic(auto, using(crate::proofs::SeparatedKeys::first_keys))]
+fn write_separated(
+    exprs: &[Expr],
+    commas: &Vec<Place>,
+    keys: &mut Vec<TokenKey>,
+) -> Result<(), NoMemory>
+    ensures { OnOk result (keys.new.items ≡ keys.old.items ++ keys_of (separated_tree commas.now.items (map expr_tree exprs.now))) }
+{
+    let mut started = false;
+    let mut rest = commas.as_slice();
+    'list: for expr in exprs {
+        rest = write_comma(started, rest, keys)?;
+        write_expr(expr, keys)?;
+        started = true;
+    }
+    write_commas(rest, keys)
+}
+
+#[cycle(exprs)]
 fn write_arguments(arguments: &Arguments, keys: &mut Vec<TokenKey>) -> Result<(), NoMemory>
     ensures { OnOk result (keys.new.items ≡ keys.old.items ++ keys_of (arguments_tree arguments.now)) }
 {
     write_fixed(fixed::LEFT_PAREN, keys)?;
-    let mut started = false;
-    'list: for expr in &arguments.list {
-        write_separator(started, keys)?;
-        write_expr(expr, keys)?;
-        started = true;
-    }
+    write_separated(&arguments.list, &arguments.commas, keys)?;
     write_fixed(fixed::RIGHT_PAREN, keys)
 }
 
 /// Adds the tokens of a list in braces.
 #[cycle(exprs)]
-#[tactic(auto, using(crate::proofs::SeparatedKeys::first_keys))]
 pub(crate) fn write_init_list(list: &InitList, keys: &mut Vec<TokenKey>) -> Result<(), NoMemory>
     ensures { OnOk result (keys.new.items ≡ keys.old.items ++ keys_of (init_list_tree list.now)) }
 {
     write_fixed(fixed::LEFT_BRACE, keys)?;
-    let mut started = false;
-    'list: for expr in &list.list {
-        write_separator(started, keys)?;
-        write_expr(expr, keys)?;
-        started = true;
-    }
+    write_separated(&list.list, &list.commas, keys)?;
     write_fixed(fixed::RIGHT_BRACE, keys)
 }

@@ -9,9 +9,9 @@ use crate::function::{Function, FunctionBody, Parameter, ResultType};
 use crate::key::TokenKey;
 use crate::program::{Definition, Member, Program, StructDefinition};
 use crate::write_stmt::write_block;
-use crate::write_token::{write_fixed, write_name, write_separator};
+use crate::write_token::{write_comma, write_commas, write_fixed, write_name};
 use crate::write_type::write_type;
-use life_types::NoMemory;
+use life_types::{NoMemory, Place};
 use std::alloc::Global;
 
 /// The tokens of a program in their order, by their kinds and values.
@@ -86,16 +86,21 @@ fn write_word(word: &AttributeWord, keys: &mut Vec<TokenKey>) -> Result<(), NoMe
 }
 
 #[tactic(auto, using(crate::proofs::SeparatedKeys::first_keys))]
-fn write_words(words: &Vec<AttributeWord>, keys: &mut Vec<TokenKey>) -> Result<(), NoMemory>
-    ensures { OnOk result (keys.new.items ≡ keys.old.items ++ keys_of (separated_tree (map word_tree words.now.items))) }
+fn write_words(
+    words: &Vec<AttributeWord>,
+    commas: &Vec<Place>,
+    keys: &mut Vec<TokenKey>,
+) -> Result<(), NoMemory>
+    ensures { OnOk result (keys.new.items ≡ keys.old.items ++ keys_of (separated_tree commas.now.items (map word_tree words.now.items))) }
 {
     let mut started = false;
+    let mut rest = commas.as_slice();
     'words: for word in words {
-        write_separator(started, keys)?;
+        rest = write_comma(started, rest, keys)?;
         write_word(word, keys)?;
         started = true;
     }
-    Ok(())
+    write_commas(rest, keys)
 }
 
 fn write_scope(scope: &Option<AttributeScope>, keys: &mut Vec<TokenKey>) -> Result<(), NoMemory>
@@ -118,7 +123,7 @@ fn write_attribute_arguments(
         return Ok(());
     };
     write_fixed(fixed::LEFT_PAREN, keys)?;
-    write_words(&arguments.words, keys)?;
+    write_words(&arguments.words, &arguments.commas, keys)?;
     write_fixed(fixed::RIGHT_PAREN, keys)
 }
 
@@ -152,16 +157,21 @@ fn write_parameter(parameter: &Parameter, keys: &mut Vec<TokenKey>) -> Result<()
 }
 
 #[tactic(auto, using(crate::proofs::SeparatedKeys::first_keys))]
-fn write_parameters(parameters: &Vec<Parameter>, keys: &mut Vec<TokenKey>) -> Result<(), NoMemory>
-    ensures { OnOk result (keys.new.items ≡ keys.old.items ++ keys_of (separated_tree (map parameter_tree parameters.now.items))) }
+fn write_parameters(
+    parameters: &Vec<Parameter>,
+    commas: &Vec<Place>,
+    keys: &mut Vec<TokenKey>,
+) -> Result<(), NoMemory>
+    ensures { OnOk result (keys.new.items ≡ keys.old.items ++ keys_of (separated_tree commas.now.items (map parameter_tree parameters.now.items))) }
 {
     let mut started = false;
+    let mut rest = commas.as_slice();
     'parameters: for parameter in parameters {
-        write_separator(started, keys)?;
+        rest = write_comma(started, rest, keys)?;
         write_parameter(parameter, keys)?;
         started = true;
     }
-    Ok(())
+    write_commas(rest, keys)
 }
 
 fn write_result(ty: &ResultType, keys: &mut Vec<TokenKey>) -> Result<(), NoMemory>
@@ -189,7 +199,7 @@ fn write_function(function: &Function, keys: &mut Vec<TokenKey>) -> Result<(), N
     write_result(&function.returned, keys)?;
     write_name(function.name, keys)?;
     write_fixed(fixed::LEFT_PAREN, keys)?;
-    write_parameters(&function.parameters, keys)?;
+    write_parameters(&function.parameters, &function.commas, keys)?;
     write_fixed(fixed::RIGHT_PAREN, keys)?;
     write_body(&function.body, keys)
 }

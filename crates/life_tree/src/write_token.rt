@@ -1,6 +1,6 @@
 // Single tokens, added to a list.
-ghost use Rattle.std.specs.Prelude.{◌≡◌, ◌++◌, ◌∷◌, [], OnOk};
-ghost use Rattle.life_tree.specs.Separated.{separator};
+ghost use Rattle.std.specs.Prelude.{◌≡◌, ◌++◌, ◌∷◌, [], IfOk, OnOk};
+ghost use Rattle.life_tree.specs.Separated.{comma_keys, commas_behind, separator};
 ghost use Rattle.life_tree.specs.Tree.{keys_of};
 ghost use Rattle.life_tree.specs.Views.{iterator_tree, name_tree, optional_tree, at, suffix_tree};
 ghost use Rattle.life_tree.specs.declared.fixed.TheConstants.{SCOPE};
@@ -55,15 +55,35 @@ pub(crate) fn write_name(name: Identifier, keys: &mut Vec<TokenKey>) -> Result<(
     Ok(())
 }
 
-/// Adds a comma, if parts stand before.
-pub(crate) fn write_separator(started: bool, keys: &mut Vec<TokenKey>) -> Result<(), NoMemory>
-    ensures { OnOk result (keys.new.items ≡ keys.old.items ++ separator started) }
+/// Adds the next of these commas, but none before the first part, and gives those behind it.
+pub(crate) fn write_comma<'a>(
+    started: bool,
+    commas: &'a [Place],
+    keys: &mut Vec<TokenKey>,
+) -> Result<&'a [Place], NoMemory>
+    ensures written { OnOk result (keys.new.items ≡ keys.old.items ++ separator started commas.now) }
+    ensures rest { IfOk result (λ rest. rest.now ≡ commas_behind started commas.now) }
 {
-    if started {
-        write_fixed(fixed::COMMA, keys)
-    } else {
-        Ok(())
+    if !started {
+        return Ok(commas);
     }
+    match commas {
+        [_, rest @ ..] => {
+            write_fixed(fixed::COMMA, keys)?;
+            Ok(rest)
+        }
+        [] => Ok(commas),
+    }
+}
+
+/// Adds as many commas.
+pub(crate) fn write_commas(commas: &[Place], keys: &mut Vec<TokenKey>) -> Result<(), NoMemory>
+    ensures { OnOk result (keys.new.items ≡ keys.old.items ++ comma_keys commas.now) }
+{
+    'commas: for _comma in commas {
+        write_fixed(fixed::COMMA, keys)?;
+    }
+    Ok(())
 }
 
 /// Adds `*` or `&`, where it stands.

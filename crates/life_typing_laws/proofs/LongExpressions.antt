@@ -419,13 +419,13 @@ and_part_layer : (l : Layer-AndPart claims) → PartReads (and_part (of_parts_an
 and_part_layer l = operand_reads operators.And l.place fixed.AND_AND (of_equality l.operand.0) (equality_tree l.operand.0) l.operand.1
 
 arguments_layer : (l : Layer-Arguments claims) → ListReads (arguments_step (of_parts_arguments (parts_arguments claims l))) (views.arguments_step (trees_arguments (parts_arguments claims l)))
-arguments_layer l = list_reads rules.args fixed.LEFT_PAREN l.opening (views.at fixed.RIGHT_PAREN l.closing) _ _ (paired Reads of_expr expr_tree l.list.items)
+arguments_layer l = list_reads rules.args fixed.LEFT_PAREN l.opening (views.at fixed.RIGHT_PAREN l.closing) l.commas.items _ _ (paired Reads of_expr expr_tree l.list.items)
 
 expr_layer : (l : Layer-Expr claims) → Reads (expr_step (of_parts_expr (parts_expr claims l))) (views.expr_step (trees_expr (parts_expr claims l)))
 expr_layer l = chain_reads rules.expr (of_logical_and l.first.0) (logical_and_tree l.first.0) _ _ l.first.1 (paired PartReads of_or_part or_part_tree l.more.items)
 
 init_list_layer : (l : Layer-InitList claims) → ListReads (init_list_step (of_parts_init_list (parts_init_list claims l))) (views.init_list_step (trees_init_list (parts_init_list claims l)))
-init_list_layer l = list_reads rules.list fixed.LEFT_BRACE l.opening (views.at fixed.RIGHT_BRACE l.closing) _ _ (paired Reads of_expr expr_tree l.list.items)
+init_list_layer l = list_reads rules.list fixed.LEFT_BRACE l.opening (views.at fixed.RIGHT_BRACE l.closing) l.commas.items _ _ (paired Reads of_expr expr_tree l.list.items)
 
 logical_and_layer : (l : Layer-LogicalAnd claims) → Reads (logical_and_step (of_parts_logical_and (parts_logical_and claims l))) (views.logical_and_step (trees_logical_and (parts_logical_and claims l)))
 logical_and_layer l = chain_reads rules.both (of_equality l.first.0) (equality_tree l.first.0) _ _ l.first.1 (paired PartReads of_and_part and_part_tree l.more.items)

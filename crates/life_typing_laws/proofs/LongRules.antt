@@ -54,20 +54,20 @@ listed_each R P each (x ∷ xs) (t ∷ ts) pairs read = (each x t pairs.0 read.0
 listed_each R P each [] (t ∷ ts) pairs read = absurd pairs
 listed_each R P each (x ∷ xs) [] pairs read = absurd pairs
 
-later_each : (ms : List Meaning) (ts : List Tree) → Pairwise Reads ms ts → IsRead (later_tree ts) → EachHolds GivesLong ms
-later_each [] [] pairs read = tt
-later_each (m ∷ ms) (t ∷ ts) pairs read = (pairs.0 read.0.1, later_each ms ts pairs.1 read.1)
-later_each [] (t ∷ ts) pairs read = absurd pairs
-later_each (m ∷ ms) [] pairs read = absurd pairs
+later_each : (commas : List Place) (ms : List Meaning) (ts : List Tree) → Pairwise Reads ms ts → IsRead (later_tree commas ts) → EachHolds GivesLong ms
+later_each commas [] ts pairs read = tt
+later_each commas (m ∷ ms) [] pairs read = absurd pairs
+later_each [] (m ∷ ms) (t ∷ ts) pairs read = (pairs.0 read.0, later_each [] ms ts pairs.1 read.1)
+later_each (comma ∷ commas) (m ∷ ms) (t ∷ ts) pairs read = (pairs.0 read.0.1, later_each commas ms ts pairs.1 read.1)
 
-separated_each : (ms : List Meaning) (ts : List Tree) → Pairwise Reads ms ts → IsRead (separated_tree ts) → EachHolds GivesLong ms
-separated_each [] [] pairs read = tt
-separated_each (m ∷ ms) (t ∷ ts) pairs read = (pairs.0 read.0, later_each ms ts pairs.1 read.1)
-separated_each [] (t ∷ ts) pairs read = absurd pairs
-separated_each (m ∷ ms) [] pairs read = absurd pairs
+separated_each : (commas : List Place) (ms : List Meaning) (ts : List Tree) → Pairwise Reads ms ts → IsRead (separated_tree commas ts) → EachHolds GivesLong ms
+separated_each commas [] ts pairs read = tt
+separated_each commas (m ∷ ms) [] pairs read = absurd pairs
+separated_each commas (m ∷ ms) (t ∷ ts) pairs read = (pairs.0 read.0, later_each commas ms ts pairs.1 read.1)
 
-pub list_reads : (r : Rule) (n : ℕ) (place : Place) (closing : Tree) (ms : List Meaning) (ts : List Tree) → Pairwise Reads ms ts → IsRead (node r (construct n place (separated_tree ts ⨾ closing))) → EachHolds GivesLong ms
-list_reads r n place closing ms ts pairs read = separated_each ms ts pairs read.1.0
+pub list_reads : (r : Rule) (n : ℕ) (place : Place) (closing : Tree) (commas : List Place) (ms : List Meaning) (ts : List Tree) → Pairwise Reads ms ts
+    → IsRead (node r (construct n place (separated_tree commas ts ⨾ closing))) → EachHolds GivesLong ms
+list_reads r n place closing commas ms ts pairs read = separated_each commas ms ts pairs read.1.0
 
 -- ---- chains
 

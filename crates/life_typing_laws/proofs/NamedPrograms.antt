@@ -83,13 +83,14 @@ module _ (names : ℕ) where
       finds_then (NamedBehind ℕ names) (NamedBehind (List Bool) names) _ _ (local_named names (parameter_local q (known_or_void known (length hides))) scope named.0 all) (λ x kept.
       each_parameter known ps named.1 (hides ++ is_seen scope q.name.id ∷ []) x.1 kept)
 
-  later_parameters : (ps : List Parameter) → IsNamedTree names (later_tree (map parameter_tree ps)) → EachHolds (λ (q : Parameter). nat_lt q.name.id.0 names ≡ true) ps
-  later_parameters [] named = tt
-  later_parameters (q ∷ ps) named = (named.0.1.1.1, later_parameters ps named.1)
+  later_parameters : (commas : List Place) (ps : List Parameter) → IsNamedTree names (later_tree commas (map parameter_tree ps)) → EachHolds (λ (q : Parameter). nat_lt q.name.id.0 names ≡ true) ps
+  later_parameters commas [] named = tt
+  later_parameters [] (q ∷ ps) named = (named.0.1.1, later_parameters [] ps named.1)
+  later_parameters (comma ∷ commas) (q ∷ ps) named = (named.0.1.1.1, later_parameters commas ps named.1)
 
-  parameters_named : (ps : List Parameter) → IsNamedTree names (separated_tree (map parameter_tree ps)) → EachHolds (λ (q : Parameter). nat_lt q.name.id.0 names ≡ true) ps
-  parameters_named [] named = tt
-  parameters_named (q ∷ ps) named = (named.0.1.1, later_parameters ps named.1)
+  parameters_named : (commas : List Place) (ps : List Parameter) → IsNamedTree names (separated_tree commas (map parameter_tree ps)) → EachHolds (λ (q : Parameter). nat_lt q.name.id.0 names ≡ true) ps
+  parameters_named commas [] named = tt
+  parameters_named commas (q ∷ ps) named = (named.0.1.1, later_parameters commas ps named.1)
 
   -- their names are forgotten
   still_named : (ps : List Parameter) (scope : Scope) → LocalsNamed names scope.locals → LocalsNamed names (parameters_forgotten ps scope).locals
@@ -133,7 +134,7 @@ module _ (names : ℕ) where
   function_keeps : (bodies : List Bool) (f : Function) (p : ProgressView) → IsNamedTree names (function_tree f) → IsNamedSoFar p → Finds IsNamedSoFar (with_function bodies f p)
   function_keeps bodies f p named so_far =
       finds_then IsNamedHeader IsNamedSoFar _ _
-      (header_named bodies (meaning p.scope f.name.id) f (record p { scope = headers.function_seen f p.scope }) (headers.header_types p.pointing f p.scope p.types) (parameters_named f.parameters.items named.1.1.1.0.0)
+      (header_named bodies (meaning p.scope f.name.id) f (record p { scope = headers.function_seen f p.scope }) (headers.header_types p.pointing f p.scope p.types) (parameters_named f.commas.items f.parameters.items named.1.1.1.0.0)
       (so_far.0, by_seen f p.scope (λ (s : Scope). LocalsNamed names s.locals) so_far.1 so_far.1)) (λ x h.
       finds_then IsNamedNumbered IsNamedSoFar _ _ (declared_named (meaning p.scope f.name.id) f x.0 x.1 named.1.1.0 h) (λ y d.
       finds_then IsNamedSoFar IsNamedSoFar _ _ (behind_named f.body f y.0 x.0.returned y.1 named.1.1.1.1 d) (λ z b.

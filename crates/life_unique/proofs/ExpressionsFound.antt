@@ -3,16 +3,18 @@
 use Rattle.std.proofs.Common.{◌≡◌, true, false, List, [], ◌∷◌, None, Some, map, refl, ap, sym, subst, ◌∙◌}
 use Rattle.std.specs.Prelude.{if◌then◌else◌}
 use Rattle.std.specs.declared.alloc.Global.{Global}
+use Rattle.life_types.specs.declared.place.Place.{Place}
 use Rattle.life_tree.specs.Rules as rules
-use Rattle.life_tree.specs.Tree.{Tree, node}
+use Rattle.life_tree.specs.Tree.{Tree, ◌⨾◌, node}
 use Rattle.life_tree.specs.Views.{list_tree, later_tree, separated_tree}
 use Rattle.life_tree.specs.declared.primary.PostfixPart.TheFolds.{fold_out-Additive, fold_out-Arguments, fold_out-Expr, fold_out-InitList, fold_out-Postfix}
-use Rattle.life_unique.specs.Standing.{boxed_at}
+use Rattle.life_unique.specs.Standing.{boxed_at, settled_list}
 use Rattle.life_unique.proofs.ExpressionsFrom.{from_part, from_primary, from_unary, from_additive, from_additive_part, from_multiplicative, from_multiplicative_part, from_equality, from_equality_part, from_relational, from_relational_part, from_and_part, from_arguments, from_expr, from_init_list, from_logical_and, from_or_part, from_postfix}
-use Rattle.life_unique.proofs.ExpressionsFrom.{parts, or_parts, and_parts, equality_parts, relational_parts, additive_parts, multiplicative_parts, separated, later}
-use Rattle.life_unique.proofs.Lists.{Both, listed, listed_is}
+use Rattle.life_unique.proofs.ExpressionsFrom.{parts, or_parts, and_parts, equality_parts, relational_parts, additive_parts, multiplicative_parts, separated}
+use Rattle.life_unique.proofs.Commas.{commas_found, commas_of}
+use Rattle.life_unique.proofs.Lists.{Both, listed, listed_is, settled_is}
 use Rattle.life_unique.proofs.Operators.{additive_is, multiplicative_is, equality_is, relational_is, prefix_is}
-use Rattle.life_unique.proofs.Tokens.{is_nothing, is_list, is_node}
+use Rattle.life_unique.proofs.Tokens.{derived, is_nothing, is_list, is_node}
 use Rattle.life_unique.proofs.TypesFound.{argument_found}
 use Rattle.life_tree.specs.declared.primary.PostfixPart.{PostfixPart, roll-PostfixPart}
 use Rattle.life_tree.specs.declared.primary.Primary.{Primary, roll-Primary}
@@ -81,6 +83,12 @@ pub additive_is_node : (x : Additive) → is_node (additive_tree x) ≡ true
 additive_is_node x = ap is_node (fold_out-Additive Tree Tree Tree Tree Tree Tree Tree Tree Tree Tree Tree Tree Tree Tree Tree Tree Tree Tree
     part_step primary_step unary_step additive_step additive_part multiplicative_step multiplicative_part equality_step equality_part relational_step relational_part and_part arguments_step expr_step
     init_list_step logical_and_step or_part postfix_step x)
+
+-- it is what a rule derives
+expr_is_derived : (x : Expr) → expr_tree x ≡ node rules.expr (derived (expr_tree x))
+expr_is_derived x = subst (λ t. t ≡ node rules.expr (derived t)) (sym (fold_out-Expr Tree Tree Tree Tree Tree Tree Tree Tree Tree Tree Tree Tree Tree Tree Tree Tree Tree Tree
+    part_step primary_step unary_step additive_step additive_part multiplicative_step multiplicative_part equality_step equality_part relational_step relational_part and_part arguments_step expr_step
+    init_list_step logical_and_step or_part postfix_step x)) refl
 
 module _ (g : Global) where
   -- what has no prefix
@@ -195,13 +203,22 @@ module _ (g : Global) where
   part_row [] = refl
   part_row (x ∷ xs) = λ i. x.1 i ∷ part_row xs i
 
-  later_row : (xs : List (Both Found-Expr)) → later g (later_tree (map expr_tree (map (λ z. z.0) xs))) ≡ map settled_expr (map (λ z. z.0) xs)
-  later_row [] = refl
-  later_row (x ∷ xs) = λ i. x.1 i ∷ later_row xs i
+  -- .. that has no comma before it
+  first_expr : (x : Both Found-Expr) (ts : Tree) → separated g (expr_tree x.0 ⨾ ts) ≡ settled_expr x.0 ∷ separated g ts
+  first_expr x ts = subst (λ t. separated g (t ⨾ ts) ≡ from_expr g t ∷ separated g ts) (sym (expr_is_derived x.0)) refl ∙ (λ i. x.1 i ∷ separated g ts)
 
-  separated_row : (xs : List (Both Found-Expr)) → separated g (separated_tree (map expr_tree (map (λ z. z.0) xs))) ≡ map settled_expr (map (λ z. z.0) xs)
-  separated_row [] = refl
-  separated_row (x ∷ xs) = λ i. x.1 i ∷ later_row xs i
+  later_row : (commas : List Place) (xs : List (Both Found-Expr)) → separated g (later_tree commas (map expr_tree (map (λ z. z.0) xs))) ≡ map settled_expr (map (λ z. z.0) xs)
+  later_row [] [] = refl
+  later_row [] (x ∷ xs) = first_expr x (later_tree [] (map expr_tree (map (λ z. z.0) xs))) ∙ (λ i. settled_expr x.0 ∷ later_row [] xs i)
+  later_row (comma ∷ commas) [] = later_row commas []
+  later_row (comma ∷ commas) (x ∷ xs) = λ i. x.1 i ∷ later_row commas xs i
+
+  separated_row : (commas : List Place) (xs : List (Both Found-Expr)) → separated g (separated_tree commas (map expr_tree (map (λ z. z.0) xs))) ≡ map settled_expr (map (λ z. z.0) xs)
+  separated_row commas [] = later_row commas []
+  separated_row commas (x ∷ xs) = first_expr x (later_tree commas (map expr_tree (map (λ z. z.0) xs))) ∙ (λ i. settled_expr x.0 ∷ later_row commas xs i)
+
+  commas_row : (commas : List Place) (xs : List (Both Found-Expr)) → commas_of (separated_tree commas (map expr_tree (map (λ z. z.0) xs))) ≡ commas
+  commas_row commas xs = commas_found rules.expr expr_tree expr_is_derived commas (map (λ z. z.0) xs)
 
   -- .. is found of parts that are
   part_layer : (l : Layer-PostfixPart claims)
@@ -289,8 +306,13 @@ module _ (g : Global) where
   arguments_layer : (l : Layer-Arguments claims)
       → from_arguments g (arguments_step (trees_arguments (parts_arguments claims l)))
       ≡ kept_arguments (settle_arguments (parts_arguments claims l))
-  arguments_layer l = (λ i. roll-Arguments (record { opening = l.opening; list = listed g (separated_row l.list.items i); closing = l.closing }))
-      ∙ ap (λ z. roll-Arguments (record { opening = l.opening; list = z; closing = l.closing })) (listed_is g (map settled_expr (map (λ z. z.0) l.list.items)) _)
+  arguments_layer l = (λ i. roll-Arguments (record {
+    opening = l.opening;
+    list = listed g (separated_row l.commas.items l.list.items i);
+    commas = settled_is g l.commas (commas_of (separated_tree l.commas.items (map expr_tree (map (λ z. z.0) l.list.items)))) (commas_row l.commas.items l.list.items) i;
+    closing = l.closing;
+  }))
+      ∙ ap (λ z. roll-Arguments (record { opening = l.opening; list = z; commas = settled_list l.commas; closing = l.closing })) (listed_is g (map settled_expr (map (λ z. z.0) l.list.items)) _)
 
   expr_layer : (l : Layer-Expr claims)
       → from_expr g (expr_step (trees_expr (parts_expr claims l)))
@@ -301,8 +323,13 @@ module _ (g : Global) where
   init_list_layer : (l : Layer-InitList claims)
       → from_init_list g (init_list_step (trees_init_list (parts_init_list claims l)))
       ≡ kept_init_list (settle_init_list (parts_init_list claims l))
-  init_list_layer l = (λ i. roll-InitList (record { opening = l.opening; list = listed g (separated_row l.list.items i); closing = l.closing }))
-      ∙ ap (λ z. roll-InitList (record { opening = l.opening; list = z; closing = l.closing })) (listed_is g (map settled_expr (map (λ z. z.0) l.list.items)) _)
+  init_list_layer l = (λ i. roll-InitList (record {
+    opening = l.opening;
+    list = listed g (separated_row l.commas.items l.list.items i);
+    commas = settled_is g l.commas (commas_of (separated_tree l.commas.items (map expr_tree (map (λ z. z.0) l.list.items)))) (commas_row l.commas.items l.list.items) i;
+    closing = l.closing;
+  }))
+      ∙ ap (λ z. roll-InitList (record { opening = l.opening; list = z; commas = settled_list l.commas; closing = l.closing })) (listed_is g (map settled_expr (map (λ z. z.0) l.list.items)) _)
 
   logical_and_layer : (l : Layer-LogicalAnd claims)
       → from_logical_and g (logical_and_step (trees_logical_and (parts_logical_and claims l)))

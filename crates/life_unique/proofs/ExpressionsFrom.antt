@@ -3,8 +3,7 @@ use Rattle.std.proofs.Common.{List, [], ◌∷◌, None, Some}
 use Rattle.std.specs.Prelude.{◌==◌, if◌then◌else◌}
 use Rattle.std.specs.declared.alloc.Global.{Global}
 use Rattle.life_types.specs.declared.place.Place.{Place}
-use Rattle.life_tree.specs.Grammar.{nowhere}
-use Rattle.life_tree.specs.Tree.{Tree, token, ◌⨾◌, construct, node}
+use Rattle.life_tree.specs.Tree.{Tree, token, ◌⨾◌, construct, node, nowhere}
 use Rattle.life_tree.specs.declared.fixed.TheConstants as fixed
 use Rattle.life_tree.specs.declared.key.TokenKey.{TokenKey}
 use Rattle.life_tree.specs.declared.key.TokenKey.TheVariants as keys
@@ -28,6 +27,7 @@ use Rattle.life_tree.specs.declared.expr.OrPart.{OrPart, roll-OrPart}
 use Rattle.life_tree.specs.declared.primary.Postfix.{Postfix, roll-Postfix}
 use Rattle.life_tree.specs.declared.primary.PostfixPart.TheOpen as open_expr
 use Rattle.life_unique.specs.Standing.{boxed_at}
+use Rattle.life_unique.proofs.Commas.{commas_of}
 use Rattle.life_unique.proofs.Lists.{empty, listed}
 use Rattle.life_unique.proofs.Operators.{additive_of, multiplicative_of, equality_of, relational_of, prefix_of}
 use Rattle.life_unique.proofs.Tokens.{place_of, number_of, name_of, qualified, is_nothing, is_list}
@@ -73,10 +73,10 @@ module _ (g : Global) where
   no_expr = roll-Expr (record { first = no_logical_and; more = empty g })
 
   abbrev pub no_arguments : Arguments
-  no_arguments = roll-Arguments (record { opening = nowhere; list = empty g; closing = nowhere })
+  no_arguments = roll-Arguments (record { opening = nowhere; list = empty g; commas = empty g; closing = nowhere })
 
   abbrev pub no_init_list : InitList
-  no_init_list = roll-InitList (record { opening = nowhere; list = empty g; closing = nowhere })
+  no_init_list = roll-InitList (record { opening = nowhere; list = empty g; commas = empty g; closing = nowhere })
 
   abbrev mutual
     pub from_part : Tree → PostfixPart
@@ -191,18 +191,16 @@ module _ (g : Global) where
     from_or_part _ = roll-OrPart (record { place = nowhere; operand = no_logical_and })
 
     pub from_arguments : Tree → Arguments
-    from_arguments (node _ (construct _ opening (list ⨾ closing))) = roll-Arguments (record { opening = opening; list = listed g (separated list); closing = place_of closing })
+    from_arguments (node _ (construct _ opening (list ⨾ closing))) = roll-Arguments (record { opening = opening; list = listed g (separated list); commas = listed g (commas_of list); closing = place_of closing })
     from_arguments _ = no_arguments
 
     pub from_init_list : Tree → InitList
-    from_init_list (node _ (construct _ opening (list ⨾ closing))) = roll-InitList (record { opening = opening; list = listed g (separated list); closing = place_of closing })
+    from_init_list (node _ (construct _ opening (list ⨾ closing))) = roll-InitList (record { opening = opening; list = listed g (separated list); commas = listed g (commas_of list); closing = place_of closing })
     from_init_list _ = no_init_list
 
     -- with commas between them
     pub separated : Tree → List Expr
-    separated (t ⨾ ts) = from_expr t ∷ later ts
+    separated ((comma ⨾ t) ⨾ ts) = from_expr t ∷ separated ts
+    separated (node rule t ⨾ ts) = from_expr (node rule t) ∷ separated ts
+    separated (t ⨾ ts) = separated ts
     separated _ = []
-
-    pub later : Tree → List Expr
-    later ((comma ⨾ t) ⨾ ts) = from_expr t ∷ later ts
-    later _ = []

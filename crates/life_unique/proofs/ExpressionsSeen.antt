@@ -2,6 +2,7 @@
 -- For each type: what is claimed of it, a layer of parts of which it holds, and that it holds of what such a layer makes.
 use Rattle.std.proofs.Common.{◌≡◌, List, [], ◌∷◌, None, Some, map, refl, ap, sym, subst, ◌∙◌}
 use Rattle.life_unique.proofs.Lists.{Both, same_settled}
+use Rattle.life_unique.specs.Standing.{settled_list}
 use Rattle.life_tree.specs.declared.primary.PostfixPart.{PostfixPart, roll-PostfixPart}
 use Rattle.life_tree.specs.declared.primary.Primary.{Primary, roll-Primary}
 use Rattle.life_tree.specs.declared.primary.Unary.{Unary, roll-Unary}
@@ -516,7 +517,7 @@ module _ (A B C D E F G H I J K L M N O P Q R : Type 0)
 
   arguments_layer : (l : Layer-Arguments claims) →
       bare_arguments (of_parts_arguments (bare_arguments (settle_arguments (parts_arguments claims l)))) ≡ bare_arguments (of_parts_arguments (parts_arguments claims l))
-  arguments_layer l = λ i. record { opening = l.opening; list = same_settled (of_parts_arguments (bare_arguments (settle_arguments (parts_arguments claims l)))).list (of_parts_arguments (parts_arguments claims l)).list (expr_row l.list.items) i; closing = l.closing }
+  arguments_layer l = λ i. record { opening = l.opening; list = same_settled (of_parts_arguments (bare_arguments (settle_arguments (parts_arguments claims l)))).list (of_parts_arguments (parts_arguments claims l)).list (expr_row l.list.items) i; commas = same_settled (settled_list l.commas) l.commas refl i; closing = l.closing }
 
   expr_layer : (l : Layer-Expr claims) →
       bare_expr (of_parts_expr (bare_expr (settle_expr (parts_expr claims l)))) ≡ bare_expr (of_parts_expr (parts_expr claims l))
@@ -524,7 +525,7 @@ module _ (A B C D E F G H I J K L M N O P Q R : Type 0)
 
   init_list_layer : (l : Layer-InitList claims) →
       bare_init_list (of_parts_init_list (bare_init_list (settle_init_list (parts_init_list claims l)))) ≡ bare_init_list (of_parts_init_list (parts_init_list claims l))
-  init_list_layer l = λ i. record { opening = l.opening; list = same_settled (of_parts_init_list (bare_init_list (settle_init_list (parts_init_list claims l)))).list (of_parts_init_list (parts_init_list claims l)).list (expr_row l.list.items) i; closing = l.closing }
+  init_list_layer l = λ i. record { opening = l.opening; list = same_settled (of_parts_init_list (bare_init_list (settle_init_list (parts_init_list claims l)))).list (of_parts_init_list (parts_init_list claims l)).list (expr_row l.list.items) i; commas = same_settled (settled_list l.commas) l.commas refl i; closing = l.closing }
 
   logical_and_layer : (l : Layer-LogicalAnd claims) →
       bare_logical_and (of_parts_logical_and (bare_logical_and (settle_logical_and (parts_logical_and claims l)))) ≡ bare_logical_and (of_parts_logical_and (parts_logical_and claims l))

@@ -1,3 +1,4 @@
+pub mod Commas
 pub mod DeclarationsFound
 pub mod ExpressionLayers
 pub mod ExpressionsFound

@@ -2,6 +2,7 @@
 use Rattle.std.proofs.Common.{◌≡◌, ℕ, Bool, true, false, List, [], ◌∷◌, Option, None, Some, map, refl, sym, ◌∙◌, Vec}
 use Rattle.std.specs.Prelude.{if◌then◌else◌, option_map}
 use Rattle.std.specs.declared.alloc.Global.{Global}
+use Rattle.life_types.specs.declared.place.Place.{Place}
 use Rattle.life_tree.specs.Rules as rules
 use Rattle.life_tree.specs.Tree.{Tree, token, ◌⨾◌, construct, node}
 use Rattle.life_tree.specs.declared.attribute.Attribute.{Attribute}
@@ -24,6 +25,7 @@ use Rattle.life_tree.specs.declared.program.StructDefinition.{StructDefinition}
 use Rattle.life_tree.specs.Views.{optional_tree, list_tree, later_tree, separated_tree, block_tree, word_tree, scope_tree, attribute_arguments_tree, attribute_tree, attributes_tree, parameter_tree, result_tree, body_tree, function_tree, member_tree, struct_tree, definition_tree, program_tree}
 use Rattle.life_unique.specs.SettledPrograms.{settled_words, settled_attribute, settled_parameter, settled_result, settled_body, settled_function, settled_member, settled_structure, settled_definition, settled_program}
 use Rattle.life_unique.specs.Standing.{settled_list, list_of}
+use Rattle.life_unique.proofs.Commas.{commas_found, commas_of}
 use Rattle.life_unique.proofs.Lists.{listed, settled_is, list_found}
 use Rattle.life_unique.proofs.StatementsFrom.{from_block}
 use Rattle.life_unique.proofs.StatementsFound.{block_found, block_is_node}
@@ -37,12 +39,10 @@ abbrev word_of : Tree → AttributeWord
 word_of (token (keys.Name id) place) = attribute_word.Name (record { id = id; place = place })
 word_of t = attribute_word.Static (place_of t)
 
-abbrev later_words : Tree → List AttributeWord
-later_words (t ⨾ ts) = word_of (derived (behind t)) ∷ later_words ts
-later_words _ = []
-
 abbrev words_of : Tree → List AttributeWord
-words_of (t ⨾ ts) = word_of (derived t) ∷ later_words ts
+words_of ((comma ⨾ t) ⨾ ts) = word_of (derived t) ∷ words_of ts
+words_of (node rule t ⨾ ts) = word_of t ∷ words_of ts
+words_of (t ⨾ ts) = words_of ts
 words_of _ = []
 
 abbrev scope_of : Tree → Option AttributeScope
@@ -55,7 +55,7 @@ is_structure _ = false
 
 module _ (g : Global) where
   abbrev arguments_of : Tree → Option AttributeArguments
-  arguments_of (construct _ opening (t ⨾ closing)) = Some (record { opening = opening; words = listed g (words_of t); closing = place_of closing })
+  arguments_of (construct _ opening (t ⨾ closing)) = Some (record { opening = opening; words = listed g (words_of t); commas = listed g (commas_of t); closing = place_of closing })
   arguments_of _ = None
 
   abbrev attribute_of : Tree → Attribute
@@ -86,12 +86,10 @@ module _ (g : Global) where
   abbrev parameter_of : Tree → Parameter
   parameter_of t = record { attributes = listed g (attributes_of (front t)); ty = from_type g (front (behind t)); name = name_of (behind (behind t)) }
 
-  abbrev later_parameters : Tree → List Parameter
-  later_parameters (t ⨾ ts) = parameter_of (derived (behind t)) ∷ later_parameters ts
-  later_parameters _ = []
-
   abbrev parameters_of : Tree → List Parameter
-  parameters_of (t ⨾ ts) = parameter_of (derived t) ∷ later_parameters ts
+  parameters_of ((comma ⨾ t) ⨾ ts) = parameter_of (derived t) ∷ parameters_of ts
+  parameters_of (node rule t ⨾ ts) = parameter_of t ∷ parameters_of ts
+  parameters_of (t ⨾ ts) = parameters_of ts
   parameters_of _ = []
 
   abbrev result_of : Tree → ResultType
@@ -108,6 +106,7 @@ module _ (g : Global) where
     name = name_of name;
     opening = place_of parentheses;
     parameters = listed g (parameters_of (front (inside parentheses)));
+    commas = listed g (commas_of (front (inside parentheses)));
     closing = place_of (behind (inside parentheses));
     body = body_of body;
   }
@@ -155,13 +154,15 @@ module _ (g : Global) where
   word_found (attribute_word.Name name) = refl
   word_found (attribute_word.Static place) = refl
 
-  later_words_row : (ws : List AttributeWord) → later_words (later_tree (map word_tree ws)) ≡ ws
-  later_words_row [] = refl
-  later_words_row (w ∷ ws) = λ i. word_found w i ∷ later_words_row ws i
+  later_words_row : (commas : List Place) (ws : List AttributeWord) → words_of (later_tree commas (map word_tree ws)) ≡ ws
+  later_words_row [] [] = refl
+  later_words_row [] (w ∷ ws) = λ i. word_found w i ∷ later_words_row [] ws i
+  later_words_row (comma ∷ commas) [] = later_words_row commas []
+  later_words_row (comma ∷ commas) (w ∷ ws) = λ i. word_found w i ∷ later_words_row commas ws i
 
-  words_row : (ws : List AttributeWord) → words_of (separated_tree (map word_tree ws)) ≡ ws
-  words_row [] = refl
-  words_row (w ∷ ws) = λ i. word_found w i ∷ later_words_row ws i
+  words_row : (commas : List Place) (ws : List AttributeWord) → words_of (separated_tree commas (map word_tree ws)) ≡ ws
+  words_row commas [] = later_words_row commas []
+  words_row commas (w ∷ ws) = λ i. word_found w i ∷ later_words_row commas ws i
 
   scope_found : (s : Option AttributeScope) → scope_of (optional_tree scope_tree s) ≡ s
   scope_found None = refl
@@ -169,7 +170,12 @@ module _ (g : Global) where
 
   arguments_found : (a : Option AttributeArguments) → arguments_of (optional_tree attribute_arguments_tree a) ≡ option_map settled_words a
   arguments_found None = refl
-  arguments_found (Some a) = λ i. Some (record { opening = a.opening; words = settled_is g a.words (words_of (separated_tree (map word_tree a.words.items))) (words_row a.words.items) i; closing = a.closing })
+  arguments_found (Some a) = λ i. Some (record {
+    opening = a.opening;
+    words = settled_is g a.words (words_of (separated_tree a.commas.items (map word_tree a.words.items))) (words_row a.commas.items a.words.items) i;
+    commas = settled_is g a.commas (commas_of (separated_tree a.commas.items (map word_tree a.words.items))) (commas_found rules.word word_tree (λ w. refl) a.commas.items a.words.items) i;
+    closing = a.closing;
+  })
 
   attribute_found : (a : Attribute) → attribute_of (derived (attribute_tree a)) ≡ settled_attribute a
   attribute_found a = λ i. record a { scope = scope_found a.scope i; arguments = arguments_found a.arguments i }
@@ -184,13 +190,15 @@ module _ (g : Global) where
   parameter_found : (p : Parameter) → parameter_of (derived (parameter_tree p)) ≡ settled_parameter p
   parameter_found p = λ i. record { attributes = attributes_found p.attributes i; ty = type_found g p.ty i; name = p.name }
 
-  later_parameters_row : (ps : List Parameter) → later_parameters (later_tree (map parameter_tree ps)) ≡ map settled_parameter ps
-  later_parameters_row [] = refl
-  later_parameters_row (p ∷ ps) = λ i. parameter_found p i ∷ later_parameters_row ps i
+  later_parameters_row : (commas : List Place) (ps : List Parameter) → parameters_of (later_tree commas (map parameter_tree ps)) ≡ map settled_parameter ps
+  later_parameters_row [] [] = refl
+  later_parameters_row [] (p ∷ ps) = λ i. parameter_found p i ∷ later_parameters_row [] ps i
+  later_parameters_row (comma ∷ commas) [] = later_parameters_row commas []
+  later_parameters_row (comma ∷ commas) (p ∷ ps) = λ i. parameter_found p i ∷ later_parameters_row commas ps i
 
-  parameters_row : (ps : List Parameter) → parameters_of (separated_tree (map parameter_tree ps)) ≡ map settled_parameter ps
-  parameters_row [] = refl
-  parameters_row (p ∷ ps) = λ i. parameter_found p i ∷ later_parameters_row ps i
+  parameters_row : (commas : List Place) (ps : List Parameter) → parameters_of (separated_tree commas (map parameter_tree ps)) ≡ map settled_parameter ps
+  parameters_row commas [] = later_parameters_row commas []
+  parameters_row commas (p ∷ ps) = λ i. parameter_found p i ∷ later_parameters_row commas ps i
 
   result_found : (r : ResultType) → result_of (result_tree r) ≡ settled_result r
   result_found (result_type.Void place) = refl
@@ -205,7 +213,8 @@ module _ (g : Global) where
   function_found f = λ i. definition.Function (record f {
     attributes = attributes_found f.attributes i;
     returned = result_found f.returned i;
-    parameters = list_found g settled_parameter f.parameters (parameters_of (separated_tree (map parameter_tree f.parameters.items))) (parameters_row f.parameters.items) i;
+    parameters = list_found g settled_parameter f.parameters (parameters_of (separated_tree f.commas.items (map parameter_tree f.parameters.items))) (parameters_row f.commas.items f.parameters.items) i;
+    commas = settled_is g f.commas (commas_of (separated_tree f.commas.items (map parameter_tree f.parameters.items))) (commas_found rules.parameter parameter_tree (λ p. refl) f.commas.items f.parameters.items) i;
     body = body_found f.body i;
   })
 

@@ -3,9 +3,8 @@ use Rattle.std.proofs.Common.{Bool, true, false, List, [], ◌∷◌, Option, No
 use Rattle.std.specs.Prelude.{◌==◌, if◌then◌else◌, Box}
 use Rattle.std.specs.declared.alloc.Global.{Global}
 use Rattle.life_types.specs.declared.place.Place.{Place}
-use Rattle.life_tree.specs.Grammar.{nowhere}
 use Rattle.life_tree.specs.Rules as rules
-use Rattle.life_tree.specs.Tree.{Tree, nothing, token, ◌⨾◌, construct, node}
+use Rattle.life_tree.specs.Tree.{Tree, nothing, token, ◌⨾◌, construct, node, nowhere}
 use Rattle.life_tree.specs.declared.expr.Expr.{Expr}
 use Rattle.life_tree.specs.declared.fixed.TheConstants as fixed
 use Rattle.life_tree.specs.declared.simple.Simple.{Simple}

@@ -2,9 +2,8 @@
 use Rattle.std.proofs.Common.{◌≡◌, ℕ, Bool, true, false, Option, None, Some, refl}
 use Rattle.life_types.specs.declared.ty.NameId.{NameId}
 use Rattle.life_types.specs.declared.place.Place.{Place}
-use Rattle.life_tree.specs.Grammar.{nowhere}
 use Rattle.life_tree.specs.Rules as rules
-use Rattle.life_tree.specs.Tree.{Tree, nothing, token, ◌⨾◌, construct, node}
+use Rattle.life_tree.specs.Tree.{Tree, nothing, token, ◌⨾◌, construct, node, nowhere}
 use Rattle.life_tree.specs.declared.key.TokenKey.{TokenKey}
 use Rattle.life_tree.specs.declared.key.TokenKey.TheVariants.{Fixed, Name}
 use Rattle.life_tree.specs.Views.{at, optional_tree}

@@ -59,7 +59,7 @@ bare_relational e = record e { more = settled_list e.more }
 
 abbrev pub bare_arguments : {A B C D E F G H I J K L M N O P Q R : Type 0}
     → open_expr.Arguments-F A B C D E F G H I J K L M N O P Q R → open_expr.Arguments-F A B C D E F G H I J K L M N O P Q R
-bare_arguments e = record e { list = settled_list e.list }
+bare_arguments e = record e { list = settled_list e.list; commas = settled_list e.commas }
 
 abbrev pub bare_expr : {A B C D E F G H I J K L M N O P Q R : Type 0}
     → open_expr.Expr-F A B C D E F G H I J K L M N O P Q R → open_expr.Expr-F A B C D E F G H I J K L M N O P Q R
@@ -67,7 +67,7 @@ bare_expr e = record e { more = settled_list e.more }
 
 abbrev pub bare_init_list : {A B C D E F G H I J K L M N O P Q R : Type 0}
     → open_expr.InitList-F A B C D E F G H I J K L M N O P Q R → open_expr.InitList-F A B C D E F G H I J K L M N O P Q R
-bare_init_list e = record e { list = settled_list e.list }
+bare_init_list e = record e { list = settled_list e.list; commas = settled_list e.commas }
 
 abbrev pub bare_logical_and : {A B C D E F G H I J K L M N O P Q R : Type 0}
     → open_expr.LogicalAnd-F A B C D E F G H I J K L M N O P Q R → open_expr.LogicalAnd-F A B C D E F G H I J K L M N O P Q R

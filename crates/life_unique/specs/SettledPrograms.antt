@@ -20,7 +20,7 @@ use Rattle.life_unique.specs.Standing.{list_of, settled_list}
 -- ---- functions
 
 abbrev pub settled_words : AttributeArguments → AttributeArguments
-settled_words a = record { opening = a.opening; words = settled_list a.words; closing = a.closing }
+settled_words a = record a { words = settled_list a.words; commas = settled_list a.commas }
 
 abbrev pub settled_attribute : Attribute → Attribute
 settled_attribute a = record a { arguments = option_map settled_words a.arguments }
@@ -41,6 +41,7 @@ settled_function f = record f {
   attributes = list_of settled_attribute f.attributes;
   returned = settled_result f.returned;
   parameters = list_of settled_parameter f.parameters;
+  commas = settled_list f.commas;
   body = settled_body f.body;
 }
 

@@ -1,18 +1,20 @@
-use Rattle.std.proofs.Common.{◌≡◌, map, true, false, ◌∙◌, ap, Ok}
+use Rattle.std.proofs.Common.{◌≡◌, map, true, false}
 use Rattle.std.proofs.lemmas.Result.{err_from_is_err_and}
 use Rattle.life_expr.proofs.Below.{below_rule}
 use Rattle.life_expr.proofs.ExprShrinks.{additive_part_shrinks, and_part_shrinks, equality_part_shrinks, later_expression_shrinks, multiplicative_part_shrinks, or_part_shrinks, part_shrinks, relational_part_shrinks}
-use Rattle.life_expr.proofs.Loop.{ends, fails, goes_on, later_as_list, later_item}
+use Rattle.life_expr.proofs.Loop.{ends, fails, goes_on, reads_on}
 use Rattle.life_expr.proofs.+expr.Goals as goal
 use Rattle.life_expr.specs.Exprs as spec
-use Rattle.life_expr.specs.Exprs.{additive_form, and_form, equality_form, multiplicative_form, or_form, relational_form}
+use Rattle.life_expr.specs.Exprs.{additive_form, and_form, comma_form, equality_form, multiplicative_form, or_form, relational_form}
 use Rattle.life_expr.specs.Heads.{heads}
 use Rattle.life_expr.specs.Read.{starts}
 use Rattle.life_expr.specs.Readers.{below}
-use Rattle.life_tree.specs.Grammar.{comma, rule}
+use Rattle.life_tree.proofs.SeparatedTrees.{as_many_more, one_more}
+use Rattle.life_tree.specs.Grammar.{rule}
 use Rattle.life_tree.specs.Rules as rules
-use Rattle.life_tree.specs.Tree.{Tree}
-use Rattle.life_tree.specs.Views.{additive_part_tree, and_part_tree, equality_part_tree, multiplicative_part_tree, or_part_tree, postfix_part_tree, relational_part_tree}
+use Rattle.life_tree.specs.Tree.{◌⨾◌}
+use Rattle.life_tree.specs.Views.{additive_part_tree, and_part_tree, at, equality_part_tree, expr_tree, later_trees, multiplicative_part_tree, or_part_tree, postfix_part_tree, relational_part_tree}
+use Rattle.life_tree.specs.declared.fixed.TheConstants.{COMMA}
 
 pub lists::expr_below-returns : goal.lists::expr_below-returns
 unfolding Rattle.life_expr.specs.Readers.rule_with
@@ -158,18 +160,24 @@ operands::parts-returns t c =
 pub lists::later_expressions-returns-in_err-next : goal.lists::later_expressions-returns-in_err-next
 lists::later_expressions-returns-in_err-next t c =
     let e = err_from_is_err_and c.from_residual.result c.from_residual.ensures.1 in
-    let h : starts (heads comma) c.list.rest.now ≡ true = cc in
-    rw (e.1, e.2) (fails (heads comma) (later_expression_shrinks c.args.left) (map later_item c.list.list.items) c.list.rest.now (spec.later_expressions_with (below c.args.left) c.args.tokens.now) c.in_err-next.field-0.0 c.list.invariant h c.in_err-next.ensures)
+    let h : starts (heads comma_form) c.list.rest.now ≡ true = cc in
+    rw (e.1, e.2) (fails (heads comma_form) (later_expression_shrinks c.args.left) (later_trees c.list.commas.items (map expr_tree c.list.list.items)) c.list.rest.now (spec.later_expressions_with (below c.args.left) c.args.tokens.now) c.in_err-next.field-0.0 c.list.invariant.reads h c.in_err-next.ensures)
 
 pub lists::later_expressions-list-smaller : goal.lists::later_expressions-list-smaller
-lists::later_expressions-list-smaller t c = (later_expression_shrinks c.args.left).shrinks c.list.rest.now (later_item c.in_ok-next.next) c.in_ok-next.after.now c.in_ok-next.ensures
+lists::later_expressions-list-smaller t c = (later_expression_shrinks c.args.left).shrinks c.list.rest.now (at COMMA c.in_ok-next.comma ⨾ expr_tree c.in_ok-next.next) c.in_ok-next.after.now c.in_ok-next.ensures
 
 pub lists::later_expressions-list-preserved : goal.lists::later_expressions-list-preserved
 lists::later_expressions-list-preserved t c =
-    let h : starts (heads comma) c.list.rest.now ≡ true = cc in
-    goes_on (heads comma) (later_expression_shrinks c.args.left) later_item c.list.list.items c.push.new.self.items c.in_ok-next.next c.list.rest.now c.in_ok-next.after.now (spec.later_expressions_with (below c.args.left) c.args.tokens.now) c.in_ok-push.ensures.items c.list.invariant h c.in_ok-next.ensures
+    let h : starts (heads comma_form) c.list.rest.now ≡ true = cc in
+    let commas = c.in_ok-push.ensures.items in
+    let items = c.in_ok-push-2.ensures.items in
+    record {
+      even = as_many_more expr_tree _ _ _ _ _ _ commas items c.list.invariant.even;
+      reads = reads_on (heads comma_form) (later_expression_shrinks c.args.left) _ _ (at COMMA c.in_ok-next.comma ⨾ expr_tree c.in_ok-next.next) c.list.rest.now c.in_ok-next.after.now (spec.later_expressions_with (below c.args.left) c.args.tokens.now)
+          (one_more expr_tree _ _ _ _ _ _ commas items c.list.invariant.even) c.list.invariant.reads h c.in_ok-next.ensures;
+    }
 
 pub lists::later_expressions-returns : goal.lists::later_expressions-returns
 lists::later_expressions-returns t c =
-    let h : starts (heads comma) c.list.rest.now ≡ false = cc in
-    ends (heads comma) (later_expression_shrinks c.args.left) (map later_item c.list.list.items) c.list.rest.now (spec.later_expressions_with (below c.args.left) c.args.tokens.now) c.list.invariant h ∙ ap (λ (t : Tree). Ok (t, c.list.rest.now)) (later_as_list c.list.list.items)
+    let h : starts (heads comma_form) c.list.rest.now ≡ false = cc in
+    ends (heads comma_form) (later_expression_shrinks c.args.left) (later_trees c.list.commas.items (map expr_tree c.list.list.items)) c.list.rest.now (spec.later_expressions_with (below c.args.left) c.args.tokens.now) c.list.invariant.reads h

@@ -1,8 +1,8 @@
 use Rattle.std.proofs.Common.{◌≡◌, map, ◌+◌, ◌*◌, length}
 use Rattle.life_expr.specs.Exprs as spec
 use Rattle.life_expr.specs.Readers.{below}
-use Rattle.life_expr.proofs.Loop.{later_item, with_front}
-use Rattle.life_tree.specs.Views.{additive_part_tree, and_part_tree, equality_part_tree, multiplicative_part_tree, or_part_tree, postfix_part_tree, relational_part_tree}
+use Rattle.life_expr.proofs.Loop.{with_front}
+use Rattle.life_tree.specs.Views.{additive_part_tree, and_part_tree, equality_part_tree, expr_tree, later_trees, multiplicative_part_tree, or_part_tree, postfix_part_tree, relational_part_tree}
 use Rattle.life_expr.proofs.+expr.Given as goal
 
 abbrev pub decreases-chains::expr : goal.decreases-chains::expr
@@ -153,7 +153,10 @@ abbrev pub decreases-operands::parts-list : goal.decreases-operands::parts-list
 decreases-operands::parts-list l = length l.rest
 
 abbrev pub invariant-lists::later_expressions-list : goal.invariant-lists::later_expressions-list
-invariant-lists::later_expressions-list l = with_front (map later_item l.list.items) (spec.later_expressions_with (below l.left) l.rest) ≡ spec.later_expressions_with (below l.left) l.tokens
+invariant-lists::later_expressions-list l = record {
+  even : length l.commas.items ≡ length l.list.items;
+  reads : with_front (later_trees l.commas.items (map expr_tree l.list.items)) (spec.later_expressions_with (below l.left) l.rest) ≡ spec.later_expressions_with (below l.left) l.tokens;
+}
 
 abbrev pub decreases-lists::later_expressions-list : goal.decreases-lists::later_expressions-list
 decreases-lists::later_expressions-list l = length l.rest

@@ -1,39 +1,41 @@
-use Rattle.std.proofs.Common.{◌≡◌, ◌++◌, ◌∷◌, [], ◌<◌, length, map, true, false, Ok, ap, ◌∙◌, arith}
-use Rattle.std.proofs.lemmas.List.{map_push, length-map, length-append}
+use Rattle.std.proofs.Common.{◌≡◌, ◌∷◌, [], map, true, false, Ok, ap, ◌∙◌}
 use Rattle.std.proofs.lemmas.Result.{err_from_is_err_and}
-use Rattle.life_stmt.proofs.LoopReads.{goes_on, fails, ends, separated_nothing, separated_more}
+use Rattle.life_stmt.proofs.LoopReads.{reads_on, fails, ends, before_nothing}
 use Rattle.life_stmt.proofs.ShrinksReads.{shrinks}
 use Rattle.life_stmt.proofs.ShrinksRules.{Takes-below, Takes-later}
-use Rattle.life_stmt.specs.Fronts.{mapped, separated_before}
-use Rattle.life_expr.specs.Heads.{comma_kind}
+use Rattle.life_stmt.specs.Fronts.{before}
+use Rattle.life_expr.specs.Heads.{quoted_kind}
 use Rattle.life_stmt.specs.Definitions as spec
 use Rattle.life_expr.specs.Read.{as_many, starts}
 use Rattle.life_expr.specs.Readers as readers
+use Rattle.life_tree.proofs.SeparatedTrees.{as_many_more, one_more}
 use Rattle.life_tree.specs.Rules as rules
 use Rattle.life_tree.specs.Tree.{Tree, ◌⨾◌}
-use Rattle.life_tree.specs.Views.{word_tree, comma_tree}
+use Rattle.life_tree.specs.Views.{at, later_trees, word_tree}
+use Rattle.life_tree.specs.declared.fixed.TheConstants.{COMMA}
 use Rattle.life_stmt.proofs.attributes.later_words.Goals as goal
 
 pub returns-in_err-next : goal.returns-in_err-next
 returns-in_err-next c =
     let e = err_from_is_err_and c.from_residual.result c.from_residual.ensures.1 in
-    let h : starts (comma_kind ∷ []) c.list.rest.now ≡ true = cc in
-    rw (e.1, e.2) (fails (comma_kind ∷ []) (spec.later_with (readers.below c.args.left) rules.word) (Takes-later (readers.below c.args.left) (Takes-below c.args.left) rules.word) c.in_err-next.field-0.0 (separated_before (map word_tree c.list.list.items)) c.list.rest.now (mapped (separated_before (map word_tree c.args.before.items)) (as_many (comma_kind ∷ []) (spec.later_with (readers.below c.args.left) rules.word) c.args.tokens.now)) h c.in_err-next.ensures c.list.invariant.reads)
+    let h : starts (quoted_kind COMMA ∷ []) c.list.rest.now ≡ true = cc in
+    rw (e.1, e.2) (fails (quoted_kind COMMA ∷ []) (spec.later_with (readers.below c.args.left) rules.word) (Takes-later (readers.below c.args.left) (Takes-below c.args.left) rules.word) c.in_err-next.field-0.0 (before (later_trees c.list.commas.items (map word_tree c.list.list.items))) c.list.rest.now (as_many (quoted_kind COMMA ∷ []) (spec.later_with (readers.below c.args.left) rules.word) c.args.tokens.now) h c.in_err-next.ensures c.list.invariant.reads)
 
 pub list-smaller : goal.list-smaller
-list-smaller c = shrinks (spec.later_with (readers.below c.args.left) rules.word) (Takes-later (readers.below c.args.left) (Takes-below c.args.left) rules.word) c.list.rest.now (comma_tree ⨾ word_tree c.in_ok-next.next) c.in_ok-next.after.now c.in_ok-next.ensures
+list-smaller c = shrinks (spec.later_with (readers.below c.args.left) rules.word) (Takes-later (readers.below c.args.left) (Takes-below c.args.left) rules.word) c.list.rest.now (at COMMA c.in_ok-next.comma ⨾ word_tree c.in_ok-next.next) c.in_ok-next.after.now c.in_ok-next.ensures
 
 pub list-preserved : goal.list-preserved
 list-preserved c =
-    let h : starts (comma_kind ∷ []) c.list.rest.now ≡ true = cc in
-    let e : map word_tree c.push.new.self.items ≡ map word_tree c.list.list.items ++ word_tree c.in_ok-next.next ∷ [] = rw c.in_ok-push.ensures.items (map_push _ c.list.list.items c.in_ok-next.next) in
-    let some : 0 < length (map word_tree c.list.list.items) = rw (length-map c.list.list.items word_tree) c.list.invariant.some in
-    let reads : mapped (separated_before (map word_tree c.push.new.self.items)) (as_many (comma_kind ∷ []) (spec.later_with (readers.below c.args.left) rules.word) c.in_ok-next.after.now) ≡ mapped (separated_before (map word_tree c.args.before.items)) (as_many (comma_kind ∷ []) (spec.later_with (readers.below c.args.left) rules.word) c.args.tokens.now) = rw e (goes_on (comma_kind ∷ []) (spec.later_with (readers.below c.args.left) rules.word) (Takes-later (readers.below c.args.left) (Takes-below c.args.left) rules.word) (separated_before (map word_tree c.list.list.items)) (separated_before (map word_tree c.list.list.items ++ word_tree c.in_ok-next.next ∷ [])) c.list.rest.now (comma_tree ⨾ word_tree c.in_ok-next.next) c.in_ok-next.after.now (mapped (separated_before (map word_tree c.args.before.items)) (as_many (comma_kind ∷ []) (spec.later_with (readers.below c.args.left) rules.word) c.args.tokens.now)) (λ u. separated_more (map word_tree c.list.list.items) (word_tree c.in_ok-next.next) u some) h c.in_ok-next.ensures c.list.invariant.reads) in
-    let l = ap length c.in_ok-push.ensures.items in
-    let a = length-append c.list.list.items (c.in_ok-next.next ∷ []) in
-    record { some = omega (arith, l, a); reads = reads }
+    let h : starts (quoted_kind COMMA ∷ []) c.list.rest.now ≡ true = cc in
+    let commas = c.in_ok-push.ensures.items in
+    let items = c.in_ok-push-2.ensures.items in
+    record {
+      even = as_many_more word_tree _ _ _ _ _ _ commas items c.list.invariant.even;
+      reads = reads_on (quoted_kind COMMA ∷ []) (spec.later_with (readers.below c.args.left) rules.word) (Takes-later (readers.below c.args.left) (Takes-below c.args.left) rules.word) _ _ c.list.rest.now (at COMMA c.in_ok-next.comma ⨾ word_tree c.in_ok-next.next) c.in_ok-next.after.now (as_many (quoted_kind COMMA ∷ []) (spec.later_with (readers.below c.args.left) rules.word) c.args.tokens.now)
+          (one_more word_tree _ _ _ _ _ _ commas items c.list.invariant.even) h c.in_ok-next.ensures c.list.invariant.reads;
+    }
 
 pub returns : goal.returns
 returns c =
-    let h : starts (comma_kind ∷ []) c.list.rest.now ≡ false = cc in
-    ends (comma_kind ∷ []) (spec.later_with (readers.below c.args.left) rules.word) (Takes-later (readers.below c.args.left) (Takes-below c.args.left) rules.word) (separated_before (map word_tree c.list.list.items)) c.list.rest.now (mapped (separated_before (map word_tree c.args.before.items)) (as_many (comma_kind ∷ []) (spec.later_with (readers.below c.args.left) rules.word) c.args.tokens.now)) h c.list.invariant.reads ∙ ap (λ (t : Tree). Ok (t, c.list.rest.now)) (separated_nothing (map word_tree c.list.list.items))
+    let h : starts (quoted_kind COMMA ∷ []) c.list.rest.now ≡ false = cc in
+    ends (quoted_kind COMMA ∷ []) (spec.later_with (readers.below c.args.left) rules.word) (Takes-later (readers.below c.args.left) (Takes-below c.args.left) rules.word) (before (later_trees c.list.commas.items (map word_tree c.list.list.items))) c.list.rest.now (as_many (quoted_kind COMMA ∷ []) (spec.later_with (readers.below c.args.left) rules.word) c.args.tokens.now) h c.list.invariant.reads ∙ ap (λ (t : Tree). Ok (t, c.list.rest.now)) (before_nothing (later_trees c.list.commas.items (map word_tree c.list.list.items)))

@@ -39,12 +39,7 @@ invariant-write_postfix-parts l =
     l.keys.items ++ keys_of (list_tree (map postfix_part_tree (drop l.part-index l.part-items)))
     ≡ l.initial.keys.items ++ keys_of (list_tree (map postfix_part_tree l.part-items))
 
-abbrev pub invariant-write_arguments-list : goal.invariant-write_arguments-list
-invariant-write_arguments-list l =
-    l.keys.items ++ separated_keys l.started (map expr_tree (drop l.expr-index l.expr-items))
-    ≡ l.initial.keys.items ++ keys_of (separated_tree (map expr_tree l.expr-items))
-
-abbrev pub invariant-write_init_list-list : goal.invariant-write_init_list-list
-invariant-write_init_list-list l =
-    l.keys.items ++ separated_keys l.started (map expr_tree (drop l.expr-index l.expr-items))
-    ≡ l.initial.keys.items ++ keys_of (separated_tree (map expr_tree l.expr-items))
+abbrev pub invariant-write_separated-list : goal.invariant-write_separated-list
+invariant-write_separated-list l =
+    l.keys.items ++ separated_keys l.started l.rest (map expr_tree (drop l.expr-index l.exprs))
+    ≡ l.initial.keys.items ++ keys_of (separated_tree l.commas.items (map expr_tree l.exprs))

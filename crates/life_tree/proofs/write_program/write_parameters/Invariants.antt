@@ -6,5 +6,5 @@ use Rattle.life_tree.proofs.write_program.write_parameters.Given as goal
 
 abbrev pub invariant-parameters : goal.invariant-parameters
 invariant-parameters l =
-    l.keys.items ++ separated_keys l.started (map parameter_tree (drop l.parameter-index l.parameters.items))
-    ≡ l.initial.keys.items ++ keys_of (separated_tree (map parameter_tree l.parameters.items))
+    l.keys.items ++ separated_keys l.started l.rest (map parameter_tree (drop l.parameter-index l.parameters.items))
+    ≡ l.initial.keys.items ++ keys_of (separated_tree l.commas.items (map parameter_tree l.parameters.items))

@@ -6,5 +6,5 @@ use Rattle.life_tree.proofs.write_program.write_words.Given as goal
 
 abbrev pub invariant-words : goal.invariant-words
 invariant-words l =
-    l.keys.items ++ separated_keys l.started (map word_tree (drop l.word-index l.words.items))
-    ≡ l.initial.keys.items ++ keys_of (separated_tree (map word_tree l.words.items))
+    l.keys.items ++ separated_keys l.started l.rest (map word_tree (drop l.word-index l.words.items))
+    ≡ l.initial.keys.items ++ keys_of (separated_tree l.commas.items (map word_tree l.words.items))
