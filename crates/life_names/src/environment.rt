@@ -9,7 +9,7 @@ use std::alloc::Global;
 use std::marker::Model;
 
 /// What a name means.
-#[derive(Clone, Copy, Debug, PartialEq, Eq)]
+#[derive(Clone, Copy)]
 pub enum Entity {
     /// Nothing that is visible.
     Unseen,
@@ -31,7 +31,7 @@ pub struct Signature {
 }
 
 /// A member of a struct.
-#[derive(Clone, Copy, Debug, PartialEq, Eq)]
+#[derive(Clone, Copy)]
 pub struct MemberType {
     pub name: NameId,
     pub ty: TyId,

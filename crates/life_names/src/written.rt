@@ -12,7 +12,7 @@ use life_types::{Place, Ty, TyId, TypeTable, is_plain};
 use std::alloc::Global;
 
 /// The type of a variable or parameter.
-#[derive(Clone, Copy, Debug, PartialEq, Eq)]
+#[derive(Clone, Copy)]
 pub struct Written {
     /// The type, a reference type too.
     pub ty: TyId,

@@ -23,7 +23,7 @@ pub struct Attribute {
 }
 
 /// `"::" ANY`.
-#[derive(Clone, Copy, Debug, PartialEq, Eq)]
+#[derive(Clone, Copy)]
 pub struct AttributeScope {
     /// The `::`.
     pub scope: Place,
@@ -45,7 +45,7 @@ pub struct AttributeArguments {
 }
 
 /// `ANY | "static"`.
-#[derive(Clone, Copy, Debug, PartialEq, Eq)]
+#[derive(Clone, Copy)]
 pub enum AttributeWord {
     /// A name.
     Name(Identifier),

@@ -25,7 +25,7 @@ pub enum DeclaredType {
 }
 
 /// `[ "const" ] "auto" [ "&" ]`.
-#[derive(Clone, Copy, Debug, PartialEq, Eq)]
+#[derive(Clone, Copy)]
 pub struct AutoType {
     /// Where `const` stands.
     pub constant: Option<Place>,

@@ -2,7 +2,7 @@
 use life_types::{NameId, Place};
 
 /// A name where it stands (ISO/IEC 14882:2017 [lex.name]).
-#[derive(Clone, Copy, Debug, PartialEq, Eq)]
+#[derive(Clone, Copy)]
 pub struct Identifier {
     /// Its number in the table of the program's names.
     pub id: NameId,
@@ -11,7 +11,7 @@ pub struct Identifier {
 }
 
 /// A word of a namespace, as `std::string`: where its three tokens stand ([expr.prim.id.qual]).
-#[derive(Clone, Copy, Debug, PartialEq, Eq)]
+#[derive(Clone, Copy)]
 pub struct Qualified {
     /// The namespace.
     pub namespace: Place,

@@ -5,7 +5,7 @@ ghost use Rattle.life_tree.specs.Views as views;
 use crate::fixed;
 
 /// `==` or `!=` (ISO/IEC 14882:2017 [expr.eq]).
-#[derive(Clone, Copy, Debug, PartialEq, Eq)]
+#[derive(Clone, Copy)]
 pub enum EqualityOperator {
     /// `==`.
     Equal,
@@ -26,7 +26,7 @@ impl EqualityOperator {
 }
 
 /// `<`, `<=`, `>` or `>=` ([expr.rel]).
-#[derive(Clone, Copy, Debug, PartialEq, Eq)]
+#[derive(Clone, Copy)]
 pub enum RelationalOperator {
     /// `<`.
     Less,
@@ -53,7 +53,7 @@ impl RelationalOperator {
 }
 
 /// `+` or `-` ([expr.add]).
-#[derive(Clone, Copy, Debug, PartialEq, Eq)]
+#[derive(Clone, Copy)]
 pub enum AdditiveOperator {
     /// `+`.
     Add,
@@ -74,7 +74,7 @@ impl AdditiveOperator {
 }
 
 /// `*`, `/` or `%` ([expr.mul]).
-#[derive(Clone, Copy, Debug, PartialEq, Eq)]
+#[derive(Clone, Copy)]
 pub enum MultiplicativeOperator {
     /// `*`.
     Multiply,
@@ -98,7 +98,7 @@ impl MultiplicativeOperator {
 }
 
 /// An operator before its operand ([expr.unary.op]).
-#[derive(Clone, Copy, Debug, PartialEq, Eq)]
+#[derive(Clone, Copy)]
 pub enum PrefixOperator {
     /// `!`.
     Not,
@@ -125,7 +125,7 @@ impl PrefixOperator {
 }
 
 /// An assignment that computes ([expr.ass]).
-#[derive(Clone, Copy, Debug, PartialEq, Eq)]
+#[derive(Clone, Copy)]
 pub enum CompoundOperator {
     /// `+=`.
     Add,
@@ -155,7 +155,7 @@ impl CompoundOperator {
 }
 
 /// `++` or `--` ([expr.post.incr], [expr.pre.incr]).
-#[derive(Clone, Copy, Debug, PartialEq, Eq)]
+#[derive(Clone, Copy)]
 pub enum StepOperator {
     /// `++`.
     Increment,

@@ -65,7 +65,7 @@ pub struct TypeArgument {
 }
 
 /// `*` or `&` behind a type ([dcl.ptr], [dcl.ref]).
-#[derive(Clone, Copy, Debug, PartialEq, Eq)]
+#[derive(Clone, Copy)]
 pub enum Suffix {
     /// `*`.
     Pointer(Place),
@@ -74,7 +74,7 @@ pub enum Suffix {
 }
 
 /// `"::" ( "iterator" | "const_iterator" )`.
-#[derive(Clone, Copy, Debug, PartialEq, Eq)]
+#[derive(Clone, Copy)]
 pub struct IteratorName {
     /// The `::`.
     pub scope: Place,
@@ -85,7 +85,7 @@ pub struct IteratorName {
 }
 
 /// `iterator` or `const_iterator`.
-#[derive(Clone, Copy, Debug, PartialEq, Eq)]
+#[derive(Clone, Copy)]
 pub enum IteratorKind {
     /// `iterator`.
     Mutable,

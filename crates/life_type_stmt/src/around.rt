@@ -2,7 +2,7 @@
 use life_types::TyId;
 
 /// What is around a statement.
-#[derive(Clone, Copy, Debug, PartialEq, Eq)]
+#[derive(Clone, Copy)]
 pub(crate) struct Around {
     /// What its function answers; `void` too.
     pub(crate) result: TyId,

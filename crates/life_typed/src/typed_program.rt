@@ -3,7 +3,7 @@ use crate::typed_stmt::TypedBlock;
 use life_types::{NameId, Place, TyId, TypeTable};
 
 /// A variable or a parameter.
-#[derive(Clone, Copy, Debug, PartialEq, Eq)]
+#[derive(Clone, Copy)]
 pub struct TypedLocal {
     /// Its name.
     pub name: NameId,
@@ -17,7 +17,7 @@ pub struct TypedLocal {
 }
 
 /// What the attributes of a parameter say.
-#[derive(Clone, Copy, Debug, PartialEq, Eq)]
+#[derive(Clone, Copy)]
 pub struct ParameterPromise {
     /// `[[life::nonnull]]`: no null is handed in.
     pub nonnull: bool,
@@ -26,7 +26,7 @@ pub struct ParameterPromise {
 }
 
 /// What a function promises of the pointers in its result.
-#[derive(Debug, Drop)]
+#[derive(Drop)]
 pub enum ResultPromise {
     /// What the profile takes where nothing is said.
     Default,

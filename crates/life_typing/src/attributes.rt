@@ -10,7 +10,7 @@ use life_tree::{Attribute, AttributeArguments, AttributeWord, Identifier};
 use life_types::NameId;
 
 /// The attributes of the namespace `life`.
-#[derive(Clone, Copy, Debug, PartialEq, Eq)]
+#[derive(Clone, Copy)]
 pub(crate) enum LifeAttribute {
     /// `nonnull`: no null is handed in.
     Nonnull,

@@ -12,21 +12,21 @@ use life_types::{NoMemory, Place, TyId, TypeTable};
 use std::alloc::Global;
 
 /// A rule that is broken, and where.
-#[derive(Clone, Copy, Debug, PartialEq, Eq)]
+#[derive(Clone, Copy)]
 pub(crate) struct Broken {
     pub(crate) kind: IllKind,
     pub(crate) place: Place,
 }
 
 /// The type of a result or parameter, or the rule that it breaks.
-#[derive(Clone, Copy, Debug, PartialEq, Eq)]
+#[derive(Clone, Copy)]
 enum FoundType {
     Sound(TyId),
     Ill(Broken),
 }
 
 /// The type of a result, and what it holds of pointers.
-#[derive(Clone, Copy, Debug, PartialEq, Eq)]
+#[derive(Clone, Copy)]
 pub(crate) struct Returned {
     pub(crate) ty: TyId,
     pub(crate) pointing: Pointing,

@@ -9,7 +9,7 @@ use life_types::{NameId, NoMemory};
 
 /// A piece of what a declaration says beside its types. Two declarations of a function agree where
 /// all their pieces do.
-#[derive(Clone, Copy, Debug, PartialEq, Eq)]
+#[derive(Clone, Copy, PartialEq, Eq)]
 pub(crate) enum Piece {
     /// A parameter with this name.
     Parameter(NameId),

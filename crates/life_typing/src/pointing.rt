@@ -6,14 +6,14 @@ use life_types::{Ty, TyId, TypeTable, holds_owner};
 
 /// Whether something of a type has a pointer, and whether it has a raw pointer: it is one, or a
 /// member of it has one. A `std::unique_ptr` owns and doesn't count.
-#[derive(Clone, Copy, Debug, PartialEq, Eq)]
+#[derive(Clone, Copy)]
 pub(crate) struct Pointing {
     pub(crate) pointer: bool,
     pub(crate) raw: bool,
 }
 
 /// What the rules on attributes ask of a parameter's type.
-#[derive(Clone, Copy, Debug, PartialEq, Eq)]
+#[derive(Clone, Copy)]
 pub(crate) struct Reach {
     /// What it holds of pointers.
     pub(crate) pointing: Pointing,
