@@ -8,7 +8,7 @@ use Rattle.life_types.specs.declared.ty.Class.{Class}
 use Rattle.life_types.specs.declared.ty.Class.TheVariants.{Value, Pointer, Owner, Aggregate}
 use Rattle.life_types.specs.declared.ty.Ty.{Ty}
 use Rattle.life_core.specs.Function.{Function, Program}
-use Rattle.life_core.specs.Proper.{AnObject, given_holdings, held_if}
+use Rattle.life_core.specs.Holdings.{AnObject, given_holdings, held_if}
 use Rattle.life_core.specs.declared.program.Local.{Local}
 use Rattle.life_core.specs.declared.program.LocalKind.{LocalKind}
 use Rattle.life_core.specs.declared.program.LocalKind.TheVariants as kind

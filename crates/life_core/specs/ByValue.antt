@@ -6,7 +6,7 @@ use Rattle.life_types.specs.Types.{Types}
 use Rattle.life_core.specs.Function.{Function, Program}
 use Rattle.life_core.specs.Linked.{Linked, code_of}
 use Rattle.life_core.specs.Operands.{Location}
-use Rattle.life_core.specs.Proper.{Holding, APointer, parameter_sorts, sort_of}
+use Rattle.life_core.specs.Holdings.{Holding, APointer, parameter_sorts, sort_of}
 use Rattle.life_core.specs.Step.{Step, Call}
 use Rattle.life_core.specs.Tree.{Node, Action}
 

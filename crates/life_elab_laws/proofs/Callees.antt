@@ -12,7 +12,7 @@ use Rattle.life_typed.specs.Programs.{FunctionForm, ProgramForm}
 use Rattle.life_typed.specs.declared.typed_program.ParameterPromise.{ParameterPromise}
 use Rattle.life_typed.specs.declared.typed_program.TypedLocal.{TypedLocal}
 use Rattle.life_core.specs.Function.{Function}
-use Rattle.life_core.specs.Proper.{AnObject, ANumber, Blank, Holding, given_holdings, held_by, held_if, parameter_sorts, result_if, result_sort, sort_of}
+use Rattle.life_core.specs.Holdings.{AnObject, ANumber, Blank, Holding, given_holdings, held_by, held_if, parameter_sorts, result_if, result_sort, sort_of}
 use Rattle.life_core.specs.declared.program.Local.{Local}
 use Rattle.life_well_typed.specs.Expressions.{parameter_types, type_of}
 use Rattle.life_writer.specs.Around.{Around}

@@ -12,7 +12,7 @@ use Rattle.life_typed.specs.Programs.{FunctionForm}
 use Rattle.life_core.specs.ByValue.{is_by_value, is_pointer, takes_pointer}
 use Rattle.life_core.specs.Function.{Function}
 use Rattle.life_core.specs.Operands.{Argument, Value, whole}
-use Rattle.life_core.specs.Proper.{Holding, AnObject, ANumber, Blank, parameter_sorts, result_sort, sort_of}
+use Rattle.life_core.specs.Holdings.{Holding, AnObject, ANumber, Blank, parameter_sorts, result_sort, sort_of}
 use Rattle.life_proper.specs.declared.known.Known.{Known}
 use Rattle.life_proper.specs.declared.known.Known.TheVariants as known
 use Rattle.life_proper.specs.Knowing.{known_as, known_at, same}

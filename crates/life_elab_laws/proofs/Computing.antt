@@ -15,7 +15,7 @@ use Rattle.life_typed.specs.TypedForm.{Typed, whole as whole_form}
 use Rattle.life_typed.specs.declared.typed_expr.Category.TheVariants as category
 use Rattle.life_core.specs.Function.{Function}
 use Rattle.life_core.specs.Operands.{Operand}
-use Rattle.life_core.specs.Proper.{ANumber}
+use Rattle.life_core.specs.Holdings.{ANumber}
 use Rattle.life_core.specs.Step.{Save}
 use Rattle.life_core.specs.declared.operation.Operation.TheVariants as operation
 use Rattle.life_core.specs.declared.operation.Operator.{Operator}

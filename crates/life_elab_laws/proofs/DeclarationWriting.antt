@@ -18,7 +18,7 @@ use Rattle.life_typed.specs.declared.typed_expr.Category.TheVariants as category
 use Rattle.life_typed.specs.declared.typed_program.TypedLocal.{TypedLocal}
 use Rattle.life_core.specs.Function.{Function}
 use Rattle.life_core.specs.Operands.{Argument, Place as Aimed, object_named, whole}
-use Rattle.life_core.specs.Proper.{Holding, AnObject, ANumber, APointer, Blank, held_if, sort_of}
+use Rattle.life_core.specs.Holdings.{Holding, AnObject, ANumber, APointer, Blank, held_if, sort_of}
 use Rattle.life_core.specs.Step.{Live, Save}
 use Rattle.life_core.specs.Tree.{Tree, Acts}
 use Rattle.life_core.specs.declared.instr.Form.TheVariants.{Plain}

@@ -9,7 +9,7 @@ use Rattle.life_types.specs.declared.ty.TyId.{TyId}
 use Rattle.life_built.specs.Built.{is_built_variable}
 use Rattle.life_typed.specs.declared.typed_program.TypedLocal.{TypedLocal}
 use Rattle.life_core.specs.Function.{Function}
-use Rattle.life_core.specs.Proper.{AnObject, APointer, held_by, held_if, sort_of}
+use Rattle.life_core.specs.Holdings.{AnObject, APointer, held_by, held_if, sort_of}
 use Rattle.life_core.specs.Tree.{Tree, trees}
 use Rattle.life_core.specs.declared.program.Local.{Local}
 use Rattle.life_core.specs.declared.program.LocalKind.{LocalKind}

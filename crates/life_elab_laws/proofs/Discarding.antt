@@ -15,7 +15,7 @@ use Rattle.life_typed.specs.declared.typed_expr.ExprType.{ExprType}
 use Rattle.life_typed.specs.declared.typed_expr.ExprType.TheVariants.{Of}
 use Rattle.life_core.specs.Function.{Function}
 use Rattle.life_core.specs.Operands.{Text, whole}
-use Rattle.life_core.specs.Proper.{Holding, AView}
+use Rattle.life_core.specs.Holdings.{Holding, AView}
 use Rattle.life_core.specs.Step.{Aim, Ports, Writes, WritesView}
 use Rattle.life_proper.specs.declared.known.Known.{Known}
 use Rattle.life_proper.specs.declared.known.Known.TheVariants as known

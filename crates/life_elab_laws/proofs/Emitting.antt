@@ -9,7 +9,7 @@ use Rattle.life_types.specs.declared.ty.Ty.{Ty}
 use Rattle.life_typed.specs.BaseTypes.{is_value}
 use Rattle.life_core.specs.ByValue.{is_by_value}
 use Rattle.life_core.specs.Function.{Function}
-use Rattle.life_core.specs.Proper.{Holding, ANumber, held_if, sort_of}
+use Rattle.life_core.specs.Holdings.{Holding, ANumber, held_if, sort_of}
 use Rattle.life_core.specs.Step.{Step}
 use Rattle.life_core.specs.Tree.{Acts}
 use Rattle.life_core.specs.declared.program.Local.{Local}

@@ -4,7 +4,7 @@ use Rattle.life_types.specs.Types.{Types, class}
 use Rattle.life_types.specs.declared.place.Place.{Place}
 use Rattle.life_types.specs.declared.ty.Ty.{Ty}
 use Rattle.life_core.specs.Function.{Function}
-use Rattle.life_core.specs.Proper.{held_by, held_if, sort_of}
+use Rattle.life_core.specs.Holdings.{held_by, held_if, sort_of}
 use Rattle.life_core.specs.declared.program.Local.{Local}
 use Rattle.life_core.specs.declared.program.LocalKind.TheVariants.{Register}
 use Rattle.life_writer.specs.Registers.{nameless, new_register, type_number, typed_with}

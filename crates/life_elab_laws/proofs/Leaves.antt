@@ -11,7 +11,7 @@ use Rattle.life_typed.specs.BaseTypes.{is_raw, is_value}
 use Rattle.life_core.specs.ByValue.{is_by_value}
 use Rattle.life_core.specs.Function.{Function}
 use Rattle.life_core.specs.Operands.{Location, Operand, Source, Null, Place as Aimed, whole}
-use Rattle.life_core.specs.Proper.{Holding, AnObject, ANumber, APointer, sort_of}
+use Rattle.life_core.specs.Holdings.{Holding, AnObject, ANumber, APointer, sort_of}
 use Rattle.life_core.specs.Step.{Step, Aim}
 use Rattle.life_core.specs.declared.operation.Operator.{Operator}
 use Rattle.life_proper.specs.declared.known.Known.{Known}

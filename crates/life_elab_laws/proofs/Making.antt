@@ -4,7 +4,7 @@ use Rattle.life_types.specs.Types.{Types}
 use Rattle.life_types.specs.declared.ty.NameId.{NameId}
 use Rattle.life_core.specs.Function.{Function}
 use Rattle.life_core.specs.Operands.{Location, Operand, Null, Place as Aimed, behind, object_named, whole}
-use Rattle.life_core.specs.Proper.{APointer, sort_of}
+use Rattle.life_core.specs.Holdings.{APointer, sort_of}
 use Rattle.life_core.specs.Tree.{Tree}
 use Rattle.life_core.specs.declared.program.Local.{Local}
 use Rattle.life_proper.specs.declared.known.Known.{Known}

@@ -10,7 +10,7 @@ use Rattle.life_built.specs.Built.{are_built_functions, has_built_types, has_no_
 use Rattle.life_typed.specs.BaseTypes.{is_value, type_at}
 use Rattle.life_typed.specs.Programs.{FunctionForm, ProgramForm}
 use Rattle.life_core.specs.Function.{Function}
-use Rattle.life_core.specs.Proper.{ANumber, Blank, result_sort}
+use Rattle.life_core.specs.Holdings.{ANumber, Blank, result_sort}
 use Rattle.life_proper.specs.Checking.{are_checked, checked, is_checked}
 use Rattle.life_proper.specs.Knowing.{entry_known}
 use Rattle.life_proper.specs.ProperPrograms.{has_own_breaks, have_own_breaks}

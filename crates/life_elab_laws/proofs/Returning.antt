@@ -12,7 +12,7 @@ use Rattle.life_typed.specs.BaseTypes.{is_value, type_at}
 use Rattle.life_typed.specs.TypedForm.{Typed, whole as whole_form}
 use Rattle.life_type_stmt.specs.Returns as typing
 use Rattle.life_core.specs.Function.{Function}
-use Rattle.life_core.specs.Proper.{ANumber, Blank, Holding, result_sort}
+use Rattle.life_core.specs.Holdings.{ANumber, Blank, Holding, result_sort}
 use Rattle.life_core.specs.Tree.{Tree, Breaks, Continues, Returns, trees}
 use Rattle.life_core.specs.declared.program.Local.{Local}
 use Rattle.life_proper.specs.declared.known.Known.{Known}

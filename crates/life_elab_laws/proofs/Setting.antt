@@ -7,7 +7,7 @@ use Rattle.life_built.specs.Built.{are_built_functions, are_built_variables, is_
 use Rattle.life_typed.specs.BaseTypes.{is_value, type_at}
 use Rattle.life_typed.specs.Programs.{FunctionForm}
 use Rattle.life_core.specs.Function.{Function}
-use Rattle.life_core.specs.Proper.{ANumber, Blank, result_sort}
+use Rattle.life_core.specs.Holdings.{ANumber, Blank, result_sort}
 use Rattle.life_well_typed.specs.Expressions.{parameter_types}
 use Rattle.life_writer.specs.Around.{Around}
 use Rattle.life_elab_laws.proofs.Calls.{IsCallee}

@@ -18,7 +18,7 @@ use Rattle.life_type_stmt.specs.Simples as typing
 use Rattle.life_core.specs.ByValue.{is_by_value}
 use Rattle.life_core.specs.Function.{Function}
 use Rattle.life_core.specs.Operands.{Location, Source, Null, Place as Aimed, whole}
-use Rattle.life_core.specs.Proper.{Holding, ANumber, APointer, sort_of}
+use Rattle.life_core.specs.Holdings.{Holding, ANumber, APointer, sort_of}
 use Rattle.life_core.specs.Step.{Save}
 use Rattle.life_proper.specs.declared.known.Known.{Known}
 use Rattle.life_proper.specs.declared.known.Known.TheVariants as known

@@ -9,7 +9,7 @@ use Rattle.life_types.specs.declared.ty.Ty.{Ty}
 use Rattle.life_typed.specs.BaseTypes.{is_raw, is_value}
 use Rattle.life_core.specs.Function.{Function}
 use Rattle.life_core.specs.Operands.{Location}
-use Rattle.life_core.specs.Proper.{ANumber, APointer, sort_of}
+use Rattle.life_core.specs.Holdings.{ANumber, APointer, sort_of}
 use Rattle.life_core.specs.Step.{Test, NonZero, NotNull}
 use Rattle.life_core.specs.Tree.{Tree, Then, Acts, Asks, Both, Either, Choice, trees}
 use Rattle.life_proper.specs.declared.known.Known.{Known}

@@ -6,7 +6,7 @@ use Rattle.life_types.specs.Types.{class, with_type}
 use Rattle.life_types.specs.contracts.ty.TyPartialEq.TheImpl.{ghosts as compared}
 use Rattle.life_types.specs.declared.ty.Ty.{Ty}
 use Rattle.life_types.specs.declared.ty.Ty.TheVariants as ty
-use Rattle.life_core.specs.Proper.{ANumber, APointer, held_if}
+use Rattle.life_core.specs.Holdings.{ANumber, APointer, held_if}
 use Rattle.life_core.specs.declared.program.LocalKind.TheVariants.{Register}
 use Rattle.life_typed.specs.BaseTypes.{is_raw, is_value}
 use Rattle.life_writer.specs.Registers.{number_of}

@@ -14,7 +14,7 @@ use Rattle.life_typed.specs.declared.typed_program.TypedLocal.{TypedLocal}
 use Rattle.life_type_expr.specs.Operands.{variable_of}
 use Rattle.life_core.specs.Function.{Function}
 use Rattle.life_core.specs.Operands.{whole}
-use Rattle.life_core.specs.Proper.{AnObject, held_by, held_if, sort_of}
+use Rattle.life_core.specs.Holdings.{AnObject, held_by, held_if, sort_of}
 use Rattle.life_core.specs.declared.program.Local.{Local}
 use Rattle.life_core.specs.declared.program.LocalKind.{LocalKind}
 use Rattle.life_core.specs.declared.program.LocalKind.TheVariants.{Object, Register}

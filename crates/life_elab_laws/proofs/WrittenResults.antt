@@ -13,7 +13,8 @@ use Rattle.life_typed.specs.Programs.{FunctionForm, ProgramForm, is_main}
 use Rattle.life_type_stmt.specs.Bodies.{return_fault}
 use Rattle.life_type_stmt.specs.Returns as typing
 use Rattle.life_core.specs.Function.{Function}
-use Rattle.life_core.specs.Proper.{Holding, Holds}
+use Rattle.life_core.specs.Holdings.{Holding}
+use Rattle.life_core.specs.Proper.{Holds}
 use Rattle.life_proper.specs.ResultsWritten.{HasResultWritten, HaveResultsWritten, WritesResults, is_written_by, writes_result}
 use Rattle.life_proper.proofs.ResultsFound.{results_found}
 use Rattle.life_well_typed.specs.Functions.{IsWellTyped}

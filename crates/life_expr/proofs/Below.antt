@@ -1,6 +1,6 @@
 -- The readers one construct further in.
 use Rattle.std.proofs.Common.{◌≡◌, ℕ, zero, suc, ◌<◌, ◌-◌, refl, arith}
-use Rattle.life_expr.specs.Read.{Tokens}
+use Rattle.life_tree.specs.Tree.{Tokens}
 use Rattle.life_expr.specs.Readers.{below, read_rule}
 use Rattle.life_tree.specs.Rules.{Rule}
 

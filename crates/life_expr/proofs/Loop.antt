@@ -5,8 +5,8 @@ use Rattle.life_expr.specs.declared.stop.Stop.{Stop as Fault}
 use Rattle.life_expr.specs.declared.stop.Stop.TheVariants as faults
 use Rattle.life_expr.specs.Gives.{Fails}
 use Rattle.life_expr.specs.Heads.{Kind}
-use Rattle.life_expr.specs.Read.{Tokens, Stop, ◌>>=◌, Read, Reader, starts, many_below, as_many}
-use Rattle.life_tree.specs.Tree.{Tree, nothing, ◌⨾◌}
+use Rattle.life_expr.specs.Read.{Stop, ◌>>=◌, Read, Reader, starts, many_below, as_many}
+use Rattle.life_tree.specs.Tree.{Tree, nothing, ◌⨾◌, Tokens}
 use Rattle.life_tree.specs.Views.{list_tree}
 
 -- these trees, one after the other, and then t

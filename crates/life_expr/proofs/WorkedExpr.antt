@@ -1,9 +1,9 @@
 -- Expressions read out by hand.
 use Rattle.std.proofs.Common.{◌≡◌, ℕ, [], ◌∷◌, Ok, Err, refl}
-use Rattle.life_expr.specs.Read.{Tokens, deep, as_many}
+use Rattle.life_expr.specs.Read.{deep, as_many}
 use Rattle.life_expr.specs.Readers.{args_with, list_with, primary_with, part_with, postfix_with, unary_with, term_with, sum_with, order_with, equal_with, both_with, expr_with, rule_with, below, read_rule}
 use Rattle.life_tree.specs.Rules as rules
-use Rattle.life_tree.specs.Tree.{Tree, nothing, token, ◌⨾◌, construct, node}
+use Rattle.life_tree.specs.Tree.{Tree, nothing, token, ◌⨾◌, construct, node, Tokens}
 use Rattle.life_tree.specs.Views.{at}
 use Rattle.life_tree.specs.declared.fixed.TheConstants as fixed
 use Rattle.life_tree.specs.declared.key.TokenKey.TheVariants as keys

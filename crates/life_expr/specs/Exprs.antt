@@ -1,4 +1,4 @@
--- Readers of parts of expressions, each as a function of the program reads one.
+-- How reading goes, which nobody need believe: readers of parts of expressions, each as a function of the program reads one.
 use Rattle.std.specs.Prelude.{ℕ, Bool, false, ◌==◌, ◌||◌, Ok}
 use Rattle.life_expr.specs.Heads.{heads}
 use Rattle.life_expr.specs.Read.{Reader, Read, ◌>>=◌, as_many, made, reads}

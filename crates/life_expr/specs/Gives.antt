@@ -1,4 +1,4 @@
--- What a function of the program returned, against what reading on lists gives.
+-- How reading goes, which nobody need believe: what a function of the program returned, against what reading on lists gives.
 use Rattle.std.specs.Prelude.{◌≡◌, Result, Ok, Err}
 use Rattle.life_expr.specs.declared.stop.Stop.{Stop as Fault}
 use Rattle.life_expr.specs.declared.stop.Stop.TheVariants as faults

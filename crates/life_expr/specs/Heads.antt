@@ -1,4 +1,4 @@
--- Which tokens a form can begin with.
+-- How reading goes, which nobody need believe: which tokens a form can begin with.
 use Rattle.std.specs.Prelude.{ℕ, Bool, true, false, ◌==◌, ◌&&◌, ◌||◌, List, [], ◌∷◌, ◌++◌, if◌then◌else◌}
 use Rattle.life_tree.specs.Grammar.{Form, none, no_else, quoted, name, number, character, text, ◌then◌, ◌decides◌, ◌or◌, many, opens, rule}
 use Rattle.life_tree.specs.Rules as rules

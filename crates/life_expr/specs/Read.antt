@@ -1,15 +1,13 @@
--- Reading from the front of a list of tokens. Every test looks at one token.
+-- How reading goes, from the front of a list of tokens; nobody need believe it, since what a file's tree is stands in the grammar. Every test looks
+-- at one token.
 use Rattle.std.specs.Prelude.{ℕ, zero, suc, Bool, false, nat_lt, ◌||◌, List, [], ◌∷◌, length, Result, Ok, Err, if◌then◌else◌}
 use Rattle.life_tree.specs.Grammar.{Form, none, no_else, quoted, name, number, character, text, ◌then◌, ◌decides◌, ◌or◌, many, opens, rule, optional}
 use Rattle.life_tree.specs.Rules.{Rule}
-use Rattle.life_tree.specs.Tree.{Tree, nothing, without_else, token, ◌⨾◌, construct}
+use Rattle.life_tree.specs.Tree.{Tokens, Tree, nothing, without_else, token, ◌⨾◌, construct}
 use Rattle.life_tree.specs.declared.key.TokenKey.TheVariants as keys
 use Rattle.life_tree.specs.declared.token.TreeToken.{TreeToken}
 use Rattle.life_types.specs.declared.place.Place.{Place}
 use Rattle.life_expr.specs.Heads.{Kind, is_of, quoted_kind, name_kind, number_kind, character_kind, text_kind, heads}
-
-abbrev pub Tokens : Type 0
-Tokens = List TreeToken
 
 -- Why reading stopped, with the tokens from there on: the first is refused, or opens too much.
 pub data Stop : Type 0 where

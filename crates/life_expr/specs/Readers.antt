@@ -1,11 +1,12 @@
--- A reader for each rule. n is how many more constructs may be open, and `inside` has the readers where one more is open.
+-- How reading goes, which nobody need believe: a reader for each rule. n is how many more constructs may be open, and `inside` has the readers where
+-- one more is open.
 use Rattle.std.specs.Prelude.{ℕ, zero, suc, Bool, true, false, ◌&&◌, ◌||◌, List, [], ◌∷◌, length, Err, if◌then◌else◌}
 use Rattle.life_expr.specs.Heads.{Kind, quoted_kind, name_kind, is_of}
-use Rattle.life_expr.specs.Read.{Tokens, Reader, refused, deep, made, reads}
+use Rattle.life_expr.specs.Read.{Reader, refused, deep, made, reads}
 use Rattle.life_tree.specs.Grammar.{Form, form_of, ◌or◌}
 use Rattle.life_tree.specs.Rules as rules
 use Rattle.life_tree.specs.Rules.{Rule}
-use Rattle.life_tree.specs.Tree.{node}
+use Rattle.life_tree.specs.Tree.{node, Tokens}
 use Rattle.life_tree.specs.declared.fixed.TheConstants as fixed
 
 abbrev pub Readers : Type 0

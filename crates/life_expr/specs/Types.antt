@@ -1,4 +1,4 @@
--- Readers of parts of types, each as a function of the program reads one.
+-- How reading goes, which nobody need believe: readers of parts of types, each as a function of the program reads one.
 use Rattle.std.specs.Prelude.{ℕ, Ok}
 use Rattle.life_expr.specs.Read.{Reader, Read, reads, ◌>>=◌}
 use Rattle.life_expr.specs.Readers.{Readers, no_reader, argument_with}

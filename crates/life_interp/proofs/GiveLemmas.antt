@@ -6,7 +6,7 @@ use Rattle.life_types.specs.Types.{Types}
 use Rattle.life_types.specs.declared.ty.TyId.{TyId}
 use Rattle.life_core.specs.declared.program.Local.{Local}
 use Rattle.life_core.specs.Function.{Function}
-use Rattle.life_core.specs.Proper.{Holding, held_by}
+use Rattle.life_core.specs.Holdings.{Holding, held_by}
 use Rattle.life_store.specs.Doing.{Setting, Effect, Next, Traps, Here, found_at, on_found, on_next, put_cell, with_value_object, word_of_number}
 use Rattle.life_interp.specs.SoFar.{born_with, given, given_if, given_to, saved}
 use Rattle.life_store.specs.Cells.{at, set, at-set_same, at-set_other}

@@ -7,7 +7,7 @@ use Rattle.life_types.specs.declared.ty.TyId.{TyId}
 use Rattle.life_core.specs.declared.instr.Form.{Form}
 use Rattle.life_core.specs.declared.program.Local.{Local}
 use Rattle.life_core.specs.Function.{Function}
-use Rattle.life_core.specs.Proper.{Holding, held_by, sort_of}
+use Rattle.life_core.specs.Holdings.{Holding, held_by, sort_of}
 use Rattle.life_store.specs.Cells.{at, set, unset, at-set_same}
 use Rattle.life_store.specs.Content.{Content, Object, newborn, with_birth, with_resize, live_words_of}
 use Rattle.life_store.specs.Doing.{Setting, born_pointer, Effect, Next, Traps, Strays, put_cell, born_object, with_value_object, on_next, cell}

@@ -9,7 +9,7 @@ use Rattle.life_core.specs.declared.exits.Entry.{Entry}
 use Rattle.life_core.specs.declared.exits.Entry.TheVariants as entries
 use Rattle.life_core.specs.Function.{Function, Program}
 use Rattle.life_core.specs.Linked.{entry_of, no_exits, target_of}
-use Rattle.life_core.specs.Proper.{parameter_sorts}
+use Rattle.life_core.specs.Holdings.{parameter_sorts}
 use Rattle.life_proper.specs.ProperPrograms.{IsProperProgram}
 use Rattle.life_store.specs.Calls.{entry_arguments, parameters_given}
 use Rattle.life_store.specs.Cells.{at-none, none}

@@ -7,7 +7,8 @@ use Rattle.life_types.specs.declared.ty.Ty.{Ty}
 use Rattle.life_types.specs.declared.ty.Ty.TheVariants as variant
 use Rattle.life_core.specs.Function.{Function}
 use Rattle.life_core.specs.Operands.{Argument, Location, Value, PointerOf}
-use Rattle.life_core.specs.Proper.{Holding, Blank, AnObject, ANumber, APointer, AView, Holdings, held_by, held_if, given_holdings, parameter_sorts, result_if, result_sort, sort_of, IsArgumentReady, AreArgumentsReady, IsResultReady, IsTargetReady}
+use Rattle.life_core.specs.Holdings.{Holding, Blank, AnObject, ANumber, APointer, AView, Holdings, held_by, held_if, given_holdings, parameter_sorts, result_if, result_sort, sort_of}
+use Rattle.life_core.specs.Proper.{IsArgumentReady, AreArgumentsReady, IsResultReady, IsTargetReady}
 use Rattle.life_core.specs.declared.program.Local.{Local}
 use Rattle.life_core.specs.declared.program.LocalKind.{LocalKind}
 use Rattle.life_store.specs.Calls as whole

@@ -14,7 +14,8 @@ use Rattle.life_core.specs.Step.{Step, Live, End, Eval, Load, Save, Copy, Move, 
 use Rattle.life_core.specs.Tree.{Tree, Skip, Then, Acts, Asks, Both, Either, Negated, Choice, Turns, Breaks, Continues, Returns, Stops, size, Action, Question, Return, Stop as StopHere}
 use Rattle.life_core.proofs.EntryLemmas.{enter_then, enter_same}
 use Rattle.life_core.proofs.SpotLemmas.{linked_length}
-use Rattle.life_core.specs.Proper.{Holding, HasReadyWays, IsReadyProgram, IsCallReady, IsStepReady, entry_holdings, parameter_sorts, result_sort}
+use Rattle.life_core.specs.Holdings.{Holding, entry_holdings, parameter_sorts, result_sort}
+use Rattle.life_core.specs.Proper.{HasReadyWays, IsReadyProgram, IsCallReady, IsStepReady}
 use Rattle.life_store.specs.Calls as whole
 use Rattle.life_store.specs.Calls.{lent}
 use Rattle.life_store.specs.Doing as doing

@@ -1,6 +1,6 @@
 -- What the machine's cells stand for.
 use Rattle.std.specs.Prelude.{ℕ, ℤ, List, [], ◌∷◌, Option, Some, None, map}
-use Rattle.life_core.specs.Proper.{Holding, Blank, AnObject, ANumber, APointer, AView}
+use Rattle.life_core.specs.Holdings.{Holding, Blank, AnObject, ANumber, APointer, AView}
 use Rattle.life_interp.specs.declared.sort.Sort.{Sort}
 use Rattle.life_interp.specs.declared.sort.Sort.TheVariants as sort
 use Rattle.life_interp.specs.declared.value.Cell.{Cell}

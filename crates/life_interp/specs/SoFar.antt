@@ -7,7 +7,7 @@ use Rattle.life_core.specs.declared.program.Local.{Local}
 use Rattle.life_core.specs.Function.{Function}
 use Rattle.life_core.specs.Operands.{Argument, Location, Operand, Name, Through, Source, Value, GivenOver, PointerOf, Slot}
 use Rattle.life_core.specs.Operands as source
-use Rattle.life_core.specs.Proper.{Holding, Blank, AnObject, ANumber, APointer, AView, result_sort, sort_of}
+use Rattle.life_core.specs.Holdings.{Holding, Blank, AnObject, ANumber, APointer, AView, result_sort, sort_of}
 use Rattle.life_core.specs.Step.{Step, Live, End, Eval, Load, Save, Aim, Repoint, Port, Ports, Writes, WritesView, Takes, Test, NonZero, NotNull}
 use Rattle.life_store.specs.Calls.{number_handed, pointer_handed, with_handed, number_or_zero, pointer_back}
 use Rattle.life_store.specs.Cells.{at}

@@ -1,7 +1,7 @@
 // What a local holds where it is ready.
 ghost use Rattle.std.specs.Prelude.{◌≡◌, Some};
 ghost use Rattle.life_core.specs.Function.{function_of};
-ghost use Rattle.life_core.specs.Proper.{held_by, pointer_held, result_sort, sort_of};
+ghost use Rattle.life_core.specs.Holdings.{held_by, pointer_held, result_sort, sort_of};
 ghost use Rattle.life_interp.specs.Cells.{sort_seen};
 
 use life_core::{CoreFn, Local, LocalKind};

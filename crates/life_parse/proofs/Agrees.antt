@@ -2,13 +2,13 @@
 use Rattle.std.proofs.Common.{◌≡◌, ℕ, zero, suc, ◌<◌, ◌≤◌, nat_lt, Bool, true, false, cond, List, [], ◌∷◌, length, Result, Ok, Err, refl, arith}
 use Rattle.std.proofs.lemmas.Bool.{lt-ltb}
 use Rattle.life_expr.specs.Heads.{Kind, heads, is_of, quoted_kind}
-use Rattle.life_expr.specs.Read.{Tokens, Stop, refused, deep, ◌>>=◌, Reader, starts, opener, many_below, as_many, reads}
+use Rattle.life_expr.specs.Read.{Stop, refused, deep, ◌>>=◌, Reader, starts, opener, many_below, as_many, reads}
 use Rattle.life_expr.specs.Readers.{Readers, begins_as, choose, chosen, derived}
 use Rattle.life_parse.proofs.Looks.{Answer}
 use Rattle.life_parse.proofs.LooksOn.{both, when, as_made}
 use Rattle.life_tree.specs.Grammar.{Form, form_of, ◌then◌, ◌decides◌, ◌or◌, many, opens, rule}
 use Rattle.life_tree.specs.Rules.{Rule}
-use Rattle.life_tree.specs.Tree.{nothing, construct, ◌⨾◌, node}
+use Rattle.life_tree.specs.Tree.{nothing, construct, ◌⨾◌, node, Tokens}
 use Rattle.life_types.specs.declared.place.Place.{Place}
 
 abbrev pub goes_too_deep : {A : Type 0} → Result A Stop → Bool

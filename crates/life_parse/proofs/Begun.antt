@@ -6,10 +6,9 @@ use Rattle.life_parse.proofs.Counts.{one_more, one_more-append, one_more-length,
 use Rattle.life_parse.proofs.ElseTokens.{empty_tokens, else_first, one_true}
 use Rattle.life_parse.proofs.Laws.{else_in_front, IsTree, Closing, Deepening}
 use Rattle.life_parse.proofs.Wholes.{Whole, Joins}
-use Rattle.life_expr.specs.Read.{Tokens}
 use Rattle.life_tree.specs.Grammar.{Form, opens, rule, form_of, Conforms, begins_with_else}
 use Rattle.life_tree.specs.Rules.{Rule}
-use Rattle.life_tree.specs.Tree.{Tree, ◌⨾◌, construct, node, tokens_of, is_empty, open_at}
+use Rattle.life_tree.specs.Tree.{Tree, ◌⨾◌, construct, node, tokens_of, is_empty, open_at, Tokens}
 use Rattle.life_tree.specs.declared.key.TokenKey.TheVariants as keys
 use Rattle.life_tree.specs.declared.token.TreeToken.{TreeToken}
 use Rattle.life_types.specs.declared.place.Place.{Place}

@@ -2,12 +2,12 @@
 use Rattle.std.proofs.Common.{◌≡◌, suc, ◌<◌, ◌≤◌, Bool, true, false, cond, ◌&&◌, List, [], ◌∷◌, ◌++◌, length, Ok, refl, sym, ap, ◌∙◌, arith}
 use Rattle.std.proofs.lemmas.List.{length-append}
 use Rattle.life_expr.specs.Heads.{Kind, is_of, quoted_kind, name_kind}
-use Rattle.life_expr.specs.Read.{Tokens, Reader}
+use Rattle.life_expr.specs.Read.{Reader}
 use Rattle.life_expr.specs.Readers.{begins, begins_as, std_front, declaration_fronts, print_fronts, end_of_line_fronts}
 use Rattle.life_parse.specs.Source.{SameFront}
 use Rattle.life_parse.proofs.Looks.{rest_of, LooksAt, Looks, Law, same_behind}
 use Rattle.life_parse.proofs.Passes.{Takes, Passes, PassesScope, takes_name, takes_std, takes_scope, takes_string}
-use Rattle.life_tree.specs.Tree.{Tree}
+use Rattle.life_tree.specs.Tree.{Tree, Tokens}
 use Rattle.life_tree.specs.declared.fixed.TheConstants as fixed
 use Rattle.life_tree.specs.declared.token.TreeToken.{TreeToken}
 

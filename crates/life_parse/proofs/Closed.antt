@@ -6,10 +6,10 @@ use Rattle.life_parse.proofs.ElseTokens.{neither}
 use Rattle.life_parse.proofs.Laws.{IsTree, Closes}
 use Rattle.life_parse.proofs.Wholes.{Whole, Joins, whole_pair, fits_left, fits_right, whole_as, whole_node}
 use Rattle.life_expr.specs.Heads.{Kind}
-use Rattle.life_expr.specs.Read.{Tokens, Stop, refused, deep, ◌>>=◌, Read, Reader, starts, pair, made, many_below, as_many}
+use Rattle.life_expr.specs.Read.{Stop, refused, deep, ◌>>=◌, Read, Reader, starts, pair, made, many_below, as_many}
 use Rattle.life_tree.specs.Grammar.{Form, ◌or◌, many, rule, form_of, Conforms, ends_open}
 use Rattle.life_tree.specs.Rules.{Rule}
-use Rattle.life_tree.specs.Tree.{Tree, nothing, ◌⨾◌, node, tokens_of}
+use Rattle.life_tree.specs.Tree.{Tree, nothing, ◌⨾◌, node, tokens_of, Tokens}
 
 -- Where reading stops
 abbrev pub Stopped : (f : Form) (n : ℕ) (ts : Tokens) → Stop → Type 0

@@ -8,11 +8,11 @@ use Rattle.life_parse.proofs.Openers.{Passed, passed, unopened, opened, enclosed
 use Rattle.life_parse.proofs.Takes.{takes, refuses, quoted_token}
 use Rattle.life_parse.proofs.Wholes.{Whole, whole_construct}
 use Rattle.life_expr.specs.Heads.{Kind, quoted_kind, name_kind, number_kind, character_kind, text_kind, key_is_of, is_of, heads}
-use Rattle.life_expr.specs.Read.{Tokens, Stop, refused, deep, ◌>>=◌, Read, Reader, the_token, as_it_stands, opener, starts, reads}
+use Rattle.life_expr.specs.Read.{Stop, refused, deep, ◌>>=◌, Read, Reader, the_token, as_it_stands, opener, starts, reads}
 use Rattle.life_expr.specs.Readers.{Readers}
 use Rattle.life_tree.specs.Grammar.{Form, none, no_else, quoted, name, number, character, text, ◌then◌, ◌decides◌, ◌or◌, many, opens, rule, Conforms, ends_open}
 use Rattle.life_tree.specs.Rules.{Rule}
-use Rattle.life_tree.specs.Tree.{Tree, nothing, token, construct, tokens_of, nowhere}
+use Rattle.life_tree.specs.Tree.{Tree, nothing, token, construct, tokens_of, nowhere, Tokens}
 use Rattle.life_tree.specs.declared.fixed.TheConstants as fixed
 use Rattle.life_tree.specs.declared.key.TokenKey.{TokenKey}
 use Rattle.life_tree.specs.declared.key.TokenKey.TheVariants as keys

@@ -8,12 +8,12 @@ use Rattle.life_parse.proofs.ElseParts.{Closed-else}
 use Rattle.life_parse.proofs.Laws.{Closes}
 use Rattle.life_parse.proofs.Samples.{sample_of}
 use Rattle.life_parse.proofs.Wholes.{Whole}
-use Rattle.life_expr.specs.Read.{Tokens, Stop, deep}
+use Rattle.life_expr.specs.Read.{Stop, deep}
 use Rattle.life_expr.specs.Readers.{Readers, no_reader, declaration_fronts, print_fronts, end_of_line_fronts, type_with, sum_with, for_rest_parts, for_rest_with, for_parts, for_clauses_with, for_head_with, item_with, print_part_with, sentence_parts, sentence_with, block_with, plain_parts, plain_with, branches_with, statement_parts, statement_with, else_parts, else_part_below, else_part_with, block_item_parts, block_item_with, word_with, attribute_with, parameter_parts, parameter_with, function_parts, function_with, member_with, structure_with, definition_parts, definition_with, program_with, rule_with, below, read_rule}
 use Rattle.life_tree.specs.Grammar.{Form, quoted, ◌then◌, ◌or◌, rule}
 use Rattle.life_tree.specs.Rules as rules
 use Rattle.life_tree.specs.Rules.{Rule}
-use Rattle.life_tree.specs.Tree.{Tree}
+use Rattle.life_tree.specs.Tree.{Tree, Tokens}
 use Rattle.life_tree.specs.declared.fixed.TheConstants as fixed
 
 -- what may stand behind an `else`

@@ -1,7 +1,7 @@
 -- One list of tokens, cut in two ways.
 use Rattle.std.proofs.Common.{◌≡◌, ◌≤◌, [], ◌∷◌, ◌++◌, length, refl, sym, ap, ap₂, arith}
 use Rattle.std.proofs.lemmas.List.{length-append}
-use Rattle.life_expr.specs.Read.{Tokens}
+use Rattle.life_tree.specs.Tree.{Tokens}
 use Rattle.life_parse.specs.Source.{SameFront}
 use Rattle.life_tree.specs.declared.token.TreeToken.{TreeToken}
 

@@ -7,9 +7,9 @@ use Rattle.life_parse.proofs.ElseTokens.{else_key}
 use Rattle.life_parse.proofs.Laws.{else_in_front}
 use Rattle.life_parse.proofs.Wholes.{Whole, whole_pair, fits_left, whole_as}
 use Rattle.life_expr.specs.Heads.{quoted_kind, is_of}
-use Rattle.life_expr.specs.Read.{Tokens, Stop, ◌>>=◌, Read, Reader, mark, pair, starts}
+use Rattle.life_expr.specs.Read.{Stop, ◌>>=◌, Read, Reader, mark, pair, starts}
 use Rattle.life_tree.specs.Grammar.{Form, no_else, quoted, ◌then◌, ◌or◌}
-use Rattle.life_tree.specs.Tree.{Tree, without_else, token, ◌⨾◌}
+use Rattle.life_tree.specs.Tree.{Tree, without_else, token, ◌⨾◌, Tokens}
 use Rattle.life_tree.specs.declared.fixed.TheConstants as fixed
 use Rattle.life_tree.specs.declared.key.TokenKey.TheVariants as keys
 

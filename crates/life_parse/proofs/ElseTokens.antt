@@ -4,9 +4,8 @@ use Rattle.life_parse.proofs.Elses.{no_tokens_are, is_empty_is, else_goes_on, be
 use Rattle.life_parse.proofs.Laws.{else_in_front}
 use Rattle.life_parse.proofs.TokenKinds.{both_false}
 use Rattle.life_expr.specs.Heads.{quoted_kind, key_is_of}
-use Rattle.life_expr.specs.Read.{Tokens}
 use Rattle.life_tree.specs.Grammar.{ElsesAreNearest, begins_with_else, ends_open, is_else}
-use Rattle.life_tree.specs.Tree.{Tree, nothing, without_else, token, ◌⨾◌, construct, node, tokens_of, is_empty}
+use Rattle.life_tree.specs.Tree.{Tree, nothing, without_else, token, ◌⨾◌, construct, node, tokens_of, is_empty, Tokens}
 use Rattle.life_tree.specs.declared.fixed.TheConstants as fixed
 use Rattle.life_tree.specs.declared.key.TokenKey.{TokenKey}
 use Rattle.life_tree.specs.declared.key.TokenKey.TheVariants as keys

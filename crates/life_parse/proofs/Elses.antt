@@ -1,9 +1,8 @@
 -- Where an `else` may stand: what a tree's tokens tell of it.
 use Rattle.std.proofs.Common.{◌≡◌, Bool, true, false, ◌&&◌, ◌||◌, [], ◌∷◌, ◌++◌, refl, sym, ap, ◌∙◌}
-use Rattle.life_expr.specs.Read.{Tokens}
 use Rattle.life_parse.proofs.Laws.{else_in_front}
 use Rattle.life_tree.specs.Grammar.{ElsesAreNearest, ends_open, begins_with_else, is_else}
-use Rattle.life_tree.specs.Tree.{Tree, nothing, without_else, token, ◌⨾◌, construct, node, tokens_of, is_empty}
+use Rattle.life_tree.specs.Tree.{Tree, nothing, without_else, token, ◌⨾◌, construct, node, tokens_of, is_empty, Tokens}
 
 abbrev pub no_tokens : Tokens → Bool
 no_tokens [] = true

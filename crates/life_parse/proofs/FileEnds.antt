@@ -6,7 +6,7 @@ use Rattle.life_lex.specs.Readings.{Lexeme, whole, broken}
 use Rattle.life_lex.specs.declared.fault.LexFault.{LexFault}
 use Rattle.life_parse.specs.Ends.{Ends, HasNoTree, place_of_token}
 use Rattle.life_parse.specs.ParsesTokens.{AreRefused, AreTooDeep, HaveNoTree, IsTheTree}
-use Rattle.life_expr.specs.Read.{Tokens}
+use Rattle.life_tree.specs.Tree.{Tokens}
 use Rattle.life_parse.specs.declared.fault.ParseFault.TheVariants.{Lex, Refused, Limit}
 use Rattle.life_tree.specs.Views.{program_tree}
 use Rattle.life_tree.specs.declared.limit.LimitName.TheVariants.{Nesting}

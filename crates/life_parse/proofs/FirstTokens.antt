@@ -1,13 +1,13 @@
 -- A tree has no token, where its form allows it, or begins with one of the form's first tokens.
 use Rattle.std.proofs.Common.{◌≡◌, ℕ, Bool, true, false, not, ◌&&◌, ◌||◌, List, [], ◌∷◌, ◌++◌, if◌then◌else◌, inl, inr, refl, sym, ap, subst, ◌∙◌, ⊎_elim, true≢false}
 use Rattle.life_expr.specs.Heads.{Kind, heads, heads_of, may_be_empty, rule_may_be_empty}
-use Rattle.life_expr.specs.Read.{Tokens, is_in, starts}
+use Rattle.life_expr.specs.Read.{is_in, starts}
 use Rattle.life_parse.proofs.Parts.{or_fits}
 use Rattle.life_parse.proofs.TokenKinds.{covers, covers_is, in_first, in_second, disjoint, disjoint_is}
 use Rattle.life_tree.specs.Grammar.{Form, none, no_else, quoted, name, number, character, text, ◌then◌, ◌decides◌, ◌or◌, many, opens, rule, form_of, Conforms, TokenFits, NothingFits, NoElseFits, PartsFit, ConstructFits, NodeFits}
 use Rattle.life_tree.specs.Rules as rules
 use Rattle.life_tree.specs.Rules.{Rule}
-use Rattle.life_tree.specs.Tree.{Tree, nothing, without_else, token, ◌⨾◌, construct, node, tokens_of}
+use Rattle.life_tree.specs.Tree.{Tree, nothing, without_else, token, ◌⨾◌, construct, node, tokens_of, Tokens}
 use Rattle.life_tree.specs.declared.key.TokenKey.{TokenKey}
 use Rattle.life_tree.specs.declared.key.TokenKey.TheVariants as keys
 use Rattle.life_tree.specs.declared.token.TreeToken.{TreeToken}

@@ -2,14 +2,14 @@
 use Rattle.std.proofs.Common.{◌≡◌, ℕ, suc, ◌<◌, ◌≤◌, Bool, true, false, cond, [], ◌∷◌, ◌++◌, length, Ok, Err, refl, sym, ap, subst, arith}
 use Rattle.std.proofs.lemmas.Bool.{eq-eqb}
 use Rattle.life_expr.specs.Heads.{Kind, quoted_kind, name_kind, number_kind, character_kind, text_kind, is_of}
-use Rattle.life_expr.specs.Read.{Tokens, refused, Read, Reader, the_token, as_it_stands}
+use Rattle.life_expr.specs.Read.{refused, Read, Reader, the_token, as_it_stands}
 use Rattle.life_parse.proofs.Binds.{ok_is}
 use Rattle.life_parse.proofs.Elses.{Closed}
 use Rattle.life_parse.proofs.Laws.{Good, IsTree, Stops}
 use Rattle.life_parse.proofs.Parts.{quoted_is, name_is, number_is, character_is, text_is, none_is}
 use Rattle.life_parse.proofs.Takes.{quoted_token}
 use Rattle.life_tree.specs.Grammar.{Form, none, quoted, name, number, character, text, Conforms, TokenFits}
-use Rattle.life_tree.specs.Tree.{Tree, nothing, token, tokens_of, depth}
+use Rattle.life_tree.specs.Tree.{Tree, nothing, token, tokens_of, depth, Tokens}
 use Rattle.life_tree.specs.declared.key.TokenKey.{TokenKey}
 use Rattle.life_tree.specs.declared.key.TokenKey.TheVariants as keys
 use Rattle.life_tree.specs.declared.token.TreeToken.{TreeToken}

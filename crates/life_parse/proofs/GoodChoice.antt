@@ -1,7 +1,7 @@
 -- Good readers of one form or another.
 use Rattle.std.proofs.Common.{◌≡◌, ℕ, ◌==◌, ◌<◌, ◌≤◌, Bool, true, false, cond, ◌||◌, List, [], ◌∷◌, ◌++◌, length, Ok, refl, sym, ap, subst, ◌∙◌, inl, inr, ⊎_elim, arith, if◌then◌else◌, true≢false}
 use Rattle.life_expr.specs.Heads.{Kind, quoted_kind, key_is_of, heads, may_be_empty}
-use Rattle.life_expr.specs.Read.{Tokens, Reader, starts}
+use Rattle.life_expr.specs.Read.{Reader, starts}
 use Rattle.life_parse.specs.Tails.{tails, skipped}
 use Rattle.life_parse.proofs.Binds.{ok_is}
 use Rattle.life_parse.proofs.Elses.{Closed}
@@ -11,7 +11,7 @@ use Rattle.life_parse.proofs.Laws.{IsTree, Stops, else_in_front}
 use Rattle.life_parse.proofs.Parts.{or_fits, fits_or, no_else_is}
 use Rattle.life_parse.proofs.TokenKinds.{starts_parts, disjoint}
 use Rattle.life_tree.specs.Grammar.{Form, none, no_else, ◌then◌, ◌or◌, Conforms, is_else}
-use Rattle.life_tree.specs.Tree.{Tree, without_else, tokens_of, depth}
+use Rattle.life_tree.specs.Tree.{Tree, without_else, tokens_of, depth, Tokens}
 use Rattle.life_tree.specs.declared.fixed.TheConstants as fixed
 use Rattle.life_tree.specs.declared.key.TokenKey.{TokenKey}
 use Rattle.life_tree.specs.declared.key.TokenKey.TheVariants as keys

@@ -1,7 +1,7 @@
 -- Good readers of a form and then of one that its tree decides on, at the end of assignments, steps and calls.
 use Rattle.std.proofs.Common.{◌≡◌, ℕ, ◌<◌, ◌≤◌, true, ◌++◌, length, Ok, arith}
 use Rattle.life_expr.specs.Heads.{heads}
-use Rattle.life_expr.specs.Read.{Tokens, Reader, pair}
+use Rattle.life_expr.specs.Read.{Reader, pair}
 use Rattle.life_parse.specs.Tails.{tails, simple_tails}
 use Rattle.life_parse.proofs.Elses.{second_closed}
 use Rattle.life_parse.proofs.FirstTokens.{sane}
@@ -11,7 +11,7 @@ use Rattle.life_parse.proofs.Laws.{IsTree, Stops}
 use Rattle.life_parse.proofs.Parts.{decides_parts}
 use Rattle.life_parse.proofs.TokenKinds.{disjoint, covers, covers_not}
 use Rattle.life_tree.specs.Grammar.{Form, ◌decides◌}
-use Rattle.life_tree.specs.Tree.{Tree, ◌⨾◌, tokens_of, depth}
+use Rattle.life_tree.specs.Tree.{Tree, ◌⨾◌, tokens_of, depth, Tokens}
 
 -- what is asked of the forms that may come second
 pub record Second (f g : Form) : Type 0 where

@@ -1,6 +1,6 @@
 -- From the reader of a rule's form to that of the rule.
 use Rattle.std.proofs.Common.{◌≡◌, ℕ, ◌<◌, ◌≤◌, true, ◌++◌, length, Ok, refl, subst}
-use Rattle.life_expr.specs.Read.{Tokens, Reader, made, reads}
+use Rattle.life_expr.specs.Read.{Reader, made, reads}
 use Rattle.life_expr.specs.Readers.{Readers, derived}
 use Rattle.life_parse.specs.Tails.{tails, tails_of}
 use Rattle.life_parse.proofs.Binds.{bind_ok, ok_is}
@@ -12,7 +12,7 @@ use Rattle.life_parse.proofs.TokenKinds.{covers, covers_not}
 use Rattle.life_tree.specs.Grammar.{Form, ◌then◌, ◌or◌, many, rule, form_of}
 use Rattle.life_tree.specs.Rules as rules
 use Rattle.life_tree.specs.Rules.{Rule}
-use Rattle.life_tree.specs.Tree.{Tree, node, tokens_of, depth}
+use Rattle.life_tree.specs.Tree.{Tree, node, tokens_of, depth, Tokens}
 
 pub tails_rule : (r : Rule) → covers (tails (form_of r)) (tails_of r) ≡ true
 tails_rule rules.program = refl

@@ -1,6 +1,6 @@
 -- The reader of what stands behind an `if` and its statement is good.
 use Rattle.std.proofs.Common.{◌≡◌, ℕ, zero, suc, ◌<◌, ◌++◌, length, refl, ap, length-append, arith}
-use Rattle.life_expr.specs.Read.{Tokens, reads}
+use Rattle.life_expr.specs.Read.{reads}
 use Rattle.life_expr.specs.Readers.{Readers, else_parts, else_part_below, else_part_with, condition_with, statement_with, plain_with}
 use Rattle.life_parse.proofs.FirstTokens.{has_tokens}
 use Rattle.life_parse.proofs.GoodBelow.{GoodBelow, below}
@@ -13,7 +13,7 @@ use Rattle.life_parse.proofs.GoodStatements.{good_plain, good_statement}
 use Rattle.life_parse.proofs.Laws.{Good}
 use Rattle.life_tree.specs.Grammar.{Form, quoted, ◌then◌, ◌or◌, rule, form_of, Conforms}
 use Rattle.life_tree.specs.Rules as rules
-use Rattle.life_tree.specs.Tree.{Tree, ◌⨾◌, tokens_of}
+use Rattle.life_tree.specs.Tree.{Tree, ◌⨾◌, tokens_of, Tokens}
 use Rattle.life_tree.specs.declared.fixed.TheConstants as fixed
 
 -- behind an `else`

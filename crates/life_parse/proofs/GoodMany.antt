@@ -1,7 +1,7 @@
 -- Good readers of any number of trees of a form, one after the other.
 use Rattle.std.proofs.Common.{◌≡◌, ℕ, zero, suc, ◌<◌, ◌≤◌, Bool, true, false, cond, ◌++◌, length, Ok, refl, ap, subst, ◌∙◌, ⊎_elim, length-append, arith}
 use Rattle.life_expr.specs.Heads.{heads, may_be_empty}
-use Rattle.life_expr.specs.Read.{Tokens, Read, Reader, ◌>>=◌, starts, many_below, as_many}
+use Rattle.life_expr.specs.Read.{Read, Reader, ◌>>=◌, starts, many_below, as_many}
 use Rattle.life_parse.specs.Tails.{tails}
 use Rattle.life_parse.proofs.Binds.{bind_ok, ok_is}
 use Rattle.life_parse.proofs.Elses.{second_closed}
@@ -12,7 +12,7 @@ use Rattle.life_parse.proofs.Laws.{IsTree, Stops}
 use Rattle.life_parse.proofs.Parts.{many_parts}
 use Rattle.life_parse.proofs.TokenKinds.{starts_parts, disjoint}
 use Rattle.life_tree.specs.Grammar.{Form, many}
-use Rattle.life_tree.specs.Tree.{Tree, nothing, ◌⨾◌, tokens_of, depth}
+use Rattle.life_tree.specs.Tree.{Tree, nothing, ◌⨾◌, tokens_of, depth, Tokens}
 
 many_sound : (k n : ℕ) (p : Reader) (f : Form) → Sound p f n → Sound (many_below k (heads f) p) (many f) n
 many_sound zero n p f x ts t rest e = absurd cc

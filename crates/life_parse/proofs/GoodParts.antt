@@ -1,7 +1,7 @@
 -- Good readers of forms that are made of forms.
 use Rattle.std.proofs.Common.{◌≡◌, ℕ, ◌<◌, ◌≤◌, Bool, true, false, ◌++◌, length, Ok, refl, sym, ap, subst, ◌∙◌, arith, append_assoc, length-append, true≢false, if◌then◌else◌}
 use Rattle.life_expr.specs.Heads.{heads, may_be_empty}
-use Rattle.life_expr.specs.Read.{Tokens, Reader, ◌>>=◌, starts, pair}
+use Rattle.life_expr.specs.Read.{Reader, ◌>>=◌, starts, pair}
 use Rattle.life_parse.specs.Tails.{tails}
 use Rattle.life_parse.proofs.Binds.{bind_ok, ok_is}
 use Rattle.life_parse.proofs.Elses.{Closed, joined_elses, joined_closed, first_closed, second_closed}
@@ -11,7 +11,7 @@ use Rattle.life_parse.proofs.Laws.{IsTree, Stops}
 use Rattle.life_parse.proofs.Parts.{then_parts}
 use Rattle.life_parse.proofs.TokenKinds.{starts_parts, disjoint}
 use Rattle.life_tree.specs.Grammar.{Form, ◌then◌, Conforms, ElsesAreNearest}
-use Rattle.life_tree.specs.Tree.{Tree, ◌⨾◌, tokens_of, depth}
+use Rattle.life_tree.specs.Tree.{Tree, ◌⨾◌, tokens_of, depth, Tokens}
 
 -- ---- one and then another, of a form that may depend on the first
 

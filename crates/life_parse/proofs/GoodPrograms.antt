@@ -1,6 +1,5 @@
 -- Whole lists of tokens: what they are read as, and that no other tree has these tokens.
 use Rattle.std.proofs.Common.{◌≡◌, ℕ, ◌≤◌, ◌↔◌, [], Ok, refl, sym, ap, ◌∙◌, append-nil, arith, max}
-use Rattle.life_expr.specs.Read.{Tokens}
 use Rattle.life_expr.specs.Readers.{read_rule}
 use Rattle.life_parse.proofs.Binds.{ok_is}
 use Rattle.life_parse.proofs.GoodRules.{good_rule}
@@ -8,7 +7,7 @@ use Rattle.life_parse.proofs.Laws.{IsTree, Stops}
 use Rattle.life_tree.specs.Grammar.{rule, IsProgram, Fits}
 use Rattle.life_tree.specs.Rules as rules
 use Rattle.life_tree.specs.Rules.{Rule}
-use Rattle.life_tree.specs.Tree.{Tree, tokens_of, depth}
+use Rattle.life_tree.specs.Tree.{Tree, tokens_of, depth, Tokens}
 
 -- ---- trees of a rule, with nothing behind
 

@@ -2,7 +2,7 @@
 use Rattle.std.proofs.Common.{◌≡◌, ℕ, zero, suc, ◌<◌, ◌≤◌, ◌+◌, nat_lt, Bool, true, false, not, ◌&&◌, ◌||◌, ◌∷◌, ◌++◌, length, Ok, refl, sym, ap, subst, ◌∙◌, arith, true≢false}
 use Rattle.std.proofs.lemmas.Bool.{lt-ltb, eq-eqb, and_parts, not-true}
 use Rattle.life_expr.specs.Heads.{quoted_kind, name_kind, number_kind, character_kind, text_kind, heads, may_be_empty}
-use Rattle.life_expr.specs.Read.{Tokens, Reader, ◌>>=◌, opener, reads, as_it_stands}
+use Rattle.life_expr.specs.Read.{Reader, ◌>>=◌, opener, reads, as_it_stands}
 use Rattle.life_expr.specs.Readers.{Readers}
 use Rattle.life_parse.specs.Tails.{tails}
 use Rattle.life_parse.proofs.Binds.{bind_ok, ok_is}
@@ -17,7 +17,7 @@ use Rattle.life_parse.proofs.Parts.{opens_parts}
 use Rattle.life_parse.proofs.TokenKinds.{disjoint}
 use Rattle.life_tree.specs.Grammar.{Form, none, no_else, quoted, name, number, character, text, ◌then◌, ◌decides◌, ◌or◌, many, opens, rule}
 use Rattle.life_tree.specs.Rules.{Rule}
-use Rattle.life_tree.specs.Tree.{Tree, token, construct, tokens_of, depth}
+use Rattle.life_tree.specs.Tree.{Tree, token, construct, tokens_of, depth, Tokens}
 use Rattle.life_tree.specs.declared.key.TokenKey.{TokenKey}
 use Rattle.life_tree.specs.declared.key.TokenKey.TheVariants as keys
 use Rattle.life_tree.specs.declared.token.TreeToken.{TreeToken}

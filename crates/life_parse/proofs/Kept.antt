@@ -1,9 +1,9 @@
 -- What stands behind what was read is the end of the list.
 use Rattle.std.proofs.Common.{◌≡◌, ◌+◌, ◌-◌, ◌++◌, length, Ok, Err, ap, arith, length-append}
-use Rattle.life_expr.specs.Read.{Tokens, refused, deep}
+use Rattle.life_expr.specs.Read.{refused, deep}
 use Rattle.life_expr.specs.Readers.{read_rule}
 use Rattle.life_tree.specs.Rules as rules
-use Rattle.life_tree.specs.Tree.{Tree}
+use Rattle.life_tree.specs.Tree.{Tree, Tokens}
 use Rattle.life_parse.proofs.Near.{near_rule}
 
 behind : (ts before rest : Tokens) → ts ≡ before ++ rest → length ts ≡ (length ts - length rest) + length rest

@@ -1,10 +1,10 @@
 -- What is shown of each reader.
 use Rattle.std.proofs.Common.{◌≡◌, ℕ, ◌≤◌, ◌+◌, Bool, true, false, List, [], ◌∷◌, ◌++◌, length, Ok, Err, ◌⊎◌}
-use Rattle.life_expr.specs.Read.{Tokens, refused, deep, Reader, starts}
+use Rattle.life_expr.specs.Read.{refused, deep, Reader, starts}
 use Rattle.life_parse.specs.Source.{SameFront}
 use Rattle.life_parse.specs.Tails.{tails}
 use Rattle.life_tree.specs.Grammar.{Form, Conforms, ElsesAreNearest, ends_open, is_else}
-use Rattle.life_tree.specs.Tree.{Tree, tokens_of, depth, open_at}
+use Rattle.life_tree.specs.Tree.{Tree, tokens_of, depth, open_at, Tokens}
 use Rattle.life_tree.specs.declared.token.TreeToken.{TreeToken}
 
 -- an `else` stands in front

@@ -1,13 +1,13 @@
 -- What is left is no more than what its first part leaves.
 use Rattle.std.proofs.Common.{◌≡◌, ℕ, ◌≤◌, Bool, true, false, cond, length, Ok, Err, le_refl, le_trans}
-use Rattle.life_expr.specs.Read.{Tokens, refused, deep, ◌>>=◌, Read, reads}
+use Rattle.life_expr.specs.Read.{refused, deep, ◌>>=◌, Read, reads}
 use Rattle.life_expr.specs.Readers.{Readers, derived}
 use Rattle.life_parse.proofs.Looks.{Answer, rest_of, Looks}
 use Rattle.life_parse.proofs.LooksOn.{both, turned, keeps}
 use Rattle.life_parse.proofs.LooksForms.{Laws, is_plain, reads_law}
 use Rattle.life_tree.specs.Grammar.{Form, form_of, ◌then◌}
 use Rattle.life_tree.specs.Rules.{Rule}
-use Rattle.life_tree.specs.Tree.{Tree, node, ◌⨾◌}
+use Rattle.life_tree.specs.Tree.{Tree, node, ◌⨾◌, Tokens}
 
 abbrev pub left : {A : Type 0} → Answer A → ℕ
 left r = length (rest_of r)

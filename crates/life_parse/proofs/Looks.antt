@@ -1,7 +1,8 @@
 -- A reader stops where it has looked at no token but the next: where that is the same, it stops so too.
 use Rattle.std.proofs.Common.{◌≡◌, ◌<◌, Bool, false, List, [], ◌∷◌, ◌++◌, length, Result, Ok, Err, refl, sym, ap, subst, ◌∙◌}
 use Rattle.life_expr.specs.Heads.{Kind}
-use Rattle.life_expr.specs.Read.{Tokens, Stop, refused, deep, starts, is_in}
+use Rattle.life_expr.specs.Read.{Stop, refused, deep, starts, is_in}
+use Rattle.life_tree.specs.Tree.{Tokens}
 use Rattle.life_parse.specs.Source.{SameFront}
 
 -- what reading answers, with the tokens from where it stopped

@@ -1,7 +1,7 @@
 -- What stands behind an `else` is read as often as one stands there; to count by the tokens is enough.
 use Rattle.std.proofs.Common.{◌≡◌, ℕ, zero, suc, ◌<◌, true, false, cond, [], ◌∷◌, length, Ok, Err, refl, ap, arith}
 use Rattle.life_expr.specs.Heads.{quoted_kind}
-use Rattle.life_expr.specs.Read.{Tokens, ◌>>=◌, Read, Reader, starts, reads, mark}
+use Rattle.life_expr.specs.Read.{◌>>=◌, Read, Reader, starts, reads, mark}
 use Rattle.life_expr.specs.Readers.{Readers, condition_with, statement_with, plain_with, else_parts, else_part_below, else_part_with}
 use Rattle.life_parse.proofs.Looks.{Answer, Law}
 use Rattle.life_parse.proofs.LooksOn.{turned, Law-token}
@@ -9,7 +9,7 @@ use Rattle.life_parse.proofs.LooksMany.{Looks-numbered}
 use Rattle.life_parse.proofs.LooksForms.{Laws, Law-no_reader, Law-derived}
 use Rattle.life_tree.specs.Grammar.{quoted, ◌then◌, rule}
 use Rattle.life_tree.specs.Rules as rules
-use Rattle.life_tree.specs.Tree.{Tree, node, ◌⨾◌, without_else}
+use Rattle.life_tree.specs.Tree.{Tree, node, ◌⨾◌, without_else, Tokens}
 use Rattle.life_tree.specs.declared.fixed.TheConstants as fixed
 
 pub bind_same : {A B : Type 0} (r : Answer A) (f f' : A × Tokens → Answer B) → ((x : A × Tokens) → r ≡ Ok x → f x ≡ f' x) → (r >>= f) ≡ (r >>= f')

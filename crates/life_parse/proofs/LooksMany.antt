@@ -2,11 +2,11 @@
 use Rattle.std.proofs.Common.{◌≡◌, ℕ, zero, suc, ◌<◌, ◌+◌, true, false, cond, List, ◌++◌, length, Result, Ok, Err, refl, sym, ap, subst, ◌∙◌, arith}
 use Rattle.std.proofs.lemmas.List.{append_cancel_right}
 use Rattle.life_expr.specs.Heads.{Kind}
-use Rattle.life_expr.specs.Read.{Tokens, Stop, ◌>>=◌, Reader, starts, many_below, as_many}
+use Rattle.life_expr.specs.Read.{Stop, ◌>>=◌, Reader, starts, many_below, as_many}
 use Rattle.life_parse.specs.Source.{SameFront}
 use Rattle.life_parse.proofs.Looks.{Answer, rest_of, instead, LooksAt, Looks, Shrinks, Law}
 use Rattle.life_parse.proofs.LooksOn.{Looks-done, Looks-refused, Looks-both, Looks-when}
-use Rattle.life_tree.specs.Tree.{Tree, nothing, ◌⨾◌}
+use Rattle.life_tree.specs.Tree.{Tree, nothing, ◌⨾◌, Tokens}
 
 -- ---- a reader that is given a number which is large enough where it passes the number of tokens
 

@@ -2,11 +2,11 @@
 use Rattle.std.proofs.Common.{◌≡◌, ℕ, suc, ◌<◌, ◌≤◌, nat_lt, Bool, true, false, cond, ◌&&◌, ◌||◌, List, [], ◌∷◌, ◌++◌, length, Result, Ok, Err, refl, sym, ap, subst, ◌∙◌, append_assoc, arith}
 use Rattle.std.proofs.lemmas.List.{length-append}
 use Rattle.life_expr.specs.Heads.{Kind, is_of, quoted_kind}
-use Rattle.life_expr.specs.Read.{Tokens, Stop, refused, deep, ◌>>=◌, starts, the_token, opener}
+use Rattle.life_expr.specs.Read.{Stop, refused, deep, ◌>>=◌, starts, the_token, opener}
 use Rattle.life_parse.specs.Source.{SameFront}
 use Rattle.life_parse.proofs.Binds.{bind_ok, ok_is}
 use Rattle.life_parse.proofs.Looks.{Answer, rest_of, LooksAt, Looks, Shrinks, Law, same_behind, still, stands}
-use Rattle.life_tree.specs.Tree.{Tree}
+use Rattle.life_tree.specs.Tree.{Tree, Tokens}
 use Rattle.life_tree.specs.declared.token.TreeToken.{TreeToken}
 use Rattle.life_types.specs.declared.place.Place.{Place}
 

@@ -1,7 +1,7 @@
 -- The readers of what is printed, and of simple statements with their semicolon, look at no token but the next.
 use Rattle.std.proofs.Common.{ℕ, ◌≤◌, false, ◌∷◌, length, refl, le_trans}
 use Rattle.life_expr.specs.Heads.{rule_may_be_empty}
-use Rattle.life_expr.specs.Read.{Tokens, Reader, reads}
+use Rattle.life_expr.specs.Read.{Reader, reads}
 use Rattle.life_expr.specs.Readers.{Readers, begins_as, print_fronts, end_of_line_fronts, sum_with, item_with, print_part_with, sentence_parts, sentence_with}
 use Rattle.life_parse.proofs.Choice.{Law-selected, Ready-print, Ready-end_of_line, selected}
 use Rattle.life_parse.proofs.Left.{left, node_left, cond_left}
@@ -16,7 +16,7 @@ use Rattle.life_parse.proofs.PassesExprs.{Passes-simple, Passes-sum}
 use Rattle.life_parse.proofs.PassesThen.{Passes-then}
 use Rattle.life_tree.specs.Grammar.{quoted, ◌then◌, some, rule, namespaced}
 use Rattle.life_tree.specs.Rules as rules
-use Rattle.life_tree.specs.Tree.{node}
+use Rattle.life_tree.specs.Tree.{node, Tokens}
 use Rattle.life_tree.specs.declared.fixed.TheConstants as fixed
 
 module _ (n : ℕ) (inside : Readers) (i : Laws inside) where

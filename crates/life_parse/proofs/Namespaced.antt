@@ -1,12 +1,12 @@
 -- A word of `std` is read behind `std` and `::`, which are taken.
 use Rattle.std.proofs.Common.{◌≡◌, ℕ, ◌≤◌, true, ◌∷◌, le_trans}
-use Rattle.life_expr.specs.Read.{Tokens, reads}
+use Rattle.life_expr.specs.Read.{reads}
 use Rattle.life_expr.specs.Readers.{Readers}
 use Rattle.life_parse.proofs.Left.{left, part_left, then_left}
 use Rattle.life_parse.proofs.LooksForms.{Laws, is_plain}
 use Rattle.life_parse.proofs.Passes.{PassesScope, a_mark}
 use Rattle.life_tree.specs.Grammar.{Form, quoted, ◌then◌, namespaced}
-use Rattle.life_tree.specs.Tree.{Tree, token}
+use Rattle.life_tree.specs.Tree.{Tree, token, Tokens}
 use Rattle.life_tree.specs.declared.fixed.TheConstants as fixed
 use Rattle.life_tree.specs.declared.key.TokenKey.TheVariants as keys
 use Rattle.life_types.specs.declared.place.Place.{Place}

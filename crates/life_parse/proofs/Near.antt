@@ -1,6 +1,6 @@
 -- A reader looks at no token past the one where it stops, and so does the same reader where more may be open.
 use Rattle.std.proofs.Common.{◌≡◌, ℕ, ◌≤◌, false, ◌++◌, Ok, Err, refl, ap, subst, ◌∙◌}
-use Rattle.life_expr.specs.Read.{Tokens, refused, deep, Reader}
+use Rattle.life_expr.specs.Read.{refused, deep, Reader}
 use Rattle.life_expr.specs.Readers.{read_rule}
 use Rattle.life_parse.proofs.Agrees.{Agrees, goes_too_deep}
 use Rattle.life_parse.proofs.AgreesAll.{read_agree}
@@ -8,7 +8,7 @@ use Rattle.life_parse.proofs.Laws.{Near}
 use Rattle.life_parse.proofs.Looks.{Answer, LooksAt, Looks}
 use Rattle.life_parse.proofs.LooksAll.{read_law}
 use Rattle.life_tree.specs.Rules.{Rule}
-use Rattle.life_tree.specs.Tree.{Tree}
+use Rattle.life_tree.specs.Tree.{Tree, Tokens}
 
 module _ (p q : Reader) (g : Looks p) (h : Agrees p q) where
   -- where p answers r, and q the same unless it went too deep

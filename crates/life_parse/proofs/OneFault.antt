@@ -7,7 +7,7 @@ use Rattle.life_lex.specs.Answers.{LexesOnly, FaultsOnly}
 use Rattle.life_lex.specs.Readings.{Lexeme, whole, broken}
 use Rattle.life_lex.specs.declared.fault.LexFault.{LexFault}
 use Rattle.life_parse.specs.Ends.{Ends, IsOnlyFault, IsTooDeepAt, RefusesAt, place_of_token}
-use Rattle.life_expr.specs.Read.{Tokens}
+use Rattle.life_tree.specs.Tree.{Tokens}
 use Rattle.life_parse.specs.Source.{IsRefused, IsTooDeep, OpensTooMany, SameFront}
 use Rattle.life_parse.specs.declared.fault.ParseFault.{ParseFault}
 use Rattle.life_parse.specs.declared.fault.ParseFault.TheVariants.{Lex, Refused, Limit, NoMemory}

@@ -3,8 +3,8 @@ use Rattle.std.proofs.Common.{◌≡◌, ℕ, suc, Bool, true, false, [], ◌∷
 use Rattle.life_parse.proofs.Binds.{bind_ok, ok_is, err_no_ok}
 use Rattle.life_parse.proofs.Takes.{quoted_token}
 use Rattle.life_expr.specs.Heads.{quoted_kind, is_of}
-use Rattle.life_expr.specs.Read.{Tokens, Stop, refused, deep, ◌>>=◌, Read, Reader, opener}
-use Rattle.life_tree.specs.Tree.{Tree, construct}
+use Rattle.life_expr.specs.Read.{Stop, refused, deep, ◌>>=◌, Read, Reader, opener}
+use Rattle.life_tree.specs.Tree.{Tree, construct, Tokens}
 use Rattle.life_tree.specs.declared.key.TokenKey.TheVariants as keys
 use Rattle.life_tree.specs.declared.token.TreeToken.{TreeToken}
 use Rattle.life_types.specs.declared.place.Place.{Place}

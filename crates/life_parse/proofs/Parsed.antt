@@ -3,7 +3,7 @@ use Rattle.std.proofs.Common.{◌≡◌, ℕ, ◌<◌, ◌≤◌, ◌+◌, [], �
 use Rattle.std.proofs.lemmas.Bool.{cases_lt}
 use Rattle.std.proofs.lemmas.List.{length-append}
 use Rattle.std.proofs.lemmas.Option.{slice_get_within}
-use Rattle.life_expr.specs.Read.{Tokens, refused, deep, Read}
+use Rattle.life_expr.specs.Read.{refused, deep, Read}
 use Rattle.life_expr.specs.Readers.{read_rule}
 use Rattle.life_parse.specs.Source.{SameFront, IsBegun, IsRefused, OpensTooMany, IsTooDeep}
 use Rattle.life_parse.proofs.Binds.{ok_is, err_no_ok, ok_no_err}
@@ -17,7 +17,7 @@ use Rattle.life_parse.proofs.Near.{near_rule}
 use Rattle.life_parse.proofs.SlowRules.{slow_rule}
 use Rattle.life_tree.specs.Grammar.{rule, IsProgram, Fits}
 use Rattle.life_tree.specs.Rules as rules
-use Rattle.life_tree.specs.Tree.{Tree, tokens_of, depth, open_at}
+use Rattle.life_tree.specs.Tree.{Tree, tokens_of, depth, open_at, Tokens}
 
 same_stop : (us vs : Tokens) → ◌≡◌ {A = Read} (Err (deep us)) (Err (deep vs)) → us ≡ vs
 same_stop us vs e = cc

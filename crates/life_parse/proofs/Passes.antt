@@ -2,7 +2,8 @@
 use Rattle.std.proofs.Common.{◌≡◌, ℕ, ◌≤◌, ◌+◌, Bool, true, false, ◌&&◌, List, [], ◌∷◌, length, refl, sym, ap, ap₂, subst, le_trans, true≢false, arith}
 use Rattle.std.proofs.lemmas.Bool.{eqb-true}
 use Rattle.life_expr.specs.Heads.{Kind, quoted_kind, name_kind, is_of}
-use Rattle.life_expr.specs.Read.{Tokens, Reader}
+use Rattle.life_expr.specs.Read.{Reader}
+use Rattle.life_tree.specs.Tree.{Tokens}
 use Rattle.life_expr.specs.Readers.{begins}
 use Rattle.life_parse.proofs.Left.{left}
 use Rattle.life_tree.specs.declared.fixed.TheConstants as fixed

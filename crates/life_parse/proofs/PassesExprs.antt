@@ -1,7 +1,7 @@
 -- The readers of expressions and simple statements take a name, or `std`, `::` and `string`.
 use Rattle.std.proofs.Common.{ℕ, ◌≤◌, ◌∷◌, refl, le_trans}
 use Rattle.life_expr.specs.Heads.{rule_may_be_empty}
-use Rattle.life_expr.specs.Read.{Tokens, reads}
+use Rattle.life_expr.specs.Read.{reads}
 use Rattle.life_expr.specs.Readers.{Readers, primary_parts, primary_with, postfix_parts, postfix_with, unary_with, term_with, sum_with, target_with, simple_parts, simple_with}
 use Rattle.life_parse.proofs.Left.{left, derived_left, then_left, both_left}
 use Rattle.life_parse.proofs.LooksForms.{Laws, Law-any}
@@ -11,7 +11,7 @@ use Rattle.life_parse.proofs.Namespaced.{Passes-namespaced, behind_scope}
 use Rattle.life_parse.proofs.Passes.{Passes, PassesScope, Passes-as, a_name, a_mark}
 use Rattle.life_tree.specs.Grammar.{Form, quoted, ◌then◌, ◌or◌, many, optional, parenthesized, rule, name, namespaced, ending, ◌decides◌}
 use Rattle.life_tree.specs.Rules as rules
-use Rattle.life_tree.specs.Tree.{◌⨾◌}
+use Rattle.life_tree.specs.Tree.{◌⨾◌, Tokens}
 use Rattle.life_tree.specs.declared.fixed.TheConstants as fixed
 
 -- what stands behind `std` and `::`

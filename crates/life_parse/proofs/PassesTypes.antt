@@ -1,7 +1,7 @@
 -- The readers of types and declarations take a name, or `std`, `::` and `string`.
 use Rattle.std.proofs.Common.{ℕ, ◌≤◌, ◌∷◌, length, refl, le_refl, le_trans}
 use Rattle.life_expr.specs.Heads.{rule_may_be_empty}
-use Rattle.life_expr.specs.Read.{Tokens, reads}
+use Rattle.life_expr.specs.Read.{reads}
 use Rattle.life_expr.specs.Readers.{Readers, argument_with, base_with, unqualified_with, declared_type_with, declaration_parts, declaration_with}
 use Rattle.life_parse.proofs.Left.{left, part_left, derived_left, then_left}
 use Rattle.life_parse.proofs.LooksForms.{Laws, Law-any}
@@ -11,7 +11,7 @@ use Rattle.life_parse.proofs.Namespaced.{Passes-namespaced}
 use Rattle.life_parse.proofs.Passes.{Passes, PassesScope, Passes-as, a_name, a_mark}
 use Rattle.life_tree.specs.Grammar.{Form, quoted, ◌then◌, ◌or◌, optional, rule, name, namespaced}
 use Rattle.life_tree.specs.Rules as rules
-use Rattle.life_tree.specs.Tree.{nothing}
+use Rattle.life_tree.specs.Tree.{nothing, Tokens}
 use Rattle.life_tree.specs.declared.fixed.TheConstants as fixed
 
 -- what stands behind `std` and `::`

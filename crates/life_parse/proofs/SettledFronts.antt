@@ -2,7 +2,7 @@
 use Rattle.std.proofs.Common.{◌≡◌, ℕ, zero, suc, Bool, true, false, cond, ◌&&◌, ◌||◌, List, [], ◌∷◌, ◌++◌, Option, Some, None, refl, sym, ap, ◌∙◌, inl, inr, ⊎_elim, append_assoc}
 use Rattle.std.proofs.lemmas.Bool.{eq-eqb, and_parts}
 use Rattle.life_expr.specs.Heads.{Kind, quoted_kind, name_kind, number_kind, character_kind, text_kind, is_of}
-use Rattle.life_expr.specs.Read.{Tokens, as_it_stands}
+use Rattle.life_expr.specs.Read.{as_it_stands}
 use Rattle.life_expr.specs.Readers.{begins, begins_as}
 use Rattle.life_parse.proofs.GoodBelow.{OneToken, one_quoted, one_name, one_number, one_character, one_text}
 use Rattle.life_parse.proofs.Parts.{or_fits, fits_or, then_parts, many_parts, opens_parts, rule_parts, decides_parts, none_is, no_else_is}
@@ -10,7 +10,7 @@ use Rattle.life_parse.proofs.TokenKinds.{same_kind, same_kind_is, apart, apart_i
 use Rattle.life_tree.specs.Grammar.{Form, none, no_else, quoted, name, number, character, text, ◌then◌, ◌decides◌, ◌or◌, many, opens, rule, form_of, assignment, step, ending, is_starred, ends_in_arguments, Conforms}
 use Rattle.life_tree.specs.Rules as rules
 use Rattle.life_tree.specs.Rules.{Rule}
-use Rattle.life_tree.specs.Tree.{Tree, token, ◌⨾◌, tokens_of}
+use Rattle.life_tree.specs.Tree.{Tree, token, ◌⨾◌, tokens_of, Tokens}
 use Rattle.life_tree.specs.declared.fixed.TheConstants as fixed
 use Rattle.life_tree.specs.declared.key.TokenKey.TheVariants as keys
 use Rattle.life_tree.specs.declared.token.TreeToken.{TreeToken}

@@ -6,11 +6,11 @@ use Rattle.life_parse.proofs.Openers.{Passed, opened, construct_read}
 use Rattle.life_parse.proofs.Slows.{Outcome, TooDeep, Follows, Follows-pair, Follows-if, Follows-itself, Follows-none, Follows-empty, Follows-many}
 use Rattle.life_parse.proofs.Takes.{takes_all, quoted_token}
 use Rattle.life_expr.specs.Heads.{Kind, quoted_kind, name_kind, number_kind, character_kind, text_kind, is_of, heads}
-use Rattle.life_expr.specs.Read.{Tokens, Reader, the_token, as_it_stands, starts, reads}
+use Rattle.life_expr.specs.Read.{Reader, the_token, as_it_stands, starts, reads}
 use Rattle.life_expr.specs.Readers.{Readers}
 use Rattle.life_tree.specs.Grammar.{Form, none, no_else, quoted, name, number, character, text, ◌then◌, ◌decides◌, ◌or◌, many, opens, rule}
 use Rattle.life_tree.specs.Rules.{Rule}
-use Rattle.life_tree.specs.Tree.{Tree, nothing, without_else, token, construct, tokens_of, depth, open_at}
+use Rattle.life_tree.specs.Tree.{Tree, nothing, without_else, token, construct, tokens_of, depth, open_at, Tokens}
 use Rattle.life_tree.specs.declared.key.TokenKey.TheVariants as keys
 use Rattle.life_tree.specs.declared.token.TreeToken.{TreeToken}
 use Rattle.life_types.specs.declared.place.Place.{Place}

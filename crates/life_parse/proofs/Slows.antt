@@ -5,9 +5,9 @@ use Rattle.life_parse.proofs.Binds.{bind_ok, ok_is, err_no_ok}
 use Rattle.life_parse.proofs.Counts.{counts_length, counts_low, over_left, over_right}
 use Rattle.life_parse.proofs.Laws.{IsOver, Slow}
 use Rattle.life_expr.specs.Heads.{Kind}
-use Rattle.life_expr.specs.Read.{Tokens, deep, ◌>>=◌, Reader, starts, pair, made, many_below, as_many}
+use Rattle.life_expr.specs.Read.{deep, ◌>>=◌, Reader, starts, pair, made, many_below, as_many}
 use Rattle.life_tree.specs.Rules.{Rule}
-use Rattle.life_tree.specs.Tree.{Tree, nothing, ◌⨾◌, node, tokens_of, depth, open_at}
+use Rattle.life_tree.specs.Tree.{Tree, nothing, ◌⨾◌, node, tokens_of, depth, open_at, Tokens}
 
 -- where p goes too deep
 abbrev pub TooDeep : Reader → ℕ → Tokens → Tree → Type 0

@@ -1,10 +1,10 @@
 -- What a file's tokens spell, by what reading them as a program says.
 use Rattle.std.proofs.Common.{◌≡◌, ◌+◌, ◌-◌, ◌<◌, ℕ, [], length, Ok, Err, inl, inr}
 use Rattle.life_parse.specs.ParsesTokens.{IsTheTree, AreRefused, AreTooDeep}
-use Rattle.life_expr.specs.Read.{Tokens, refused, deep}
+use Rattle.life_expr.specs.Read.{refused, deep}
 use Rattle.life_expr.specs.Readers.{read_rule}
 use Rattle.life_tree.specs.Rules as rules
-use Rattle.life_tree.specs.Tree.{Tree}
+use Rattle.life_tree.specs.Tree.{Tree, Tokens}
 use Rattle.life_parse.proofs.Kept.{behind_read, behind_refused, behind_deep}
 use Rattle.life_parse.proofs.Parsed.{read_whole, StopsAt, whole_refused, whole_deep}
 

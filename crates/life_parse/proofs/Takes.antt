@@ -2,8 +2,8 @@
 use Rattle.std.proofs.Common.{◌≡◌, ℕ, Bool, true, false, [], ◌∷◌, ◌++◌, Ok, Err, if◌then◌else◌, refl, ap, subst, ◌∙◌, eqb-true}
 use Rattle.life_parse.proofs.Binds.{ok_is, err_no_ok}
 use Rattle.life_expr.specs.Heads.{Kind, quoted_kind, key_is_of, is_of}
-use Rattle.life_expr.specs.Read.{Tokens, Stop, refused, Read, the_token}
-use Rattle.life_tree.specs.Tree.{Tree, tokens_of, depth}
+use Rattle.life_expr.specs.Read.{Stop, refused, Read, the_token}
+use Rattle.life_tree.specs.Tree.{Tree, tokens_of, depth, Tokens}
 use Rattle.life_tree.specs.declared.key.TokenKey.{TokenKey}
 use Rattle.life_tree.specs.declared.key.TokenKey.TheVariants as keys
 use Rattle.life_tree.specs.declared.token.TreeToken.{TreeToken}

@@ -3,7 +3,8 @@ use Rattle.std.proofs.Common.{◌≡◌, ℕ, ◌+◌, Bool, true, false, not, �
 use Rattle.std.proofs.lemmas.Bool.Decides.{eqb_tells}
 use Rattle.std.proofs.lemmas.Bool.{eqb-true, and_parts}
 use Rattle.life_expr.specs.Heads.{Kind, quoted_kind, name_kind, number_kind, character_kind, text_kind, key_is_of, is_of}
-use Rattle.life_expr.specs.Read.{Tokens, is_in, starts}
+use Rattle.life_expr.specs.Read.{is_in, starts}
+use Rattle.life_tree.specs.Tree.{Tokens}
 use Rattle.life_tree.specs.declared.key.TokenKey.{TokenKey}
 use Rattle.life_tree.specs.declared.key.TokenKey.TheVariants as keys
 use Rattle.life_tree.specs.declared.token.TreeToken.{TreeToken}

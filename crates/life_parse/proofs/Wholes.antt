@@ -3,10 +3,9 @@ use Rattle.std.proofs.Common.{◌≡◌, ℕ, true, false, ◌∷◌, ◌++◌, 
 use Rattle.life_parse.proofs.ElseTokens.{empty_tokens, else_first, ends_open_pair}
 use Rattle.life_parse.proofs.Laws.{else_in_front, IsTree}
 use Rattle.life_parse.proofs.Parts.{fits_or}
-use Rattle.life_expr.specs.Read.{Tokens}
 use Rattle.life_tree.specs.Grammar.{Form, ◌or◌, opens, rule, form_of, Conforms, ends_open}
 use Rattle.life_tree.specs.Rules.{Rule}
-use Rattle.life_tree.specs.Tree.{Tree, ◌⨾◌, construct, node, tokens_of}
+use Rattle.life_tree.specs.Tree.{Tree, ◌⨾◌, construct, node, tokens_of, Tokens}
 use Rattle.life_tree.specs.declared.key.TokenKey.TheVariants as keys
 use Rattle.life_types.specs.declared.place.Place.{Place}
 

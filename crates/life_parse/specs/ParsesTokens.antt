@@ -1,12 +1,11 @@
--- What an answer says of the tokens of a file.
+-- How reading goes, which nobody need believe: what an answer says of the tokens of a file.
 use Rattle.std.specs.Prelude.{◌≡◌, ℕ, ◌<◌, List, map}
-use Rattle.life_expr.specs.Read.{Tokens}
 use Rattle.life_parse.specs.Source.{IsRefused, OpensTooMany, IsTooDeep}
 use Rattle.life_parse.specs.declared.tokens.TokensFault.{TokensFault}
 use Rattle.life_parse.specs.declared.tokens.TokensFault.TheVariants.{Refused, Deep, NoMemory}
 use Rattle.life_tree.specs.Grammar.{IsProgram, Fits}
 use Rattle.life_tree.specs.Rules as rules
-use Rattle.life_tree.specs.Tree.{Tree, node, tokens_of}
+use Rattle.life_tree.specs.Tree.{Tree, node, tokens_of, Tokens}
 use Rattle.life_tree.specs.Views.{list_tree, definition_tree}
 use Rattle.life_tree.specs.declared.program.Definition.{Definition}
 

@@ -1,8 +1,7 @@
 -- What the tree of a file is, and where a file has none.
 use Rattle.std.specs.Prelude.{◌≡◌, ℕ, ◌<◌, [], ◌∷◌, ◌++◌, length, slice_get, Some}
-use Rattle.life_expr.specs.Read.{Tokens}
 use Rattle.life_tree.specs.Grammar.{IsProgram}
-use Rattle.life_tree.specs.Tree.{Tree, tokens_of, open_at}
+use Rattle.life_tree.specs.Tree.{Tree, tokens_of, open_at, Tokens}
 use Rattle.life_tree.specs.declared.token.TreeToken.{TreeToken}
 
 -- the same token in front, the end of the file being one too

@@ -1,4 +1,5 @@
--- Which tokens go on with a tree of a form, so that none of them may follow it. Of an `else` nothing is said here.
+-- How reading goes, which nobody need believe: which tokens go on with a tree of a form, so that none of them may follow it. Of an `else` nothing is
+-- said here.
 use Rattle.std.specs.Prelude.{List, [], ◌∷◌, ◌++◌, if◌then◌else◌}
 use Rattle.life_expr.specs.Heads.{Kind, quoted_kind, heads, may_be_empty, simple_heads, type_heads}
 use Rattle.life_tree.specs.Grammar.{Form, no_else, ◌then◌, ◌decides◌, ◌or◌, many, opens, rule}

@@ -8,7 +8,7 @@ use Rattle.life_core.specs.declared.operand.Argument.{Argument as HandedOver}
 use Rattle.life_core.specs.declared.program.CoreFn.{CoreFn}
 use Rattle.life_core.specs.Function.{function_of}
 use Rattle.life_core.specs.Operands.{argument_of}
-use Rattle.life_core.specs.Proper.{given_holdings, held_by}
+use Rattle.life_core.specs.Holdings.{given_holdings, held_by}
 use Rattle.life_proper.specs.declared.known.Known.{Known}
 use Rattle.life_proper.specs.Knowing.{agreed, agreed_all, are_implied, forgotten, is_implied, known_as, known_at}
 use Rattle.life_proper.specs.ReadyKnown.{are_arguments_ready}

@@ -4,7 +4,7 @@ use Rattle.std.specs.List.{list_any}
 use Rattle.life_types.specs.Types.{Types}
 use Rattle.life_core.specs.ByValue.{is_pointer}
 use Rattle.life_core.specs.declared.program.Local.{Local}
-use Rattle.life_core.specs.Proper.{Holding, Blank, AnObject, ANumber, APointer, AView, given_holdings, held_by}
+use Rattle.life_core.specs.Holdings.{Holding, Blank, AnObject, ANumber, APointer, AView, given_holdings, held_by}
 use Rattle.life_proper.specs.declared.known.Known.TheVariants as known
 use Rattle.life_proper.specs.Knowing.{known_as, same}
 

@@ -6,7 +6,8 @@ use Rattle.std.specs.Prelude.{IsTrue}
 use Rattle.life_types.specs.Types.{Types}
 use Rattle.life_core.specs.Function.{Function, Program}
 use Rattle.life_core.specs.Linked.{Lead, Linked, code_of, enter, no_exits, numbered}
-use Rattle.life_core.specs.Proper.{HaveReadyWays, Holdings, HasReadyWays, IsReadyProgram, LeadOn, Reaches, entry_holdings, goes_on, holdings_past, starts}
+use Rattle.life_core.specs.Holdings.{Holdings, entry_holdings}
+use Rattle.life_core.specs.Proper.{HaveReadyWays, HasReadyWays, IsReadyProgram, LeadOn, Reaches, goes_on, holdings_past, starts}
 use Rattle.life_core.specs.Shape.{is_statement, tests_straight}
 use Rattle.life_proper.specs.Checking.{Flow, are_checked, body_flow, checked, is_checked, is_over}
 use Rattle.life_proper.specs.Knowing.{State, entry_known}

@@ -8,7 +8,8 @@ use Rattle.life_core.specs.declared.operation.Operation.TheVariants as operation
 use Rattle.life_core.specs.Function.{Function}
 use Rattle.life_core.specs.Operands.{Argument, Location, Operand, Name, Through, Source}
 use Rattle.life_core.specs.Operands as source
-use Rattle.life_core.specs.Proper.{Holding, Blank, AnObject, ANumber, APointer, AView, Holdings, Holds, HoldsAt, IsOperandReady, IsOperationReady, IsSourceReady, CanEnd, IsPortReady, IsLocal, IsArgumentReady, AreArgumentsReady, IsTargetReady, IsCallReady, IsStepReady, IsTestReady, IsResultReady, IsNodeReady, parameter_sorts, result_sort, sort_of, blanked, target_after, port_after, holdings_after}
+use Rattle.life_core.specs.Holdings.{Holding, Blank, AnObject, ANumber, APointer, AView, Holdings, parameter_sorts, result_sort, sort_of}
+use Rattle.life_core.specs.Proper.{Holds, HoldsAt, IsOperandReady, IsOperationReady, IsSourceReady, CanEnd, IsPortReady, IsLocal, IsArgumentReady, AreArgumentsReady, IsTargetReady, IsCallReady, IsStepReady, IsTestReady, IsResultReady, IsNodeReady, blanked, target_after, port_after, holdings_after}
 use Rattle.life_core.specs.Step.{Step, Live, End, Eval, Load, Save, Aim, Repoint, Call, Ports, Test, Port, Writes, WritesView, Takes}
 use Rattle.life_core.specs.Step as test
 use Rattle.life_core.specs.Tree.{Node, Action, Question, Return, Stop}

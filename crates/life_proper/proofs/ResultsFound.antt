@@ -6,7 +6,8 @@ use Rattle.life_types.specs.Types.{Types}
 use Rattle.life_core.specs.declared.exits.Exits.{Exits}
 use Rattle.life_core.specs.Function.{Function}
 use Rattle.life_core.specs.Linked.{Linked, code_of, no_exits, numbered}
-use Rattle.life_core.specs.Proper.{ANumber, Holdings, Holds, Reaches}
+use Rattle.life_core.specs.Holdings.{ANumber, Holdings}
+use Rattle.life_core.specs.Proper.{Holds, Reaches}
 use Rattle.life_core.specs.Step.{Step, Test}
 use Rattle.life_core.specs.Tree.{Tree, Skip, Then, Acts, Asks, Both, Either, Negated, Choice, Turns, Breaks, Continues, Returns, Stops, Node, Action, Question, Return, Stop}
 use Rattle.life_proper.specs.declared.known.Known.{Known}

@@ -7,7 +7,8 @@ use Rattle.life_types.specs.Types.{Types}
 use Rattle.life_core.specs.declared.exits.Exits.{Exits}
 use Rattle.life_core.specs.Function.{Function}
 use Rattle.life_core.specs.Linked.{Lead, Linked, body_exits, enter, goes, linked, parts, spot_at, turned, with_false, with_next, with_true}
-use Rattle.life_core.specs.Proper.{Holdings, IsNodeReady, holdings_after, holdings_past}
+use Rattle.life_core.specs.Holdings.{Holdings}
+use Rattle.life_core.specs.Proper.{IsNodeReady, holdings_after, holdings_past}
 use Rattle.life_core.specs.Shape.{is_condition, is_statement}
 use Rattle.life_core.specs.Tree.{Tree, Skip, Then, Acts, Asks, Both, Either, Negated, Choice, Turns, Breaks, Continues, Returns, Stops, size, Action, Question, Return, Stop}
 use Rattle.life_core.proofs.EntryLemmas.{enter_same, enter_then}

@@ -6,7 +6,7 @@ use Rattle.life_core.specs.declared.operation.Operation.TheVariants as operation
 use Rattle.life_core.specs.Function.{Function}
 use Rattle.life_core.specs.Operands.{Argument, Location, Operand, Name, Through, Source}
 use Rattle.life_core.specs.Operands as source
-use Rattle.life_core.specs.Proper.{Holding, Blank, AnObject, ANumber, APointer, AView, parameter_sorts, result_sort, sort_of}
+use Rattle.life_core.specs.Holdings.{Holding, Blank, AnObject, ANumber, APointer, AView, parameter_sorts, result_sort, sort_of}
 use Rattle.life_core.specs.Step.{Step, Live, End, Eval, Load, Save, Aim, Repoint, Call, Ports, Test, Port, Writes, WritesView, Takes}
 use Rattle.life_core.specs.Step as test
 use Rattle.life_core.specs.Tree.{Node, Action, Question, Return, Stop}

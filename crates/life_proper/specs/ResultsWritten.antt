@@ -8,7 +8,8 @@ use Rattle.life_types.specs.declared.ty.Ty.{Ty}
 use Rattle.life_types.specs.declared.ty.Ty.TheVariants as ty
 use Rattle.life_core.specs.Function.{Function, Program}
 use Rattle.life_core.specs.Linked.{Linked, code_of, numbered}
-use Rattle.life_core.specs.Proper.{Holdings, Holds, Reaches, result_sort}
+use Rattle.life_core.specs.Holdings.{Holdings, result_sort}
+use Rattle.life_core.specs.Proper.{Holds, Reaches}
 use Rattle.life_core.specs.Tree.{Return}
 
 -- where names have these texts, whether it is `main`

@@ -2,7 +2,7 @@
 use Rattle.std.specs.Prelude.{ℕ, zero, suc, if◌then◌else◌, Option, Some, None}
 use Rattle.life_types.specs.Types.{Types}
 use Rattle.life_core.specs.declared.program.Local.{Local}
-use Rattle.life_core.specs.Proper.{Blank, Holding, held_by}
+use Rattle.life_core.specs.Holdings.{Blank, Holding, held_by}
 use Rattle.life_proper.specs.declared.known.Known.{Known}
 use Rattle.life_proper.specs.declared.known.Known.TheVariants as known
 use Rattle.life_proper.specs.Knowing.{is_forgotten}

@@ -4,7 +4,7 @@ ghost use Rattle.std.specs.List.{list_any};
 ghost use Rattle.life_core.specs.ByValue.{gives_pointer, is_by_value, is_pointer, takes_pointer};
 ghost use Rattle.life_core.specs.Function.{function_of};
 ghost use Rattle.life_core.specs.Operands.{location_of};
-ghost use Rattle.life_core.specs.Proper.{given_holdings, held_by};
+ghost use Rattle.life_core.specs.Holdings.{given_holdings, held_by};
 ghost use Rattle.life_core.specs.Step.{step_of};
 
 use crate::known::Known;

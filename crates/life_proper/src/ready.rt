@@ -2,7 +2,7 @@
 ghost use Rattle.std.specs.Prelude.{◌≡◌, ◌&&◌, map, option_map, slice_get, take, Some};
 ghost use Rattle.life_core.specs.Function.{function_of};
 ghost use Rattle.life_core.specs.Operands.{argument_of, location_of, operand_of, source_of};
-ghost use Rattle.life_core.specs.Proper.{given_holdings, result_sort, sort_of};
+ghost use Rattle.life_core.specs.Holdings.{given_holdings, result_sort, sort_of};
 ghost use Rattle.life_core.specs.Step.{asked_of, port_of};
 ghost use Rattle.life_proper.specs.Knowing.{known_as, known_at, same};
 ghost use Rattle.life_proper.specs.ReadyKnown.{are_arguments_ready, has_end, is_argument_ready, is_call_ready, is_local, is_operand_ready, is_operation_ready, is_port_ready, is_repoint_ready, is_result_ready, is_source_ready, is_target_ready, is_test_ready, is_whole, takes_number};

@@ -1,7 +1,7 @@
 // What the locals of a function hold where they are ready.
 ghost use Rattle.std.specs.Prelude.{◌≡◌, map, IfOk, Some};
 ghost use Rattle.life_core.specs.Function.{function_of};
-ghost use Rattle.life_core.specs.Proper.{held_by, pointer_held, result_sort, sort_of};
+ghost use Rattle.life_core.specs.Holdings.{held_by, pointer_held, result_sort, sort_of};
 ghost use Rattle.life_proper.specs.Knowing.{entry_known, known_as};
 ghost use Rattle.life_proper.specs.Turns.{held_first};
 

@@ -9,7 +9,8 @@ use Rattle.life_core.specs.Function.{Function, Program}
 use Rattle.life_core.specs.Limits.{HaveFewPoints}
 use Rattle.life_core.specs.Linked.{Lead, Linked, code_of, goes, numbered}
 use Rattle.life_core.specs.Operands.{whole}
-use Rattle.life_core.specs.Proper.{Blank, ANumber, Holdings, held_if, result_if, result_sort, entry_holdings, holdings_after, holdings_past, IsNodeReady, IsResultReady, IsStepReady, IsTargetReady, Reaches, starts, goes_on, LeadOn, HasReadyWays, HaveReadyWays, IsReadyProgram}
+use Rattle.life_core.specs.Holdings.{Blank, ANumber, Holdings, held_if, result_if, result_sort, entry_holdings}
+use Rattle.life_core.specs.Proper.{holdings_after, holdings_past, IsNodeReady, IsResultReady, IsStepReady, IsTargetReady, Reaches, starts, goes_on, LeadOn, HasReadyWays, HaveReadyWays, IsReadyProgram}
 use Rattle.life_core.specs.Step.{Step}
 use Rattle.life_core.specs.Tree.{Action}
 use Rattle.life_core.specs.declared.program.Local.{Local}

@@ -4,7 +4,8 @@ use Rattle.std.specs.Prelude.{Contains, slice_get, cond}
 use Rattle.life_types.specs.Types.{Types}
 use Rattle.life_types.specs.declared.place.Place.{Place}
 use Rattle.life_core.specs.Function.{Function}
-use Rattle.life_core.specs.Proper.{APointer, IsOperandReady, IsStepReady}
+use Rattle.life_core.specs.Holdings.{APointer}
+use Rattle.life_core.specs.Proper.{IsOperandReady, IsStepReady}
 use Rattle.life_core.specs.Step.{Aim, Repoint}
 use Rattle.life_core.specs.Operands.{Location, Operand, Name, Through, Source}
 use Rattle.life_core.specs.Operands as source

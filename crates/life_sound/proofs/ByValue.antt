@@ -5,7 +5,7 @@ use Rattle.std.specs.List.{list_all, list_any}
 use Rattle.std.proofs.lemmas.Bool.{and_parts, false≢true}
 use Rattle.life_types.specs.Types.{Types}
 use Rattle.life_core.specs.Linked.{Linked, numbered}
-use Rattle.life_core.specs.Proper.{Holding, Blank, APointer, given_holdings, held_by}
+use Rattle.life_core.specs.Holdings.{Holding, Blank, APointer, given_holdings, held_by}
 use Rattle.life_core.specs.declared.program.Local.{Local}
 use Rattle.life_core.specs.ByValue.{is_pointer}
 use Rattle.life_store.specs.Meaning.{AreObjects}

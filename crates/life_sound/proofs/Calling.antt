@@ -10,7 +10,8 @@ use Rattle.life_core.specs.ByValue.{is_pointer, takes_pointer, gives_pointer, is
 use Rattle.life_core.specs.Function.{Function}
 use Rattle.life_core.specs.Linked.{Linked, code_of, goes, numbered, parts, spot_at}
 use Rattle.life_core.specs.Operands.{Argument, Location}
-use Rattle.life_core.specs.Proper.{AreArgumentsReady, IsCallReady, HasReadyWays, IsStepReady, IsTargetReady, parameter_sorts, result_sort}
+use Rattle.life_core.specs.Holdings.{parameter_sorts, result_sort}
+use Rattle.life_core.specs.Proper.{AreArgumentsReady, IsCallReady, HasReadyWays, IsStepReady, IsTargetReady}
 use Rattle.life_core.specs.Step.{Step, Call, Test}
 use Rattle.life_core.specs.Tree.{Action, Question}
 use Rattle.life_core.specs.declared.exits.Exits.{Exits}

@@ -3,7 +3,7 @@ use Rattle.std.proofs.Common.{◌≡◌, ◌≢◌, ◌⊎◌, inl, inr, ℕ, ze
 use Rattle.std.specs.Prelude.{ℤ, slice_get, slice_set, option_map, cond, nat_eq, nat_le, ◌&&◌}
 use Rattle.std.proofs.lemmas.Bool.{le-leb, leb-true, and_from}
 use Rattle.life_types.specs.declared.ty.TyId.{TyId}
-use Rattle.life_core.specs.Proper.{APointer}
+use Rattle.life_core.specs.Holdings.{APointer}
 use Rattle.life_pset.specs.Elements.{local_place}
 use Rattle.life_pset.specs.declared.element.AbsPlace.{AbsPlace}
 use Rattle.life_pset.specs.declared.element.Element.{Element}

@@ -3,7 +3,8 @@ use Rattle.std.proofs.Common.{◌≡◌, ◌≢◌, ℕ, List, [], ◌∷◌, ma
 use Rattle.std.specs.Prelude.{slice_get, slice_set, nat_eq, ◌||◌}
 use Rattle.std.specs.List.{list_any}
 use Rattle.std.proofs.lemmas.Bool.{ne_eqb, eq-eqb, false≢true}
-use Rattle.life_core.specs.Proper.{AnObject, APointer, AView, Holds, CanEnd}
+use Rattle.life_core.specs.Holdings.{AnObject, APointer, AView}
+use Rattle.life_core.specs.Proper.{Holds, CanEnd}
 use Rattle.life_store.specs.Cells.{at, at-unset_other}
 use Rattle.life_store.specs.Content.{Object, without}
 use Rattle.life_store.specs.Doing.{Next, put_cell, put_content, on_next, end_object, end_cell, end_locals}

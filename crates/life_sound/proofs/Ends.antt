@@ -5,7 +5,8 @@ use Rattle.std.specs.List.{list_any}
 use Rattle.life_types.specs.Types.{Types}
 use Rattle.life_types.specs.declared.place.Place.{Place}
 use Rattle.life_core.specs.Function.{Function}
-use Rattle.life_core.specs.Proper.{AnObject, sort_of, IsStepReady}
+use Rattle.life_core.specs.Holdings.{AnObject, sort_of}
+use Rattle.life_core.specs.Proper.{IsStepReady}
 use Rattle.life_core.specs.Step.{End}
 use Rattle.life_core.specs.declared.program.LocalKind.{LocalKind}
 use Rattle.life_pset.specs.Elements.{local_place, ended_local, end_if, end_causes, causes_of_end, end_elements}

@@ -6,7 +6,8 @@ use Rattle.life_types.specs.Types.{Types}
 use Rattle.life_core.specs.ByValue.{is_pointer, calls_in_by_value}
 use Rattle.life_core.specs.Function.{Function}
 use Rattle.life_core.specs.Linked.{enter, no_exits}
-use Rattle.life_core.specs.Proper.{Holdings, HasReadyWays, entry_holdings, parameter_sorts}
+use Rattle.life_core.specs.Holdings.{Holdings, entry_holdings, parameter_sorts}
+use Rattle.life_core.specs.Proper.{HasReadyWays}
 use Rattle.life_pset.specs.declared.element.Fact.{Fact}
 use Rattle.life_contract.specs.Signatures.{Signature}
 use Rattle.life_rules.specs.Diagnosing.{IsDiagnosed}

@@ -14,7 +14,7 @@ use Rattle.life_types.specs.declared.ty.Ty.{Ty}
 use Rattle.life_types.specs.declared.ty.Ty.TheVariants as variant
 use Rattle.life_core.specs.Function.{Function}
 use Rattle.life_core.specs.Linked.{Linked, code_of, numbered}
-use Rattle.life_core.specs.Proper.{Blank, AnObject, ANumber, APointer, AView, pointer_held, held_if, held_by, sort_of}
+use Rattle.life_core.specs.Holdings.{Blank, AnObject, ANumber, APointer, AView, pointer_held, held_if, held_by, sort_of}
 use Rattle.life_core.specs.Step.{Step}
 use Rattle.life_core.specs.declared.program.Local.{Local}
 use Rattle.life_core.specs.declared.program.LocalKind.{LocalKind}

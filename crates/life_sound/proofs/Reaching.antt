@@ -2,7 +2,8 @@
 use Rattle.std.proofs.Common.{◌≡◌, ℕ, ◌<◌, length, List, [], Some, refl, ap, subst, ◌∙◌}
 use Rattle.std.specs.Prelude.{Contains, slice_get}
 use Rattle.life_types.specs.declared.place.Place.{Place}
-use Rattle.life_core.specs.Proper.{APointer, IsOperandReady}
+use Rattle.life_core.specs.Holdings.{APointer}
+use Rattle.life_core.specs.Proper.{IsOperandReady}
 use Rattle.life_core.specs.Step.{Step}
 use Rattle.life_core.specs.Operands.{Location, Operand, Name, Through}
 use Rattle.life_pset.specs.Elements.{local_place}

@@ -4,7 +4,7 @@ use Rattle.std.specs.Prelude.{slice_get}
 use Rattle.life_types.specs.declared.place.Place.{Place}
 use Rattle.life_core.specs.ByValue.{calls_in_by_value}
 use Rattle.life_core.specs.Function.{Function, Program}
-use Rattle.life_core.specs.Proper.{parameter_sorts}
+use Rattle.life_core.specs.Holdings.{parameter_sorts}
 use Rattle.life_contract.specs.Signatures.{signatures_of}
 use Rattle.life_proper.specs.ProperPrograms.{IsProperProgram}
 use Rattle.life_rules.specs.Diagnosing.{IsDiagnosed}

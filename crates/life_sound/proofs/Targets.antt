@@ -8,7 +8,8 @@ use Rattle.life_types.specs.declared.ty.TyId.{TyId}
 use Rattle.life_core.specs.ByValue.{is_pointer, gives_pointer}
 use Rattle.life_core.specs.Function.{Function}
 use Rattle.life_core.specs.Operands.{Argument, Location}
-use Rattle.life_core.specs.Proper.{Holding, Blank, AnObject, ANumber, APointer, AView, Holdings, held_by, sort_of, IsTargetReady}
+use Rattle.life_core.specs.Holdings.{Holding, Blank, AnObject, ANumber, APointer, AView, Holdings, held_by, sort_of}
+use Rattle.life_core.specs.Proper.{IsTargetReady}
 use Rattle.life_core.specs.Step.{Call}
 use Rattle.life_core.specs.declared.program.FnId.{FnId}
 use Rattle.life_core.specs.declared.program.Local.{Local}

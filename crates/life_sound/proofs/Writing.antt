@@ -4,7 +4,7 @@ use Rattle.std.specs.Prelude.{ℤ, slice_get, slice_set}
 use Rattle.life_types.specs.Types.{Types}
 use Rattle.life_types.specs.declared.place.Place.{Place}
 use Rattle.life_core.specs.Function.{Function}
-use Rattle.life_core.specs.Proper.{AnObject, ANumber, APointer, AView, sort_of}
+use Rattle.life_core.specs.Holdings.{AnObject, ANumber, APointer, AView, sort_of}
 use Rattle.life_core.specs.Step.{Step}
 use Rattle.life_pset.specs.Elements.{local_place}
 use Rattle.life_pset.specs.declared.element.Element.{Element}

@@ -6,13 +6,13 @@ use Rattle.life_stmt.specs.Elses.{else_if_kinds, else_if_with, last_else_with, e
 use Rattle.life_stmt.specs.Fronts.{mapped, behind}
 use Rattle.life_expr.specs.Gives.{Fails}
 use Rattle.life_expr.specs.Heads.{quoted_kind, is_of}
-use Rattle.life_expr.specs.Read.{Tokens, Stop, Read, Reader, ◌>>=◌}
+use Rattle.life_expr.specs.Read.{Stop, Read, Reader, ◌>>=◌}
 use Rattle.life_expr.specs.Readers.{Readers, no_reader, begins, condition_with, statement_with, else_part_below, else_part_with, else_parts}
 use Rattle.life_stmt.proofs.ShrinksReads.{Takes, TakesAll, Takes-none, Takes-reads, ok_is, shrinks}
 use Rattle.life_stmt.proofs.ShrinksRules.{Takes-condition, Takes-statement, else_parts_take}
 use Rattle.life_tree.specs.Grammar.{◌then◌, quoted, rule}
 use Rattle.life_tree.specs.Rules as rules
-use Rattle.life_tree.specs.Tree.{Tree, node, ◌⨾◌}
+use Rattle.life_tree.specs.Tree.{Tree, node, ◌⨾◌, Tokens}
 use Rattle.life_tree.specs.Views.{ElseIfView, at, else_part_tree}
 use Rattle.life_tree.specs.declared.fixed.TheConstants as fixed
 use Rattle.life_tree.specs.declared.token.TreeToken.{TreeToken}

@@ -1,10 +1,10 @@
 -- A simple statement that begins with no step: its target, and what stands behind that.
 use Rattle.std.proofs.Common.{◌≡◌, ℕ, false, ◌∷◌, [], Ok, refl}
 use Rattle.life_expr.specs.Heads.{quoted_kind}
-use Rattle.life_expr.specs.Read.{Tokens, starts}
+use Rattle.life_expr.specs.Read.{starts}
 use Rattle.life_expr.specs.Readers.{Readers, target_with, simple_with}
 use Rattle.life_stmt.specs.Simples.{behind_target, ending_with}
-use Rattle.life_tree.specs.Tree.{Tree}
+use Rattle.life_tree.specs.Tree.{Tree, Tokens}
 use Rattle.life_tree.specs.declared.fixed.TheConstants as fixed
 
 pub simple_behind : (n : ℕ) (inside : Readers) (ts : Tokens) (target : Tree) (rest : Tokens)

@@ -1,7 +1,8 @@
 -- Which tokens are in front, by two lists of kinds.
 use Rattle.std.proofs.Common.{◌≡◌, Bool, true, false, ◌||◌, List, [], ◌∷◌, ◌++◌, refl}
 use Rattle.life_expr.specs.Heads.{Kind, is_of}
-use Rattle.life_expr.specs.Read.{Tokens, is_in, starts}
+use Rattle.life_expr.specs.Read.{is_in, starts}
+use Rattle.life_tree.specs.Tree.{Tokens}
 use Rattle.life_tree.specs.declared.token.TreeToken.{TreeToken}
 
 or_assoc : (a b c : Bool) → (a || (b || c)) ≡ ((a || b) || c)

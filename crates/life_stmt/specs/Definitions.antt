@@ -1,4 +1,4 @@
--- Readers of parts of definitions, each as a function of the program reads one.
+-- How reading goes, which nobody need believe: readers of parts of definitions, each as a function of the program reads one.
 use Rattle.std.specs.Prelude.{ℕ}
 use Rattle.life_expr.specs.Exprs.{comma_form}
 use Rattle.life_expr.specs.Heads.{heads_of}

@@ -1,15 +1,15 @@
--- Reading what follows the first branch of an `if`, branch by branch.
+-- How reading goes, which nobody need believe: reading what follows the first branch of an `if`, branch by branch.
 use Rattle.std.specs.Prelude.{◌≡◌, ℕ, false, Result, Ok, Err, Option, Some, None, List, [], ◌∷◌, map, option_map}
 use Rattle.life_stmt.specs.Fronts.{mapped}
 use Rattle.life_expr.specs.Gives.{Fails}
 use Rattle.life_expr.specs.Heads.{Kind, quoted_kind}
-use Rattle.life_expr.specs.Read.{Tokens, Reader, reads}
+use Rattle.life_expr.specs.Read.{Reader, reads}
 use Rattle.life_expr.specs.Readers.{Readers, no_reader, else_parts, begins}
 use Rattle.life_expr.specs.declared.stop.Stop.{Stop as Fault}
 use Rattle.life_stmt.specs.declared.statements.ElseParts.{ElseParts}
 use Rattle.life_tree.specs.Grammar.{no_else, quoted, ◌then◌, ◌or◌, rule}
 use Rattle.life_tree.specs.Rules as rules
-use Rattle.life_tree.specs.Tree.{Tree, node, without_else, ◌⨾◌}
+use Rattle.life_tree.specs.Tree.{Tree, node, without_else, ◌⨾◌, Tokens}
 use Rattle.life_tree.specs.Views.{BranchView, ElseIfView, at, else_if_view, else_part_tree, else_tree}
 use Rattle.life_tree.specs.declared.fixed.TheConstants as fixed
 use Rattle.life_types.specs.declared.place.Place.{Place}

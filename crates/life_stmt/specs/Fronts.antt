@@ -1,4 +1,4 @@
--- What was read before, in front of what is read next.
+-- How reading goes, which nobody need believe: what was read before, in front of what is read next.
 use Rattle.std.specs.Prelude.{List, [], ◌∷◌, Ok}
 use Rattle.life_expr.specs.Read.{Read, ◌>>=◌}
 use Rattle.life_tree.specs.Tree.{Tree, ◌⨾◌}

@@ -1,4 +1,4 @@
--- Readers of parts of statements, each as a function of the program reads one.
+-- How reading goes, which nobody need believe: readers of parts of statements, each as a function of the program reads one.
 use Rattle.std.specs.Prelude.{ℕ, Bool, ◌&&◌, ◌||◌, if◌then◌else◌, List, [], ◌∷◌}
 use Rattle.life_stmt.specs.Fronts.{mapped, behind}
 use Rattle.life_expr.specs.Heads.{Kind, quoted_kind, name_kind}

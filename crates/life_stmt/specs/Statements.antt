@@ -1,4 +1,5 @@
--- Readers of parts of statements, each as a function of the program reads one, and what those functions return as trees.
+-- How reading goes, which nobody need believe: readers of parts of statements, each as a function of the program reads one, and what those functions
+-- return as trees.
 use Rattle.std.specs.Prelude.{ℕ, List, [], ◌∷◌, ◌++◌}
 use Rattle.life_expr.specs.Heads.{Kind, quoted_kind, simple_heads, plain_heads, type_heads}
 use Rattle.life_stmt.specs.Fronts.{mapped}

@@ -4,7 +4,8 @@ use Rattle.std.specs.Prelude.{pos, IsSome, slice_get}
 use Rattle.std.proofs.lemmas.Bool.{false≢true}
 use Rattle.life_core.specs.Function.{Function, Program}
 use Rattle.life_core.specs.Linked.{enter, no_exits}
-use Rattle.life_core.specs.Proper.{Holding, Blank, AnObject, ANumber, APointer, AView, Reaches, starts, HasReadyWays, HaveReadyWays, IsReadyProgram, IsResultReady, entry_holdings, parameter_sorts, result_sort}
+use Rattle.life_core.specs.Holdings.{Holding, Blank, AnObject, ANumber, APointer, AView, entry_holdings, parameter_sorts, result_sort}
+use Rattle.life_core.specs.Proper.{Reaches, starts, HasReadyWays, HaveReadyWays, IsReadyProgram, IsResultReady}
 use Rattle.life_types.specs.Types.{Types}
 use Rattle.life_types.specs.declared.ty.Ty.{Ty}
 use Rattle.life_store.specs.Calls.{number_or_zero, pointer_back, given_back, slots_back, parameters_given}

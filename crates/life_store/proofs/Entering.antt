@@ -2,7 +2,7 @@
 use Rattle.std.proofs.Common.{◌≡◌, ℕ, zero, suc, ◌+◌, List, [], ◌∷◌, ◌++◌, length, map, take, Option, Some, None, refl, sym, ap, subst, ◌∙◌, arith}
 use Rattle.std.specs.Prelude.{slice_get, slice_set}
 use Rattle.life_core.specs.Function.{Function}
-use Rattle.life_core.specs.Proper.{Holding, Blank, held_by, sort_of, given_holdings, entry_holdings, parameter_sorts}
+use Rattle.life_core.specs.Holdings.{Holding, Blank, held_by, sort_of, given_holdings, entry_holdings, parameter_sorts}
 use Rattle.life_core.specs.declared.program.Local.{Local}
 use Rattle.life_types.specs.Types.{Types}
 use Rattle.life_store.specs.Calls.{given, parameters_given}

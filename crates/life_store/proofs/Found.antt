@@ -2,7 +2,8 @@
 use Rattle.std.proofs.Common.{◌≡◌, ℕ, ◌<◌, List, ◌++◌, length, Option, Some, None, Bool, true, false, refl, sym, ap, subst, ◌∙◌}
 use Rattle.std.proofs.lemmas.Bool.{lt-ltb, false≢true}
 use Rattle.life_core.specs.Function.{Function}
-use Rattle.life_core.specs.Proper.{APointer, AView, IsOperandReady}
+use Rattle.life_core.specs.Holdings.{APointer, AView}
+use Rattle.life_core.specs.Proper.{IsOperandReady}
 use Rattle.life_types.specs.Types.{Types}
 use Rattle.life_core.specs.Operands.{Operand, Name, Through}
 use Rattle.life_store.specs.Cells.{at}

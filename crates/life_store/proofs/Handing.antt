@@ -3,7 +3,8 @@ use Rattle.std.proofs.Common.{◌≡◌, ℕ, zero, suc, List, [], ◌∷◌, �
 use Rattle.std.specs.Prelude.{slice_get}
 use Rattle.life_core.specs.Function.{Function}
 use Rattle.life_core.specs.Operands.{Argument, Location, Value, PointerOf}
-use Rattle.life_core.specs.Proper.{Holding, Holdings, AnObject, ANumber, APointer, AView, Holds, HoldsAt, IsArgumentReady, AreArgumentsReady}
+use Rattle.life_core.specs.Holdings.{Holding, Holdings, AnObject, ANumber, APointer, AView}
+use Rattle.life_core.specs.Proper.{Holds, HoldsAt, IsArgumentReady, AreArgumentsReady}
 use Rattle.life_types.specs.Types.{Types}
 use Rattle.life_store.specs.Doing.{Setting, Next, on_next}
 use Rattle.life_store.specs.Calls.{number_handed, pointer_handed, handed, with_handed, all_handed, lent, slots_returned, taken_back, target_given}

@@ -2,7 +2,7 @@
 use Rattle.std.proofs.Common.{◌≡◌, ◌≤◌, ℕ, zero, suc, ◌+◌, List, [], ◌∷◌, ◌++◌, length, take, Some, refl, sym, ap, subst, ◌∙◌, arith}
 use Rattle.std.specs.Prelude.{ℤ, slice_get}
 use Rattle.life_core.specs.Function.{Function, Program}
-use Rattle.life_core.specs.Proper.{Holding, AnObject, given_holdings, parameter_sorts}
+use Rattle.life_core.specs.Holdings.{Holding, AnObject, given_holdings, parameter_sorts}
 use Rattle.life_core.specs.declared.program.Local.{Local}
 use Rattle.life_types.specs.Types.{Types}
 use Rattle.life_types.specs.declared.place.Place.{Place}

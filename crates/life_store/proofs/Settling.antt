@@ -3,7 +3,8 @@ use Rattle.std.proofs.Common.{◌≡◌, ◌⊎◌, inl, inr, ℕ, ◌+◌, ◌*
 use Rattle.std.proofs.lemmas.Bool.{cond_both}
 use Rattle.std.specs.Prelude.{ℤ, nat_lt, slice_get, slice_set}
 use Rattle.life_core.specs.Function.{Function}
-use Rattle.life_core.specs.Proper.{Holding, Blank, AnObject, ANumber, APointer, AView, Holdings, Holds, held_by, sort_of, HoldsAt, IsLocal, blanked, pointed_after, port_after, holdings_after, CanEnd, IsSourceReady, IsOperationReady, IsPortReady, IsStepReady}
+use Rattle.life_core.specs.Holdings.{Holding, Blank, AnObject, ANumber, APointer, AView, Holdings, held_by, sort_of}
+use Rattle.life_core.specs.Proper.{Holds, HoldsAt, IsLocal, blanked, pointed_after, port_after, holdings_after, CanEnd, IsSourceReady, IsOperationReady, IsPortReady, IsStepReady}
 use Rattle.life_core.specs.Step.{Step, Live, End, Eval, Load, Save, Copy, Move, Aim, Repoint, Element, Cursor, Advance, Cut, Size, Same, Changes, Make, Call, Port, Ports, Writes, WritesView, Takes}
 use Rattle.life_core.specs.declared.instr.Form.{Form}
 use Rattle.life_core.specs.declared.instr.Form.TheVariants as form

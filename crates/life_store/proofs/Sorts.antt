@@ -5,7 +5,8 @@ use Rattle.std.proofs.lemmas.Option.{slice_get-map}
 use Rattle.life_types.specs.Types.{Types}
 use Rattle.life_core.specs.Function.{Function}
 use Rattle.life_core.specs.Operands.{Location}
-use Rattle.life_core.specs.Proper.{Holding, Blank, AnObject, ANumber, Holdings, Holds, held_by, sort_of, blanked, given_holdings, target_after, port_after, holdings_after, holdings_past, IsPortReady, IsStepReady, IsNodeReady, Reaches, starts, goes_on, HasReadyWays}
+use Rattle.life_core.specs.Holdings.{Holding, Blank, AnObject, ANumber, Holdings, held_by, sort_of, given_holdings}
+use Rattle.life_core.specs.Proper.{Holds, blanked, target_after, port_after, holdings_after, holdings_past, IsPortReady, IsStepReady, IsNodeReady, Reaches, starts, goes_on, HasReadyWays}
 use Rattle.life_core.specs.Step.{Step, Live, End, Eval, Load, Save, Copy, Move, Aim, Repoint, Element, Cursor, Advance, Cut, Size, Same, Changes, Make, Call, Port, Ports, Writes, WritesView, Takes}
 use Rattle.life_core.specs.Tree.{Node, Action, Question, Return, Stop}
 use Rattle.life_core.specs.declared.program.Local.{Local}

@@ -6,7 +6,8 @@ use Rattle.std.proofs.lemmas.Bool.{false≢true}
 use Rattle.life_core.specs.Function.{Function}
 use Rattle.life_core.specs.Linked.{Lead, Linked, code_of, numbered, spot_at, goes, parts}
 use Rattle.life_core.specs.Operands.{Argument, Location}
-use Rattle.life_core.specs.Proper.{Holdings, Reaches, goes_on, HasReadyWays, holdings_past, target_after, parameter_sorts, result_sort, IsResultReady, IsTestReady, IsCallReady, IsStepReady}
+use Rattle.life_core.specs.Holdings.{Holdings, parameter_sorts, result_sort}
+use Rattle.life_core.specs.Proper.{Reaches, goes_on, HasReadyWays, holdings_past, target_after, IsResultReady, IsTestReady, IsCallReady, IsStepReady}
 use Rattle.life_core.specs.Step.{Step, Call, Test, NonZero, NotNull}
 use Rattle.life_core.specs.Tree.{Action, Question}
 use Rattle.life_core.specs.declared.exits.Exits.{Exits}

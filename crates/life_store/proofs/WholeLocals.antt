@@ -6,7 +6,7 @@ use Rattle.life_types.specs.declared.ty.Ty.{Ty}
 use Rattle.life_types.specs.declared.ty.Ty.TheVariants as variant
 use Rattle.life_core.specs.Function.{Function}
 use Rattle.life_core.specs.Operands.{Location}
-use Rattle.life_core.specs.Proper.{Blank, AnObject, APointer, AView, held_by, held_if, sort_of}
+use Rattle.life_core.specs.Holdings.{Blank, AnObject, APointer, AView, held_by, held_if, sort_of}
 use Rattle.life_core.specs.declared.program.Local.{Local}
 use Rattle.life_store.specs.Doing.{Next, cell, put_cell, location_cell, member_cell, pointed, member_pointed}
 use Rattle.life_store.specs.Parts.{Single, variable_type, held_type_if, local_parts, parts_if, parts_of, parts_within}

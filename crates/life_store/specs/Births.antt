@@ -5,7 +5,7 @@ use Rattle.life_types.specs.declared.ty.TyId.{TyId}
 use Rattle.life_core.specs.declared.instr.Form.{Form}
 use Rattle.life_core.specs.declared.program.Local.{Local}
 use Rattle.life_core.specs.Function.{Function}
-use Rattle.life_core.specs.Proper.{Holding, Blank, AnObject, ANumber, APointer, AView, sort_of}
+use Rattle.life_core.specs.Holdings.{Holding, Blank, AnObject, ANumber, APointer, AView, sort_of}
 use Rattle.life_store.specs.Cells.{at}
 use Rattle.life_store.specs.Content.{Object, Content, live_words_of, newborn, with_birth, with_resize, without}
 use Rattle.life_store.specs.Effects.{Setting, Effect, Next, Traps, Strays, cell, put_cell, put_content, on_got, on_next}

@@ -6,7 +6,7 @@ use Rattle.life_types.specs.declared.ty.Ty.TheVariants as variant
 use Rattle.life_types.specs.declared.ty.TyId.{TyId}
 use Rattle.life_core.specs.Function.{Function}
 use Rattle.life_core.specs.Operands.{Argument, Location, Value, GivenOver, PointerOf, Slot}
-use Rattle.life_core.specs.Proper.{Holding, Blank, AnObject, ANumber, APointer, AView, result_sort, sort_of}
+use Rattle.life_core.specs.Holdings.{Holding, Blank, AnObject, ANumber, APointer, AView, result_sort, sort_of}
 use Rattle.life_core.specs.declared.program.Local.{Local}
 use Rattle.life_store.specs.Content.{Content, without}
 use Rattle.life_store.specs.Doing.{Setting, Effect, Next, Strays, Attempt, Got, Spot, born_object, cell, converted, found_at, location_cell, on_found, on_got, on_location, on_next, pointed, put_cell, put_content, saved, as_long, type_of, wrote_spot}

@@ -7,7 +7,7 @@ use Rattle.life_types.specs.declared.ty.Ty.TheVariants as ty
 use Rattle.life_core.specs.declared.program.Local.{Local}
 use Rattle.life_core.specs.Function.{Function, Program}
 use Rattle.life_core.specs.Operands.{Argument, Location}
-use Rattle.life_core.specs.Proper.{Holding, AnObject, parameter_sorts}
+use Rattle.life_core.specs.Holdings.{Holding, AnObject, parameter_sorts}
 use Rattle.life_core.specs.Step.{Step, Call, Test, NonZero, NotNull}
 use Rattle.life_core.specs.Tree.{Tree, Skip, Then, Acts, Asks, Both, Either, Negated, Choice, Turns, Breaks, Continues, Returns, Stops}
 use Rattle.life_store.specs.Content.{Content, empty_content}

@@ -1,6 +1,6 @@
 -- The state of a run: the world that all frames share, and the cells of one frame.
 use Rattle.std.specs.Prelude.{ℕ, ℤ, List, Option, map}
-use Rattle.life_core.specs.Proper.{Holding, Blank, AnObject, ANumber, APointer, AView}
+use Rattle.life_core.specs.Holdings.{Holding, Blank, AnObject, ANumber, APointer, AView}
 use Rattle.life_store.specs.Content.{Content}
 
 -- a position in an object, the word of the slot there at which begins what is pointed to, how many positions a span or a view has from

@@ -25,8 +25,11 @@ pub data Tree : Type 0 where
 abbrev pub nowhere : Place
 nowhere = record { line = 0; column = 0 }
 
+abbrev pub Tokens : Type 0
+Tokens = List TreeToken
+
 -- the tokens of a tree in their order
-abbrev pub tokens_of : Tree → List TreeToken
+abbrev pub tokens_of : Tree → Tokens
 tokens_of nothing = []
 tokens_of without_else = []
 tokens_of (token key place) = record { key = key; place = place } ∷ []

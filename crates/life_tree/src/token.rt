@@ -3,7 +3,7 @@ use crate::key::TokenKey;
 use life_types::Place;
 
 /// A token by its kind and value, and where it stands.
-#[derive(Clone, Copy)]
+#[derive(Clone, Copy, Debug)]
 pub struct TreeToken {
     /// Its kind and value.
     pub key: TokenKey,

@@ -11,7 +11,8 @@ use Rattle.life_types.specs.declared.ty.Ty.TheVariants as type
 use Rattle.life_core.specs.ByValue.{calls_by_value, calls_in_by_value}
 use Rattle.life_core.specs.Function.{Function, Program}
 use Rattle.life_core.specs.Linked.{Lead, Linked, code_of, edges_of, goes, numbered, spot_at, spot_of}
-use Rattle.life_core.specs.Proper.{Holding, Blank, APointer, Holdings, held_by, sort_of, entry_holdings, holdings_after, holdings_past, IsStepReady, IsNodeReady, Reaches, starts, goes_on, LeadOn, HasReadyWays, HaveReadyWays, IsReadyProgram}
+use Rattle.life_core.specs.Holdings.{Holding, Blank, APointer, Holdings, held_by, sort_of, entry_holdings}
+use Rattle.life_core.specs.Proper.{holdings_after, holdings_past, IsStepReady, IsNodeReady, Reaches, starts, goes_on, LeadOn, HasReadyWays, HaveReadyWays, IsReadyProgram}
 use Rattle.life_core.specs.Step.{Step, Live}
 use Rattle.life_core.specs.Tree.{Action, Stop, Spot}
 use Rattle.life_core.specs.declared.instr.Form.TheVariants.{Plain}

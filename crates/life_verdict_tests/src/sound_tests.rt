@@ -2,7 +2,7 @@
 ghost use Rattle.std.specs.Prelude.{◌≡◌, [], ◌∷◌, Some, IfOk};
 ghost use Rattle.life_core.specs.Function.{function_of, program_of};
 ghost use Rattle.life_core.specs.declared.program.Local.{Local};
-ghost use Rattle.life_core.specs.Proper.{APointer, held_by};
+ghost use Rattle.life_core.specs.Holdings.{APointer, held_by};
 ghost use Rattle.life_core.specs.Step.{step_of};
 ghost use Rattle.life_core.specs.Tree.{tree_of};
 ghost use Rattle.life_verdict_tests.specs.WorkedPrograms.{found, misuse, no_use, on_line, worked, worked_body};

@@ -5,7 +5,7 @@ use mir.Val.{SFits}
 use Rattle.std.specs.Int.{w64}
 use Rattle.std.specs.Prelude.{ℤ}
 use Rattle.life_core.specs.Function.{function_of}
-use Rattle.life_core.specs.Proper.{AnObject, ANumber, Blank, APointer, AView}
+use Rattle.life_core.specs.Holdings.{AnObject, ANumber, Blank, APointer, AView}
 use Rattle.life_store.specs.Doing.{Next, put_cell}
 use Rattle.life_interp.specs.SoFar.{born_with, given, given_if}
 use Rattle.life_store.specs.State as state

@@ -2,7 +2,7 @@ use Rattle.std.proofs.Common.{List, Some, None, ap, refl, sym, ◌∙◌, arith}
 use Rattle.std.specs.Prelude.{slice_get}
 use Rattle.life_core.specs.Function.{function_of}
 use Rattle.std.proofs.lemmas.Option.{slice_get_read, slice_get_past}
-use Rattle.life_core.specs.Proper.{Blank, AnObject, ANumber, APointer, AView}
+use Rattle.life_core.specs.Holdings.{Blank, AnObject, ANumber, APointer, AView}
 use Rattle.life_store.specs.Doing.{Next, put_cell}
 use Rattle.life_store.specs.State as state
 use Rattle.life_interp.specs.Cells.{pointer_seen, sort_seen, state_of}

@@ -1,6 +1,6 @@
 use Rattle.std.proofs.Common.{◌≡◌, ◌++◌, drop, map}
 use Rattle.life_core.specs.Function.{function_of}
-use Rattle.life_core.specs.Proper.{given_holdings}
+use Rattle.life_core.specs.Holdings.{given_holdings}
 use Rattle.life_proper.specs.Knowing.{entry_known, known_as}
 use Rattle.life_proper.proofs.sorts.entry_known.Given as goal
 

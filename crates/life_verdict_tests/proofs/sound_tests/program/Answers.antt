@@ -2,7 +2,7 @@ use Rattle.std.proofs.Common.{List, [], ◌∷◌, ◌++◌, map, Option, None, 
 use Rattle.life_types.specs.Types.{class}
 use Rattle.life_types.specs.declared.ty.Ty.{Ty}
 use Rattle.life_core.specs.Function.{Function, function_of}
-use Rattle.life_core.specs.Proper.{held_if}
+use Rattle.life_core.specs.Holdings.{held_if}
 use Rattle.life_core.specs.declared.program.CoreFn.{CoreFn}
 use Rattle.life_core.specs.declared.program.Local.{Local}
 use Rattle.life_core.specs.declared.program.LocalKind.TheVariants.{Register}
