@@ -3,7 +3,7 @@ ghost use Rattle.std.specs.Prelude.{◌≡◌, IfOk};
 
 use crate::refusal::Refusal;
 use crate::words::{fits, number, word_at, words_of};
-use life_pset::{BitRows, Rows, SetRows};
+use life_sets::{BitRows, Rows, SetRows};
 use std::alloc::Global;
 
 /// How many locations and elements there are, and two pairs of each of two rows.

@@ -17,8 +17,9 @@ use crate::listing::{listed, push_candidates};
 use crate::solution::Solution;
 use life_contract::Signatures;
 use life_core::{CoreFn, FnId, Names, Point, SpotRef, spots};
-use life_pset::{ElementTable, Fact, Rows};
+use life_pset::{ElementTable, Fact};
 use life_rules::{Diag, facts_in, push_diags, push_diags_of_two, tells_first};
+use life_sets::Rows;
 use life_types::{NoMemory, TypeTable};
 use std::alloc::Global;
 

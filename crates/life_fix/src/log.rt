@@ -4,7 +4,8 @@ ghost use Rattle.life_pset.specs.Table.{Names};
 ghost use Rattle.life_rules.specs.FactSets.{Gains, IsPairOf};
 ghost use Rattle.life_fix.specs.Solving.{pair_if, Grows, IsLog};
 
-use life_pset::{ElementTable, Fact, Rows};
+use life_pset::{ElementTable, Fact};
+use life_sets::Rows;
 use life_types::NoMemory;
 
 /// Adds to a row those facts that are the function's, and to its log those pairs of them that are new.

@@ -9,7 +9,7 @@ ghost use Rattle.life_fix.specs.Solving.{is_due, left_of, log_at, most_pairs, mo
 use crate::flow::{Flow, log_len, run_edge};
 use life_base::Steps;
 use life_core::Edge;
-use life_pset::Rows;
+use life_sets::Rows;
 use life_types::NoMemory;
 use std::alloc::Global;
 use std::sync::ledger::Ledger;

@@ -1,10 +1,5 @@
-pub mod BitJoin
-pub mod BitSetLemmas
-pub mod Bits
 pub mod CandidateLemmas
 pub mod CountLemmas
-pub mod ListedLemmas
 pub mod Members
 pub mod Numbering
 pub mod Numbers
-pub mod PairLemmas

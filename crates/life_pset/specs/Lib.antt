@@ -1,12 +1,8 @@
-pub mod BitSets
 pub mod Causes
 pub mod Counts
 pub mod Elements
 pub mod Inputs
 pub mod Limits
-pub mod Listed
-pub mod Pairs
-pub mod PairSets
 pub mod Places
 pub mod Shapes
 pub mod Table

@@ -1,8 +1,7 @@
-//! Points-to sets: what a pointer may point to, and sets of such facts.
+//! Points-to sets: what a pointer may point to, and the numbers of such facts.
 #![tactic(auto)]
 
 mod beneath;
-mod bit_rows;
 mod cause;
 mod counts;
 mod element;
@@ -11,13 +10,10 @@ mod input_list;
 mod limits;
 mod location_list;
 mod place_list;
-mod rows;
-mod set_rows;
 mod shape;
 mod table;
 
 pub use beneath::{is_within, overlap, rest_of, under};
-pub use bit_rows::BitRows;
 pub use cause::{called, changed, changed_in, ended, moved, owner_changed, uninitialised};
 pub use counts::{has_few_elements, has_few_locations};
 pub use element::{AbsPlace, Cause, CauseKind, Element, Fact, OWNED_STEP, Root};
@@ -28,8 +24,6 @@ pub use limits::{
     is_within_limits,
 };
 pub use location_list::{locations, push_local_locations, push_locations_in};
-pub use rows::Rows;
-pub use set_rows::SetRows;
 pub use shape::{
     holds_owner_if, is_pointer, is_raw, is_unique, is_variable, is_variable_place, local_type,
     location_type, member_of, member_type, members_at, members_type, operand_type, place_type,

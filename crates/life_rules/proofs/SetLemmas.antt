@@ -8,7 +8,7 @@ use Rattle.std.specs.List.{flat_map}
 use Rattle.life_types.specs.Types.{Types}
 use Rattle.life_core.specs.Function.{Function}
 use Rattle.life_core.specs.declared.stmt.Edge.{Edge}
-use Rattle.life_pset.specs.Pairs.{HasNew}
+use Rattle.life_sets.specs.Pairs.{HasNew}
 use Rattle.life_pset.specs.Table.{Table, Names, table_of}
 use Rattle.life_pset.specs.declared.element.AbsPlace.{AbsPlace}
 use Rattle.life_pset.specs.declared.element.Element.{Element}

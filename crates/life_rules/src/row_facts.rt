@@ -2,12 +2,13 @@
 ghost use Rattle.std.specs.List.{flat_map};
 ghost use Rattle.std.specs.Option.{option_copied};
 ghost use Rattle.std.specs.Prelude.{◌≡◌, ◌++◌, ◌||◌, ◌↔◌, ℕ, length, slice_get, Contains, IfOk, IsTrue, OnOk};
-ghost use Rattle.life_pset.specs.Pairs.{HasNew};
+ghost use Rattle.life_sets.specs.Pairs.{HasNew};
 ghost use Rattle.life_pset.specs.Table.{Names};
 ghost use Rattle.life_pset.specs.declared.element.Fact.{Fact};
 ghost use Rattle.life_rules.specs.FactSets.{named_fact, pair_facts, Gains, GainsSome, Holds, IsPairOf};
 
-use life_pset::{AbsPlace, Element, ElementTable, Fact, Rows};
+use life_pset::{AbsPlace, Element, ElementTable, Fact};
+use life_sets::Rows;
 use life_types::NoMemory;
 use std::alloc::Global;
 

@@ -1,6 +1,6 @@
 use Rattle.std.proofs.Common.{◌≡◌, ℕ, Bool, drop}
 use Rattle.std.specs.Prelude.{IsTrue, ◌↔◌}
-use Rattle.life_pset.specs.Pairs.{HasNew}
+use Rattle.life_sets.specs.Pairs.{HasNew}
 use Rattle.life_rules.specs.FactSets.{Gains, GainsSome, IsPairOf}
 use Rattle.life_rules.proofs.row_facts.add_facts.Given as goal
 

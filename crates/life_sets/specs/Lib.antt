@@ -1,0 +1,4 @@
+pub mod BitSets
+pub mod Listed
+pub mod PairSets
+pub mod Pairs

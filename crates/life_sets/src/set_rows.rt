@@ -1,0 +1,86 @@
+// A row as an ordered set.
+ghost use Rattle.std.specs.Prelude.{◌≡◌, ℕ, ◌<◌, IsTrue, IfOk, OnOk, OnErr, not, ◌↔◌};
+ghost use Rattle.life_sets.specs.PairSets.{contains_pair, AddsPair, AddsKeys, IsAmong, IsPairWithin};
+ghost use Rattle.life_sets.specs.Pairs.{IsAscending, HasNew};
+
+use crate::rows::Rows;
+use life_types::NoMemory;
+use std::alloc::{AllocError, Global};
+use std::collections::BTreeSet;
+
+// Adds a pair, and says whether it is new.
+fn insert_pair(pairs: &mut BTreeSet<(u32, u32)>, l: u32, e: u32) -> Result<bool, NoMemory>
+    ensures added { OnOk result (AddsPair l e (contains_pair pairs.old) (contains_pair pairs.new)) }
+    ensures fresh { IfOk result (λ fresh. fresh ≡ not (contains_pair pairs.old l e)) }
+    ensures err { OnErr result ((p q : ℕ) → contains_pair pairs.new p q ≡ contains_pair pairs.old p q) }
+{
+    let fresh = pairs.insert((l, e))?;
+    Ok(fresh)
+}
+
+// The pairs in order, in one pass.
+fn pairs_of(alloc: Global, pairs: &BTreeSet<(u32, u32)>) -> Result<Vec<(u32, u32)>, AllocError>
+    ensures items { IfOk result (λ all. all.items ≡ pairs.now.keys) }
+    ensures ascending { IfOk result (λ all. IsAscending all.items) }
+{
+    pairs.iter().copied().collect(alloc)
+}
+
+// Adds the first set's pairs to the second, and says whether one was new there.
+fn join_pairs(
+    from: &BTreeSet<(u32, u32)>,
+    into: &mut BTreeSet<(u32, u32)>,
+) -> Result<bool, NoMemory>
+    ensures joined { OnOk result (AddsKeys from.now.keys (contains_pair into.old) (contains_pair into.new)) }
+    ensures gained { IfOk result (λ gained. IsTrue gained ↔ HasNew (contains_pair into.old) (contains_pair into.new)) }
+    ensures among { IsAmong from.now.keys (contains_pair into.old) (contains_pair into.new) }
+{
+    let mut gained = false;
+    for pair in from.iter() {
+        gained |= insert_pair(into, pair.0, pair.1)?;
+    }
+    Ok(gained)
+}
+
+/// A row as an ordered set of its pairs: small where few facts hold. It takes memory for each pair.
+#[derive(Drop)]
+pub struct SetRows {
+    locations: u32,
+    elements: u32,
+    pairs: BTreeSet<(u32, u32)>,
+    ghost within: { IsPairWithin locations elements pairs },
+}
+
+impl Rows for SetRows {
+    ghost has = { λ row. contains_pair row.pairs };
+
+    ghost location_limit = { λ row. row.locations };
+
+    ghost element_limit = { λ row. row.elements };
+
+    fn empty(alloc: Global, locations: u32, elements: u32) -> Result<Self, NoMemory> {
+        Ok(SetRows {
+            locations,
+            elements,
+            pairs: BTreeSet::new(alloc),
+        })
+    }
+
+    fn insert(&mut self, location: u32, element: u32) -> Result<bool, NoMemory> {
+        insert_pair(&mut self.pairs, location, element)
+    }
+
+    fn contains(&self, location: u32, element: u32) -> bool {
+        self.pairs.contains(&(location, element))
+    }
+
+    fn facts(&self, alloc: Global) -> Result<Vec<(u32, u32)>, NoMemory> {
+        let facts = pairs_of(alloc, &self.pairs)?;
+        Ok(facts)
+    }
+
+    fn join_into(&self, into: &mut Self) -> Result<bool, NoMemory> {
+        let gained = join_pairs(&self.pairs, &mut into.pairs)?;
+        Ok(gained)
+    }
+}
