@@ -5,7 +5,6 @@ use crate::type_name::TypeName;
 use life_types::Place;
 
 /// `{ struct | function }` (ISO/IEC 14882:2017 [basic.link]), with the tables of its names and texts.
-#[derive(Drop)]
 pub struct Program {
     /// The structs and functions in their order.
     pub definitions: Vec<Definition>,
@@ -14,6 +13,17 @@ pub struct Program {
     /// The contents of the string literals by their numbers: each once, in the order in which they
     /// first stand.
     pub texts: Vec<Vec<u8>>,
+}
+
+// By hand, so that letting one go is a call, and not a walk over its parts in each crate.
+impl Drop for Program {
+    fn drop(self) {
+        let Program {
+            definitions: _definitions,
+            names: _names,
+            texts: _texts,
+        } = self;
+    }
 }
 
 /// `struct | function`.

@@ -75,7 +75,6 @@ pub enum PlainStmt {
 
 /// `"{" { decl ";" | stmt } "}"` ([stmt.block]).
 #[cycle(stmt)]
-#[derive(Drop)]
 pub struct Block {
     /// The `{`.
     pub opening: Place,
@@ -83,6 +82,18 @@ pub struct Block {
     pub items: Vec<BlockItem>,
     /// The `}`.
     pub closing: Place,
+}
+
+// By hand, so that letting one go is a call, and not a walk over its parts in each crate.
+impl Drop for Block {
+    #[cycle(stmt)]
+    fn drop(self) {
+        let Block {
+            opening: _,
+            items: _items,
+            closing: _,
+        } = self;
+    }
 }
 
 /// What stands in a block: declarations stand nowhere else, but in the head of a `for`.

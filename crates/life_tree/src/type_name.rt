@@ -4,7 +4,6 @@ use life_types::Place;
 
 /// `[ "const" ] base [ "*" | "&" ]` (ISO/IEC 14882:2017 [dcl.name]).
 #[cycle(type_names)]
-#[derive(Drop)]
 pub struct TypeName {
     /// Where `const` stands.
     pub constant: Option<Place>,
@@ -12,6 +11,18 @@ pub struct TypeName {
     pub base: Base,
     /// `*` or `&`.
     pub suffix: Option<Suffix>,
+}
+
+// By hand, so that letting one go is a call, and not a walk over its parts in each crate.
+impl Drop for TypeName {
+    #[cycle(type_names)]
+    fn drop(self) {
+        let TypeName {
+            constant: _,
+            base: _base,
+            suffix: _,
+        } = self;
+    }
 }
 
 /// A type without `const`, `*` and `&` ([dcl.type.simple]).

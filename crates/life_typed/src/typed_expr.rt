@@ -94,7 +94,6 @@ pub enum Method {
 
 /// An expression with its type.
 #[cycle(typed_expr)]
-#[derive(Drop)]
 pub struct TypedExpr {
     /// Where its own token stands: a name, a literal, an operator, the `[`, the member behind `.`
     /// or `->`, the called name, or the word behind `std::` and `life::`. An expression in
@@ -197,6 +196,20 @@ pub enum ExprForm {
     },
 }
 
+// By hand, so that what lets an expression go calls this and doesn't take its parts one by one.
+impl Drop for TypedExpr {
+    #[cycle(typed_expr)]
+    fn drop(self) {
+        let TypedExpr {
+            place: _,
+            ty: _,
+            category: _,
+            form: _form,
+            within: _within,
+        } = self;
+    }
+}
+
 impl TypedExpr {
     /// What a form makes of an operand to which it is applied.
     #[tactic(auto, using(crate::proofs::Applied::applied_is))]
@@ -209,12 +222,18 @@ impl TypedExpr {
     ) -> Result<TypedExpr, NoMemory>
         ensures { IfOk result (λ e. typed_view e ≡ applied (typed_view self) place ty category (form_view form)) }
     {
-        let mut within = self.within;
+        let TypedExpr {
+            place: innermost,
+            ty: own,
+            category: kind,
+            form: operand,
+            mut within,
+        } = self;
         within.push(TypedOperand {
-            place: self.place,
-            ty: self.ty,
-            category: self.category,
-            form: self.form,
+            place: innermost,
+            ty: own,
+            category: kind,
+            form: operand,
         })?;
         Ok(TypedExpr {
             place,

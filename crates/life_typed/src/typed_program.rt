@@ -71,7 +71,6 @@ pub struct TypedStruct {
 }
 
 /// A file with a type at each expression and each name resolved.
-#[derive(Drop)]
 pub struct Typed {
     /// The names by their numbers.
     pub names: Vec<Vec<u8>>,
@@ -83,4 +82,17 @@ pub struct Typed {
     pub structs: Vec<TypedStruct>,
     /// Each function once, in the order of the first declarations.
     pub functions: Vec<TypedFunction>,
+}
+
+// By hand, so that letting one go is a call, and not a walk over its parts in each crate.
+impl Drop for Typed {
+    fn drop(self) {
+        let Typed {
+            names: _names,
+            texts: _texts,
+            types: _types,
+            structs: _structs,
+            functions: _functions,
+        } = self;
+    }
 }
