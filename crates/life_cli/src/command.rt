@@ -24,13 +24,13 @@ pub fn run_command<F: Files, O: Sink, E: Sink>(
     out: &mut O,
     err: &mut E,
 ) -> Status
-    // Whenever it accepts a file, there is the program of the file's bytes, and no run of it uses what is
-    // null, dangling or moved from.
+    // Whenever it accepts a file that tells its bytes, there is the program of these bytes, and no run of
+    // it uses what is null, dangling or moved from.
     ensures accepted { (job : Job) → job_of (map string_bytes words.now) ≡ Some job → Accepts job.command result
         → (bytes : List ℕ) × (IfSome (F.held files.old) (λ held. held job.file ≡ Some bytes)
         × ((p : Program) × (IsProgramOf bytes p × NoFault p))) }
-    // It answers what is asked of the files that are held; where that isn't told, some bytes were read,
-    // and it answers what is asked of these.
+    // It answers what is asked of the files that are held; where that isn't told, there are some bytes to
+    // which this is the answer.
     ensures ends { Asks (job_of (map string_bytes words.now)) (F.held files.old) (λ asked. Ends asked
         (F.faults files.old) (F.faults files.new)
         (record { taken = O.taken out.old; faults = O.faults out.old })
