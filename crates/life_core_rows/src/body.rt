@@ -18,7 +18,6 @@ enum Shape {
     Compute,
 }
 
-#[derive(Drop)]
 struct Block {
     shape: Shape,
     // The condition of an `if` or a `while`.
@@ -28,12 +27,71 @@ struct Block {
     items: Vec<Stmt>,
 }
 
+// Own drops here and below: what is let go at an early exit is then one call, and not a walk over its parts.
+impl Drop for Block {
+    fn drop(self) {
+        let Block {
+            shape: _,
+            condition: _condition,
+            waiting: _,
+            items: _items,
+        } = self;
+    }
+}
+
+impl Block {
+    fn into_items(self) -> Vec<Stmt> {
+        let Block {
+            shape: _,
+            condition: _condition,
+            waiting: _,
+            items,
+        } = self;
+        items
+    }
+
+    // The branch or the loop that it is, with the statements of its `else` or its `step`.
+    fn nested(self, alloc: Global, second: Vec<Stmt>) -> Result<Stmt, Refusal> {
+        let Block {
+            shape,
+            condition,
+            waiting: _,
+            items,
+        } = self;
+        match condition {
+            None => Err(Refusal::NoCondition),
+            Some(condition) => {
+                let first = Box::new(alloc, Stmt::List(items))?;
+                let second = Box::new(alloc, Stmt::List(second))?;
+                if shape == Shape::Then {
+                    Ok(Stmt::Branch(condition, first, second))
+                } else {
+                    Ok(Stmt::Loop {
+                        condition,
+                        body: first,
+                        step: second,
+                    })
+                }
+            }
+        }
+    }
+}
+
 /// A function's body, as its lines come.
-#[derive(Drop)]
 pub struct Body {
     blocks: Vec<Block>,
     conditions: Vec<Condition>,
     computed: Vec<Stmt>,
+}
+
+impl Drop for Body {
+    fn drop(self) {
+        let Body {
+            blocks: _blocks,
+            conditions: _conditions,
+            computed: _computed,
+        } = self;
+    }
 }
 
 impl Body {
@@ -67,7 +125,7 @@ impl Body {
     pub fn whole(mut self) -> Result<Stmt, Refusal> {
         let block = self.closed()?;
         if block.shape == Shape::Whole && self.computed.is_empty() {
-            Ok(Stmt::List(block.items))
+            Ok(Stmt::List(block.into_items()))
         } else {
             Err(Refusal::NoBlock)
         }
@@ -177,16 +235,16 @@ impl Body {
         match last.shape {
             Shape::Whole => Err(Refusal::NoBlock),
             Shape::Compute => {
-                self.computed.push(Stmt::List(last.items))?;
+                self.computed.push(Stmt::List(last.into_items()))?;
                 Ok(())
             }
             Shape::Then | Shape::Turn => {
-                let made = nested(alloc, last, Vec::new(alloc))?;
+                let made = last.nested(alloc, Vec::new(alloc))?;
                 self.push(made)
             }
             Shape::Else | Shape::Step => {
                 let first = self.closed()?;
-                let made = nested(alloc, first, last.items)?;
+                let made = first.nested(alloc, last.into_items())?;
                 self.push(made)
             }
         }
@@ -203,30 +261,4 @@ fn and(alloc: Global, first: Condition, second: Condition) -> Result<Condition, 
 
 fn or(alloc: Global, first: Condition, second: Condition) -> Result<Condition, Refusal> {
     Ok(Condition::Or(Box::new(alloc, first)?, Box::new(alloc, second)?))
-}
-
-// The branch or the loop of a block, with the statements of its `else` or its `step`.
-fn nested(alloc: Global, block: Block, second: Vec<Stmt>) -> Result<Stmt, Refusal> {
-    let Block {
-        shape,
-        condition,
-        items,
-        ..
-    } = block;
-    match condition {
-        None => Err(Refusal::NoCondition),
-        Some(condition) => {
-            let first = Box::new(alloc, Stmt::List(items))?;
-            let second = Box::new(alloc, Stmt::List(second))?;
-            if shape == Shape::Then {
-                Ok(Stmt::Branch(condition, first, second))
-            } else {
-                Ok(Stmt::Loop {
-                    condition,
-                    body: first,
-                    step: second,
-                })
-            }
-        }
-    }
 }

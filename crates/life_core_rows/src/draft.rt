@@ -21,7 +21,6 @@ pub enum Sort {
 }
 
 /// A function, as its lines come.
-#[derive(Drop)]
 pub struct Draft {
     name: NameId,
     parameters: u32,
@@ -33,6 +32,21 @@ pub struct Draft {
     // What the lines call them.
     called: Vec<String>,
     body: Body,
+}
+
+impl Drop for Draft {
+    fn drop(self) {
+        let Draft {
+            name: _,
+            parameters: _,
+            gives: _,
+            promise: _promise,
+            locals: _locals,
+            named: _named,
+            called: _called,
+            body: _body,
+        } = self;
+    }
 }
 
 // Where heads and declarations stand: no row asks for it.
@@ -162,23 +176,32 @@ impl Draft {
 
     /// The function, and beside it one without statements that has a name for each local.
     pub fn finish(self) -> Result<(CoreFn, CoreFn), Refusal> {
-        let body = self.body.whole()?;
-        let function = CoreFn {
-            name: self.name,
-            place: HEAD,
-            parameters: self.parameters,
-            result: self.gives,
-            promise: self.promise,
-            locals: self.locals,
+        let Draft {
+            name,
+            parameters,
+            gives,
+            promise,
+            locals,
+            named,
+            called: _called,
             body,
+        } = self;
+        let function = CoreFn {
+            name,
+            place: HEAD,
+            parameters,
+            result: gives,
+            promise,
+            locals,
+            body: body.whole()?,
         };
         let named = CoreFn {
-            name: self.name,
+            name,
             place: HEAD,
-            parameters: self.parameters,
-            result: self.gives,
+            parameters,
+            result: gives,
             promise: Promise::Default,
-            locals: self.named,
+            locals: named,
             body: Stmt::Break,
         };
         Ok((function, named))

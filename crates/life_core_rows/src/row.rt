@@ -9,7 +9,6 @@ use life_types::{NameId, TyId, TypeTable};
 use std::alloc::Global;
 
 /// A row: a program as its lines come, and what is asked of it.
-#[derive(Drop)]
 pub struct Row {
     pub name: String,
     pub program: CoreProgram,
@@ -21,6 +20,22 @@ pub struct Row {
     members: Vec<TyId>,
     member_names: Vec<NameId>,
     draft: Option<Draft>,
+}
+
+impl Drop for Row {
+    fn drop(self) {
+        let Row {
+            name: _name,
+            program: _program,
+            named: _named,
+            asked: _asked,
+            functions: _functions,
+            structs: _structs,
+            members: _members,
+            member_names: _member_names,
+            draft: _draft,
+        } = self;
+    }
 }
 
 #[derive(Clone, Copy)]
