@@ -1,5 +1,5 @@
 -- The tokens of a list with commas between, as they are written one part after the other.
-use Rattle.std.specs.Prelude.{Bool, true, false, List, [], ◌∷◌, ◌++◌}
+use Rattle.std.specs.Prelude.{Bool, true, List, [], ◌∷◌, ◌++◌}
 use Rattle.life_types.specs.declared.place.Place.{Place}
 use Rattle.life_tree.specs.Tree.{Tree, keys_of}
 use Rattle.life_tree.specs.declared.fixed.TheConstants.{COMMA}
