@@ -1,10 +1,10 @@
 -- One more token of a file.
-use Rattle.std.proofs.Common.{◌≡◌, ◌∙◌, ◌+◌, ◌≤◌, ◌<◌, ℕ, zero, suc, get_or, Bool, true, false, cond, List, [], ◌∷◌, ◌++◌, length, map, None, Some, Option, refl, sym, ap, append_assoc, length-append, arith}
+use Rattle.std.proofs.Common.{◌≡◌, ◌∙◌, ◌+◌, ◌≤◌, ◌<◌, ℕ, zero, suc, get_or, Bool, true, false, cond, List, [], ◌∷◌, ◌++◌, length, map, None, Some, Option, ap, append_assoc, length-append, arith}
 use Rattle.std.proofs.lemmas.List.Elements.{All-head, All-tail}
 use Rattle.std.specs.List.{list_any}
 use Rattle.std.specs.Prelude.{All}
 use Rattle.std.specs.Str.{bytes_eq}
-use Rattle.life_keys.specs.Keys.{Tables, with_text, with_name, names_with, texts_with, tables_with, tokens_from, tables_from, key_of, token_for, quoted_name}
+use Rattle.life_keys.specs.Keys.{Tables, with_text, with_name, names_with, texts_with, tables_with, tokens_from, key_of, token_for, quoted_name}
 use Rattle.life_keys.specs.Values.{text_value}
 use Rattle.life_lex.specs.Answers.{lexeme, NumberFits}
 use Rattle.life_lex.specs.Readings.{Lexeme}

@@ -1,6 +1,6 @@
 -- What a program has of types is the same when it is settled, and so depends on its tree, names and texts alone.
 use Rattle.std.proofs.Common.{◌≡◌, ℕ, Bool, List, [], ◌∷◌, map, refl, ap, sym, ◌∙◌, Vec}
-use Rattle.std.specs.Prelude.{Ok, not, ◌&&◌}
+use Rattle.std.specs.Prelude.{Ok}
 use Rattle.std.specs.declared.alloc.Global.{Global}
 use Rattle.life_types.specs.Types.{Types}
 use Rattle.life_types.specs.declared.ty.NameId.{NameId}

@@ -1,7 +1,7 @@
-use Rattle.std.proofs.Common.{◌≡◌, ◌∙◌, ◌+◌, ◌≤◌, ◌++◌, ◌∷◌, ap, sym, map, drop, length, get_or, arith}
+use Rattle.std.proofs.Common.{◌∙◌, ◌+◌, ◌++◌, ap, sym, map, drop, get_or, arith}
 use Rattle.std.proofs.lemmas.List.{at_drop_more}
-use Rattle.life_keys.specs.Keys.{no_tables, tokens_from, tables_from, tables_with, names_with, texts_with}
-use Rattle.life_lex.specs.Answers.{lexeme, NumberFits}
+use Rattle.life_keys.specs.Keys.{tokens_from, tables_from}
+use Rattle.life_lex.specs.Answers.{lexeme}
 use Rattle.life_keys.proofs.KeyedSteps.{number_fits, same_token, tokens_step, names_bound, texts_bound}
 use Rattle.life_keys.proofs.tokens.keyed.Goals as goal
 
