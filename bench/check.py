@@ -86,10 +86,10 @@ def faults_file():
     return "\n".join(lines).encode() + b"\n"
 
 
-def functions_file():
-    """200 small functions, each with a loop, a branch and a pointer, and each calls the one before."""
+def functions_file(count):
+    """So many small functions, each with a loop, a branch and a pointer, and each calls the one before."""
     lines = ["int f0(int n) { return n; }"]
-    for n in range(1, 200):
+    for n in range(1, count):
         lines += [
             f"int f{n}(int n) {{",
             "  int best = 0;",
@@ -100,7 +100,7 @@ def functions_file():
             "  return best;",
             "}",
         ]
-    lines += ["int main() { return f199(3); }"]
+    lines += [f"int main() {{ return f{count - 1}(3); }}"]
     return "\n".join(lines).encode() + b"\n"
 
 
@@ -131,7 +131,8 @@ def dense_file(pointers, objects, turns):
 
 
 FILES = [
-    ("200 small functions", functions_file),
+    ("200 small functions", partial(functions_file, 200)),
+    ("1,000 small functions", partial(functions_file, 1000)),
     ("one comment, 1 MiB", comment_file),
     ("tokens, 1 MiB", names_file),
     ("usual code, 1 MiB", usual_file),
@@ -141,6 +142,8 @@ FILES = [
     ("60 pointers that move on", partial(moving_file, 60, 60)),
     ("250 pointers, 100 objects", partial(moving_file, 250, 100)),
     ("60 pointers, 450 reasons", partial(dense_file, 60, 15, 30)),
+    ("120 pointers, 1,500 reasons", partial(dense_file, 120, 50, 30)),
+    ("250 pointers, 1,760 reasons", partial(dense_file, 250, 44, 40)),
 ]
 
 # What is timed beside lifecheck, with the words before the file.
