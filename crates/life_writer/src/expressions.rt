@@ -185,7 +185,12 @@ impl Writer {
     {
         let place = node.place;
         match node.shape {
-            Shape::Number(number) => self.eval(into, ty, place, Operation::Number(number as i64)),
+            Shape::Number(number) => self.eval(
+                into,
+                ty,
+                place,
+                Operation::Number(number.cast_signed()),
+            ),
             Shape::Char(code) => { self.eval(into, ty, place, Operation::Number(i64::from(code))) }
             Shape::Bool(value) => { self.eval(into, ty, place, Operation::Number(truth(value))) }
             Shape::Call {
