@@ -1,6 +1,6 @@
 -- Values and conditions that are made of others.
 use Rattle.std.proofs.Common.{◌≡◌, ℕ, Bool, List, Option, None, Some, Result, Ok, Err, sym, ap, subst, ◌∙◌}
-use Rattle.std.specs.Prelude.{IfOk}
+use Rattle.std.specs.Prelude.{IfOk, ℤ}
 use Rattle.life_types.specs.declared.memory.NoMemory.{NoMemory}
 use Rattle.life_types.specs.declared.place.Place.{Place}
 use Rattle.life_types.specs.declared.ty.Ty.{Ty}
@@ -24,11 +24,12 @@ use Rattle.life_writer.specs.Calls.{called}
 use Rattle.life_writer.specs.Chains.{converted_in, joined_on, joined_with, operated_on}
 use Rattle.life_writer.specs.Conditions.{joined}
 use Rattle.life_writer.specs.Expressions.{common, condition, decided_between, handed_over, made, operand, read_or_made, value}
-use Rattle.life_writer.specs.Registers.{computed, load, target}
-use Rattle.life_writer.specs.Values.{operator_of}
+use Rattle.life_writer.specs.Registers.{computed, constant, load, target}
+use Rattle.life_writer.specs.Values.{long, operator_of}
 use Rattle.life_writer.specs.Values as values
 use Rattle.life_writer.specs.Writing.{State, Gives, gives, ◌>>◌, emit}
 use Rattle.life_writer.specs.declared.parts.Shape.{Shape}
+use Rattle.life_writer.specs.declared.parts.Shape.TheVariants as shapes
 use Rattle.life_writer.specs.Parts.{shape_form}
 use Rattle.life_writer.proofs.Giving.{answers_as}
 
@@ -36,6 +37,12 @@ use Rattle.life_writer.proofs.Giving.{answers_as}
 pub made_as : (a : Around) (shape known : Shape) (place : Place) (t : Ty) (into : Option ℕ) (s now : State) (r : Result ℕ NoMemory) → shape ≡ known
     → Answers (λ n. n) r (made a (shape_form known) place t into s) now → Answers (λ n. n) r (made a (shape_form shape) place t into s) now
 made_as a shape known place t into s now r is given = subst (λ (x : Shape). Answers (λ n. n) r (made a (shape_form x) place t into s) now) (sym is) given
+
+-- the number of a literal, as the long that it is
+pub made_number : (a : Around) (shape : Shape) (n : ℕ) (z : ℤ) (place : Place) (t : Ty) (into : Option ℕ) (s now : State) (r : Result ℕ NoMemory) → shape ≡ shapes.Number n → z ≡ long n
+    → Answers (λ m. m) r (computed into t place (constant z) s) now → Answers (λ m. m) r (made a (shape_form shape) place t into s) now
+made_number a shape n z place t into s now r is same given =
+    made_as a shape (shapes.Number n) place t into s now r is (subst (λ (x : ℤ). Answers (λ m. m) r (computed into t place (constant x) s) now) same given)
 
 -- a register that an instruction writes
 pub computed_as : (into : Option ℕ) (u t : Ty) (place : Place) (step : ℕ → Step) (s now : State) (r : Result ℕ NoMemory) → u ≡ t

@@ -1,5 +1,8 @@
 use Rattle.std.proofs.Common.{ℕ, ◌+◌, ◌∷◌, [], List, None, Option, drop, map, sym, ap, subst, ◌∙◌, arith}
+use Rattle.std.proofs.lemmas.Int.{to_z-of_z}
 use Rattle.std.proofs.lemmas.List.{map-append}
+use Rattle.std.specs.Int.{w64}
+use mir.Val.{SFits}
 use Rattle.life_typed.specs.TypedForm.{Form, Typed, forms, typed_views, whole}
 use Rattle.life_typed.specs.BaseTypes.{is_raw}
 use Rattle.life_typed.specs.declared.typed_expr.BinaryOperator.{BinaryOperator}
@@ -21,7 +24,7 @@ use Rattle.life_writer.specs.declared.parts.Shape.TheVariants as shape
 use Rattle.life_writer.proofs.Decided.{condition_decided, condition_pointer, condition_value, decides, leaves, nothing_there, tested_behind, value_decided, value_undecided}
 use Rattle.life_writer.proofs.Giving.{answered_as, answers_as, answers_if_as, joined_gives, negation_gives}
 use Rattle.life_writer.proofs.Handing.{Handed, all_handed, no_parameter, none_handed, turn}
-use Rattle.life_writer.proofs.Made.{both_between, common_of, computed_as, either_between, is_made, is_read, joined_answers, made_as, made_binary, made_called, made_negated, made_taken, operated_binary}
+use Rattle.life_writer.proofs.Made.{both_between, common_of, computed_as, either_between, is_made, is_read, joined_answers, made_as, made_binary, made_called, made_negated, made_number, made_taken, operated_binary}
 use Rattle.life_writer.proofs.Opened.{opened_decision, opened_form, value_converted, value_same}
 use Rattle.life_writer.proofs.Turns.{condition_turn, last_condition, last_value, value_turn, within_lighter}
 use Rattle.life_writer.proofs.Weights.{argument_lighter, weight}
@@ -122,8 +125,9 @@ read_or_made-returns-in_ok-from-in-Place t c =
 
 pub made-returns-in-Number : goal.made-returns-in-Number
 made-returns-in-Number t c =
-    made_as (around_of c.args.a.now) c.args.node.shape (shape.Number c.in-Number.number) c.args.node.place c.args.ty c.args.into (state_of c.args.self.now) (state_of c.eval.new.self) c.eval.result
-    c.in-Number.is c.eval.ensures
+    let fits : SFits w64 c.cast_signed.result = search rules in
+    made_number (around_of c.args.a.now) c.args.node.shape c.in-Number.number _ c.args.node.place c.args.ty c.args.into (state_of c.args.self.now) (state_of c.eval.new.self) c.eval.result
+    c.in-Number.is (to_z-of_z w64 c.cast_signed.result fits ∙ c.cast_signed.ensures) c.eval.ensures
 
 pub made-returns-in_ok-call_into-in-Call : goal.made-returns-in_ok-call_into-in-Call
 made-returns-in_ok-call_into-in-Call t c =
