@@ -1,5 +1,6 @@
 -- A program of two functions, worked out by hand: one takes a number, writes it and gives it back; the entry calls it and turns the sign.
-use Rattle.std.specs.Prelude.{◌≡◌, ℕ, List, [], ◌∷◌, Some, slice_get}
+use Rattle.std.specs.Prelude.{ℕ, List, [], ◌∷◌, None, Some, false}
+use Rattle.life_types.specs.Types.{Types}
 use Rattle.life_types.specs.declared.place.Place.{Place}
 use Rattle.life_types.specs.declared.ty.Ty.TheVariants as ty
 use Rattle.life_core.specs.Function.{Function, Program, Default}
@@ -17,15 +18,22 @@ on_line line = record { line = line; column = 1 }
 abbrev pub straight : ℕ → Step → Step → Tree
 straight line a b = Then (Acts (on_line line) a) (Then (Acts (on_line line) b) (Then (Returns (on_line line)) Skip))
 
--- a function with a register, all on one line
-abbrev pub worked : ℕ → Local → Step → Step → Function
-worked line l a b = record {
-  name = record { 0 = 0 };
+-- the one type is long
+abbrev pub types : Types
+types = record { types = ty.Long ∷ []; structs = [] }
+
+abbrev pub register : Local
+register = record { name = None; ty = record { 0 = 0 }; kind = Register; place = on_line 1; nonnull = false; keeps = false }
+
+-- the function with this name, all on one line: it gives back its one register
+abbrev pub worked : ℕ → ℕ → Step → Step → Function
+worked name line a b = record {
+  name = record { 0 = name };
   place = on_line line;
   parameters = 0;
-  result = l.ty;
+  result = record { 0 = 0 };
   promise = Default;
-  locals = l ∷ [];
+  locals = register ∷ [];
   body = straight line a b;
 }
 
@@ -41,12 +49,9 @@ taking = Ports (Takes 0)
 abbrev pub writing : Step
 writing = Ports (Writes 0)
 
-abbrev pub functions : Local → List Function
-functions l = worked 1 l calling negating ∷ worked 2 l taking writing ∷ []
+abbrev pub functions : List Function
+functions = worked 0 1 calling negating ∷ worked 1 2 taking writing ∷ []
 
--- .. where the register is an int
-pub record IsWorked (p : Program) : Type 0 where
-  pub register : Local
-  pub kind : register.kind ≡ Register
-  pub int : slice_get p.types.types register.ty.0 ≡ Some ty.Int
-  pub functions_are : p.functions ≡ functions register
+-- the texts of both names are empty, since nothing here reads them
+abbrev pub program : Program
+program = record { names = [] ∷ [] ∷ []; members = []; types = types; texts = []; functions = functions }

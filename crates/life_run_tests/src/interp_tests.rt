@@ -1,10 +1,10 @@
 // A program that calls, reads its input and writes.
-ghost use Rattle.std.specs.Prelude.{◌≡◌, ◌≤◌, IfOk};
-ghost use Rattle.life_core.specs.Function.{function_of, program_of};
+ghost use Rattle.std.specs.Prelude.{◌≡◌, ◌≤◌, [], ◌∷◌, IfOk, map};
+ghost use Rattle.life_core.specs.Function.{function_of, name_bytes, program_of};
 ghost use Rattle.life_core.specs.Step.{step_of};
 ghost use Rattle.life_core.specs.Tree.{tree_of};
 ghost use Rattle.life_run_tests.specs.WorkedRuns as spec;
-ghost use Rattle.life_run_tests.specs.WorkedRuns.{on_line, straight, worked, IsWorked};
+ghost use Rattle.life_run_tests.specs.WorkedRuns.{on_line, straight, worked};
 
 use life_base::MemSink;
 use life_core::{
@@ -12,7 +12,7 @@ use life_core::{
     Stmt,
 };
 use life_interp::{Growth, Limits, Machine, Outcome, TrapKind};
-use life_types::{NameId, NoMemory, Place, Ty, TypeTable};
+use life_types::{NameId, NoMemory, Place, Ty, TyId, TypeTable};
 use std::alloc::Global;
 use std::test::Fail;
 
@@ -33,23 +33,37 @@ fn straight(alloc: Global, line: u32, first: Instr, second: Instr) -> Result<Stm
     Ok(Stmt::List(items))
 }
 
-/// A function with a register, all on one line.
+/// A register of the program's one type.
+fn register() -> Local
+    ensures { result ≡ spec.register }
+{
+    Local {
+        name: None,
+        ty: TyId(0),
+        kind: LocalKind::Register,
+        place: on_line(1),
+        nonnull: false,
+        keeps: false,
+    }
+}
+
+/// The function with this name, all on one line, which gives back its one register.
 fn worked(
     alloc: Global,
+    name: u32,
     line: u32,
-    register: Local,
     first: Instr,
     second: Instr,
 ) -> Result<CoreFn, NoMemory>
-    ensures { IfOk result (λ f. function_of f ≡ worked line register (step_of first) (step_of second)) }
+    ensures { IfOk result (λ f. function_of f ≡ worked name line (step_of first) (step_of second)) }
 {
     let mut locals = Vec::new(alloc);
-    locals.push(register)?;
+    locals.push(register())?;
     Ok(CoreFn {
-        name: NameId(0),
+        name: NameId(name),
         place: on_line(line),
         parameters: 0,
-        result: register.ty,
+        result: TyId(0),
         promise: Promise::Default,
         locals,
         body: straight(alloc, line, first, second)?,
@@ -88,31 +102,54 @@ fn writing() -> Instr
 }
 
 /// The entry calls a function that takes a number, writes it and gives it back, and turns its sign.
-fn program(alloc: Global) -> Result<CoreProgram, NoMemory>
-    ensures { IfOk result (λ p. IsWorked (program_of p)) }
+fn functions(alloc: Global) -> Result<Vec<CoreFn>, NoMemory>
+    ensures { IfOk result (λ fs. map function_of fs.items ≡ spec.functions) }
 {
-    let mut types = TypeTable::new(alloc);
-    let int = types.add(Ty::Int)?;
-    let register = Local {
-        name: None,
-        ty: int,
-        kind: LocalKind::Register,
-        place: on_line(1),
-        nonnull: false,
-        keeps: false,
-    };
-    let entry = worked(alloc, 1, register, calling(alloc), negating())?;
-    let called = worked(alloc, 2, register, taking(), writing())?;
+    let entry = worked(alloc, 0, 1, calling(alloc), negating())?;
+    let called = worked(alloc, 1, 2, taking(), writing())?;
     let mut functions = Vec::new(alloc);
     functions.push(entry)?;
     functions.push(called)?;
+    Ok(functions)
+}
+
+/// The names of both, which have no letters, since nothing here reads them.
+fn names(alloc: Global) -> Result<Vec<Vec<u8>>, NoMemory>
+    ensures { IfOk result (λ names. map name_bytes names.items ≡ [] ∷ [] ∷ []) }
+{
+    let entry = Vec::new(alloc);
+    let called = Vec::new(alloc);
+    let mut names = Vec::new(alloc);
+    names.push(entry)?;
+    names.push(called)?;
+    Ok(names)
+}
+
+/// The one type, long.
+fn types(alloc: Global) -> Result<TypeTable, NoMemory>
+    ensures { IfOk result (λ table. table ≡ spec.types) }
+{
+    let mut types = TypeTable::new(alloc);
+    types.add(Ty::Long)?;
+    Ok(types)
+}
+
+/// The program of both functions.
+fn program(alloc: Global) -> Result<CoreProgram, NoMemory>
+    ensures { IfOk result (λ p. program_of p ≡ spec.program) }
+{
+    let names = names(alloc)?;
+    let types = types(alloc)?;
+    let functions = functions(alloc)?;
+    let members = Vec::new(alloc);
+    let texts = Vec::new(alloc);
     Ok(CoreProgram {
         names: Names {
-            texts: Vec::new(alloc),
-            members: Vec::new(alloc),
+            texts: names,
+            members,
         },
         types,
-        texts: Vec::new(alloc),
+        texts,
         functions,
     })
 }
@@ -126,7 +163,7 @@ fn ended(
     steps: u64,
     out: &mut MemSink,
 ) -> Result<Outcome, NoMemory>
-    requires worked { IsWorked (program_of program.now) }
+    requires worked { program_of program.now ≡ spec.program }
     requires few { steps ≤ 1000 }
 {
     let limits = Limits { cells: 100, depth };

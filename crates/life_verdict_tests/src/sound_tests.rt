@@ -1,10 +1,9 @@
 // Two programs with one pointer that has no value: one of them uses it.
-ghost use Rattle.std.specs.Prelude.{◌≡◌, [], ◌∷◌, Some, IfOk};
-ghost use Rattle.life_core.specs.Function.{function_of, program_of};
-ghost use Rattle.life_core.specs.declared.program.Local.{Local};
-ghost use Rattle.life_core.specs.Holdings.{APointer, held_by};
+ghost use Rattle.std.specs.Prelude.{◌≡◌, [], ◌∷◌, IfOk, map};
+ghost use Rattle.life_core.specs.Function.{function_of, name_bytes, program_of};
 ghost use Rattle.life_core.specs.Step.{step_of};
 ghost use Rattle.life_core.specs.Tree.{tree_of};
+ghost use Rattle.life_verdict_tests.specs.WorkedPrograms as spec;
 ghost use Rattle.life_verdict_tests.specs.WorkedPrograms.{found, misuse, no_use, on_line, worked, worked_body};
 
 use life_core::{
@@ -41,11 +40,24 @@ fn body(alloc: Global, instr: Instr) -> Result<Stmt, NoMemory>
     Ok(Stmt::List(items))
 }
 
-fn function(alloc: Global, pointer: Local, instr: Instr) -> Result<CoreFn, NoMemory>
-    ensures { IfOk result (λ f. function_of f ≡ worked pointer (step_of instr)) }
+fn pointer() -> Local
+    ensures { result ≡ spec.pointer }
+{
+    Local {
+        name: None,
+        ty: TyId(2),
+        kind: LocalKind::Register,
+        place: line(1),
+        nonnull: false,
+        keeps: false,
+    }
+}
+
+fn function(alloc: Global, instr: Instr) -> Result<CoreFn, NoMemory>
+    ensures { IfOk result (λ f. function_of f ≡ worked (step_of instr)) }
 {
     let mut locals = Vec::new(alloc);
-    locals.push(pointer)?;
+    locals.push(pointer())?;
     Ok(CoreFn {
         name: NameId(0),
         place: line(1),
@@ -57,34 +69,48 @@ fn function(alloc: Global, pointer: Local, instr: Instr) -> Result<CoreFn, NoMem
     })
 }
 
-/// A program with this function alone.
-fn program(alloc: Global, instr: Instr) -> Result<CoreProgram, NoMemory>
-    ensures { IfOk result (λ p. (l : Local)
-        × ((held_by p.types (Some l) ≡ APointer) × ((program_of p).functions ≡ worked l (step_of instr) ∷ []))) }
+/// Void, int, and a pointer to int.
+fn types(alloc: Global) -> Result<TypeTable, NoMemory>
+    ensures { IfOk result (λ table. table ≡ spec.types) }
 {
     let mut types = TypeTable::new(alloc);
-    let int = types.add(Ty::Int)?;
-    let pointer = types.add(Ty::Raw {
-        target: int,
+    types.add(Ty::Void)?;
+    types.add(Ty::Int)?;
+    types.add(Ty::Raw {
+        target: TyId(1),
         constant: false,
     })?;
-    let local = Local {
-        name: None,
-        ty: pointer,
-        kind: LocalKind::Register,
-        place: line(1),
-        nonnull: false,
-        keeps: false,
-    };
+    Ok(types)
+}
+
+/// The one name, which has no letters, since nothing here reads it.
+fn names(alloc: Global) -> Result<Vec<Vec<u8>>, NoMemory>
+    ensures { IfOk result (λ names. map name_bytes names.items ≡ [] ∷ []) }
+{
+    let name = Vec::new(alloc);
+    let mut names = Vec::new(alloc);
+    names.push(name)?;
+    Ok(names)
+}
+
+/// A program with this function alone.
+fn program(alloc: Global, instr: Instr) -> Result<CoreProgram, NoMemory>
+    ensures { IfOk result (λ p. program_of p ≡ spec.program (step_of instr)) }
+{
+    let made = function(alloc, instr)?;
     let mut functions = Vec::new(alloc);
-    functions.push(function(alloc, local, instr)?)?;
+    functions.push(made)?;
+    let names = names(alloc)?;
+    let types = types(alloc)?;
+    let members = Vec::new(alloc);
+    let texts = Vec::new(alloc);
     Ok(CoreProgram {
         names: Names {
-            texts: Vec::new(alloc),
-            members: Vec::new(alloc),
+            texts: names,
+            members,
         },
         types,
-        texts: Vec::new(alloc),
+        texts,
         functions,
     })
 }

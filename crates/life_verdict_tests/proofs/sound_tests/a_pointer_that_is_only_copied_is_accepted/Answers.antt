@@ -1,15 +1,14 @@
-use Rattle.std.proofs.Common.{[], ◌∷◌, ap, ◌∙◌}
-use Rattle.life_core.specs.Function.{program_of}
-use Rattle.life_core.specs.Step.{Step}
-use Rattle.life_verdict_tests.specs.WorkedPrograms.{worked}
-use Rattle.life_verdict_tests.proofs.WorkedPrograms.{no_use_by_value, no_use_proper, no_use_listed}
+use Rattle.std.proofs.Common.{[], ap, subst, sym, ◌∙◌}
+use Rattle.life_core.specs.Function.{Program}
+use Rattle.life_proper.specs.ProperPrograms.{IsProperProgram}
+use Rattle.life_rules.specs.Listing.{AreProgramDiagnostics}
+use Rattle.life_verdict_tests.specs.WorkedPrograms.{program}
+use Rattle.life_verdict_tests.proofs.WorkedPrograms.{no_use_listed, no_use_proper}
 use Rattle.life_verdict_tests.proofs.sound_tests.a_pointer_that_is_only_copied_is_accepted.Goals as goal
 
 pub accept-requires-clause-proper : goal.accept-requires-clause-proper
-accept-requires-clause-proper g c = let l = c.in_ok-copied.ensures in no_use_proper (program_of c.in_ok-copied.copied) l.0 (l.1.1 ∙ ap (λ (i : Step). worked l.0 i ∷ []) c.copying.ensures) l.1.0
+accept-requires-clause-proper g c = subst IsProperProgram (sym (c.in_ok-copied.ensures ∙ ap program c.copying.ensures)) no_use_proper
 
 pub accept-requires-clause-all : goal.accept-requires-clause-all
-accept-requires-clause-all g c = let l = c.in_ok-copied.ensures in rw c.new.ensures.items (no_use_listed (program_of c.in_ok-copied.copied) l.0 (l.1.1 ∙ ap (λ (i : Step). worked l.0 i ∷ []) c.copying.ensures))
-
-pub accept-requires-clause-by_value : goal.accept-requires-clause-by_value
-accept-requires-clause-by_value g c = let l = c.in_ok-copied.ensures in no_use_by_value (program_of c.in_ok-copied.copied) l.0 (l.1.1 ∙ ap (λ (i : Step). worked l.0 i ∷ []) c.copying.ensures)
+accept-requires-clause-all g c =
+    rw c.new.ensures.items (subst (λ (p : Program). AreProgramDiagnostics p []) (sym (c.in_ok-copied.ensures ∙ ap program c.copying.ensures)) no_use_listed)
