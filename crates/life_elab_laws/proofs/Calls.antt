@@ -17,21 +17,17 @@ use Rattle.life_proper.specs.declared.known.Known.{Known}
 use Rattle.life_proper.specs.declared.known.Known.TheVariants as known
 use Rattle.life_proper.specs.Knowing.{known_as, known_at, same}
 use Rattle.life_proper.specs.ReadyKnown.{are_arguments_ready, holds, is_call_ready, is_local, is_sort, is_step_ready, is_target_ready}
+use Rattle.life_proper.specs.WellFormed.{types_taken}
 use Rattle.life_writer.specs.Calls.{called, called_alone, handed}
 use Rattle.life_writer.specs.Registers.{computed}
 use Rattle.life_writer.specs.Writing.{State, Gives, mapped}
 use Rattle.life_well_typed.specs.Expressions.{parameter_types}
 use Rattle.life_elab_laws.proofs.Emitting.{IsInto}
+use Rattle.life_elab_laws.proofs.Gifts.{AreNumbersFor}
 use Rattle.life_elab_laws.proofs.Leaves.{computed_made, number_held, number_sort}
 use Rattle.life_elab_laws.proofs.Making.{Always, IsNumber, IsOpen, Keeps, Makes, and_then}
 
 -- ---- arguments
-
--- a number in a register for each of these
-abbrev pub AreNumbersFor : List TyId → List Argument → ℕ → List Known → Type 0
-AreNumbersFor [] [] n k = Unit {0}
-AreNumbersFor (id ∷ ids) (Value r ∷ xs) n k = IsNumber r n k × AreNumbersFor ids xs n k
-AreNumbersFor _ _ n k = ⊥
 
 -- what so many value parameters hold
 abbrev pub objects : List TyId → List Holding
@@ -57,6 +53,9 @@ pub record IsCallee (table types : Types) (fs : List Function) (g : ℕ) (of : F
   pub takes : parameter_sorts types core ≡ objects (parameter_types (Some of))
   pub void : is_void (type_at table of.result) ≡ true → result_sort types core ≡ Blank
   pub number : is_value (type_at table of.result) ≡ true → result_sort types core ≡ ANumber
+  -- .. of the types of the typed one
+  pub typed : types_taken core ≡ parameter_types (Some of)
+  pub gives : core.result ≡ of.result
 
 module _ (types : Types) (fs : List Function) (f : Function) where
   -- one argument before the others
@@ -93,7 +92,7 @@ module _ (types : Types) (fs : List Function) (f : Function) where
   taken_plain : (g : ℕ) (table : Types) (of : FunctionForm) → IsCallee table types fs g of → takes_pointer types (slice_get fs g) ≡ false
   taken_plain g table of callee = ap (takes_pointer types) callee.there ∙ ap (list_any is_pointer) callee.takes ∙ no_pointers (parameter_types (Some of))
 
-  call_plain : (g : ℕ) (xs : List Argument) (table : Types) (of : FunctionForm) (r : ℕ) → IsCallee table types fs g of → is_pointer (sort_of types f r) ≡ false → is_by_value types fs f (called g xs r) ≡ true
+  pub call_plain : (g : ℕ) (xs : List Argument) (table : Types) (of : FunctionForm) (r : ℕ) → IsCallee table types fs g of → is_pointer (sort_of types f r) ≡ false → is_by_value types fs f (called g xs r) ≡ true
   call_plain g xs table of r callee e = ap not (ap (λ (b : Bool). b || is_pointer (sort_of types f r)) (taken_plain g table of callee) ∙ e)
 
   pub call_ready : (g : ℕ) (xs : List Argument) (n : ℕ) (table : Types) (of : FunctionForm) (r : ℕ) (k : List Known) → IsCallee table types fs g of → is_value (type_at table of.result) ≡ true

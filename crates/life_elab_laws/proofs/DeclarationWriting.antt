@@ -38,7 +38,8 @@ use Rattle.life_writer.specs.Variables.{kind, variable_local}
 use Rattle.life_writer.specs.Writing.{State, Gives, emit, gives, mapped, with_code}
 use Rattle.life_elab.specs.Declarations.{declared, declared_as, given_by_call, given_initial, given_one, given_value, live, object_given}
 use Rattle.life_elab_laws.proofs.CallForms.{call_made}
-use Rattle.life_elab_laws.proofs.Calls.{AreNumbersFor, born_plain, born_ready}
+use Rattle.life_elab_laws.proofs.Calls.{born_plain, born_ready}
+use Rattle.life_elab_laws.proofs.Gifts.{AreNumbersFor}
 use Rattle.life_elab_laws.proofs.Declaring.{declared_does, its_local, new_below, new_ends, new_sort, with_new}
 use Rattle.life_elab_laws.proofs.Doing.{Does}
 use Rattle.life_elab_laws.proofs.ExpressionKinds.{variable_built}

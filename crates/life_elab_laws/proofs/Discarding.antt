@@ -32,7 +32,8 @@ use Rattle.life_writer.specs.Writing.{State, emit, gives}
 use Rattle.life_elab.specs.Simples.{called_for_nothing, discarded, discarded_as}
 use Rattle.life_elab.specs.Statements.{end_line, item}
 use Rattle.life_elab_laws.proofs.CallForms.{IsCall, call_made, no_call_number}
-use Rattle.life_elab_laws.proofs.Calls.{AreNumbersFor, alone_plain, alone_ready}
+use Rattle.life_elab_laws.proofs.Calls.{alone_plain, alone_ready}
+use Rattle.life_elab_laws.proofs.Gifts.{AreNumbersFor}
 use Rattle.life_elab_laws.proofs.Doing.{acted}
 use Rattle.life_elab_laws.proofs.Emitting.{emitted, new_targeted}
 use Rattle.life_elab_laws.proofs.ExpressionKinds.{kind_of}

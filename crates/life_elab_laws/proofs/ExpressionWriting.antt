@@ -38,7 +38,8 @@ use Rattle.life_writer.specs.Registers.{computed, constant}
 use Rattle.life_writer.specs.Values as values
 use Rattle.life_writer.specs.Variables.{variable, variable_place}
 use Rattle.life_writer.specs.Writing.{State, Gives, gives, with_code}
-use Rattle.life_elab_laws.proofs.Calls.{AreNumbersFor, call_made, handed_made}
+use Rattle.life_elab_laws.proofs.Calls.{call_made, handed_made}
+use Rattle.life_elab_laws.proofs.Gifts.{AreNumbersFor}
 use Rattle.life_elab_laws.proofs.Emitting.{IsInto, into_later}
 use Rattle.life_elab_laws.proofs.ExpressionKinds.{addressed_as, dereferenced_as, function_built, inverted_as, kind_made, kind_of, negated_as, result_built, variable_built}
 use Rattle.life_elab_laws.proofs.Fronts.{IsFront, front_length, front_then}

@@ -20,6 +20,8 @@ use Rattle.life_proper.specs.OperandTypes as operands
 use Rattle.life_proper.specs.Placed.{is_number, is_number_of, object_at, register_at, type_in}
 use Rattle.life_proper.specs.Placed as placed
 use Rattle.life_proper.specs.WellFormed.{are_arguments_for, goes_to, have_own_slots, is_argument_for, is_call, is_well_formed_step, types_taken}
+use Rattle.life_elab_laws.proofs.Calls.{IsCallee}
+use Rattle.life_elab_laws.proofs.Gifts as gifts
 use Rattle.life_elab_laws.proofs.FormedLeaves.{Freely, IsNumberOf}
 use Rattle.life_elab_laws.proofs.Forming.{IsIntoOf, Writes, and_writes, computed_writes}
 use Rattle.life_elab_laws.proofs.OperandsThere.{number_any, value_either, value_same}
@@ -31,6 +33,9 @@ pub record IsTypedCallee (fs : List Function) (g : ℕ) (of : FunctionForm) : Ty
   pub takes : types_taken core ≡ parameter_types (Some of)
   pub gives : core.result ≡ of.result
 
+pub typed_callee : (table types : Types) (fs : List Function) (g : ℕ) (of : FunctionForm) → IsCallee table types fs g of → IsTypedCallee fs g of
+typed_callee table types fs g of c = record { core = c.core; there = c.there; takes = c.typed; gives = c.gives }
+
 value_no_pointer : (t : Ty) → is_value t ≡ true → is_pointer t ≡ false
 value_no_pointer ty.Bool v = refl
 value_no_pointer ty.Char v = refl
@@ -40,10 +45,8 @@ value_no_pointer ty.Size v = refl
 value_no_pointer _ v = absurd (false≢true v)
 
 module _ (types : Types) (texts : ℕ) (fs : List Function) (f : Function) where
-  -- values in registers, for parameters of these types
-  pub record AreHanded (ids : List TyId) (xs : List Argument) : Type 0 where
-    pub fit : are_arguments_for types texts fs f ids xs ≡ true
-    pub own : have_own_slots types texts fs f xs ≡ true
+  abbrev pub AreHanded : List TyId → List Argument → Type 0
+  AreHanded ids xs = gifts.AreHanded types texts fs f ids xs
 
   pub none_handed : AreHanded [] []
   none_handed = record { fit = refl; own = refl }

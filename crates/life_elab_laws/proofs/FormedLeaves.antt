@@ -16,6 +16,7 @@ use Rattle.life_core.specs.declared.operation.Operator.{Operator}
 use Rattle.life_writer.specs.Registers.{as_type, computed, constant, conversion, converted, load}
 use Rattle.life_writer.specs.Values as values
 use Rattle.life_writer.specs.Writing.{State, Gives, gives}
+use Rattle.life_elab_laws.proofs.Gifts as gifts
 use Rattle.life_elab_laws.proofs.Types.{same_types}
 use Rattle.life_proper.specs.OperandTypes.{is_promoted, keeps_const, same}
 use Rattle.life_proper.specs.OperandTypes as operands
@@ -33,10 +34,8 @@ module _ (types : Types) (texts : ℕ) (fs : List Function) (f : Function) where
   abbrev pub IsNumberOf : Ty → ℕ → Type 0
   IsNumberOf t r = is_number_of types f t r ≡ true
 
-  -- a place of a type, which is const only where this is
-  pub record IsPlaceOf (t : Ty) (constant : Bool) (o : Operand) : Type 0 where
-    pub typed : type_of types f o ≡ t
-    pub held : keeps_const constant (is_const_place types f o) ≡ true
+  abbrev pub IsPlaceOf : Ty → Bool → Operand → Type 0
+  IsPlaceOf t constant o = gifts.IsPlaceOf types texts fs f t constant o
 
   -- ---- instructions that compute
 

@@ -2,10 +2,12 @@ pub mod Among
 pub mod Beginning
 pub mod Branching
 pub mod CallForms
+pub mod CallParts
 pub mod Callees
 pub mod Calls
 pub mod Computing
 pub mod DeclarationWriting
+pub mod Conditions
 pub mod Declaring
 pub mod Discarding
 pub mod Doing
@@ -19,7 +21,6 @@ pub mod FlatLocals
 pub mod Following
 pub mod FormedBodies
 pub mod FormedBranches
-pub mod FormedCallees
 pub mod FormedCalls
 pub mod FormedComputing
 pub mod FormedConditions
@@ -42,10 +43,12 @@ pub mod FormedVariables
 pub mod Forming
 pub mod Fronts
 pub mod FunctionWriting
+pub mod Gifts
 pub mod GivenKinds
 pub mod GivenNothing
 pub mod GivingBack
 pub mod Growing
+pub mod Instructions
 pub mod Knowledge
 pub mod Leaves
 pub mod Leaving
@@ -55,6 +58,7 @@ pub mod Nowhere
 pub mod OperandsThere
 pub mod OperatorTypes
 pub mod OrderedTypes
+pub mod Parts
 pub mod ProgramNames
 pub mod Programs
 pub mod ProperTranslations

@@ -21,12 +21,11 @@ use Rattle.life_elab.specs.Programs.{around, core_program, texts_of}
 use Rattle.life_elab.specs.Statements.{end_line}
 use Rattle.life_elab_laws.proofs.ExpressionKinds.{variable_built}
 use Rattle.life_elab_laws.proofs.FlatLocals.{IsLocalType, flat_locals, variable_typed}
-use Rattle.life_elab_laws.proofs.FormedCallees.{typed_callee}
-use Rattle.life_elab_laws.proofs.FormedCalls.{IsTypedCallee}
+use Rattle.life_elab_laws.proofs.FormedCalls.{IsTypedCallee, typed_callee}
 use Rattle.life_elab_laws.proofs.FormedFunctions.{function_formed}
 use Rattle.life_elab_laws.proofs.GivenNothing.{gives_nothing, keeps_all}
 use Rattle.life_elab_laws.proofs.ProgramNames.{no_members, own_names}
-use Rattle.life_elab_laws.proofs.Programs.{AreWritten, IsWritten, count, each_written, front, functions_built, grows, locals, one_head, parts, result_at, same, typed_at, whole, whole_order, written_at, written_begins, written_setting}
+use Rattle.life_elab_laws.proofs.Programs.{AreWritten, IsWritten, callee, count, each_written, front, functions_built, grows, locals, one_head, parts, result_at, same, typed_at, whole, whole_order, written_at, written_begins, written_setting}
 use Rattle.life_elab_laws.proofs.Shaped.{variable_later}
 use Rattle.life_elab_laws.proofs.WrittenLocals.{IsIntermediate, IsOwn, fits_later}
 
@@ -51,10 +50,7 @@ module _ (p : ProgramForm) (typed : IsWellTyped p) (built : are_built_functions 
   texts = length (texts_of p)
 
   typed_callees : (g : ℕ) (of : FunctionForm) → slice_get p.functions g ≡ Some of → IsTypedCallee functions g of
-  typed_callees g of at =
-      let found = written_at p types p.functions functions g of (each_written p typed built results) at in
-      typed_callee p of found.2.before functions found.0 (typed_at p p.functions g of typed at).parameters found.2.table
-      (count p typed built results g of at found.0 found.2) (same p typed built results g of at found.0 found.2) (locals p typed built results g of at found.0 found.2) g found.1
+  typed_callees g of at = typed_callee p.types types functions g of (callee p typed built results g of at)
 
   -- ---- one function
 
