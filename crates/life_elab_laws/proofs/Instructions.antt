@@ -1,32 +1,34 @@
 -- Single instructions that write a register: what is asked of each, and that it is a part behind what its operands give.
-use Rattle.std.specs.Prelude.{ℤ}
-use Rattle.std.proofs.Common.{◌≡◌, ◌<◌, ℕ, Bool, true, false, ◌&&◌, cond, List, [], ◌∷◌, ◌++◌, length, slice_get, slice_set, Option, Some, None, refl, sym, ap, ◌∙◌, subst, arith}
-use Rattle.std.proofs.lemmas.Bool.{and_from, false≢true}
-use Rattle.std.proofs.lemmas.Option.{slice_get_within}
+use Rattle.life_core.specs.Tree.{Acts}
+use Rattle.life_core.specs.Function.{Function}
 use Rattle.life_types.specs.Trees.{HasPartsBelow}
-use Rattle.life_types.specs.Types.{Types}
-use Rattle.life_types.specs.contracts.ty.TyPartialEq.TheImpl.{ghosts as compared}
+use Rattle.life_proper.specs.declared.known.Known.{Known}
+use Rattle.life_typed.specs.declared.typed_expr.ExprType.TheVariants.{Of}
+use Rattle.life_core.specs.declared.operation.Operation.{Operation}
+use Rattle.life_core.specs.declared.operation.Operator.{Operator}
 use Rattle.life_types.specs.declared.place.Place.{Place}
 use Rattle.life_types.specs.declared.ty.Ty.{Ty}
+use Rattle.life_types.specs.Types.{Types}
+use Rattle.life_elab_laws.proofs.Knowledge.{at_set}
+use Rattle.life_elab_laws.proofs.Shaping.{fine_acts}
+use Rattle.life_core.specs.ByValue.{is_by_value}
+use Rattle.life_proper.specs.OperandTypes.{is_promoted}
+use Rattle.std.proofs.lemmas.Option.{slice_get_within}
+use Rattle.std.specs.Prelude.{ℤ}
+use Rattle.std.proofs.Common.{◌≡◌, ◌<◌, ℕ, Bool, true, false, ◌&&◌, cond, List, [], ◌∷◌, ◌++◌, length, slice_set, Option, Some, None, refl, sym, ap, ◌∙◌, subst, arith}
+use Rattle.std.proofs.lemmas.Bool.{and_from, false≢true}
+use Rattle.life_types.specs.contracts.ty.TyPartialEq.TheImpl.{ghosts as compared}
 use Rattle.life_types.specs.declared.ty.Ty.TheVariants as ty
 use Rattle.life_typed.specs.BaseTypes.{is_raw, is_value}
-use Rattle.life_typed.specs.declared.typed_expr.ExprType.TheVariants.{Of}
-use Rattle.life_core.specs.ByValue.{is_by_value}
-use Rattle.life_core.specs.Function.{Function}
-use Rattle.life_core.specs.Operands.{Location, Operand, Source, Null, Place as Aimed, whole}
-use Rattle.life_core.specs.Holdings.{Holding, AnObject, ANumber, APointer, sort_of}
+use Rattle.life_core.specs.Operands.{Operand, Source, Null, Place as Aimed, whole}
+use Rattle.life_core.specs.Holdings.{Holding, ANumber, APointer, sort_of}
 use Rattle.life_core.specs.Step.{Step, Aim}
-use Rattle.life_core.specs.Tree.{Acts}
-use Rattle.life_core.specs.declared.operation.Operation.{Operation}
 use Rattle.life_core.specs.declared.operation.Operation.TheVariants as operation
-use Rattle.life_core.specs.declared.operation.Operator.{Operator}
 use Rattle.life_pset.specs.Shapes as shapes
-use Rattle.life_proper.specs.declared.known.Known.{Known}
 use Rattle.life_proper.specs.declared.known.Known.TheVariants as known
-use Rattle.life_proper.specs.Knowing.{known_as, known_at, same}
-use Rattle.life_proper.specs.OperandTypes.{is_promoted}
+use Rattle.life_proper.specs.Knowing.{known_as, known_at}
 use Rattle.life_proper.specs.OperandTypes as operands
-use Rattle.life_proper.specs.Placed.{is_number, is_number_of, type_at, type_in}
+use Rattle.life_proper.specs.Placed.{is_number, is_number_of, type_at}
 use Rattle.life_proper.specs.ReadyKnown.{holds, is_operand_ready, is_operation_ready, is_sort, is_source_ready, is_step_ready, known_after}
 use Rattle.life_proper.specs.WellFormed.{answer_of, is_operation_of, is_source_of, is_well_formed_step}
 use Rattle.life_writer.specs.Pointers.{Pointing, At, As, located}
@@ -35,16 +37,15 @@ use Rattle.life_writer.specs.Values as values
 use Rattle.life_writer.specs.Writing.{State, Gives, emit, gives}
 use Rattle.life_elab_laws.proofs.Emitting.{IsInto, IsNameless, IsWanted, Targets, keeps_set, new_targeted, targeted}
 use Rattle.life_elab_laws.proofs.Falling.{falling, falls_acts}
-use Rattle.life_elab_laws.proofs.Fronts.{last_there}
-use Rattle.life_elab_laws.proofs.Gifts.{Gift, IsAt, IsGivenTo, IsNumberOf, IsPlaceOf, a_number, a_place, a_pointer, a_pointing, both, nothing}
+use Rattle.life_elab_laws.proofs.Fronts.{front_itself, last_there}
+use Rattle.life_elab_laws.proofs.Gifts.{Gift, IsAt, IsGivenTo, a_number, a_place, a_pointer, a_pointing, both, nothing}
 use Rattle.life_elab_laws.proofs.Growing.{Begins, Grows, added}
-use Rattle.life_elab_laws.proofs.Knowledge.{at_set}
-use Rattle.life_elab_laws.proofs.Making.{IsNumber, IsOpen, IsPlace, IsPointing, a_target, an_object}
+use Rattle.life_elab_laws.proofs.Making.{IsOpen, IsPointing, Keeps}
 use Rattle.life_elab_laws.proofs.OperandsThere.{number_any, number_there, number_typed, type_there, value_either, value_same}
 use Rattle.life_elab_laws.proofs.Parts.{Makes, Part, Runs, and_part, gives_part, then_part}
-use Rattle.life_elab_laws.proofs.Shaping.{fine_acts}
 use Rattle.life_elab_laws.proofs.Types.{raw_register, same_types, type_added}
-use Rattle.life_elab_laws.proofs.WrittenLocals.{fits_register}
+use Rattle.life_elab_laws.proofs.WrittenLocals.{fits_register, registers_none}
+use Rattle.life_elab_laws.proofs.Held.{number_held, number_sort, place_ready}
 
 -- ---- the register that is written
 
@@ -71,24 +72,6 @@ into_of_later t s s' (Some r) g h = (
 pub is_into : (t : Ty) (s : State) (into : Option ℕ) → IsIntoOf t s into → IsInto s into
 is_into t s None h = tt
 is_into t s (Some r) h = h.0
-
--- ---- what is ready
-
-pub number_held : (k : List Known) (r : ℕ) → known_at k r ≡ known.Number → holds k r ANumber ≡ true
-number_held k r e = ap (λ (a : Known). same a known.Number) e
-
-pub object_held : (k : List Known) (x : ℕ) → known_at k x ≡ known.Object → holds k x AnObject ≡ true
-object_held k x e = ap (λ (a : Known). same a known.Object) e
-
-pub pointer_held : (k : List Known) (x : ℕ) → known_at k x ≡ known.Pointer → holds k x APointer ≡ true
-pointer_held k x e = ap (λ (a : Known). same a known.Pointer) e
-
-pub place_ready : (o : Operand) (n : ℕ) (k : List Known) → IsPlace o n k → is_operand_ready k o ≡ true
-place_ready o n k (an_object x is lt h) = ap (is_operand_ready k) is ∙ object_held k x h
-place_ready o n k (a_target x is lt h) = ap (is_operand_ready k) is ∙ pointer_held k x h
-
-pub number_sort : (h : Holding) → h ≡ ANumber → is_sort h ANumber ≡ true
-number_sort h e = ap (λ (g : Holding). is_sort g ANumber) e
 
 -- a raw pointer, by both definitions
 pub raw_either : (t : Ty) → is_raw t ≡ true → shapes.is_raw t ≡ true
@@ -334,3 +317,34 @@ module _ (types : Types) (texts : ℕ) (fs : List Function) (f : Function) where
       (λ r k e. ap (λ (h : Holding). slice_set k r (known_as h)) e)
       (λ r e. refl)
       (λ k lt e sort. record { local = w.given; is = refl; below = lt; held = e; sort = sort })
+
+  -- ---- an instruction that leaves all that is known
+
+  pub acted_part : {A : Type 0} (P : G A) (x : A) (place : Place) (i : Step) (s : State) → (P.typed x → is_well_formed_step types texts fs f i ≡ true) → ((n : ℕ) (k : List Known) → P.ready x n k → is_step_ready types fs f k i ≡ true)
+      → ((n m : ℕ) (k : List Known) → P.ready x n k → Keeps types fs f m None k (known_after types f i k)) → is_by_value types fs f i ≡ true
+      → Part types texts fs f P x None s (gives tt (emit place i s)) (nothing types texts fs f)
+  acted_part P x place i s formed ready after plain = record {
+    grown = record {
+      locals = front_itself s.locals;
+      types = front_itself s.types.types;
+      count = omega arith;
+      variables = refl;
+      living = refl;
+      outside = refl;
+      shaped = λ types h. h;
+    };
+    registers = registers_none types s;
+    code = Acts place i ∷ [];
+    written = refl;
+    runs = λ b p. record {
+      fine = fine_acts types fs f place i plain;
+      formed = and_from (is_well_formed_step types texts fs f i) true (formed p) refl;
+      typed = tt;
+      goes = λ k alive p. record {
+        after = known_after types f i k;
+        falls = falls_acts types fs f place i k (ready (length s.locals) k p);
+        keeps = after (length s.locals) (length s.locals) k p;
+        gives = tt;
+      };
+    };
+  }

@@ -1,26 +1,20 @@
 -- A part of what is written, with all that the laws ask of it: it grows what is written, adds nothing but registers without names, writes what is well
 -- formed, runs from where all visible variables are there, and gives what has the type that is wanted and is ready. And the ways to put parts together.
-use Rattle.std.proofs.Common.{◌≡◌, ◌≤◌, ℕ, true, List, [], ◌∷◌, ◌++◌, length, Option, None, refl, sym, ap, ◌∙◌, arith, append-nil, append_assoc}
-use Rattle.life_types.specs.Types.{Types}
+use Rattle.life_core.specs.Tree.{Tree}
 use Rattle.life_core.specs.Function.{Function}
-use Rattle.life_core.specs.Tree.{Tree, trees}
 use Rattle.life_proper.specs.declared.known.Known.{Known}
-use Rattle.life_proper.specs.WellFormed.{is_well_formed_tree}
+use Rattle.life_types.specs.Types.{Types}
+use Rattle.std.proofs.Common.{◌≡◌, ℕ, List, [], ◌++◌, length, Option, None, refl, sym, ap, ◌∙◌, append-nil, append_assoc}
 use Rattle.life_writer.specs.Writing.{State, Gives, gives, mapped}
 use Rattle.life_elab_laws.proofs.Falling.{Falls, falls_append}
+use Rattle.life_elab_laws.proofs.Forming.{Formed, formed_append}
 use Rattle.life_elab_laws.proofs.Gifts.{Gift, both, nothing}
 use Rattle.life_elab_laws.proofs.Growing.{Begins, Grows, begins_before, grows_none, grows_then}
 use Rattle.life_elab_laws.proofs.Making.{Alive, IsOpen, Keeps, alive_later, keeps_all, keeps_then}
-use Rattle.life_elab_laws.proofs.Shaping.{IsFine, all_append, fine_append, fine_none}
+use Rattle.life_elab_laws.proofs.Shaping.{IsFine, fine_append, fine_none}
 use Rattle.life_elab_laws.proofs.WrittenLocals.{AddsRegisters, registers_none, registers_then}
 
 module _ (types : Types) (texts : ℕ) (fs : List Function) (f : Function) where
-  abbrev pub Formed : List Tree → Type 0
-  Formed code = is_well_formed_tree types texts fs f (trees code) ≡ true
-
-  pub formed_append : (c d : List Tree) → Formed c → Formed d → Formed (c ++ d)
-  formed_append c d first second = all_append (is_well_formed_tree types texts fs f) refl (λ a b. refl) c d first second
-
   -- ---- a part
 
   -- the way through its code
@@ -32,7 +26,7 @@ module _ (types : Types) (texts : ℕ) (fs : List Function) (f : Function) where
 
   pub record Runs {A B : Type 0} (P : Gift types texts fs f A) (x : A) (into : Option ℕ) (s : State) (w : Gives B) (Q : Gift types texts fs f B) (code : List Tree) : Type 0 where
     pub fine : IsFine types fs f code
-    pub formed : Formed code
+    pub formed : Formed types texts fs f code
     pub typed : Q.typed w.given
     pub goes : (k : List Known) → Alive types fs f s k → P.ready x (length s.locals) k → Goes into s w Q code k
 
@@ -119,7 +113,7 @@ module _ (types : Types) (texts : ℕ) (fs : List Function) (f : Function) where
       written = second.written ∙ ap (λ (c : List Tree). c ++ second.code) first.written ∙ append_assoc s.code first.code second.code;
       runs = λ b p. let q = first.runs (before b) p in let r = second.runs b q.typed in record {
         fine = fine_append types fs f first.code second.code q.fine r.fine;
-        formed = formed_append first.code second.code q.formed r.formed;
+        formed = formed_append types texts fs f first.code second.code q.formed r.formed;
         typed = r.typed;
         goes = λ k alive given. let g = q.goes k alive given in let h = next k alive g r in record {
           after = h.after;

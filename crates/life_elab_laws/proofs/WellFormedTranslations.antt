@@ -1,32 +1,31 @@
 -- The core program of a well typed program that is built is well formed, and leaves alone what is given over.
-use Rattle.std.proofs.Common.{◌≡◌, ◌<◌, ◌⊎◌, inl, inr, ℕ, zero, suc, true, List, [], ◌∷◌, length, nat_le, nat_lt, slice_get, Some, refl, sym, ap, ◌∙◌, subst, arith, length-append}
-use Rattle.std.specs.List.{list_all}
-use Rattle.std.proofs.lemmas.Bool.{and_from, and_parts}
-use Rattle.std.proofs.lemmas.Bool.Decides.{nat_tests}
-use Rattle.life_types.specs.Trees.{IsOrdered}
-use Rattle.life_types.specs.Types.{Types}
-use Rattle.life_types.specs.declared.ty.TyId.{TyId}
-use Rattle.life_built.specs.Built.{are_built_functions, has_built_types, has_no_structs, is_built, is_built_variable}
-use Rattle.life_typed.specs.Programs.{FunctionForm, ProgramForm}
 use Rattle.life_core.specs.Function.{Function}
-use Rattle.life_core.specs.declared.program.Local.{Local}
-use Rattle.life_proper.specs.GivenOver.{all_keep_given, keeps_all_given}
-use Rattle.life_proper.specs.WellFormed.{is_well_formed_tree}
-use Rattle.life_proper.specs.WellFormedPrograms.{IsWellFormedProgram, are_well_formed_locals, is_name, is_result_of, is_well_formed_function, names_parameters}
-use Rattle.life_well_typed.specs.Functions.{IsWellTyped}
 use Rattle.life_well_typed.specs.Names.{HasNames}
 use Rattle.life_well_typed.specs.Results.{HasResults}
-use Rattle.life_elab.specs.Functions.{written}
-use Rattle.life_elab.specs.Programs.{around, core_program, texts_of}
+use Rattle.life_types.specs.Trees.{IsOrdered}
+use Rattle.life_well_typed.specs.Functions.{IsWellTyped}
+use Rattle.life_core.specs.declared.program.Local.{Local}
+use Rattle.life_types.specs.declared.ty.TyId.{TyId}
+use Rattle.life_types.specs.Types.{Types}
 use Rattle.life_elab.specs.Statements.{end_line}
-use Rattle.life_elab_laws.proofs.ExpressionKinds.{variable_built}
-use Rattle.life_elab_laws.proofs.FlatLocals.{IsLocalType, flat_locals, variable_typed}
-use Rattle.life_elab_laws.proofs.FormedCalls.{IsTypedCallee, typed_callee}
 use Rattle.life_elab_laws.proofs.FormedFunctions.{function_formed}
+use Rattle.life_proper.specs.WellFormed.{is_well_formed_tree}
+use Rattle.std.specs.List.{list_all}
+use Rattle.std.proofs.lemmas.Bool.Decides.{nat_tests}
+use Rattle.life_elab_laws.proofs.ExpressionKinds.{variable_built}
+use Rattle.life_elab_laws.proofs.Shaped.{variable_later}
+use Rattle.life_elab.specs.Functions.{written}
+use Rattle.std.proofs.Common.{◌≡◌, ◌<◌, ◌⊎◌, inl, inr, ℕ, zero, suc, true, List, [], ◌∷◌, length, nat_le, nat_lt, slice_get, Some, refl, sym, ap, ◌∙◌, subst, arith, length-append}
+use Rattle.std.proofs.lemmas.Bool.{and_from, and_parts}
+use Rattle.life_built.specs.Built.{are_built_functions, has_built_types, has_no_structs, is_built, is_built_variable}
+use Rattle.life_typed.specs.Programs.{FunctionForm, ProgramForm}
+use Rattle.life_proper.specs.GivenOver.{all_keep_given, keeps_all_given}
+use Rattle.life_proper.specs.WellFormedPrograms.{IsWellFormedProgram, are_well_formed_locals, is_name, is_result_of, is_well_formed_function, names_parameters}
+use Rattle.life_elab.specs.Programs.{around, core_program, texts_of}
+use Rattle.life_elab_laws.proofs.FlatLocals.{IsLocalType, flat_locals, variable_typed}
 use Rattle.life_elab_laws.proofs.GivenNothing.{gives_nothing, keeps_all}
 use Rattle.life_elab_laws.proofs.ProgramNames.{no_members, own_names}
-use Rattle.life_elab_laws.proofs.Programs.{AreWritten, IsWritten, callee, count, each_written, front, functions_built, grows, locals, one_head, parts, result_at, same, typed_at, whole, whole_order, written_at, written_begins, written_setting}
-use Rattle.life_elab_laws.proofs.Shaped.{variable_later}
+use Rattle.life_elab_laws.proofs.Programs.{AreWritten, IsWritten, count, each_written, front, functions_built, grows, locals, one_head, parts, result_at, same, typed_at, whole, whole_order, written_begins, written_setting}
 use Rattle.life_elab_laws.proofs.WrittenLocals.{IsIntermediate, IsOwn, fits_later}
 
 -- what endl writes stands behind the texts
@@ -49,9 +48,6 @@ module _ (p : ProgramForm) (typed : IsWellTyped p) (built : are_built_functions 
   abbrev texts : ℕ
   texts = length (texts_of p)
 
-  typed_callees : (g : ℕ) (of : FunctionForm) → slice_get p.functions g ≡ Some of → IsTypedCallee functions g of
-  typed_callees g of at = typed_callee p.types types functions g of (callee p typed built results g of at)
-
   -- ---- one function
 
   module _ (n : ℕ) (f : FunctionForm) (at : slice_get p.functions n ≡ Some f) (core : Function) (w : IsWritten p types f core) where
@@ -70,7 +66,7 @@ module _ (p : ProgramForm) (typed : IsWellTyped p) (built : are_built_functions 
     body_formed =
         let t = result_at p.types p.functions n f results at in
         let is = typed_at p p.functions n f typed at in
-        function_formed p f w.before types texts functions core (written_setting p typed built results n f at core w) typed_callees (text_there p f)
+        function_formed p f w.before types texts functions core (written_setting p typed built results n f at core w) (text_there p f)
         is.parameters (parts p typed built results n f at) is.body t.0 t.1 w.table (written_begins p typed built results n f at core w)
         (count p typed built results n f at core w) (same p typed built results n f at core w) (locals p typed built results n f at core w) (ap (λ (c : Function). c.body) w.is)
 
