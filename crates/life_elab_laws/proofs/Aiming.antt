@@ -1,31 +1,31 @@
 -- A pointer that is given something: it can be, it is a pointer behind it, and const stays const.
+use Rattle.std.proofs.Common.{◌≡◌, ℕ, Bool, true, false, ◌&&◌, List, slice_set, None, refl, sym, ap, ◌∙◌}
+use Rattle.std.proofs.lemmas.Bool.{and_from, and_parts, false≢true, or_left}
+use Rattle.life_types.specs.Types.{Types}
+use Rattle.life_types.specs.declared.ty.Ty.{Ty}
+use Rattle.life_types.specs.declared.ty.Ty.TheVariants as ty
 use Rattle.life_typed.specs.BaseTypes.{is_raw}
 use Rattle.life_typed.specs.declared.typed_expr.ExprType.{ExprType}
-use Rattle.life_core.specs.Function.{Function}
-use Rattle.life_elab_laws.proofs.Gifts.{IsGivenAs}
-use Rattle.life_proper.specs.declared.known.Known.{Known}
-use Rattle.life_types.specs.declared.ty.Ty.{Ty}
-use Rattle.life_types.specs.Types.{Types}
+use Rattle.life_typed.specs.declared.typed_expr.ExprType.TheVariants.{NullPointer, Of, TextLiteral}
 use Rattle.life_core.specs.ByValue.{is_by_value}
+use Rattle.life_core.specs.Function.{Function}
+use Rattle.life_core.specs.Holdings.{APointer, Holding, sort_of}
+use Rattle.life_core.specs.Operands.{Location, Null, Operand, Place as Aimed, Source, whole}
 use Rattle.life_pset.specs.Shapes.{is_constant}
-use Rattle.life_elab_laws.proofs.Instructions.{raw_either}
-use Rattle.life_elab_laws.proofs.OperandsThere.{same_is}
-use Rattle.std.proofs.Common.{◌≡◌, ℕ, Bool, true, false, ◌&&◌, List, slice_set, None, refl, sym, ap, ◌∙◌}
-use Rattle.std.proofs.lemmas.Bool.{and_from, false≢true, or_left, and_parts}
-use Rattle.life_types.specs.declared.ty.Ty.TheVariants as ty
-use Rattle.life_typed.specs.declared.typed_expr.ExprType.TheVariants.{Of, NullPointer, TextLiteral}
-use Rattle.life_core.specs.Operands.{Location, Source, Null, Place as Aimed, whole, Operand}
-use Rattle.life_core.specs.Holdings.{Holding, APointer, sort_of}
-use Rattle.life_proper.specs.Knowing.{known_as, known_at}
-use Rattle.life_proper.specs.ReadyKnown.{holds_at, is_local, is_repoint_ready, is_sort, is_source_ready, is_step_ready, known_after}
-use Rattle.life_writer.specs.Pointers.{Pointing, At, As, pointed}
-use Rattle.life_elab_laws.proofs.Knowledge.{set_known, set_length}
-use Rattle.life_elab_laws.proofs.Making.{IsPointer, IsPointing, Keeps}
 use Rattle.life_pset.specs.Shapes as shapes
+use Rattle.life_proper.specs.Knowing.{known_as, known_at}
 use Rattle.life_proper.specs.OperandTypes.{aims_at, keeps_const, same, takes}
 use Rattle.life_proper.specs.Placed.{is_const_place, type_in, type_of}
+use Rattle.life_proper.specs.ReadyKnown.{holds_at, is_local, is_repoint_ready, is_sort, is_source_ready, is_step_ready, known_after}
 use Rattle.life_proper.specs.WellFormed.{is_source_of, is_well_formed_step}
+use Rattle.life_proper.specs.declared.known.Known.{Known}
+use Rattle.life_writer.specs.Pointers.{As, At, Pointing, pointed}
+use Rattle.life_elab_laws.proofs.Gifts.{IsGivenAs}
 use Rattle.life_elab_laws.proofs.Held.{place_ready, pointer_held}
+use Rattle.life_elab_laws.proofs.Instructions.{raw_either}
+use Rattle.life_elab_laws.proofs.Knowledge.{set_known, set_length}
+use Rattle.life_elab_laws.proofs.Making.{IsPointer, IsPointing, Keeps}
+use Rattle.life_elab_laws.proofs.OperandsThere.{same_is}
 
 pub keeps_further : (c d e : Bool) → keeps_const c d ≡ true → keeps_const d e ≡ true → keeps_const c e ≡ true
 keeps_further true d e h g = refl

@@ -1,7 +1,7 @@
 -- Numbers among others.
+use Rattle.std.proofs.Common.{◌≡◌, ◌<◌, ◌≤◌, ◌⊎◌, inl, inr, ℕ, zero, suc, List, [], ◌∷◌, ◌++◌, Contains, drop, length, reverse, slice_index_or, take, refl, sym, subst, arith, take-append-drop}
 use Rattle.std.proofs.lemmas.Bool.{cases_eq}
 use Rattle.std.proofs.lemmas.List.{reverse-append}
-use Rattle.std.proofs.Common.{◌≡◌, ◌<◌, ◌≤◌, ◌⊎◌, inl, inr, ℕ, zero, suc, List, [], ◌∷◌, ◌++◌, Contains, drop, length, reverse, slice_index_or, take, refl, sym, subst, arith, take-append-drop}
 
 -- one of them is this one
 abbrev pub Among : ℕ → List ℕ → Type 0

@@ -1,34 +1,34 @@
 -- Where the body of a function begins: its parameters live, and no other variable does.
-use Rattle.life_writer.specs.Around.{Around}
-use Rattle.life_core.specs.Function.{Function}
-use Rattle.life_proper.specs.declared.known.Known.{Known}
-use Rattle.life_elab_laws.proofs.Exits.{Knows}
-use Rattle.life_core.specs.declared.program.Local.{Local}
-use Rattle.life_typed.specs.declared.typed_program.ParameterPromise.{ParameterPromise}
-use Rattle.life_types.specs.declared.ty.Ty.{Ty}
-use Rattle.life_typed.specs.declared.typed_program.TypedLocal.{TypedLocal}
-use Rattle.life_types.specs.Types.{Types}
-use Rattle.life_writer.specs.Registers.{nameless}
-use Rattle.life_elab_laws.proofs.OrderedTypes.{order_none}
-use Rattle.life_elab_laws.proofs.ExpressionKinds.{variable_built}
 use Rattle.std.proofs.Common.{◌≡◌, ◌<◌, ◌≤◌, ◌⊎◌, inl, inr, ℕ, zero, suc, true, ◌||◌, List, [], ◌∷◌, ◌++◌, length, map, slice_get, Option, Some, option_map, refl, sym, ap, ◌∙◌, subst, unwrap_or, arith, length-append, append_assoc, append-nil}
 use Rattle.std.proofs.lemmas.Bool.{and_parts, cases_eq, cases_lt, false≢true}
 use Rattle.std.proofs.lemmas.Option.{none-some, slice_get-map}
+use Rattle.life_types.specs.Types.{Types}
+use Rattle.life_types.specs.declared.ty.Ty.{Ty}
 use Rattle.life_types.specs.declared.ty.Ty.TheVariants as ty
 use Rattle.life_built.specs.Built.{are_built_variables, is_built_result, is_built_variable, is_void}
 use Rattle.life_typed.specs.BaseTypes.{is_value, type_at}
+use Rattle.life_typed.specs.declared.typed_program.ParameterPromise.{ParameterPromise}
+use Rattle.life_typed.specs.declared.typed_program.TypedLocal.{TypedLocal}
+use Rattle.life_core.specs.Function.{Function}
 use Rattle.life_core.specs.Holdings.{Blank, Holding, Holdings, given_holdings, held_by, sort_of}
+use Rattle.life_core.specs.declared.program.Local.{Local}
+use Rattle.life_proper.specs.declared.known.Known.{Known}
 use Rattle.life_proper.specs.declared.known.Known.TheVariants as known
 use Rattle.life_proper.specs.Knowing.{entry_known, known_as, known_at}
 use Rattle.life_well_typed.specs.Visible.{Visible, with_next, with_parameters}
+use Rattle.life_writer.specs.Around.{Around}
+use Rattle.life_writer.specs.Registers.{nameless}
 use Rattle.life_writer.specs.Writing.{State, nothing_written}
 use Rattle.life_elab.specs.Functions.{first_state, parameter_local, with_result}
 use Rattle.life_elab.specs.Functions as elab
 use Rattle.life_elab_laws.proofs.Among.{Among, among_left, among_right, contains_among}
 use Rattle.life_elab_laws.proofs.Declaring.{follows_new, with_new}
+use Rattle.life_elab_laws.proofs.Exits.{Knows}
+use Rattle.life_elab_laws.proofs.ExpressionKinds.{variable_built}
 use Rattle.life_elab_laws.proofs.Following.{Follows, HasRegister, follows_below, follows_grown}
 use Rattle.life_elab_laws.proofs.Fronts.{IsFront, front_append, front_itself, last_there}
 use Rattle.life_elab_laws.proofs.Growing.{Grows, grows_none}
+use Rattle.life_elab_laws.proofs.OrderedTypes.{order_none}
 use Rattle.life_elab_laws.proofs.Shaped.{AreShaped, shaped_more}
 use Rattle.life_elab_laws.proofs.WrittenLocals.{AddsRegisters, AreWrittenLocals, IsIntermediate, locals_added, own_added, register_pushed, registers_none, value_fits}
 

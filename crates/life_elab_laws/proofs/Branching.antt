@@ -1,29 +1,29 @@
 -- Branches: two lists of statements behind a condition, and assertions.
-use Rattle.life_elab_laws.proofs.Growing.{Begins}
-use Rattle.life_core.specs.Function.{Function}
-use Rattle.life_proper.specs.declared.known.Known.{Known}
-use Rattle.life_types.specs.declared.place.Place.{Place}
-use Rattle.life_proper.specs.ResultsKnown.{ReturnsKnown}
-use Rattle.life_types.specs.Types.{Types}
-use Rattle.std.proofs.lemmas.Bool.{and_from}
-use Rattle.life_elab_laws.proofs.Fronts.{front_length}
-use Rattle.life_proper.specs.Plain.{is_plain_tree}
-use Rattle.life_proper.proofs.Joining.{joined_end}
-use Rattle.life_elab_laws.proofs.WrittenLocals.{locals_added}
-use Rattle.life_elab_laws.proofs.OrderedTypes.{order_then}
 use Rattle.std.proofs.Common.{◌≡◌, ℕ, Bool, true, List, [], ◌∷◌, ◌++◌, length, take, None, Some, refl, sym, ap, ◌∙◌, subst, arith}
+use Rattle.std.proofs.lemmas.Bool.{and_from}
+use Rattle.life_types.specs.Types.{Types}
+use Rattle.life_types.specs.declared.place.Place.{Place}
+use Rattle.life_core.specs.Function.{Function}
 use Rattle.life_core.specs.Shape.{breaks_inside, is_condition, is_statement, test_straight, tests_straight}
 use Rattle.life_core.specs.Tree.{Tree, Skip, Choice, Stops, trees}
+use Rattle.life_proper.specs.declared.known.Known.{Known}
 use Rattle.life_proper.specs.Checking.{Flow, before_both, flow, joined}
 use Rattle.life_proper.specs.Knowing.{State as Knowing}
+use Rattle.life_proper.specs.Plain.{is_plain_tree}
+use Rattle.life_proper.specs.ResultsKnown.{ReturnsKnown}
+use Rattle.life_proper.proofs.Joining.{joined_end}
 use Rattle.life_well_typed.specs.Visible.{Visible, behind}
 use Rattle.life_writer.specs.Around.{Around, result_local}
 use Rattle.life_writer.specs.Writing.{State, Gives, with_code, write}
 use Rattle.life_elab_laws.proofs.Doing.{Acting, DoesLevel, leaves_falling, leaves_may}
 use Rattle.life_elab_laws.proofs.Exits.{Knows, Leaves, MayKnow, knows_written, leaves_joined}
 use Rattle.life_elab_laws.proofs.Following.{Adds, Follows, adds_coded, adds_then, begins_added, follows_again, follows_coded, follows_grown, follows_named, grows_adds, knows_alive}
+use Rattle.life_elab_laws.proofs.Fronts.{front_length}
 use Rattle.life_elab_laws.proofs.GivingBack.{GivesValue, asks_known, known_may}
+use Rattle.life_elab_laws.proofs.Growing.{Begins}
+use Rattle.life_elab_laws.proofs.OrderedTypes.{order_then}
 use Rattle.life_elab_laws.proofs.Testing.{Asked, AsksAll, Tests}
+use Rattle.life_elab_laws.proofs.WrittenLocals.{locals_added}
 
 module _ (types : Types) (fs : List Function) (f : Function) where
   -- ---- lists of their own

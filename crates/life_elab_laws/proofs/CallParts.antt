@@ -1,32 +1,32 @@
 -- Calls: each argument is a number of the parameter's type in a register, and the result goes to a register of its type.
-use Rattle.life_core.specs.Function.{Function}
-use Rattle.life_typed.specs.Programs.{FunctionForm}
-use Rattle.life_core.specs.Holdings.{Holding}
-use Rattle.life_elab_laws.proofs.Making.{IsOpen}
-use Rattle.life_types.specs.declared.place.Place.{Place}
-use Rattle.life_types.specs.declared.ty.Ty.{Ty}
-use Rattle.life_types.specs.declared.ty.TyId.{TyId}
-use Rattle.life_types.specs.Types.{Types}
-use Rattle.life_writer.specs.Registers.{computed}
-use Rattle.life_proper.specs.Knowing.{known_as}
-use Rattle.life_well_typed.specs.Expressions.{parameter_types}
-use Rattle.life_proper.specs.OperandTypes.{same}
 use Rattle.std.proofs.Common.{◌≡◌, ℕ, Bool, true, false, ◌&&◌, ◌||◌, if◌then◌else◌, List, [], ◌∷◌, slice_get, slice_set, Option, Some, None, refl, ap, ◌∙◌}
 use Rattle.std.proofs.lemmas.Bool.{and_from, and_parts, false≢true, or_left, or_right}
+use Rattle.life_types.specs.Types.{Types}
+use Rattle.life_types.specs.declared.place.Place.{Place}
+use Rattle.life_types.specs.declared.ty.Ty.{Ty}
 use Rattle.life_types.specs.declared.ty.Ty.TheVariants as ty
+use Rattle.life_types.specs.declared.ty.TyId.{TyId}
 use Rattle.life_typed.specs.BaseTypes.{is_value, type_at}
+use Rattle.life_typed.specs.Programs.{FunctionForm}
 use Rattle.life_core.specs.ByValue.{is_pointer as points}
+use Rattle.life_core.specs.Function.{Function}
+use Rattle.life_core.specs.Holdings.{Holding}
 use Rattle.life_core.specs.Operands.{Argument, Location, Value, whole}
 use Rattle.life_pset.specs.Shapes.{is_pointer, ty_of}
+use Rattle.life_proper.specs.Knowing.{known_as}
+use Rattle.life_proper.specs.OperandTypes.{same}
 use Rattle.life_proper.specs.OperandTypes as operands
 use Rattle.life_proper.specs.Placed.{is_number, is_number_of, object_at, register_at, type_in}
 use Rattle.life_proper.specs.Placed as placed
 use Rattle.life_proper.specs.WellFormed.{are_arguments_for, goes_to, have_own_slots, is_argument_for, is_call, is_well_formed_step, types_taken}
+use Rattle.life_well_typed.specs.Expressions.{parameter_types}
 use Rattle.life_writer.specs.Calls.{called, called_alone, handed}
-use Rattle.life_writer.specs.Writing.{State, Gives, gives}
+use Rattle.life_writer.specs.Registers.{computed}
+use Rattle.life_writer.specs.Writing.{Gives, State, gives}
 use Rattle.life_elab_laws.proofs.Calls.{IsCallee, call_plain, call_ready}
 use Rattle.life_elab_laws.proofs.Gifts.{AreHanded, a_number, arguments, both, nothing}
 use Rattle.life_elab_laws.proofs.Instructions.{Computes, IsIntoOf, computed_part, into_of_later}
+use Rattle.life_elab_laws.proofs.Making.{IsOpen}
 use Rattle.life_elab_laws.proofs.OperandsThere.{number_any, value_either, value_same}
 use Rattle.life_elab_laws.proofs.Parts.{Makes, and_part, leaf_part, seen_part, then_part}
 

@@ -1,31 +1,31 @@
 -- What the core functions of a built program take and give: values.
-use Rattle.life_writer.specs.Around.{Around}
-use Rattle.life_core.specs.Function.{Function}
-use Rattle.life_core.specs.declared.program.Local.{Local}
-use Rattle.life_typed.specs.declared.typed_program.ParameterPromise.{ParameterPromise}
-use Rattle.life_types.specs.declared.ty.Ty.{Ty}
-use Rattle.life_types.specs.declared.ty.TyId.{TyId}
-use Rattle.life_typed.specs.declared.typed_program.TypedLocal.{TypedLocal}
-use Rattle.life_elab.specs.Programs.{around}
-use Rattle.life_writer.specs.Variables.{kind}
-use Rattle.life_elab_laws.proofs.VariablePlaces.{value_held}
-use Rattle.life_elab_laws.proofs.Shaped.{value_later}
-use Rattle.life_elab_laws.proofs.Emitting.{wanted_sort}
 use Rattle.std.proofs.Common.{◌≡◌, ◌<◌, ◌≤◌, ◌⊎◌, inl, inr, ℕ, zero, suc, true, List, [], ◌∷◌, ◌++◌, length, map, slice_get, take, Option, Some, None, refl, sym, ap, ◌∙◌, subst, unwrap_or, arith}
 use Rattle.std.proofs.lemmas.Bool.{and_parts, false≢true, or_cases}
 use Rattle.std.proofs.lemmas.Option.{none-some, same_Some}
 use Rattle.life_types.specs.Types.{Types, class, class_at}
+use Rattle.life_types.specs.declared.ty.Ty.{Ty}
 use Rattle.life_types.specs.declared.ty.Ty.TheVariants as ty
+use Rattle.life_types.specs.declared.ty.TyId.{TyId}
 use Rattle.life_built.specs.Built.{are_built_variables, are_values, is_built_function, is_built_result, is_built_statement, is_default, is_void}
 use Rattle.life_typed.specs.BaseTypes.{is_value, type_at}
 use Rattle.life_typed.specs.Programs.{FunctionForm, ProgramForm}
+use Rattle.life_typed.specs.declared.typed_program.ParameterPromise.{ParameterPromise}
+use Rattle.life_typed.specs.declared.typed_program.TypedLocal.{TypedLocal}
+use Rattle.life_core.specs.Function.{Function}
 use Rattle.life_core.specs.Holdings.{AnObject, ANumber, Blank, Holding, given_holdings, held_by, held_if, parameter_sorts, result_if, result_sort, sort_of}
+use Rattle.life_core.specs.declared.program.Local.{Local}
 use Rattle.life_proper.specs.WellFormed.{local_type, types_taken}
 use Rattle.life_well_typed.specs.Expressions.{parameter_types, type_of}
+use Rattle.life_writer.specs.Around.{Around}
+use Rattle.life_writer.specs.Variables.{kind}
 use Rattle.life_elab.specs.Functions.{first_state, parameter_local}
+use Rattle.life_elab.specs.Programs.{around}
 use Rattle.life_elab_laws.proofs.Beginning.{first_types, parameter_locals, parameters_front, register_there}
 use Rattle.life_elab_laws.proofs.Calls.{IsCallee, objects}
+use Rattle.life_elab_laws.proofs.Emitting.{wanted_sort}
 use Rattle.life_elab_laws.proofs.Fronts.{IsFront, front_cut, front_then}
+use Rattle.life_elab_laws.proofs.Shaped.{value_later}
+use Rattle.life_elab_laws.proofs.VariablePlaces.{value_held}
 
 -- what stands in a table is the type there
 pub type_found : (types : Types) (id : TyId) (t : Ty) → slice_get types.types id.0 ≡ Some t → type_at types id ≡ t

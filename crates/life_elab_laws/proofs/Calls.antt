@@ -1,24 +1,24 @@
 -- Calls: arguments in registers, and what a function that is called takes and gives.
-use Rattle.life_elab_laws.proofs.Gifts.{AreNumbersFor}
-use Rattle.life_core.specs.Function.{Function}
-use Rattle.life_typed.specs.Programs.{FunctionForm}
-use Rattle.life_proper.specs.declared.known.Known.{Known}
-use Rattle.life_types.specs.declared.ty.TyId.{TyId}
-use Rattle.life_types.specs.Types.{Types}
-use Rattle.life_built.specs.Built.{is_void}
-use Rattle.std.specs.List.{list_any}
-use Rattle.life_well_typed.specs.Expressions.{parameter_types}
-use Rattle.life_proper.specs.WellFormed.{types_taken}
 use Rattle.std.proofs.Common.{◌≡◌, ℕ, Bool, true, false, ◌||◌, not, List, [], ◌∷◌, map, slice_get, Option, Some, None, refl, ap, ◌∙◌}
+use Rattle.std.specs.List.{list_any}
 use Rattle.std.proofs.lemmas.Bool.{and_from, or_left, or_right}
+use Rattle.life_types.specs.Types.{Types}
+use Rattle.life_types.specs.declared.ty.TyId.{TyId}
+use Rattle.life_built.specs.Built.{is_void}
 use Rattle.life_typed.specs.BaseTypes.{is_value, type_at}
+use Rattle.life_typed.specs.Programs.{FunctionForm}
 use Rattle.life_core.specs.ByValue.{is_by_value, is_pointer, takes_pointer}
+use Rattle.life_core.specs.Function.{Function}
 use Rattle.life_core.specs.Operands.{Argument, Value, whole}
 use Rattle.life_core.specs.Holdings.{Holding, AnObject, ANumber, Blank, parameter_sorts, result_sort, sort_of}
+use Rattle.life_proper.specs.declared.known.Known.{Known}
 use Rattle.life_proper.specs.declared.known.Known.TheVariants as known
 use Rattle.life_proper.specs.Knowing.{known_as, known_at, same}
 use Rattle.life_proper.specs.ReadyKnown.{are_arguments_ready, holds, is_call_ready, is_local, is_sort, is_step_ready, is_target_ready}
+use Rattle.life_proper.specs.WellFormed.{types_taken}
 use Rattle.life_writer.specs.Calls.{called, called_alone}
+use Rattle.life_well_typed.specs.Expressions.{parameter_types}
+use Rattle.life_elab_laws.proofs.Gifts.{AreNumbersFor}
 use Rattle.life_elab_laws.proofs.Held.{number_held, number_sort}
 
 -- ---- arguments

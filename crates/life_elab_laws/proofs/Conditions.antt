@@ -1,28 +1,27 @@
 -- Conditions, and values that are decided by them.
-use Rattle.life_core.specs.Function.{Function}
-use Rattle.life_proper.specs.declared.known.Known.{Known}
-use Rattle.life_core.specs.Operands.{Location}
-use Rattle.life_types.specs.declared.place.Place.{Place}
-use Rattle.life_types.specs.declared.ty.Ty.{Ty}
-use Rattle.life_types.specs.Types.{Types}
-use Rattle.life_proper.specs.Knowing.{agreed_all}
-use Rattle.life_elab_laws.proofs.OperandsThere.{number_any}
-use Rattle.std.proofs.lemmas.Option.{slice_get_within}
-use Rattle.std.specs.Prelude.{ℤ, pos}
 use Rattle.std.proofs.Common.{◌≡◌, ◌<◌, ℕ, Bool, true, false, cond, List, [], ◌∷◌, ◌++◌, length, slice_set, Option, Some, None, refl, sym, ap, ◌∙◌, subst, arith}
 use Rattle.std.proofs.lemmas.Bool.{and_from, or_left}
+use Rattle.std.proofs.lemmas.Option.{slice_get_within}
+use Rattle.std.specs.Prelude.{pos, ℤ}
+use Rattle.life_types.specs.Types.{Types}
+use Rattle.life_types.specs.declared.place.Place.{Place}
+use Rattle.life_types.specs.declared.ty.Ty.{Ty}
 use Rattle.life_typed.specs.BaseTypes.{is_raw, is_value}
+use Rattle.life_core.specs.Function.{Function}
 use Rattle.life_core.specs.Holdings.{ANumber, APointer, sort_of}
-use Rattle.life_core.specs.Step.{Test, NonZero, NotNull}
-use Rattle.life_core.specs.Tree.{Tree, Then, Acts, Asks, Both, Either, Choice, trees}
+use Rattle.life_core.specs.Operands.{Location}
+use Rattle.life_core.specs.Step.{NonZero, NotNull, Test}
+use Rattle.life_core.specs.Tree.{Acts, Asks, Both, Choice, Either, Then, Tree, trees}
 use Rattle.life_pset.specs.Shapes as shapes
-use Rattle.life_proper.specs.declared.known.Known.TheVariants as known
+use Rattle.life_proper.specs.Knowing.{agreed_all}
 use Rattle.life_proper.specs.Placed.{is_number_of, type_in}
 use Rattle.life_proper.specs.ReadyKnown.{holds_at, is_sort, is_test_ready}
 use Rattle.life_proper.specs.WellFormed.{is_well_formed_step, is_well_formed_test, is_well_formed_tree}
+use Rattle.life_proper.specs.declared.known.Known.{Known}
+use Rattle.life_proper.specs.declared.known.Known.TheVariants as known
 use Rattle.life_writer.specs.Conditions.{answer, branched, by_branch, condition_from, joined, negation, non_zero, not_null, tested}
 use Rattle.life_writer.specs.Registers.{constant, target}
-use Rattle.life_writer.specs.Writing.{State, Gives, mapped, with_code}
+use Rattle.life_writer.specs.Writing.{Gives, State, mapped, with_code}
 use Rattle.life_elab_laws.proofs.Emitting.{IsNameless, Targets, keeps_set, targeted}
 use Rattle.life_elab_laws.proofs.Falling.{Decides, Falls, decides_asks, decides_behind, decides_both, decides_either, decides_negated, falls_acts, falls_choice}
 use Rattle.life_elab_laws.proofs.Gifts.{Gift, a_number, a_pointer, nothing}
@@ -31,6 +30,7 @@ use Rattle.life_elab_laws.proofs.Held.{number_held, number_sort, pointer_held}
 use Rattle.life_elab_laws.proofs.Instructions.{IsIntoOf, into_of_later, is_constant, is_into, raw_either, target_number}
 use Rattle.life_elab_laws.proofs.Knowledge.{agreed_length, at_agreed, at_set}
 use Rattle.life_elab_laws.proofs.Making.{Alive, IsBeside, IsOpen, Keeps, alive_later, keeps_then}
+use Rattle.life_elab_laws.proofs.OperandsThere.{number_any}
 use Rattle.life_elab_laws.proofs.Parts.{Goes, Makes, Runs}
 use Rattle.life_elab_laws.proofs.Shaping.{IsFineTest, fine_acts, fine_asks, fine_behind, fine_both, fine_choice, fine_either, fine_negated}
 use Rattle.life_elab_laws.proofs.WrittenLocals.{AddsRegisters, registers_then}

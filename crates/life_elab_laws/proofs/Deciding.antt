@@ -1,31 +1,31 @@
 -- Operators that are decided by tests: `&&`, `||` and comparisons with nullptr.
+use Rattle.std.proofs.Common.{◌≡◌, ℕ, Bool, true, false, cond, List, [], Some, None, refl, sym, ap, ◌∙◌, subst}
+use Rattle.std.proofs.lemmas.Bool.{false≢true}
+use Rattle.life_types.specs.Types.{Types}
+use Rattle.life_types.specs.declared.place.Place.{Place}
+use Rattle.life_types.specs.declared.ty.Ty.{Ty}
 use Rattle.life_typed.specs.BaseTypes.{is_raw}
-use Rattle.life_writer.specs.Around.{Around}
+use Rattle.life_typed.specs.Operators.{is_condition}
+use Rattle.life_typed.specs.TypedForm.{Form, Typed}
 use Rattle.life_typed.specs.declared.typed_expr.BinaryOperator.{BinaryOperator}
+use Rattle.life_typed.specs.declared.typed_expr.BinaryOperator.TheVariants as operator
 use Rattle.life_typed.specs.declared.typed_expr.ExprType.{ExprType}
+use Rattle.life_typed.specs.declared.typed_expr.ExprType.TheVariants.{NullPointer, Of}
 use Rattle.life_core.specs.Function.{Function}
 use Rattle.life_core.specs.Operands.{Location}
-use Rattle.life_elab_laws.proofs.Parts.{Makes}
-use Rattle.life_types.specs.declared.place.Place.{Place}
 use Rattle.life_core.specs.Tree.{Tree}
-use Rattle.life_types.specs.declared.ty.Ty.{Ty}
-use Rattle.life_types.specs.Types.{Types}
-use Rattle.life_elab_laws.proofs.Gifts.{a_pointer}
-use Rattle.std.proofs.lemmas.Bool.{false≢true}
-use Rattle.life_typed.specs.Operators.{is_condition}
-use Rattle.life_well_typed.specs.Given.{is_number}
-use Rattle.std.proofs.Common.{◌≡◌, ℕ, Bool, true, false, ◌||◌, cond, List, [], Some, None, refl, sym, ap, ◌∙◌, subst, ◌&&◌}
-use Rattle.life_typed.specs.TypedForm.{Form, Typed}
-use Rattle.life_typed.specs.declared.typed_expr.BinaryOperator.TheVariants as operator
-use Rattle.life_typed.specs.declared.typed_expr.ExprType.TheVariants.{Of, NullPointer}
 use Rattle.life_well_typed.specs.Expressions.{IsExpression, typed_in}
+use Rattle.life_well_typed.specs.Given.{is_number}
+use Rattle.life_writer.specs.Around.{Around}
 use Rattle.life_writer.specs.Conditions.{beside_null, decided, is_null, not_null, null_compared, stands_for_null}
-use Rattle.life_writer.specs.Expressions.{condition, decision, made, operand, pointer}
-use Rattle.life_writer.specs.Writing.{State, Gives, with_code}
-use Rattle.life_elab_laws.proofs.TypedKinds.{AreEquated, IsCombined, IsOperand, as_numbers, computed_numbers, equated_kinds, joined_kinds, none_some, null_left, null_right, some_same}
-use Rattle.life_elab_laws.proofs.VariablePlaces.{Stands, stands_apart, stands_later}
+use Rattle.life_writer.specs.Expressions.{condition, pointer}
+use Rattle.life_writer.specs.Writing.{Gives, State, with_code}
 use Rattle.life_elab_laws.proofs.Conditions.{Tests, both_part, either_part, negation_part, not_null_part}
 use Rattle.life_elab_laws.proofs.ExpressionTypes.{null_stands, null_type}
+use Rattle.life_elab_laws.proofs.Gifts.{a_pointer}
+use Rattle.life_elab_laws.proofs.Parts.{Makes}
+use Rattle.life_elab_laws.proofs.TypedKinds.{AreEquated, IsCombined, IsOperand, as_numbers, computed_numbers, equated_kinds, joined_kinds, none_some, null_left, null_right, some_same}
+use Rattle.life_elab_laws.proofs.VariablePlaces.{Stands, stands_apart, stands_later}
 
 module _ (a : Around) (visible : List ℕ) (types : Types) (texts : ℕ) (fs : List Function) (f : Function) where
   abbrev Whole : Form → Type 0

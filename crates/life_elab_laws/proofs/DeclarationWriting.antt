@@ -1,31 +1,25 @@
 -- What is written for a declaration is ready.
-use Rattle.life_elab_laws.proofs.Gifts.{AreNumbersFor}
-use Rattle.life_elab_laws.proofs.Doing.{Does}
-use Rattle.life_core.specs.Function.{Function}
-use Rattle.life_typed.specs.Programs.{FunctionForm}
-use Rattle.life_proper.specs.declared.known.Known.{Known}
-use Rattle.life_types.specs.declared.place.Place.{Place}
-use Rattle.life_core.specs.declared.instr.Form.TheVariants.{Plain}
-use Rattle.life_elab_laws.proofs.Setting.{Setting}
-use Rattle.life_types.specs.declared.ty.Ty.{Ty}
-use Rattle.life_types.specs.declared.ty.TyId.{TyId}
-use Rattle.life_typed.specs.declared.typed_program.TypedLocal.{TypedLocal}
-use Rattle.life_elab_laws.proofs.FormedFits.{given_reference}
-use Rattle.life_elab_laws.proofs.Sides.{runs_side}
-use Rattle.life_elab_laws.proofs.ExpressionKinds.{variable_built}
 use Rattle.std.proofs.Common.{◌≡◌, ◌<◌, ◌⊎◌, inl, inr, ℕ, Bool, true, false, ◌||◌, cond, List, [], ◌∷◌, length, slice_get, slice_set, Option, Some, None, refl, sym, ap, ◌∙◌, subst, unwrap_or, arith, append_assoc}
 use Rattle.std.proofs.lemmas.Bool.{and_from, and_parts, false≢true, or_left, or_right}
 use Rattle.life_types.specs.Types.{Types, class}
 use Rattle.life_types.specs.contracts.ty.TyPartialEq.TheImpl.{ghosts as compared}
+use Rattle.life_types.specs.declared.place.Place.{Place}
+use Rattle.life_types.specs.declared.ty.Ty.{Ty}
 use Rattle.life_types.specs.declared.ty.Ty.TheVariants as ty
+use Rattle.life_types.specs.declared.ty.TyId.{TyId}
 use Rattle.life_built.specs.Built.{is_built_declaration, is_built_declared, is_built_expression, is_built_initial, is_built_variable, needs_no_temporary}
 use Rattle.life_typed.specs.BaseTypes.{is_value, type_at}
+use Rattle.life_typed.specs.Programs.{FunctionForm}
 use Rattle.life_typed.specs.TypedForm.{Typed, whole as whole_form}
 use Rattle.life_typed.specs.TypedStatement.{DeclarationForm, InitialForm, one, several}
+use Rattle.life_typed.specs.declared.typed_program.TypedLocal.{TypedLocal}
+use Rattle.life_core.specs.Function.{Function}
 use Rattle.life_core.specs.Operands.{Argument, Place as Aimed, object_named, whole}
 use Rattle.life_core.specs.Holdings.{Holding, AnObject, ANumber, APointer, Blank, held_if, sort_of}
 use Rattle.life_core.specs.Step.{Live, Save}
 use Rattle.life_core.specs.Tree.{Tree, Acts}
+use Rattle.life_core.specs.declared.instr.Form.TheVariants.{Plain}
+use Rattle.life_proper.specs.declared.known.Known.{Known}
 use Rattle.life_proper.specs.declared.known.Known.TheVariants as known
 use Rattle.life_proper.specs.Knowing.{known_as, known_at, same}
 use Rattle.life_proper.specs.ReadyKnown.{holds, is_operand_ready, is_sort, is_step_ready}
@@ -34,27 +28,33 @@ use Rattle.life_well_typed.specs.Given.{is_given, is_number}
 use Rattle.life_well_typed.specs.Statements.{IsDeclaration, IsInitialised}
 use Rattle.life_well_typed.specs.Visible.{Visible, with_next}
 use Rattle.life_writer.specs.Around.{Around, own_type, type_of}
+use Rattle.life_writer.specs.Around as around
 use Rattle.life_writer.specs.Calls.{Called, call_of, called}
 use Rattle.life_writer.specs.Expressions.{handed_over, operand, pointing, value}
 use Rattle.life_writer.specs.Pointers.{Pointing, At, pointed}
 use Rattle.life_writer.specs.Variables.{kind, variable_local}
 use Rattle.life_writer.specs.Writing.{State, Gives, emit, gives, mapped, with_code}
 use Rattle.life_elab.specs.Declarations.{declared, declared_as, given_by_call, given_initial, given_one, given_value, live, object_given}
+use Rattle.life_elab_laws.proofs.Aiming.{aimed_after, aimed_ready, pointed_plain}
 use Rattle.life_elab_laws.proofs.Calls.{born_plain, born_ready}
 use Rattle.life_elab_laws.proofs.Declaring.{declared_does, its_local, new_below, new_ends, new_sort, with_new}
+use Rattle.life_elab_laws.proofs.Doing.{Does}
+use Rattle.life_elab_laws.proofs.ExpressionKinds.{variable_built}
+use Rattle.life_elab_laws.proofs.ExpressionForms.{IsWhole}
+use Rattle.life_elab_laws.proofs.Expressions.{expression, whole_expression}
 use Rattle.life_elab_laws.proofs.GivenKinds.{given_number, given_pointer}
 use Rattle.life_elab_laws.proofs.Falling.{Falls, falling, falls_acts, falls_append}
 use Rattle.life_elab_laws.proofs.Following.{Follows, follows_grown}
+use Rattle.life_elab_laws.proofs.FormedFits.{given_reference}
+use Rattle.life_elab_laws.proofs.Gifts.{AreNumbersFor, a_number, a_place, a_pointing, arguments}
 use Rattle.life_elab_laws.proofs.Growing.{Begins, Grows}
+use Rattle.life_elab_laws.proofs.Held.{number_held, object_held}
 use Rattle.life_elab_laws.proofs.Knowledge.{at_set, beside_set}
 use Rattle.life_elab_laws.proofs.Making.{Always, IsNumber, IsPlace, IsPointing, Makes, nothing_made, seen}
+use Rattle.life_elab_laws.proofs.Setting.{Setting}
 use Rattle.life_elab_laws.proofs.Shaping.{fine_acts, fine_append}
+use Rattle.life_elab_laws.proofs.Sides.{runs_side}
 use Rattle.life_elab_laws.proofs.VariablePlaces.{IsVariableType, a_raw, a_reference, a_value, value_held, variable_type}
-use Rattle.life_writer.specs.Around as around
-use Rattle.life_elab_laws.proofs.Aiming.{aimed_after, aimed_ready, pointed_plain}
-use Rattle.life_elab_laws.proofs.Expressions.{IsWhole, expression, whole_expression}
-use Rattle.life_elab_laws.proofs.Gifts.{a_number, a_place, a_pointing, arguments}
-use Rattle.life_elab_laws.proofs.Held.{number_held, object_held}
 
 abbrev Done : Unit {0} → ℕ → List Known → Type 0
 Done x n k = Unit {0}

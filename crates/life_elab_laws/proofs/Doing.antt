@@ -1,22 +1,22 @@
 -- What a statement writes: from knowledge between statements to such knowledge, and at each exit.
-use Rattle.life_elab_laws.proofs.Growing.{Begins}
-use Rattle.life_core.specs.Function.{Function}
-use Rattle.life_proper.specs.declared.known.Known.{Known}
-use Rattle.life_proper.specs.ResultsKnown.{ReturnsKnown}
-use Rattle.life_types.specs.Types.{Types}
-use Rattle.life_well_typed.specs.Visible.{Visible}
-use Rattle.life_proper.specs.Plain.{is_plain_tree}
 use Rattle.std.proofs.Common.{◌≡◌, ◌≤◌, ℕ, Bool, true, false, List, [], ◌++◌, length, take, Option, Some, None, refl, sym, ap, ◌∙◌, subst, append_assoc, append-nil}
+use Rattle.life_types.specs.Types.{Types}
+use Rattle.life_core.specs.Function.{Function}
 use Rattle.life_core.specs.Shape.{breaks_inside, is_statement, tests_straight}
 use Rattle.life_core.specs.Tree.{Tree, trees}
+use Rattle.life_proper.specs.declared.known.Known.{Known}
 use Rattle.life_proper.specs.Checking.{Flow, flow}
 use Rattle.life_proper.specs.Knowing.{State as Knowing}
+use Rattle.life_proper.specs.Plain.{is_plain_tree}
+use Rattle.life_proper.specs.ResultsKnown.{ReturnsKnown}
+use Rattle.life_well_typed.specs.Visible.{Visible}
 use Rattle.life_writer.specs.Around.{Around, result_local}
-use Rattle.life_writer.specs.Writing.{State, Gives, gives}
+use Rattle.life_writer.specs.Writing.{State, Gives}
 use Rattle.life_elab_laws.proofs.Exits.{Knows, Leaves, MayKnow, MayLeave, knows_written, leaves_then}
 use Rattle.life_elab_laws.proofs.Falling.{falling, flow_append}
 use Rattle.life_elab_laws.proofs.Following.{Adds, Follows, adds_none, adds_then, begins_added, follows_grown, follows_named, grows_adds, knows_alive, take_front, take_itself}
 use Rattle.life_elab_laws.proofs.GivingBack.{GivesValue, fine_known, known_append}
+use Rattle.life_elab_laws.proofs.Growing.{Begins}
 use Rattle.life_elab_laws.proofs.Making.{Always, Goes, Makes}
 use Rattle.life_elab_laws.proofs.Nowhere.{IsNowhere, nowhere_flows}
 use Rattle.life_elab_laws.proofs.OrderedTypes.{KeepsOrder, order_none, order_then}

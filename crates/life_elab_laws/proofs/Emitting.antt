@@ -1,24 +1,24 @@
 -- A register that an instruction writes.
-use Rattle.life_core.specs.Function.{Function}
-use Rattle.life_types.specs.Trees.{HasPartsBelow}
-use Rattle.life_proper.specs.declared.known.Known.{Known}
-use Rattle.life_core.specs.declared.program.Local.{Local}
-use Rattle.life_core.specs.declared.program.LocalKind.{LocalKind}
-use Rattle.life_types.specs.declared.ty.NameId.{NameId}
-use Rattle.life_types.specs.declared.place.Place.{Place}
-use Rattle.life_core.specs.declared.program.LocalKind.TheVariants.{Register}
-use Rattle.life_types.specs.declared.ty.Ty.{Ty}
-use Rattle.life_typed.specs.BaseTypes.{is_value}
-use Rattle.life_elab_laws.proofs.OrderedTypes.{type_ordered}
 use Rattle.std.proofs.Common.{◌≡◌, ◌<◌, ℕ, true, List, length, slice_get, slice_set, Option, Some, None, refl, sym, ap, ◌∙◌, arith}
 use Rattle.std.proofs.lemmas.Option.{none-some, same_Some, slice_get_within}
+use Rattle.life_types.specs.Trees.{HasPartsBelow}
 use Rattle.life_types.specs.Types.{Types, class}
+use Rattle.life_types.specs.declared.place.Place.{Place}
+use Rattle.life_types.specs.declared.ty.NameId.{NameId}
+use Rattle.life_types.specs.declared.ty.Ty.{Ty}
+use Rattle.life_typed.specs.BaseTypes.{is_value}
+use Rattle.life_core.specs.Function.{Function}
 use Rattle.life_core.specs.Holdings.{Holding, ANumber, held_if, sort_of}
+use Rattle.life_core.specs.declared.program.Local.{Local}
+use Rattle.life_core.specs.declared.program.LocalKind.{LocalKind}
+use Rattle.life_core.specs.declared.program.LocalKind.TheVariants.{Register}
+use Rattle.life_proper.specs.declared.known.Known.{Known}
 use Rattle.life_writer.specs.Registers.{new_register, target}
 use Rattle.life_writer.specs.Writing.{State, Gives}
 use Rattle.life_elab_laws.proofs.Growing.{Begins, Grows, added, grows_none, register_below, register_grows, register_sort, register_there, sort_there}
 use Rattle.life_elab_laws.proofs.Knowledge.{beside_set, set_length}
 use Rattle.life_elab_laws.proofs.Making.{IsBeside, Keeps}
+use Rattle.life_elab_laws.proofs.OrderedTypes.{type_ordered}
 use Rattle.life_elab_laws.proofs.Types.{type_added, value_register}
 use Rattle.life_elab_laws.proofs.WrittenLocals.{AddsRegisters, fits_below, fits_register, register_pushed, registers_none, value_fits}
 

@@ -1,18 +1,18 @@
 -- Where variables end: each is there, and none of them is known behind.
-use Rattle.life_core.specs.Function.{Function}
-use Rattle.life_proper.specs.declared.known.Known.{Known}
-use Rattle.life_elab_laws.proofs.Exits.{Knows}
-use Rattle.life_core.specs.declared.program.Local.{Local}
-use Rattle.life_types.specs.declared.ty.NameId.{NameId}
-use Rattle.life_types.specs.Types.{Types}
-use Rattle.std.proofs.lemmas.Option.{slice_get_within}
 use Rattle.std.proofs.Common.{◌≡◌, ◌<◌, ◌⊎◌, inl, inr, ℕ, true, ◌||◌, List, [], ◌∷◌, drop, length, reverse, slice_get, slice_set, Some, take, refl, sym, ap, ◌∙◌, subst, arith}
 use Rattle.std.proofs.lemmas.Bool.{and_from, cases_eq, or_left, or_right}
+use Rattle.std.proofs.lemmas.Option.{slice_get_within}
+use Rattle.life_types.specs.Types.{Types}
+use Rattle.life_types.specs.declared.ty.NameId.{NameId}
+use Rattle.life_core.specs.Function.{Function}
 use Rattle.life_core.specs.Holdings.{AnObject, APointer, sort_of}
+use Rattle.life_core.specs.declared.program.Local.{Local}
+use Rattle.life_proper.specs.declared.known.Known.{Known}
 use Rattle.life_proper.specs.declared.known.Known.TheVariants as known
 use Rattle.life_proper.specs.Knowing.{known_as, known_at, same}
 use Rattle.life_proper.specs.ReadyKnown.{can_end, has_end, holds, known_blank}
 use Rattle.life_elab_laws.proofs.Among.{Among, Apart, Ascend, among_drop, among_or, among_parts, among_reverse, among_take, apart_reverse, ascend_apart, ascend_drop, parts_apart, reverse_among}
+use Rattle.life_elab_laws.proofs.Exits.{Knows}
 use Rattle.life_elab_laws.proofs.Knowledge.{at_set, beside_set, set_length}
 
 -- ---- what is known behind

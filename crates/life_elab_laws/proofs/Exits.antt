@@ -1,18 +1,18 @@
 -- What is known between statements: each living variable is there, and no other one is.
-use Rattle.life_elab_laws.proofs.Among.{Among}
-use Rattle.life_core.specs.Function.{Function}
-use Rattle.life_elab_laws.proofs.Making.{Keeps}
-use Rattle.life_proper.specs.declared.known.Known.{Known}
-use Rattle.life_core.specs.declared.program.Local.{Local}
-use Rattle.life_types.specs.declared.ty.NameId.{NameId}
-use Rattle.life_types.specs.Types.{Types}
-use Rattle.std.proofs.lemmas.Bool.{and_from}
-use Rattle.life_core.specs.Holdings.{sort_of}
 use Rattle.std.proofs.Common.{◌≡◌, ℕ, zero, suc, Bool, true, false, ◌&&◌, ◌||◌, is_none, List, [], ◌∷◌, length, slice_get, Option, Some, None, refl, sym, ap, ◌∙◌, subst, arith}
+use Rattle.std.proofs.lemmas.Bool.{and_from}
+use Rattle.life_types.specs.Types.{Types}
+use Rattle.life_types.specs.declared.ty.NameId.{NameId}
+use Rattle.life_core.specs.Function.{Function}
+use Rattle.life_core.specs.Holdings.{sort_of}
+use Rattle.life_core.specs.declared.program.Local.{Local}
+use Rattle.life_proper.specs.declared.known.Known.{Known}
 use Rattle.life_proper.specs.declared.known.Known.TheVariants as known
 use Rattle.life_proper.specs.Checking.{Flow, before_next, joined}
 use Rattle.life_proper.specs.Knowing.{State, agreed_all, are_implied, forgotten, is_implied, is_intermediate, known_as, known_at, met, same, is_blank, is_forgotten, is_register}
+use Rattle.life_elab_laws.proofs.Among.{Among}
 use Rattle.life_elab_laws.proofs.Knowledge.{agreed_length, at_agreed}
+use Rattle.life_elab_laws.proofs.Making.{Keeps}
 
 module _ (types : Types) (fs : List Function) (f : Function) where
   -- these variables live, and no other one does

@@ -1,25 +1,25 @@
 -- Each well typed expression that is built is of one of these kinds.
-use Rattle.life_typed.specs.Programs.{FunctionForm}
-use Rattle.life_typed.specs.declared.typed_expr.Category.{Category}
-use Rattle.life_typed.specs.declared.typed_expr.ExprType.{ExprType}
-use Rattle.life_typed.specs.declared.typed_expr.ExprType.TheVariants.{Of}
-use Rattle.life_types.specs.declared.ty.Ty.{Ty}
-use Rattle.life_types.specs.declared.ty.TyId.{TyId}
-use Rattle.life_typed.specs.declared.typed_program.TypedLocal.{TypedLocal}
-use Rattle.life_types.specs.Types.{Types}
-use Rattle.life_well_typed.specs.Given.{is_number}
-use Rattle.life_names.specs.Found.{not_found}
 use Rattle.std.proofs.Common.{◌≡◌, ℕ, zero, suc, Bool, true, false, cond, List, [], ◌∷◌, Option, Some, None, Ok, slice_get, refl, sym, ap, ◌∙◌, subst, true≢false}
 use Rattle.std.proofs.lemmas.Bool.{and_parts, false≢true}
+use Rattle.life_types.specs.Types.{Types}
+use Rattle.life_types.specs.declared.ty.Ty.{Ty}
 use Rattle.life_types.specs.declared.ty.Ty.TheVariants as ty
+use Rattle.life_types.specs.declared.ty.TyId.{TyId}
 use Rattle.life_built.specs.Built.{are_built_functions, are_built_variables, is_built_function, is_built_result, is_built_variable}
+use Rattle.life_names.specs.Found.{not_found}
 use Rattle.life_names.specs.declared.fault.IllKind.TheVariants as kinds
 use Rattle.life_typed.specs.BaseTypes.{is_raw, is_value, type_at}
 use Rattle.life_typed.specs.Operators.{dereferenced, is_condition, negated, negated_type, promoted}
-use Rattle.life_typed.specs.TypedForm.{Form, Typed, number, local, dereference, not, typed}
+use Rattle.life_typed.specs.Programs.{FunctionForm}
+use Rattle.life_typed.specs.TypedForm.{Form, Typed, local, dereference, not, typed}
+use Rattle.life_typed.specs.declared.typed_expr.Category.{Category}
 use Rattle.life_typed.specs.declared.typed_expr.Category.TheVariants as category
+use Rattle.life_typed.specs.declared.typed_expr.ExprType.{ExprType}
+use Rattle.life_typed.specs.declared.typed_expr.ExprType.TheVariants.{Of}
+use Rattle.life_typed.specs.declared.typed_program.TypedLocal.{TypedLocal}
 use Rattle.life_type_expr.specs.Operands.{dereferenced_to, inverted, negated_to, number_type, place_of, pointed_to, value}
 use Rattle.life_well_typed.specs.Expressions.{HasResult, IsAddress, IsVariable}
+use Rattle.life_well_typed.specs.Given.{is_number}
 use Rattle.life_elab_laws.proofs.TypedKinds.{HasKind, IsKind, a_null, a_number, a_pointer, err_ok, kind_of_result, kind_of_variable, no_value, ok_same, promoted_value, value_place}
 
 -- ---- what is built

@@ -1,28 +1,27 @@
 -- The types of expressions that are built.
-use Rattle.life_typed.specs.declared.typed_expr.ExprType.{ExprType}
-use Rattle.life_typed.specs.Programs.{ProgramForm}
-use Rattle.life_types.specs.declared.ty.Ty.{Ty}
-use Rattle.life_typed.specs.declared.typed_program.TypedLocal.{TypedLocal}
-use Rattle.life_types.specs.Types.{Types}
-use Rattle.std.proofs.lemmas.Bool.{false≢true}
-use Rattle.life_proper.specs.OperandTypes.{is_promoted}
-use Rattle.life_built.specs.Built.{is_void}
-use Rattle.life_writer.specs.Around.{own_type}
-use Rattle.life_elab_laws.proofs.OperatorTypes.{promoted_is}
 use Rattle.std.proofs.Common.{◌≡◌, ◌⊎◌, inl, inr, ℕ, true, false, ◌||◌, List, refl, sym, ap, ◌∙◌, subst, true≢false, Ok}
+use Rattle.std.proofs.lemmas.Bool.{false≢true}
+use Rattle.life_types.specs.Types.{Types}
+use Rattle.life_types.specs.declared.ty.Ty.{Ty}
 use Rattle.life_types.specs.declared.ty.Ty.TheVariants as ty
+use Rattle.life_built.specs.Built.{is_void}
 use Rattle.life_typed.specs.BaseTypes.{is_raw, is_value}
 use Rattle.life_typed.specs.Operators.{is_condition, negated, negated_type, promoted}
-use Rattle.life_typed.specs.TypedForm.{Form, Typed, number, call, typed}
+use Rattle.life_typed.specs.Programs.{ProgramForm}
+use Rattle.life_typed.specs.TypedForm.{Form, Typed, typed}
 use Rattle.life_typed.specs.declared.typed_expr.Category.TheVariants as category
-use Rattle.life_typed.specs.declared.typed_expr.ExprType.TheVariants.{Of, NullPointer, TextLiteral}
+use Rattle.life_typed.specs.declared.typed_expr.ExprType.{ExprType}
+use Rattle.life_typed.specs.declared.typed_expr.ExprType.TheVariants.{NullPointer, Of, TextLiteral}
+use Rattle.life_typed.specs.declared.typed_program.TypedLocal.{TypedLocal}
 use Rattle.life_type_expr.specs.Operands.{answer_of, negated_to}
+use Rattle.life_proper.specs.OperandTypes.{is_promoted}
 use Rattle.life_well_typed.specs.Expressions.{IsExpression, typed_in}
 use Rattle.life_well_typed.specs.Given.{is_number, is_pointer}
+use Rattle.life_writer.specs.Around.{own_type}
 use Rattle.life_writer.specs.Around as around
 use Rattle.life_writer.specs.Conditions.{is_null, stands_for_null}
-use Rattle.life_writer.specs.Expressions.{condition, operand, pointer, value}
-use Rattle.life_elab_laws.proofs.TypedKinds.{HasKind, a_null, a_number, a_pointer, no_value, ok_same, IsKind, err_ok}
+use Rattle.life_elab_laws.proofs.OperatorTypes.{promoted_is}
+use Rattle.life_elab_laws.proofs.TypedKinds.{HasKind, IsKind, a_null, a_number, a_pointer, err_ok, no_value, ok_same}
 use Rattle.life_elab_laws.proofs.WrittenLocals.{fits_register, value_fits}
 
 -- ---- types of expressions

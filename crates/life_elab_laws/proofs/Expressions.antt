@@ -1,65 +1,60 @@
 -- What is written for a well typed expression, by one recursion: each form says by one way how it is written, and has all laws by that.
-use Rattle.life_typed.specs.declared.typed_expr.BinaryOperator.{BinaryOperator}
-use Rattle.life_typed.specs.declared.typed_expr.Category.{Category}
-use Rattle.life_typed.specs.declared.typed_expr.ExprType.{ExprType}
-use Rattle.life_core.specs.Function.{Function}
-use Rattle.life_typed.specs.Programs.{FunctionForm}
-use Rattle.life_types.specs.declared.place.Place.{Place}
-use Rattle.life_elab_laws.proofs.Setting.{Setting}
-use Rattle.life_core.specs.Tree.{Tree}
-use Rattle.life_types.specs.declared.ty.Ty.{Ty}
-use Rattle.life_types.specs.declared.ty.TyId.{TyId}
-use Rattle.life_typed.specs.declared.typed_program.TypedLocal.{TypedLocal}
-use Rattle.life_types.specs.Types.{Types}
-use Rattle.life_elab_laws.proofs.Making.{a_target}
-use Rattle.life_proper.specs.WellFormed.{answer_of}
-use Rattle.life_well_typed.specs.Statements.{ends_in_arguments}
-use Rattle.life_elab_laws.proofs.GivenKinds.{given_number}
-use Rattle.life_built.specs.Built.{is_built_form}
-use Rattle.life_proper.specs.Placed.{is_const_place}
-use Rattle.std.specs.Prelude.{pos}
-use Rattle.std.proofs.Common.{◌≡◌, ◌⊎◌, inl, inr, ℕ, zero, suc, Bool, true, false, cond, List, [], ◌∷◌, Contains, slice_get, Option, Some, None, refl, sym, ap, ◌∙◌, subst, unwrap_or}
+use Rattle.std.proofs.Common.{◌≡◌, ◌⊎◌, inl, inr, ℕ, zero, suc, Bool, true, false, List, [], ◌∷◌, Contains, slice_get, Option, Some, None, refl, sym, ap, ◌∙◌, subst, unwrap_or}
 use Rattle.std.proofs.lemmas.Bool.{and_from, and_parts, false≢true}
-use Rattle.life_types.specs.contracts.ty.TyPartialEq.TheImpl.{ghosts as compared}
+use Rattle.std.specs.Prelude.{pos}
+use Rattle.life_types.specs.Types.{Types}
+use Rattle.life_types.specs.declared.place.Place.{Place}
+use Rattle.life_types.specs.declared.ty.Ty.{Ty}
 use Rattle.life_types.specs.declared.ty.Ty.TheVariants as ty
+use Rattle.life_types.specs.declared.ty.TyId.{TyId}
+use Rattle.life_built.specs.Built.{is_built_form}
 use Rattle.life_typed.specs.BaseTypes.{is_raw, is_value, type_at}
-use Rattle.life_typed.specs.Operators.{is_condition, promoted}
+use Rattle.life_typed.specs.Operators.{promoted}
+use Rattle.life_typed.specs.Programs.{FunctionForm}
 use Rattle.life_typed.specs.TypedForm.{Form, Typed, number, character, boolean, text, null, local, call, construct, paren, move, make_unique, text_of, input, member, dereference, index, method, negate, not, address_of, binary, typed, nothing, ◌⨟◌}
+use Rattle.life_typed.specs.declared.typed_expr.BinaryOperator.{BinaryOperator}
 use Rattle.life_typed.specs.declared.typed_expr.Category.TheVariants as category
-use Rattle.life_typed.specs.declared.typed_expr.ExprType.TheVariants.{Of, NullPointer}
-use Rattle.life_type_expr.specs.Operands.{number_type, value as value_typed, variable_of}
-use Rattle.life_core.specs.Operands.{Argument, Location, Operand, Null, Place as Aimed, Through, whole}
+use Rattle.life_typed.specs.declared.typed_expr.ExprType.{ExprType}
+use Rattle.life_typed.specs.declared.typed_expr.ExprType.TheVariants.{NullPointer, Of}
+use Rattle.life_typed.specs.declared.typed_program.TypedLocal.{TypedLocal}
+use Rattle.life_type_expr.specs.Operands.{number_type, variable_of}
+use Rattle.life_core.specs.Function.{Function}
+use Rattle.life_core.specs.Operands.{Argument, Location, Null, Operand, Place as Aimed, Through, whole}
+use Rattle.life_core.specs.Tree.{Tree}
 use Rattle.life_pset.specs.Shapes as shapes
 use Rattle.life_proper.specs.OperandTypes.{aims_at, keeps_const}
 use Rattle.life_proper.specs.OperandTypes as operands
+use Rattle.life_proper.specs.Placed.{is_const_place}
 use Rattle.life_proper.specs.Placed as placed
+use Rattle.life_proper.specs.WellFormed.{answer_of}
 use Rattle.life_well_typed.specs.Expressions.{AreExpressions, HasResult, IsExpression, IsMadeOf, IsVariable, are_given, parameter_types, typed_in}
 use Rattle.life_well_typed.specs.Given.{is_given, is_number, is_pointer}
 use Rattle.life_writer.specs.Around.{Around, own_type, parameters_of}
 use Rattle.life_writer.specs.Around as around
-use Rattle.life_writer.specs.Calls.{Called, call_of}
+use Rattle.life_writer.specs.Calls.{Called}
 use Rattle.life_writer.specs.Expressions.{common, condition, decision, handed_over, made, operand, pointer, pointing, value}
-use Rattle.life_writer.specs.Pointers.{Pointing, At, As, located}
-use Rattle.life_writer.specs.Registers.{as_type, computed, conversion}
+use Rattle.life_writer.specs.Pointers.{As, At, Pointing}
 use Rattle.life_writer.specs.Values as values
 use Rattle.life_writer.specs.Variables.{variable, variable_place}
-use Rattle.life_writer.specs.Writing.{State, Gives, gives, with_code}
+use Rattle.life_writer.specs.Writing.{Gives, State, gives}
 use Rattle.life_elab_laws.proofs.CallParts.{call_part, handed_part, none_handed}
-use Rattle.life_elab_laws.proofs.Conditions.{Tests, by_branch_part, condition_part, negation_part}
+use Rattle.life_elab_laws.proofs.Conditions.{Tests, negation_part}
 use Rattle.life_elab_laws.proofs.Deciding.{binary_decided, binary_numbers, no_test}
+use Rattle.life_elab_laws.proofs.ExpressionForms.{IsCall, IsForm, IsWhole, decided_form, literal, no_place, of_number, paren_form, place_form, pointer_form, value_form, whole_of}
 use Rattle.life_elab_laws.proofs.ExpressionKinds.{IsAddressed, IsDereferenced, addressed_as, dereferenced_as, function_built, inverted_as, kind_local, negated_as, number_value, result_built, variable_built}
-use Rattle.life_elab_laws.proofs.ExpressionTypes.{condition_number, negated_promoted, number_no_pointer, own_value, pointer_fits, pointer_type, raw_is, result_kind, result_value, type_in_own}
+use Rattle.life_elab_laws.proofs.ExpressionTypes.{negated_promoted, number_no_pointer, own_value, pointer_type, result_kind, result_value, type_in_own}
 use Rattle.life_elab_laws.proofs.FormedVariables.{behind_place, const_same, pointer_formed, type_later, variable_formed}
-use Rattle.life_elab_laws.proofs.Fronts.{front_length, front_then}
 use Rattle.life_elab_laws.proofs.Gifts.{IsGivenAs, a_number, a_place, a_pointer, a_pointing, arguments}
 use Rattle.life_elab_laws.proofs.Gifts as gifts
-use Rattle.life_elab_laws.proofs.Instructions.{IsIntoOf, as_type_part, constant_part, input_part, located_part, negated_part, operated_part, read_part}
+use Rattle.life_elab_laws.proofs.GivenKinds.{given_number}
+use Rattle.life_elab_laws.proofs.Instructions.{IsIntoOf, constant_part, input_part, negated_part, operated_part}
+use Rattle.life_elab_laws.proofs.Making.{a_target}
 use Rattle.life_elab_laws.proofs.OperandsThere.{value_either, value_same}
 use Rattle.life_elab_laws.proofs.OperatorTypes.{number_answer, promoted_is}
-use Rattle.life_elab_laws.proofs.Parts.{Makes, leaf_part, seen_part, then_part}
-use Rattle.life_elab_laws.proofs.TypedKinds.{HasKind, IsCombined, IsKind, IsOperand, a_null, a_number as is_number_kind, a_pointer as is_pointer_kind, answer_value, combined_as, kind_of_place, kind_of_result, kind_same, no_value, none_some, ok_same, operand_kind, place_same, promoted_value, some_same, value_place}
-use Rattle.life_elab_laws.proofs.VariablePlaces.{Stands, named_raw, pointer_there, stands_apart, stands_later, variable_there}
-use Rattle.life_elab_laws.proofs.WrittenLocals.{fits_below, fits_later, fits_register}
+use Rattle.life_elab_laws.proofs.Parts.{Makes, leaf_part, seen_part}
+use Rattle.life_elab_laws.proofs.Setting.{Setting}
+use Rattle.life_elab_laws.proofs.TypedKinds.{HasKind, IsCombined, IsKind, IsOperand, a_null, a_number as is_number_kind, a_pointer as is_pointer_kind, answer_value, combined_as, kind_of_place, kind_of_result, no_value, none_some, ok_same, operand_kind, place_same, promoted_value, some_same, value_place}
+use Rattle.life_elab_laws.proofs.VariablePlaces.{Stands, named_raw, pointer_there, stands_later, variable_there}
 
 module _ (a : Around) (visible : List ℕ) (types : Types) (texts : ℕ) (fs : List Function) (f : Function) (setting : Setting a types fs f) where
   abbrev pub Standing : State → Type 0
@@ -82,211 +77,6 @@ module _ (a : Around) (visible : List ℕ) (types : Types) (texts : ℕ) (fs : L
 
   abbrev pub Decided : State → Gives Tree → Type 0
   Decided s w = Tests types texts fs f s w
-
-  -- ---- what is asked
-
-  -- of the call that an expression is, also in parentheses
-  pub record IsCall (c : Called) (t : ExprType) : Type 0 where
-    pub of : FunctionForm
-    pub there : slice_get a.program.functions c.function ≡ Some of
-    pub kind : (t ≡ Of ty.Void) ⊎ (is_number t ≡ true)
-    pub worth : is_number t ≡ true → is_value (type_at a.program.types of.result) ≡ true
-    pub own : t ≡ Of (type_at a.program.types of.result)
-    pub hands : (s : State) → Standing s → Hands of s (handed_over a c.arguments (around.parameter_types a c.function) s)
-
-  -- of what an expression is made by
-  pub record IsForm (form : Form) (e : Typed) : Type 0 where
-    pub kind : IsKind a.program.types e
-    -- a number that is neither a place nor decided by tests is computed
-    pub computes : e.category ≡ category.Value → is_number e.ty ≡ true → (place : Place) → decision a form place ≡ None → (into : Option ℕ) (s : State) → IsIntoOf (own_type e.ty) s into → Standing s
-        → Valued (own_type e.ty) into s (made a form place (own_type e.ty) into s)
-    -- .. in the register that is wanted
-    pub lands : e.category ≡ category.Value → is_number e.ty ≡ true → (place : Place) → decision a form place ≡ None → (r : ℕ) (s : State) → (made a form place (own_type e.ty) (Some r) s).given ≡ r
-    -- a place with a value is named
-    pub names : (id : TyId) (constant : Bool) → e.category ≡ category.Place id constant → is_value (type_at a.program.types id) ≡ true → (s : State) → Standing s → Placed (type_at a.program.types id) constant s (operand a form s)
-    -- a pointer points
-    pub points : is_pointer e.ty ≡ true → (s : State) → Standing s → Points e.ty s (pointing a form s)
-    -- what is made of conditions decides
-    pub decides : (place : Place) (w : State → Gives Tree) → decision a form place ≡ Some w → (s : State) → Standing s → Decided s (w s)
-    -- what is a call is one of a function that is there; and what stands alone and is none is a number
-    pub calls : (c : Called) → call_of form ≡ Some c → IsCall c e.ty
-    pub alone : ends_in_arguments form ≡ true → call_of form ≡ None → is_number e.ty ≡ true
-
-  -- of a whole expression
-  pub record IsWhole (form : Form) : Type 0 where
-    pub kind : IsKind a.program.types (typed_in form)
-    pub valued : is_number (typed_in form).ty ≡ true → (to : Ty) → is_value to ≡ true → (into : Option ℕ) (s : State) → IsIntoOf to s into → Standing s → Valued to into s (value a form to into s)
-    pub lands : is_number (typed_in form).ty ≡ true → (to : Ty) (r : ℕ) (s : State) → (value a form to (Some r) s).given ≡ r
-    pub names : (id : TyId) (constant : Bool) → (typed_in form).category ≡ category.Place id constant → is_value (type_at a.program.types id) ≡ true → (s : State) → Standing s → Placed (type_at a.program.types id) constant s (operand a form s)
-    pub points : is_pointer (typed_in form).ty ≡ true → (s : State) → Standing s → Points (typed_in form).ty s (pointing a form s)
-    pub pointers : (u : Ty) → (typed_in form).ty ≡ Of u → is_raw u ≡ true → (s : State) → Standing s → Pointed u s (pointer a form s)
-    pub conditions : is_condition (typed_in form).ty ≡ true → (s : State) → Standing s → Decided s (condition a form s)
-    pub decides : (place : Place) (w : State → Gives Tree) → decision a form place ≡ Some w → (s : State) → Standing s → Decided s (w s)
-    pub calls : (c : Called) → call_of form ≡ Some c → IsCall c (typed_in form).ty
-
-  -- ---- a whole expression, of what it is made by
-
-  value_from : (d : Option (State → Gives Tree)) (t : Ty) (place : Place) (c : Category) (at : State → Gives Operand) (make : Option ℕ → State → Gives ℕ) (into : Option ℕ) (s : State)
-      → is_value t ≡ true → IsIntoOf t s into → Standing s
-      → ((w : State → Gives Tree) → d ≡ Some w → Decided s (w s))
-      → (d ≡ None → c ≡ category.Value → Valued t into s (make into s))
-      → ((id : TyId) (constant : Bool) → c ≡ category.Place id constant → Placed t constant s (at s))
-      → Valued t into s (values.value_from t place c d at make into s)
-  value_from (Some w) t place c at make into s v wanted stands decides makes places = by_branch_part types texts fs f into t place w s v wanted stands.opened (decides w refl)
-  value_from None t place category.Value at make into s v wanted stands decides makes places = makes refl refl
-  value_from None t place (category.Place id constant) at make into s v wanted stands decides makes places =
-      read_part types texts fs f t constant place at into s v wanted stands.opened (places id constant refl)
-
-  -- .. it lands in the register that is wanted
-  lands_from : (t : Ty) (place : Place) (d : Option (State → Gives Tree)) (c : Category) (at : State → Gives Operand) (make : Option ℕ → State → Gives ℕ) (r : ℕ) (s : State)
-      → (d ≡ None → c ≡ category.Value → (make (Some r) s).given ≡ r) → (values.value_from t place c d at make (Some r) s).given ≡ r
-  lands_from t place (Some w) c at make r s makes = refl
-  lands_from t place None category.Value at make r s makes = makes refl refl
-  lands_from t place None (category.Place id constant) at make r s makes = refl
-
-  lands_as : (from to : Ty) (place : Place) (given : Option ℕ → State → Gives ℕ) (r : ℕ) (s : State) → (given (Some r) s).given ≡ r → (as_type from to place given (Some r) s).given ≡ r
-  lands_as from to place given r s here = go (compared.eq from to)
-    where
-      go : (b : Bool) → (cond b (given (Some r) s) (computed (Some r) to place (conversion (given None s).given) (given None s).state)).given ≡ r
-      go true = here
-      go false = refl
-
-  pointer_part : (w : State → Gives Pointing) (t : ExprType) (u : Ty) (place : Place) (s : State) → t ≡ Of u → is_raw u ≡ true → fits_register a.program.types u ≡ true → Standing s → Points t s (w s)
-      → Pointed u s (located place (own_type t) (w s).given (w s).state)
-  pointer_part w t u place s is raw fits stands first =
-      subst (λ (x : ExprType). Pointed u s (located place (own_type x) (w s).given (w s).state)) (sym is) (go (subst (λ (x : ExprType). Points x s (w s)) is first))
-    where
-      go : Points (Of u) s (w s) → Pointed u s (located place u (w s).given (w s).state)
-      go first =
-          then_part types texts fs f (gifts.nothing types texts fs f) tt None s (w s) _ (a_pointing types texts fs f (Of u)) (a_pointer types texts fs f u) stands.opened first
-          (located_part types texts fs f (w s).given u place (w s).state raw (fits_later a.program.types types setting.front u fits)
-          (fits_below a.program.types (w s).state.types (front_length a.program.types.types (w s).state.types.types (front_then a.program.types.types s.types.types (w s).state.types.types stands.table first.grown.types)) u fits))
-
-  whole_of : (place : Place) (t : ExprType) (c : Category) (form : Form) → IsForm form (record { place = place; ty = t; category = c; form = form }) → IsWhole (typed place t c form)
-  whole_of place t c form is = record {
-    kind = is.kind;
-    valued = λ n to v into s wanted stands.
-        as_type_part types texts fs f (gifts.nothing types texts fs f) tt (own_type t) to place (values.value_from (own_type t) place c (decision a form place) (operand a form) (made a form place (own_type t))) into s v wanted stands.opened
-        (λ i wanted. own_value_part n i s wanted stands);
-    lands = λ n to r s.
-        lands_as (own_type t) to place (values.value_from (own_type t) place c (decision a form place) (operand a form) (made a form place (own_type t))) r s
-        (lands_from (own_type t) place (decision a form place) c (operand a form) (made a form place (own_type t)) r s (λ none at. is.lands at n place none r s));
-    names = is.names;
-    points = is.points;
-    pointers = λ u at raw s stands. pointer_part (pointing a form) t u place s at raw (fits u at raw) stands (is.points (ap is_pointer at ∙ raw) s stands);
-    conditions = λ h s stands.
-        let apart = stands_apart types fs f a visible s stands in
-        condition_part types texts fs f (decision a form place) (own_type t) place (pointer a (typed place t c form)) (values.read_or_made (own_type t) place c (operand a form) (made a form place (own_type t)) None) s
-        (λ w at. is.decides place w at s stands)
-        (λ none raw. let at = raw_is t raw in pointer_part (pointing a form) t (own_type t) place (with_code [] s) at raw (fits (own_type t) at raw) apart (is.points (ap is_pointer at ∙ raw) (with_code [] s) apart))
-        (λ none raw.
-        let n = condition_number a.program.types e is.kind.kind h raw in
-        value_from None (own_type t) place c (operand a form) (made a form place (own_type t)) None (with_code [] s) (own_value t n) tt apart (λ w at. absurd (none_some at))
-        (λ un at. is.computes at n place none None (with_code [] s) tt apart)
-        (λ id constant at. named n id constant at (with_code [] s) apart));
-    decides = λ at w eq s stands. is.decides place w eq s stands;
-    calls = is.calls;
-  }
-    where
-      e : Typed
-      e = record { place = place; ty = t; category = c; form = form }
-
-      fits : (u : Ty) → t ≡ Of u → is_raw u ≡ true → fits_register a.program.types u ≡ true
-      fits u at raw = subst (λ (x : ExprType). fits_register a.program.types (own_type x) ≡ true) at (pointer_fits a.program.types e is.kind.kind (ap (λ (x : ExprType). is_raw (own_type x)) at ∙ raw))
-
-      named : is_number t ≡ true → (id : TyId) (constant : Bool) → c ≡ category.Place id constant → (s : State) → Standing s → Placed (own_type t) constant s (operand a form s)
-      named n id constant at s stands =
-          let own = is.kind.place id constant at in
-          subst (λ (u : Ty). Placed u constant s (operand a form s)) (sym (ap own_type own)) (is.names id constant at (sym (ap is_number own) ∙ n) s stands)
-
-      own_value_part : is_number t ≡ true → (into : Option ℕ) (s : State) → IsIntoOf (own_type t) s into → Standing s
-          → Valued (own_type t) into s (values.value_from (own_type t) place c (decision a form place) (operand a form) (made a form place (own_type t)) into s)
-      own_value_part n into s wanted stands =
-          value_from (decision a form place) (own_type t) place c (operand a form) (made a form place (own_type t)) into s (own_value t n) wanted stands
-          (λ w at. is.decides place w at s stands)
-          (λ none at. is.computes at n place none into s wanted stands)
-          (λ id constant at. named n id constant at s stands)
-
-  -- ---- the ways to make a form
-
-  -- what is no place
-  no_place : (form : Form) (e : Typed) → e.category ≡ category.Value → (id : TyId) (constant : Bool) → e.category ≡ category.Place id constant → is_value (type_at a.program.types id) ≡ true → (s : State) → Standing s
-      → Placed (type_at a.program.types id) constant s (operand a form s)
-  no_place form e is id constant at v s stands = absurd (value_place (sym is ∙ at))
-
-  of_number : (t : ExprType) (u : Ty) → t ≡ Of u → is_value u ≡ true → is_number t ≡ true
-  of_number t u is v = ap is_number is ∙ v
-
-  -- a value of a type, by tests or not
-  decided_form : (form : Form) (e : Typed) (t : Ty) → e.ty ≡ Of t → e.category ≡ category.Value → is_value t ≡ true → call_of form ≡ None
-      → ((place : Place) → decision a form place ≡ None → (into : Option ℕ) (s : State) → IsIntoOf t s into → Standing s → Valued t into s (made a form place t into s))
-      → ((place : Place) → decision a form place ≡ None → (r : ℕ) (s : State) → (made a form place t (Some r) s).given ≡ r)
-      → ((place : Place) (w : State → Gives Tree) → decision a form place ≡ Some w → (s : State) → Standing s → Decided s (w s)) → IsForm form e
-  decided_form form e t is c v none makes lands decides = record {
-    kind = record { kind = is_number_kind t is v; place = λ id constant at. absurd (value_place (sym c ∙ at)) };
-    computes = λ at n place un into s wanted stands.
-        subst (λ (u : Ty). IsIntoOf u s into → Valued u into s (made a form place u into s)) (sym (ap own_type is)) (λ w. makes place un into s w stands) wanted;
-    lands = λ at n place un r s. subst (λ (u : Ty). (made a form place u (Some r) s).given ≡ r) (sym (ap own_type is)) (lands place un r s);
-    names = no_place form e c;
-    points = λ p. absurd (number_no_pointer e.ty (of_number e.ty t is v) p);
-    decides = decides;
-    calls = λ d at. absurd (none_some (sym none ∙ at));
-    alone = λ ends at. of_number e.ty t is v;
-  }
-
-  value_form : (form : Form) (e : Typed) (t : Ty) → e.ty ≡ Of t → e.category ≡ category.Value → is_value t ≡ true → call_of form ≡ None → ((place : Place) → decision a form place ≡ None)
-      → ((place : Place) (into : Option ℕ) (s : State) → IsIntoOf t s into → Standing s → Valued t into s (made a form place t into s))
-      → ((place : Place) (r : ℕ) (s : State) → (made a form place t (Some r) s).given ≡ r) → IsForm form e
-  value_form form e t is c v none plain makes lands =
-      decided_form form e t is c v none (λ place un. makes place) (λ place un. lands place) (λ place w at. absurd (none_some (sym (plain place) ∙ at)))
-
-  -- a value that is given by its type alone
-  literal : (form : Form) (e : Typed) (t : Ty) → e ≡ value_typed e.place t e.form → is_value t ≡ true → call_of form ≡ None → ((place : Place) → decision a form place ≡ None)
-      → ((place : Place) (into : Option ℕ) (s : State) → IsIntoOf t s into → Standing s → Valued t into s (made a form place t into s))
-      → ((place : Place) (r : ℕ) (s : State) → (made a form place t (Some r) s).given ≡ r) → IsForm form e
-  literal form e t is v none plain makes lands = value_form form e t (ap (λ (y : Typed). y.ty) is) (ap (λ (y : Typed). y.category) is) v none plain makes lands
-
-  -- a pointer that is no place
-  pointer_form : (form : Form) (e : Typed) → IsKind a.program.types e → e.category ≡ category.Value → (is_number e.ty ≡ true → ⊥) → call_of form ≡ None → ends_in_arguments form ≡ false → ((place : Place) → decision a form place ≡ None)
-      → (is_pointer e.ty ≡ true → (s : State) → Standing s → Points e.ty s (pointing a form s)) → IsForm form e
-  pointer_form form e kind c never none ends plain points = record {
-    kind = kind;
-    computes = λ at n. absurd (never n);
-    lands = λ at n. absurd (never n);
-    names = no_place form e c;
-    points = points;
-    decides = λ place w at. absurd (none_some (sym (plain place) ∙ at));
-    calls = λ d at. absurd (none_some (sym none ∙ at));
-    alone = λ h at. absurd (false≢true (sym ends ∙ h));
-  }
-
-  -- a place
-  place_form : (form : Form) (e : Typed) → IsKind a.program.types e → (e.category ≡ category.Value → ⊥) → call_of form ≡ None → ends_in_arguments form ≡ false → ((place : Place) → decision a form place ≡ None)
-      → ((id : TyId) (constant : Bool) → e.category ≡ category.Place id constant → is_value (type_at a.program.types id) ≡ true → (s : State) → Standing s → Placed (type_at a.program.types id) constant s (operand a form s))
-      → (is_pointer e.ty ≡ true → (s : State) → Standing s → Points e.ty s (pointing a form s)) → IsForm form e
-  place_form form e kind c none ends plain names points = record {
-    kind = kind;
-    computes = λ at. absurd (c at);
-    lands = λ at. absurd (c at);
-    names = names;
-    points = points;
-    decides = λ place w at. absurd (none_some (sym (plain place) ∙ at));
-    calls = λ d at. absurd (none_some (sym none ∙ at));
-    alone = λ h at. absurd (false≢true (sym ends ∙ h));
-  }
-
-  -- what is in parentheses
-  paren_form : (inner : Form) (closing : Place) (e : Typed) → (typed_in inner).ty ≡ e.ty → (typed_in inner).category ≡ e.category → IsWhole inner → IsForm (paren inner closing) e
-  paren_form inner closing e t c is = record {
-    kind = kind_same a.program.types (typed_in inner) e (sym t) (sym c) is.kind;
-    computes = λ at n place none into s wanted stands. is.valued (ap is_number t ∙ n) (own_type e.ty) (own_value e.ty n) into s wanted stands;
-    lands = λ at n place none r s. is.lands (ap is_number t ∙ n) (own_type e.ty) r s;
-    names = λ id constant at. is.names id constant (c ∙ at);
-    points = λ p s stands. subst (λ (x : ExprType). Points x s (pointing a inner s)) t (is.points (ap is_pointer t ∙ p) s stands);
-    decides = is.decides;
-    calls = λ d at. subst (IsCall d) t (is.calls d at);
-    alone = λ ends at. absurd (false≢true ends);
-  }
 
   -- ---- variables
 
@@ -352,8 +142,8 @@ module _ (a : Around) (visible : List ℕ) (types : Types) (texts : ℕ) (fs : L
       go (no_value at v) = v
       go (a_null at v) = v
 
-  variable_form : (x : ℕ) (e : Typed) → Contains visible x → IsVariable a.program.types x (slice_get a.function.locals x) e → IsForm (local x) e
-  variable_form x e c h = place_form (local x) e kind (variable_no_value x e h) refl refl (λ place. refl) (λ id constant at v s stands. variable_names x e s stands c h id constant at v) (λ p s stands. go (pointer_type e.ty p) s stands)
+  variable_form : (x : ℕ) (e : Typed) → Contains visible x → IsVariable a.program.types x (slice_get a.function.locals x) e → IsForm a visible types texts fs f setting (local x) e
+  variable_form x e c h = place_form a visible types texts fs f setting (local x) e kind (variable_no_value x e h) refl refl (λ place. refl) (λ id constant at v s stands. variable_names x e s stands c h id constant at v) (λ p s stands. go (pointer_type e.ty p) s stands)
     where
       kind : IsKind a.program.types e
       kind = kind_local a.program.types a.function.locals x e setting.variables h
@@ -371,15 +161,15 @@ module _ (a : Around) (visible : List ℕ) (types : Types) (texts : ℕ) (fs : L
       ap shapes.or_void (setting.front of.result.0 t.0 t.1) ∙ sym (ap (λ (o : Option Ty). unwrap_or o ty.Void) t.1)
 
   call_form : (g : ℕ) (given : Form) (closing : Place) (e : Typed) → HasResult a.program.types (slice_get a.program.functions g) e
-      → ((of : FunctionForm) → slice_get a.program.functions g ≡ Some of → (s : State) → Standing s → Hands of s (handed_over a given (parameter_types (Some of)) s)) → IsForm (call g given closing) e
+      → ((of : FunctionForm) → slice_get a.program.functions g ≡ Some of → (s : State) → Standing s → Hands of s (handed_over a given (parameter_types (Some of)) s)) → IsForm a visible types texts fs f setting (call g given closing) e
   call_form g given closing e h hands = go (slice_get a.program.functions g) refl h
     where
-      go : (o : Option FunctionForm) → slice_get a.program.functions g ≡ o → HasResult a.program.types o e → IsForm (call g given closing) e
+      go : (o : Option FunctionForm) → slice_get a.program.functions g ≡ o → HasResult a.program.types o e → IsForm a visible types texts fs f setting (call g given closing) e
       go None at h = absurd h
       go (Some of) at h =
           let built = result_built a.program.types of (function_built a.program.types a.program.functions g of setting.functions at) in
           let k = result_kind (type_at a.program.types of.result) a.program.types e built h in
-          let is : IsCall (record { function = g; arguments = given }) e.ty = record {
+          let is : IsCall a visible types texts fs f setting (record { function = g; arguments = given }) e.ty = record {
             of = of;
             there = at;
             kind = k.0;
@@ -393,10 +183,10 @@ module _ (a : Around) (visible : List ℕ) (types : Types) (texts : ℕ) (fs : L
                 call_part types texts fs f a.program.types g of into (own_type e.ty) place s (handed_over a given (around.parameter_types a g) s) (setting.callees g of at) (k.1 n) (result_later g of at ∙ sym (ap own_type k.2))
                 (own_value e.ty n) wanted stands.opened (is.hands s stands);
             lands = λ c n place none r s. refl;
-            names = no_place (call g given closing) e (result_value (type_at a.program.types of.result) a.program.types e built h);
+            names = no_place a visible types texts fs f setting (call g given closing) e (result_value (type_at a.program.types of.result) a.program.types e built h);
             points = λ p. absurd (no_pointer k.0 p);
             decides = λ place w at. absurd (none_some at);
-            calls = λ c at. subst (λ (d : Called). IsCall d e.ty) (some_same at) is;
+            calls = λ c at. subst (λ (d : Called). IsCall a visible types texts fs f setting d e.ty) (some_same at) is;
             alone = λ ends none. absurd (none_some (sym none));
           }
         where
@@ -406,10 +196,10 @@ module _ (a : Around) (visible : List ℕ) (types : Types) (texts : ℕ) (fs : L
 
   -- ---- pointers
 
-  dereference_form : (inner : Form) (e : Typed) → (d : IsDereferenced a.program.types (typed_in inner) e) → IsWhole inner → IsForm (dereference inner) e
+  dereference_form : (inner : Form) (e : Typed) → (d : IsDereferenced a.program.types (typed_in inner) e) → IsWhole a visible types texts fs f setting inner → IsForm a visible types texts fs f setting (dereference inner) e
   dereference_form inner e d is =
-      place_form (dereference inner) e (kind_of_place a.program.types e d.target d.constant d.form d.is (is_number_kind (type_at a.program.types d.target) own d.value))
-      (λ at. value_place (sym at ∙ ap (λ (y : Typed). y.category) d.is)) refl refl (λ place. refl) names (λ p. absurd (number_no_pointer e.ty (of_number e.ty (type_at a.program.types d.target) own d.value) p))
+      place_form a visible types texts fs f setting (dereference inner) e (kind_of_place a.program.types e d.target d.constant d.form d.is (is_number_kind (type_at a.program.types d.target) own d.value))
+      (λ at. value_place (sym at ∙ ap (λ (y : Typed). y.category) d.is)) refl refl (λ place. refl) names (λ p. absurd (number_no_pointer e.ty (of_number a visible types texts fs f setting e.ty (type_at a.program.types d.target) own d.value) p))
     where
       own : e.ty ≡ Of (type_at a.program.types d.target)
       own = ap (λ (y : Typed). y.ty) d.is
@@ -426,9 +216,9 @@ module _ (a : Around) (visible : List ℕ) (types : Types) (texts : ℕ) (fs : L
           (type_later a.program.types types setting.front d.target d.value ∙ ap (type_at a.program.types) (place_same d.target id d.constant constant same)) v)
           (λ n k q. a_target q.local (ap (λ (m : Location). Through m []) q.is) q.below q.held))
 
-  address_form : (inner : Form) (e : Typed) → (d : IsAddressed a.program.types (typed_in inner) e) → IsWhole inner → IsForm (address_of inner) e
+  address_form : (inner : Form) (e : Typed) → (d : IsAddressed a.program.types (typed_in inner) e) → IsWhole a visible types texts fs f setting inner → IsForm a visible types texts fs f setting (address_of inner) e
   address_form inner e d is =
-      pointer_form (address_of inner) e (record { kind = is_pointer_kind d.target d.constant own d.worth; place = λ id c at. absurd (value_place (sym no ∙ at)) }) no (λ n. false≢true (sym (ap is_number own) ∙ n)) refl refl (λ place. refl)
+      pointer_form a visible types texts fs f setting (address_of inner) e (record { kind = is_pointer_kind d.target d.constant own d.worth; place = λ id c at. absurd (value_place (sym no ∙ at)) }) no (λ n. false≢true (sym (ap is_number own) ∙ n)) refl refl (λ place. refl)
       (λ p s stands. subst (λ (t : ExprType). Points t s (pointing a (address_of inner) s)) (sym own)
       (seen_part types texts fs f (gifts.nothing types texts fs f) tt None s (operand a inner s) (a_place types texts fs f (type_at a.program.types d.target) d.constant) (λ o. At (Aimed o)) (a_pointing types texts fs f (Of (ty.Raw d.target d.constant)))
       (is.names d.target d.constant d.place d.worth s stands)
@@ -443,17 +233,17 @@ module _ (a : Around) (visible : List ℕ) (types : Types) (texts : ℕ) (fs : L
       no : e.category ≡ category.Value
       no = ap (λ (y : Typed). y.category) d.is
 
-  null_form : (e : Typed) → e.ty ≡ NullPointer → e.category ≡ category.Value → IsForm null e
+  null_form : (e : Typed) → e.ty ≡ NullPointer → e.category ≡ category.Value → IsForm a visible types texts fs f setting null e
   null_form e t c =
-      pointer_form null e (record { kind = a_null t c; place = λ id d at. absurd (value_place (sym c ∙ at)) }) c (λ n. false≢true (sym (ap is_number t) ∙ n)) refl refl (λ place. refl)
+      pointer_form a visible types texts fs f setting null e (record { kind = a_null t c; place = λ id d at. absurd (value_place (sym c ∙ at)) }) c (λ n. false≢true (sym (ap is_number t) ∙ n)) refl refl (λ place. refl)
       (λ p s stands. subst (λ (u : ExprType). Points u s (gives (At Null) s)) (sym t) (leaf_part types texts fs f (At Null) s (a_pointing types texts fs f NullPointer) (λ b. refl) (λ b k alive. tt)))
 
   -- ---- operators
 
   binary_form : (o : BinaryOperator) (left right : Form) (e : Typed) → (c : IsCombined o (typed_in left) (typed_in right) e) → IsExpression a.program a.function.locals visible left → IsExpression a.program a.function.locals visible right
-      → IsWhole left → IsWhole right → IsForm (binary o left right) e
+      → IsWhole a visible types texts fs f setting left → IsWhole a visible types texts fs f setting right → IsForm a visible types texts fs f setting (binary o left right) e
   binary_form o left right e c hl hr l r =
-      decided_form (binary o left right) e c.ty c.is.0 c.is.1 v refl makes (λ place none r s. refl)
+      decided_form a visible types texts fs f setting (binary o left right) e c.ty c.is.0 c.is.1 v refl makes (λ place none r s. refl)
       (λ place w at s stands. binary_decided a visible types texts fs f o place left right e c hl hr lo ro l.conditions r.conditions l.pointers r.pointers w s stands at)
     where
       lo : IsOperand (typed_in left).ty
@@ -482,33 +272,33 @@ module _ (a : Around) (visible : List ℕ) (types : Types) (texts : ℕ) (fs : L
   -- ---- any expression
 
   mutual
-    pub whole_expression : (form : Form) → is_built_form form ≡ true → IsExpression a.program a.function.locals visible form → IsWhole form
-    whole_expression (typed place t c form) b h = whole_of place t c form (expression form (record { place = place; ty = t; category = c; form = form }) b h)
+    pub whole_expression : (form : Form) → is_built_form form ≡ true → IsExpression a.program a.function.locals visible form → IsWhole a visible types texts fs f setting form
+    whole_expression (typed place t c form) b h = whole_of a visible types texts fs f setting place t c form (expression form (record { place = place; ty = t; category = c; form = form }) b h)
     whole_expression _ b h = absurd h
 
     -- each form by the way it is made
-    pub expression : (form : Form) (e : Typed) → is_built_form form ≡ true → IsMadeOf a.program a.function.locals visible e form → IsForm form e
-    expression (number n) e b h = literal (number n) e (number_type n) h.0 (number_value n) refl (λ place. refl) (λ place into s wanted stands. constant_part types texts fs f into (number_type n) place (values.long n) s (number_value n) wanted) (λ place r s. refl)
-    expression (character c) e b h = literal (character c) e ty.Char h.0 refl refl (λ place. refl) (λ place into s wanted stands. constant_part types texts fs f into ty.Char place (pos c) s refl wanted) (λ place r s. refl)
-    expression (boolean x) e b h = literal (boolean x) e ty.Bool h refl refl (λ place. refl) (λ place into s wanted stands. constant_part types texts fs f into ty.Bool place (values.truth x) s refl wanted) (λ place r s. refl)
+    pub expression : (form : Form) (e : Typed) → is_built_form form ≡ true → IsMadeOf a.program a.function.locals visible e form → IsForm a visible types texts fs f setting form e
+    expression (number n) e b h = literal a visible types texts fs f setting (number n) e (number_type n) h.0 (number_value n) refl (λ place. refl) (λ place into s wanted stands. constant_part types texts fs f into (number_type n) place (values.long n) s (number_value n) wanted) (λ place r s. refl)
+    expression (character c) e b h = literal a visible types texts fs f setting (character c) e ty.Char h.0 refl refl (λ place. refl) (λ place into s wanted stands. constant_part types texts fs f into ty.Char place (pos c) s refl wanted) (λ place r s. refl)
+    expression (boolean x) e b h = literal a visible types texts fs f setting (boolean x) e ty.Bool h refl refl (λ place. refl) (λ place into s wanted stands. constant_part types texts fs f into ty.Bool place (values.truth x) s refl wanted) (λ place r s. refl)
     expression null e b h = null_form e h.0 h.1
     expression (local x) e b h = variable_form x e h.0 h.1
     expression (call g given closing) e b h = call_form g given closing e h.0 (λ of at s stands. handed given b h.2 (parameter_types (Some of)) (subst (λ (o : Option FunctionForm). are_given a.program.types (parameter_types o) given ≡ true) at h.1) (setting.taken g of at) s stands)
-    expression (paren inner closing) e b h = paren_form inner closing e (ap (λ (y : Typed). y.ty) (ok_same h.0)) (ap (λ (y : Typed). y.category) (ok_same h.0)) (whole_expression inner b h.1)
-    expression input e b h = literal input e ty.Long h refl refl (λ place. refl) (λ place into s wanted stands. input_part types texts fs f into ty.Long place s refl wanted) (λ place r s. refl)
+    expression (paren inner closing) e b h = paren_form a visible types texts fs f setting inner closing e (ap (λ (y : Typed). y.ty) (ok_same h.0)) (ap (λ (y : Typed). y.category) (ok_same h.0)) (whole_expression inner b h.1)
+    expression input e b h = literal a visible types texts fs f setting input e ty.Long h refl refl (λ place. refl) (λ place into s wanted stands. input_part types texts fs f into ty.Long place s refl wanted) (λ place r s. refl)
     expression (dereference inner) e b h = let is = whole_expression inner b h.1 in dereference_form inner e (dereferenced_as a.program.types (typed_in inner) e is.kind h.0) is
     expression (negate inner) e b h =
         let is = whole_expression inner b h.1 in
         let g = negated_as a.program.types (typed_in inner) e is.kind h.0 in
         let own : e.ty ≡ Of g.ty = ap (λ (y : Typed). y.ty) g.is in
-        value_form (negate inner) e g.ty own (ap (λ (y : Typed). y.category) g.is) g.worth refl (λ place. refl)
+        value_form a visible types texts fs f setting (negate inner) e g.ty own (ap (λ (y : Typed). y.category) g.is) g.worth refl (λ place. refl)
         (λ place into s wanted stands. negated_part types texts fs f g.ty place (value a inner g.ty None) into s g.worth (sym (ap (λ (t : ExprType). operands.is_promoted (own_type t)) own) ∙ negated_promoted a.program.types (typed_in inner) e is.kind h.0) wanted stands.opened
         (is.valued g.number g.ty g.worth None s tt stands))
         (λ place r s. refl)
     expression (not inner) e b h =
         let is = whole_expression inner b h.1 in
         let g = inverted_as (typed_in inner) e h.0 in
-        decided_form (not inner) e ty.Bool (ap (λ (y : Typed). y.ty) g.is) (ap (λ (y : Typed). y.category) g.is) refl refl (λ place none. absurd (none_some (sym none))) (λ place none. absurd (none_some (sym none)))
+        decided_form a visible types texts fs f setting (not inner) e ty.Bool (ap (λ (y : Typed). y.ty) g.is) (ap (λ (y : Typed). y.category) g.is) refl refl (λ place none. absurd (none_some (sym none))) (λ place none. absurd (none_some (sym none)))
         (λ place w at s stands. subst (λ (v : State → Gives Tree). Decided s (v s)) (some_same at) (negation_part types texts fs f (condition a inner) s (is.conditions g.condition s stands)))
     expression (address_of inner) e b h = let is = whole_expression inner b h.1 in address_form inner e (addressed_as a.program.types (typed_in inner) e is.kind h.0) is
     expression (binary o left right) e b h =

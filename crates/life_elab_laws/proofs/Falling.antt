@@ -1,15 +1,15 @@
 -- The ways of a list of statements from which control goes on at its end alone, and of a condition.
-use Rattle.life_core.specs.Function.{Function}
-use Rattle.life_proper.specs.declared.known.Known.{Known}
-use Rattle.life_types.specs.declared.place.Place.{Place}
-use Rattle.life_types.specs.Types.{Types}
-use Rattle.life_proper.proofs.Joining.{joined_assoc}
 use Rattle.std.proofs.Common.{◌≡◌, Bool, true, List, [], ◌∷◌, ◌++◌, Some, refl, sym, ap, ◌∙◌}
+use Rattle.life_types.specs.Types.{Types}
+use Rattle.life_types.specs.declared.place.Place.{Place}
+use Rattle.life_core.specs.Function.{Function}
 use Rattle.life_core.specs.Step.{Step, Test}
 use Rattle.life_core.specs.Tree.{Tree, Then, Acts, Asks, Both, Either, Negated, Choice, trees}
+use Rattle.life_proper.specs.declared.known.Known.{Known}
 use Rattle.life_proper.specs.Checking.{Flow, before_both, before_false, before_next, before_true, flow, joined, nowhere, turned}
 use Rattle.life_proper.specs.Knowing.{State, agreed_all}
 use Rattle.life_proper.specs.ReadyKnown.{is_step_ready, is_test_ready, known_after}
+use Rattle.life_proper.proofs.Joining.{joined_assoc}
 
 -- all is ready, and control goes on at the end with this known
 abbrev pub falling : List Known → Flow

@@ -1,22 +1,22 @@
 -- The locals of a function that is translated are flat: values, pointers and references to them, and views.
-use Rattle.life_core.specs.Function.{Function}
-use Rattle.life_elab_laws.proofs.GivenNothing.{IsFlat}
-use Rattle.life_core.specs.declared.program.Local.{Local}
-use Rattle.life_types.specs.declared.ty.Ty.{Ty}
-use Rattle.life_types.specs.declared.ty.TyId.{TyId}
-use Rattle.life_types.specs.Types.{Types}
-use Rattle.std.proofs.lemmas.Bool.{false≢true}
-use Rattle.life_elab_laws.proofs.WrittenLocals.{fits_register}
-use Rattle.life_built.specs.Built.{is_built_variable}
-use Rattle.life_proper.specs.OperandTypes.{is_composed}
-use Rattle.life_elab_laws.proofs.FormedVariables.{reference_there}
 use Rattle.std.proofs.Common.{◌≡◌, ℕ, true, false, slice_get, Option, Some, None, refl, sym, ap, ◌∙◌, subst}
+use Rattle.std.proofs.lemmas.Bool.{false≢true}
+use Rattle.life_types.specs.Types.{Types}
+use Rattle.life_types.specs.declared.ty.Ty.{Ty}
 use Rattle.life_types.specs.declared.ty.Ty.TheVariants as ty
+use Rattle.life_types.specs.declared.ty.TyId.{TyId}
+use Rattle.life_built.specs.Built.{is_built_variable}
 use Rattle.life_typed.specs.BaseTypes.{is_value, type_at}
+use Rattle.life_core.specs.Function.{Function}
+use Rattle.life_core.specs.declared.program.Local.{Local}
 use Rattle.life_pset.specs.Shapes.{shape_of, ty_if, ty_of}
+use Rattle.life_proper.specs.OperandTypes.{is_composed}
 use Rattle.life_proper.specs.Placed as placed
 use Rattle.life_elab_laws.proofs.FormedLocals.{variable_fits, variable_found}
+use Rattle.life_elab_laws.proofs.FormedVariables.{reference_there}
+use Rattle.life_elab_laws.proofs.GivenNothing.{IsFlat}
 use Rattle.life_elab_laws.proofs.OperandsThere.{type_either, type_there}
+use Rattle.life_elab_laws.proofs.WrittenLocals.{fits_register}
 
 value_alone : (t : Ty) → is_value t ≡ true → is_composed t ≡ false
 value_alone ty.Bool v = refl

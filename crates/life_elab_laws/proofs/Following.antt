@@ -1,26 +1,26 @@
 -- What has been written of a function and what is visible, between statements.
-use Rattle.life_elab_laws.proofs.Making.{Alive}
-use Rattle.life_elab_laws.proofs.Shaped.{AreShaped}
-use Rattle.life_elab_laws.proofs.Ending.{CanEnd}
-use Rattle.life_core.specs.Function.{Function}
-use Rattle.life_elab_laws.proofs.Emitting.{IsWanted}
-use Rattle.life_proper.specs.declared.known.Known.{Known}
-use Rattle.life_core.specs.declared.program.Local.{Local}
-use Rattle.life_types.specs.declared.ty.NameId.{NameId}
-use Rattle.life_core.specs.Tree.{Tree}
-use Rattle.life_typed.specs.declared.typed_program.TypedLocal.{TypedLocal}
-use Rattle.life_types.specs.Types.{Types}
-use Rattle.life_well_typed.specs.Visible.{Visible}
-use Rattle.std.proofs.lemmas.Option.{slice_get_within}
-use Rattle.life_writer.specs.Variables.{variable}
 use Rattle.std.proofs.Common.{◌≡◌, ◌<◌, ◌≤◌, ℕ, zero, suc, true, List, [], ◌∷◌, Contains, length, slice_get, take, Option, Some, None, refl, sym, ap, ◌∙◌, subst, unwrap_or, arith}
+use Rattle.std.proofs.lemmas.Option.{slice_get_within}
+use Rattle.life_types.specs.Types.{Types}
+use Rattle.life_types.specs.declared.ty.NameId.{NameId}
 use Rattle.life_typed.specs.BaseTypes.{is_value, type_at}
+use Rattle.life_typed.specs.declared.typed_program.TypedLocal.{TypedLocal}
+use Rattle.life_core.specs.Function.{Function}
+use Rattle.life_core.specs.Tree.{Tree}
+use Rattle.life_core.specs.declared.program.Local.{Local}
+use Rattle.life_proper.specs.declared.known.Known.{Known}
+use Rattle.life_well_typed.specs.Visible.{Visible}
 use Rattle.life_writer.specs.Around.{Around, result_local}
+use Rattle.life_writer.specs.Variables.{variable}
 use Rattle.life_writer.specs.Writing.{State, with_code}
 use Rattle.life_elab_laws.proofs.Among.{Among, Ascend, contains_among}
+use Rattle.life_elab_laws.proofs.Emitting.{IsWanted}
+use Rattle.life_elab_laws.proofs.Ending.{CanEnd}
 use Rattle.life_elab_laws.proofs.Exits.{AreNamed, Knows}
 use Rattle.life_elab_laws.proofs.Fronts.{IsFront, front_itself, front_then}
 use Rattle.life_elab_laws.proofs.Growing.{Begins, Grows}
+use Rattle.life_elab_laws.proofs.Making.{Alive}
+use Rattle.life_elab_laws.proofs.Shaped.{AreShaped}
 use Rattle.life_elab_laws.proofs.VariablePlaces.{IsVariableAt, Stands}
 
 -- the local of a living variable: it has a name

@@ -1,45 +1,45 @@
 -- What is written for a well typed statement is well formed: by recursion over statements.
-use Rattle.life_writer.specs.Around.{Around}
-use Rattle.life_elab_laws.proofs.Growing.{Begins}
-use Rattle.life_core.specs.Function.{Function}
-use Rattle.life_core.specs.declared.program.Local.{Local}
-use Rattle.life_types.specs.declared.place.Place.{Place}
-use Rattle.life_elab_laws.proofs.Setting.{Setting}
-use Rattle.life_types.specs.Types.{Types}
-use Rattle.life_elab_laws.proofs.Sides.{asking_side}
-use Rattle.life_writer.specs.Expressions.{condition}
-use Rattle.life_elab_laws.proofs.Instructions.{constant_part}
-use Rattle.life_elab_laws.proofs.FormedDeclared.{declaration_forms}
-use Rattle.life_elab_laws.proofs.Doing.{does_nothing}
-use Rattle.life_typed.specs.Ends.{ends}
-use Rattle.life_proper.specs.OperandTypes.{is_void}
-use Rattle.life_elab.specs.LastTokens.{last_token}
-use Rattle.life_elab_laws.proofs.FormedLoops.{loop_forms}
-use Rattle.life_elab_laws.proofs.Conditions.{non_zero_part}
 use Rattle.std.specs.Prelude.{pos}
-use Rattle.life_elab.specs.Simples.{simple_if}
-use Rattle.life_pset.specs.Shapes.{ty_of}
-use Rattle.life_elab_laws.proofs.Expressions.{whole_expression}
 use Rattle.std.proofs.Common.{◌≡◌, ℕ, Bool, true, false, ◌&&◌, List, [], drop, length, nat_lt, reverse, slice_get, Option, Some, None, refl}
 use Rattle.std.proofs.lemmas.Bool.{and_parts, false≢true}
+use Rattle.life_types.specs.Types.{Types}
+use Rattle.life_types.specs.declared.place.Place.{Place}
 use Rattle.life_types.specs.declared.ty.Ty.TheVariants as ty
 use Rattle.life_built.specs.Built.{is_built_expression, is_built_if_any, is_built_start, is_built_statement, is_built_step}
+use Rattle.life_typed.specs.Ends.{ends}
 use Rattle.life_typed.specs.TypedForm.{Typed, whole as whole_form}
 use Rattle.life_typed.specs.TypedStatement.{StmtForm, ForStartForm, SimpleForm, declared_first, done_first, block, empty, sentence, branching, while_loop, for_loop, range_loop, loop_break, loop_continue, returned, print, assertion, branch, declaration, no_more, chain}
+use Rattle.life_core.specs.Function.{Function}
 use Rattle.life_core.specs.Tree.{Breaks, Continues}
+use Rattle.life_core.specs.declared.program.Local.{Local}
+use Rattle.life_pset.specs.Shapes.{ty_of}
+use Rattle.life_proper.specs.OperandTypes.{is_void}
 use Rattle.life_well_typed.specs.Statements.{AreBranches, Decides, DecidesIfAny, IsSimpleIfAny, IsStart, IsStatement}
 use Rattle.life_well_typed.specs.Visible.{Visible, after, after_start, behind}
+use Rattle.life_writer.specs.Around.{Around}
+use Rattle.life_writer.specs.Expressions.{condition}
 use Rattle.life_writer.specs.Registers.{computed, constant}
 use Rattle.life_writer.specs.Variables.{end, end_past, end_since}
 use Rattle.life_writer.specs.Writing.{State, with_code}
+use Rattle.life_elab.specs.LastTokens.{last_token}
+use Rattle.life_elab.specs.Simples.{simple_if}
 use Rattle.life_elab.specs.Statements.{branches_of, condition_or_true, end_line, looped, started, statement}
 use Rattle.life_elab_laws.proofs.Branching.{tested_follows, visible_again}
+use Rattle.life_elab_laws.proofs.Conditions.{non_zero_part}
+use Rattle.life_elab_laws.proofs.Doing.{does_nothing}
+use Rattle.life_elab_laws.proofs.Expressions.{whole_expression}
 use Rattle.life_elab_laws.proofs.Following.{Follows, HasRegister, begins_added, follows_coded, register_later}
 use Rattle.life_elab_laws.proofs.FormedBranches.{asserted_forms, branched_forms}
+use Rattle.life_elab_laws.proofs.FormedDeclared.{declaration_forms}
 use Rattle.life_elab_laws.proofs.FormedLeaving.{begins_ended, ended_forms, left_forms, returned_forms}
+use Rattle.life_elab_laws.proofs.FormedLoops.{loop_forms}
 use Rattle.life_elab_laws.proofs.FormedStatements.{Asking, Forms, forms_then}
-use Rattle.life_elab_laws.proofs.Statements.{DoesOver, begun, branches_do, decided, decided_or_true, level_of, loop_done, statement_does, stepped}
+use Rattle.life_elab_laws.proofs.Growing.{Begins}
+use Rattle.life_elab_laws.proofs.Instructions.{constant_part}
+use Rattle.life_elab_laws.proofs.Setting.{Setting}
+use Rattle.life_elab_laws.proofs.Sides.{asking_side}
 use Rattle.life_elab_laws.proofs.SimpleStatements.{items_forms, simple_forms}
+use Rattle.life_elab_laws.proofs.Statements.{DoesOver, begun, branches_do, decided, decided_or_true, level_of, loop_done, statement_does, stepped}
 
 module _ (a : Around) (types : Types) (texts : ℕ) (fs : List Function) (f : Function) (setting : Setting a types fs f) (lines : nat_lt (end_line a) texts ≡ true)
     (nameless : (l : Local) → slice_get f.locals f.parameters ≡ Some l → is_void (ty_of types f.result) ≡ false → l.name ≡ None) where

@@ -1,15 +1,15 @@
 -- Branches and assertions are well formed where their conditions are, and what is written on both ways.
-use Rattle.life_elab_laws.proofs.Growing.{Begins}
-use Rattle.life_core.specs.Function.{Function}
-use Rattle.life_types.specs.declared.place.Place.{Place}
-use Rattle.life_types.specs.Types.{Types}
-use Rattle.life_elab_laws.proofs.Branching.{adds_uncoded}
-use Rattle.life_elab_laws.proofs.Forming.{formed_more}
 use Rattle.std.proofs.Common.{ℕ, List, [], refl}
+use Rattle.life_types.specs.Types.{Types}
+use Rattle.life_types.specs.declared.place.Place.{Place}
+use Rattle.life_core.specs.Function.{Function}
 use Rattle.life_core.specs.Tree.{Tree, Skip, Choice, Stops, trees}
 use Rattle.life_writer.specs.Writing.{State, Gives, with_code, write}
+use Rattle.life_elab_laws.proofs.Branching.{adds_uncoded}
 use Rattle.life_elab_laws.proofs.Following.{Adds, begins_added}
 use Rattle.life_elab_laws.proofs.FormedStatements.{Asking, Forms, choice_formed}
+use Rattle.life_elab_laws.proofs.Forming.{formed_more}
+use Rattle.life_elab_laws.proofs.Growing.{Begins}
 
 module _ (types : Types) (texts : ℕ) (fs : List Function) (f : Function) (s : State) (w : Gives Tree) (test : Asking types texts fs f s w) where
   -- both branches, the second of which is written behind the first

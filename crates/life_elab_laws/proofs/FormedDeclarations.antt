@@ -1,52 +1,53 @@
 -- Declarations are well formed, where typing lets no const be lost and no reference be without an initialiser: that is asked here.
-use Rattle.life_writer.specs.Writing.{State}
-use Rattle.life_core.specs.Tree.{Acts}
-use Rattle.life_elab_laws.proofs.Growing.{Begins}
-use Rattle.life_typed.specs.declared.typed_expr.ExprType.{ExprType}
-use Rattle.life_elab_laws.proofs.FormedStatements.{Forms}
-use Rattle.life_core.specs.Function.{Function}
-use Rattle.life_core.specs.declared.program.LocalKind.TheVariants.{Object}
-use Rattle.life_types.specs.declared.place.Place.{Place}
-use Rattle.life_core.specs.declared.instr.Form.TheVariants.{Plain}
-use Rattle.life_elab_laws.proofs.Setting.{Setting}
-use Rattle.life_elab_laws.proofs.VariablePlaces.{Stands}
-use Rattle.life_types.specs.declared.ty.Ty.{Ty}
-use Rattle.life_types.specs.declared.ty.TyId.{TyId}
-use Rattle.life_typed.specs.declared.typed_program.TypedLocal.{TypedLocal}
-use Rattle.life_elab_laws.proofs.Forming.{formed_more}
-use Rattle.life_elab_laws.proofs.Sides.{formed_side}
-use Rattle.life_built.specs.Built.{is_built_expression}
-use Rattle.life_writer.specs.Pointers.{pointed}
 use Rattle.std.proofs.Common.{◌≡◌, ℕ, Bool, true, false, ◌&&◌, not, List, [], ◌∷◌, ◌++◌, length, slice_get, Option, Some, None, refl, sym, ap, ◌∙◌}
 use Rattle.std.proofs.lemmas.Bool.{and_from, or_left, or_right}
 use Rattle.life_types.specs.Types.{Types, class}
+use Rattle.life_types.specs.declared.place.Place.{Place}
+use Rattle.life_types.specs.declared.ty.Ty.{Ty}
 use Rattle.life_types.specs.declared.ty.Ty.TheVariants as ty
+use Rattle.life_types.specs.declared.ty.TyId.{TyId}
+use Rattle.life_built.specs.Built.{is_built_expression}
 use Rattle.life_typed.specs.BaseTypes.{is_value, type_at}
 use Rattle.life_typed.specs.TypedForm.{Typed, whole as whole_form}
 use Rattle.life_typed.specs.declared.typed_expr.Category.TheVariants as category
+use Rattle.life_typed.specs.declared.typed_expr.ExprType.{ExprType}
+use Rattle.life_typed.specs.declared.typed_program.TypedLocal.{TypedLocal}
+use Rattle.life_core.specs.Function.{Function}
 use Rattle.life_core.specs.Operands.{object_named, whole, Place as Aimed}
 use Rattle.life_core.specs.Step.{Aim, Live, Save}
+use Rattle.life_core.specs.Tree.{Acts}
+use Rattle.life_core.specs.declared.instr.Form.TheVariants.{Plain}
+use Rattle.life_core.specs.declared.program.LocalKind.TheVariants.{Object}
 use Rattle.life_pset.specs.Shapes as shapes
 use Rattle.life_well_typed.specs.Expressions.{IsExpression, parameter_types}
 use Rattle.life_well_typed.specs.Given.{is_number, is_pointer}
 use Rattle.life_writer.specs.Around.{Around, type_of}
 use Rattle.life_writer.specs.Calls.{Called, called}
 use Rattle.life_writer.specs.Expressions.{handed_over, operand, pointing, value}
+use Rattle.life_writer.specs.Pointers.{pointed}
 use Rattle.life_writer.specs.Variables.{kind, variable_local, with_variable}
+use Rattle.life_writer.specs.Writing.{State}
 use Rattle.life_elab.specs.Declarations.{given_by_call, given_value, live, pointer_given, reference_given}
 use Rattle.life_elab_laws.proofs.Fronts.{front_append, front_itself, last_there}
+use Rattle.life_elab_laws.proofs.Growing.{Begins}
+use Rattle.life_elab_laws.proofs.Setting.{Setting}
+use Rattle.life_elab_laws.proofs.VariablePlaces.{Stands}
 use Rattle.life_proper.specs.OperandTypes.{aims_at, is_reference, keeps_const, same}
 use Rattle.life_proper.specs.OperandTypes as operands
 use Rattle.life_proper.specs.Placed.{is_const_place, is_number_of, object_at, register_at, type_in}
 use Rattle.life_proper.specs.Placed as placed
 use Rattle.life_proper.specs.WellFormed.{can_live, goes_to, is_well_formed_step}
-use Rattle.life_elab_laws.proofs.FormedVariables.{object_place, reference_there, type_found, type_later, value_kind}
-use Rattle.life_elab_laws.proofs.OperandsThere.{object_there, register_there, type_there, value_either, value_no_reference, value_same}
 use Rattle.life_writer.specs.Around as around
 use Rattle.life_elab_laws.proofs.Aiming.{keeps_further, pointed_formed, takes_from}
 use Rattle.life_elab_laws.proofs.CallParts.{called_formed, goes_object}
-use Rattle.life_elab_laws.proofs.Expressions.{IsCall, whole_expression}
+use Rattle.life_elab_laws.proofs.ExpressionForms.{IsCall}
+use Rattle.life_elab_laws.proofs.Expressions.{whole_expression}
+use Rattle.life_elab_laws.proofs.FormedStatements.{Forms}
+use Rattle.life_elab_laws.proofs.FormedVariables.{object_place, reference_there, type_found, type_later, value_kind}
+use Rattle.life_elab_laws.proofs.Forming.{formed_more}
 use Rattle.life_elab_laws.proofs.Gifts.{a_number, a_place, a_pointing, arguments}
+use Rattle.life_elab_laws.proofs.OperandsThere.{object_there, register_there, type_there, value_either, value_no_reference, value_same}
+use Rattle.life_elab_laws.proofs.Sides.{formed_side}
 
 module _ (a : Around) (visible : List ℕ) (types : Types) (texts : ℕ) (fs : List Function) (f : Function) (setting : Setting a types fs f) where
   abbrev Whole : Typed → Type 0

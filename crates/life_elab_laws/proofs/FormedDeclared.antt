@@ -1,41 +1,41 @@
 -- What is written for a declaration is well formed: the variable lives, and is given what typing lets it be given.
-use Rattle.life_elab_laws.proofs.Growing.{Begins}
-use Rattle.life_elab_laws.proofs.Following.{Follows}
-use Rattle.life_elab_laws.proofs.FormedStatements.{Forms}
-use Rattle.life_core.specs.Function.{Function}
-use Rattle.life_well_typed.specs.Expressions.{IsExpression}
-use Rattle.life_elab_laws.proofs.Setting.{Setting}
-use Rattle.life_writer.specs.Writing.{State}
-use Rattle.life_types.specs.declared.ty.Ty.{Ty}
-use Rattle.life_types.specs.declared.ty.TyId.{TyId}
-use Rattle.life_typed.specs.declared.typed_program.TypedLocal.{TypedLocal}
-use Rattle.life_types.specs.Types.{Types}
-use Rattle.life_well_typed.specs.Visible.{Visible}
-use Rattle.life_proper.specs.WellFormed.{can_live}
-use Rattle.life_type_stmt.specs.Declarations.{default_fault}
-use Rattle.life_elab.specs.Statements.{end_line}
-use Rattle.life_elab_laws.proofs.TypedKinds.{none_some}
-use Rattle.life_elab_laws.proofs.Types.{same_types}
-use Rattle.life_elab_laws.proofs.DeclarationWriting.{value_given}
-use Rattle.life_elab_laws.proofs.ExpressionKinds.{variable_built}
 use Rattle.std.proofs.Common.{◌≡◌, ℕ, Bool, true, false, ◌||◌, cond, List, length, nat_lt, slice_get, Option, Some, None, refl, sym, ap, ◌∙◌, subst, unwrap_or}
 use Rattle.std.proofs.lemmas.Bool.{and_parts, false≢true}
+use Rattle.life_types.specs.Types.{Types}
 use Rattle.life_types.specs.contracts.ty.TyPartialEq.TheImpl.{ghosts as compared}
+use Rattle.life_types.specs.declared.ty.Ty.{Ty}
 use Rattle.life_types.specs.declared.ty.Ty.TheVariants as ty
+use Rattle.life_types.specs.declared.ty.TyId.{TyId}
 use Rattle.life_built.specs.Built.{is_built_declaration, is_built_declared, is_built_expression, is_built_initial, is_built_variable, is_pointing, needs_no_temporary}
 use Rattle.life_typed.specs.BaseTypes.{is_value, type_at}
 use Rattle.life_typed.specs.TypedForm.{Typed, whole as whole_form}
 use Rattle.life_typed.specs.TypedStatement.{DeclarationForm, InitialForm, one, several}
+use Rattle.life_typed.specs.declared.typed_program.TypedLocal.{TypedLocal}
+use Rattle.life_type_stmt.specs.Declarations.{default_fault}
+use Rattle.life_core.specs.Function.{Function}
+use Rattle.life_well_typed.specs.Expressions.{IsExpression}
 use Rattle.life_well_typed.specs.Given.{is_given, is_number}
 use Rattle.life_well_typed.specs.Statements.{IsDeclaration, IsInitialised}
+use Rattle.life_well_typed.specs.Visible.{Visible}
 use Rattle.life_writer.specs.Around.{Around, own_type, type_of}
 use Rattle.life_writer.specs.Calls.{Called, call_of}
 use Rattle.life_writer.specs.Variables.{variable_local, with_variable}
+use Rattle.life_writer.specs.Writing.{State}
 use Rattle.life_elab.specs.Declarations.{declared, declared_as, given_by_call, given_initial, given_one, given_value, live, object_given}
+use Rattle.life_elab.specs.Statements.{end_line}
+use Rattle.life_elab_laws.proofs.DeclarationWriting.{value_given}
+use Rattle.life_elab_laws.proofs.ExpressionKinds.{variable_built}
+use Rattle.life_elab_laws.proofs.Following.{Follows}
 use Rattle.life_elab_laws.proofs.FormedDeclarations.{given_by_call_forms, given_value_forms, live_forms, pointer_given_forms, raw_lives, reference_given_forms, value_lives}
 use Rattle.life_elab_laws.proofs.FormedFits.{given_raw, given_reference}
+use Rattle.life_elab_laws.proofs.FormedStatements.{Forms}
 use Rattle.life_elab_laws.proofs.GivenKinds.{given_number, given_pointer}
+use Rattle.life_elab_laws.proofs.Growing.{Begins}
+use Rattle.life_elab_laws.proofs.Setting.{Setting}
+use Rattle.life_elab_laws.proofs.TypedKinds.{none_some}
+use Rattle.life_elab_laws.proofs.Types.{same_types}
 use Rattle.life_elab_laws.proofs.VariablePlaces.{IsVariableType, a_raw, a_reference, a_value, variable_type}
+use Rattle.life_proper.specs.WellFormed.{can_live}
 use Rattle.life_elab_laws.proofs.Expressions.{expression, result_later}
 
 module _ (a : Around) (types : Types) (texts : ℕ) (fs : List Function) (f : Function) (setting : Setting a types fs f) (lines : nat_lt (end_line a) texts ≡ true) where

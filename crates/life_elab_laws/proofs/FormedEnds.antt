@@ -1,28 +1,28 @@
 -- What ends is an object or a pointer, and neither the result nor a slot.
-use Rattle.life_elab_laws.proofs.Among.{Among}
-use Rattle.life_core.specs.Function.{Function}
-use Rattle.life_core.specs.declared.program.Local.{Local}
-use Rattle.life_core.specs.declared.program.LocalKind.{LocalKind}
+use Rattle.std.proofs.Common.{◌≡◌, ◌⊎◌, inl, inr, ℕ, Bool, true, false, ◌&&◌, ◌||◌, not, List, [], ◌∷◌, nat_eq, slice_get, Option, Some, None, is_none, refl, sym, ap, ◌∙◌, subst, arith}
+use Rattle.std.specs.List.{list_all}
+use Rattle.std.proofs.lemmas.Bool.{and_from, false≢true, or_left, or_right}
+use Rattle.std.proofs.lemmas.Bool.Decides.{nat_tests}
+use Rattle.life_types.specs.Types.{Types, class, is_slot_target, is_slot_type}
 use Rattle.life_types.specs.declared.ty.NameId.{NameId}
 use Rattle.life_types.specs.declared.ty.Ty.{Ty}
-use Rattle.life_types.specs.declared.ty.TyId.{TyId}
-use Rattle.life_proper.specs.WellFormed.{can_end}
-use Rattle.life_proper.specs.Knowing.{is_register}
-use Rattle.life_proper.specs.OperandTypes.{is_void}
-use Rattle.std.specs.List.{list_all}
-use Rattle.std.proofs.lemmas.Bool.Decides.{nat_tests}
-use Rattle.std.proofs.Common.{◌≡◌, ◌⊎◌, inl, inr, ℕ, Bool, true, false, ◌&&◌, ◌||◌, not, List, [], ◌∷◌, nat_eq, slice_get, Option, Some, None, is_none, refl, sym, ap, ◌∙◌, subst, arith}
-use Rattle.std.proofs.lemmas.Bool.{and_from, false≢true, or_left, or_right}
-use Rattle.life_types.specs.Types.{Types, class, is_slot_target, is_slot_type}
 use Rattle.life_types.specs.declared.ty.Ty.TheVariants as ty
+use Rattle.life_types.specs.declared.ty.TyId.{TyId}
 use Rattle.life_typed.specs.BaseTypes.{is_value, type_at}
+use Rattle.life_core.specs.Function.{Function}
 use Rattle.life_core.specs.Holdings.{Holding, ANumber, AnObject, APointer, Blank, held_by, held_if, sort_of}
+use Rattle.life_core.specs.declared.program.Local.{Local}
+use Rattle.life_core.specs.declared.program.LocalKind.{LocalKind}
 use Rattle.life_core.specs.declared.program.LocalKind.TheVariants.{Object, Register, Range}
 use Rattle.life_pset.specs.Shapes as shapes
+use Rattle.life_proper.specs.Knowing.{is_register}
+use Rattle.life_elab_laws.proofs.Among.{Among}
 use Rattle.life_elab_laws.proofs.Shaped.{AreShaped, shaped_at}
 use Rattle.life_elab_laws.proofs.VariablePlaces.{IsVariableType, a_raw, a_reference, a_value, variable_type}
+use Rattle.life_proper.specs.OperandTypes.{is_void}
 use Rattle.life_proper.specs.Placed.{is_slot_local, object_at, result_at, slot_at}
 use Rattle.life_proper.specs.Placed as placed
+use Rattle.life_proper.specs.WellFormed.{can_end}
 use Rattle.life_elab_laws.proofs.FormedVariables.{reference_there, type_found, type_later}
 use Rattle.life_elab_laws.proofs.OperandsThere.{object_there, type_there}
 

@@ -1,27 +1,27 @@
 -- What the rules of initialisation let a pointer be given it takes, and so does a reference: of one target, and const stays const.
-use Rattle.life_elab_laws.proofs.Aiming.{takes_from}
-use Rattle.life_typed.specs.declared.typed_expr.Category.{Category}
-use Rattle.life_typed.specs.declared.typed_expr.ExprType.{ExprType}
-use Rattle.life_elab_laws.proofs.Fronts.{IsFront}
-use Rattle.life_types.specs.declared.ty.TyId.{TyId}
-use Rattle.life_typed.specs.TypedForm.{Typed}
-use Rattle.life_types.specs.Types.{Types}
-use Rattle.life_type_expr.specs.Lists.{fits_at_all}
-use Rattle.life_well_typed.specs.Given.{is_given}
-use Rattle.life_built.specs.Built.{needs_no_temporary}
-use Rattle.life_pset.specs.Shapes.{ty_of}
-use Rattle.life_elab_laws.proofs.FormedVariables.{type_later}
 use Rattle.std.proofs.Common.{◌≡◌, Bool, true, false, ◌&&◌, not, cond, Err, refl, ap, ◌∙◌, subst, rules}
 use Rattle.std.proofs.lemmas.Bool.{and_from, false≢true}
+use Rattle.life_types.specs.Types.{Types}
 use Rattle.life_types.specs.contracts.ty.TyIdPartialEq.TheImpl.{ghosts as id}
 use Rattle.life_types.specs.declared.ty.Ty.TheVariants as ty
+use Rattle.life_types.specs.declared.ty.TyId.{TyId}
+use Rattle.life_built.specs.Built.{needs_no_temporary}
+use Rattle.life_pset.specs.Shapes.{ty_of}
 use Rattle.life_typed.specs.BaseTypes.{is_value, type_at}
 use Rattle.life_typed.specs.Conversions.{fits, initialised, is_place_of, pointer_from, unless}
+use Rattle.life_typed.specs.TypedForm.{Typed}
 use Rattle.life_typed.specs.declared.misfit.Misfit.TheVariants.{General, Constant}
+use Rattle.life_typed.specs.declared.typed_expr.Category.{Category}
 use Rattle.life_typed.specs.declared.typed_expr.Category.TheVariants as category
+use Rattle.life_typed.specs.declared.typed_expr.ExprType.{ExprType}
 use Rattle.life_typed.specs.declared.typed_expr.ExprType.TheVariants.{Of, NullPointer, TextLiteral}
+use Rattle.life_type_expr.specs.Lists.{fits_at_all}
+use Rattle.life_well_typed.specs.Given.{is_given}
 use Rattle.life_proper.specs.OperandTypes.{keeps_const, same}
 use Rattle.life_proper.specs.OperandTypes as operands
+use Rattle.life_elab_laws.proofs.Aiming.{takes_from}
+use Rattle.life_elab_laws.proofs.FormedVariables.{type_later}
+use Rattle.life_elab_laws.proofs.Fronts.{IsFront}
 use Rattle.life_elab_laws.proofs.OperandsThere.{value_either, value_same}
 
 same_id : (a b : TyId) → id.eq a b ≡ true → a ≡ b

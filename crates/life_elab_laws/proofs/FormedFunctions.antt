@@ -1,40 +1,40 @@
 -- What is written for a whole function is well formed.
-use Rattle.life_elab_laws.proofs.Growing.{Begins}
-use Rattle.life_core.specs.Function.{Function}
-use Rattle.life_well_typed.specs.Functions.{IsBody}
-use Rattle.life_elab_laws.proofs.Callees.{IsBuiltFunction}
-use Rattle.life_elab_laws.proofs.Fronts.{IsFront}
-use Rattle.life_elab_laws.proofs.Emitting.{IsWanted}
-use Rattle.life_core.specs.declared.program.Local.{Local}
-use Rattle.life_elab_laws.proofs.Setting.{Setting}
-use Rattle.life_writer.specs.Writing.{State}
-use Rattle.life_types.specs.declared.ty.Ty.{Ty}
-use Rattle.life_types.specs.Types.{Types}
-use Rattle.life_elab.specs.Programs.{around}
-use Rattle.life_typed.specs.Ends.{ends}
-use Rattle.std.proofs.lemmas.Bool.{false≢true}
-use Rattle.life_built.specs.Built.{is_built_statement}
-use Rattle.life_proper.specs.OperandTypes.{is_void}
-use Rattle.life_proper.specs.WellFormed.{is_well_formed_tree}
-use Rattle.life_elab_laws.proofs.FormedLeaving.{left_forms}
-use Rattle.std.proofs.lemmas.Option.{same_Some}
-use Rattle.life_elab_laws.proofs.Statements.{statement_does}
-use Rattle.life_elab_laws.proofs.FormedBodies.{statement_forms}
 use Rattle.std.proofs.Common.{◌≡◌, ◌≤◌, ℕ, Bool, true, false, List, length, nat_lt, slice_get, Option, Some, None, refl, sym, ap, ◌∙◌, unwrap_or}
+use Rattle.std.proofs.lemmas.Bool.{false≢true}
+use Rattle.std.proofs.lemmas.Option.{same_Some}
+use Rattle.life_types.specs.Types.{Types}
+use Rattle.life_types.specs.declared.ty.Ty.{Ty}
 use Rattle.life_types.specs.declared.ty.Ty.TheVariants as ty
+use Rattle.life_built.specs.Built.{is_built_statement}
 use Rattle.life_type_stmt.specs.Returns as typing
 use Rattle.life_typed.specs.BaseTypes.{is_value, type_at}
+use Rattle.life_typed.specs.Ends.{ends}
 use Rattle.life_typed.specs.Programs.{FunctionForm, ProgramForm}
 use Rattle.life_typed.specs.TypedStatement.{StmtForm, block}
+use Rattle.life_core.specs.Function.{Function}
 use Rattle.life_core.specs.Tree.{Tree, Returns, trees}
+use Rattle.life_core.specs.declared.program.Local.{Local}
 use Rattle.life_pset.specs.Shapes.{or_void, ty_of}
+use Rattle.life_proper.specs.OperandTypes.{is_void}
+use Rattle.life_proper.specs.WellFormed.{is_well_formed_tree}
+use Rattle.life_well_typed.specs.Functions.{IsBody}
 use Rattle.life_well_typed.specs.Visible.{Visible, after, with_parameters}
+use Rattle.life_writer.specs.Writing.{State}
 use Rattle.life_elab.specs.Functions.{body, first_state, returned_at_end, written}
+use Rattle.life_elab.specs.Programs.{around}
 use Rattle.life_elab.specs.Statements.{end_line, left, statement}
 use Rattle.life_elab_laws.proofs.Beginning.{first_code, first_follows, register_there}
+use Rattle.life_elab_laws.proofs.Callees.{IsBuiltFunction}
+use Rattle.life_elab_laws.proofs.Emitting.{IsWanted}
 use Rattle.life_elab_laws.proofs.Following.{Follows, HasRegister, begins_added}
+use Rattle.life_elab_laws.proofs.FormedBodies.{statement_forms}
+use Rattle.life_elab_laws.proofs.FormedLeaving.{left_forms}
 use Rattle.life_elab_laws.proofs.FormedStatements.{Forms, forms_then}
+use Rattle.life_elab_laws.proofs.Fronts.{IsFront}
+use Rattle.life_elab_laws.proofs.Growing.{Begins}
 use Rattle.life_elab_laws.proofs.Returning.{not_void, return_does}
+use Rattle.life_elab_laws.proofs.Setting.{Setting}
+use Rattle.life_elab_laws.proofs.Statements.{statement_does}
 
 -- ---- the result has no name
 

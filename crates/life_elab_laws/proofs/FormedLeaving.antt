@@ -1,35 +1,35 @@
 -- What ends and leaves is well formed: variables that live end, at the end of a block or before control goes elsewhere, and a result is written before.
-use Rattle.life_elab_laws.proofs.Growing.{Begins}
-use Rattle.life_core.specs.Function.{Function}
-use Rattle.life_well_typed.specs.Statements.{IsReturned}
-use Rattle.life_core.specs.declared.program.Local.{Local}
-use Rattle.life_types.specs.declared.ty.NameId.{NameId}
-use Rattle.life_types.specs.declared.place.Place.{Place}
-use Rattle.life_elab_laws.proofs.Setting.{Setting}
-use Rattle.life_writer.specs.Writing.{State}
-use Rattle.life_types.specs.Types.{Types}
-use Rattle.life_well_typed.specs.Visible.{Visible}
-use Rattle.life_elab_laws.proofs.Sides.{formed_side}
-use Rattle.life_elab_laws.proofs.GivenKinds.{given_number}
-use Rattle.life_built.specs.Built.{is_built_if_any}
-use Rattle.life_proper.specs.OperandTypes.{is_void}
-use Rattle.life_elab_laws.proofs.Returning.{not_void}
-use Rattle.life_typed.specs.BaseTypes.{type_at}
-use Rattle.life_writer.specs.Expressions.{value}
-use Rattle.life_elab_laws.proofs.Expressions.{whole_expression}
 use Rattle.std.proofs.Common.{◌≡◌, ℕ, true, false, List, [], ◌∷◌, drop, nat_lt, reverse, slice_get, Option, Some, None, is_none, refl, ap}
+use Rattle.life_types.specs.Types.{Types}
+use Rattle.life_types.specs.declared.place.Place.{Place}
+use Rattle.life_types.specs.declared.ty.NameId.{NameId}
+use Rattle.life_built.specs.Built.{is_built_if_any}
+use Rattle.life_typed.specs.BaseTypes.{type_at}
 use Rattle.life_typed.specs.TypedForm.{Typed, whole as whole_form}
+use Rattle.life_core.specs.Function.{Function}
 use Rattle.life_core.specs.Tree.{Tree, Returns}
+use Rattle.life_core.specs.declared.program.Local.{Local}
 use Rattle.life_pset.specs.Shapes as shapes
+use Rattle.life_well_typed.specs.Statements.{IsReturned}
+use Rattle.life_well_typed.specs.Visible.{Visible}
 use Rattle.life_writer.specs.Around.{Around, result_local}
+use Rattle.life_writer.specs.Expressions.{value}
 use Rattle.life_writer.specs.Variables.{end, end_past}
+use Rattle.life_writer.specs.Writing.{State}
 use Rattle.life_elab.specs.Statements.{end_line, left, result_given}
 use Rattle.life_elab_laws.proofs.Among.{Among, among_drop, reverse_among}
 use Rattle.life_elab_laws.proofs.Following.{Follows, HasRegister, follows_grown}
 use Rattle.life_elab_laws.proofs.FormedEnds.{all_end, variable_ends}
 use Rattle.life_elab_laws.proofs.FormedStatements.{Forms, end_forms, forms_then, tree_forms, writes_forms}
+use Rattle.life_elab_laws.proofs.GivenKinds.{given_number}
+use Rattle.life_elab_laws.proofs.Growing.{Begins}
+use Rattle.life_elab_laws.proofs.Returning.{not_void}
+use Rattle.life_elab_laws.proofs.Setting.{Setting}
+use Rattle.life_proper.specs.OperandTypes.{is_void}
 use Rattle.life_proper.specs.WellFormed.{can_end, is_well_formed_tree}
+use Rattle.life_elab_laws.proofs.Expressions.{whole_expression}
 use Rattle.life_elab_laws.proofs.Gifts.{IsNumberOf, a_number}
+use Rattle.life_elab_laws.proofs.Sides.{formed_side}
 
 module _ (a : Around) (types : Types) (texts : ℕ) (fs : List Function) (f : Function) (setting : Setting a types fs f) (lines : nat_lt (end_line a) texts ≡ true)
     (nameless : (l : Local) → slice_get f.locals f.parameters ≡ Some l → is_void (shapes.ty_of types f.result) ≡ false → l.name ≡ None) where

@@ -1,38 +1,38 @@
 -- The locals of a core function that is translated are well formed, and so is what stands beside its body: its name, its result and its promise.
-use Rattle.life_writer.specs.Registers.{nameless}
-use Rattle.life_writer.specs.Around.{Around}
-use Rattle.life_core.specs.Function.{Function}
-use Rattle.life_core.specs.declared.program.Local.{Local}
-use Rattle.life_core.specs.declared.program.LocalKind.{LocalKind}
-use Rattle.life_types.specs.declared.ty.NameId.{NameId}
-use Rattle.life_typed.specs.declared.typed_program.ParameterPromise.{ParameterPromise}
-use Rattle.life_core.specs.declared.program.LocalKind.TheVariants.{Register}
-use Rattle.life_types.specs.declared.ty.Ty.{Ty}
-use Rattle.life_types.specs.declared.ty.TyId.{TyId}
-use Rattle.life_typed.specs.declared.typed_program.TypedLocal.{TypedLocal}
-use Rattle.life_elab.specs.Programs.{around}
-use Rattle.life_proper.specs.OperandTypes.{is_void}
-use Rattle.life_writer.specs.Variables.{kind}
-use Rattle.std.specs.List.{list_all}
-use Rattle.std.proofs.lemmas.Bool.Decides.{nat_tests}
-use Rattle.life_elab_laws.proofs.OperandsThere.{type_either}
-use Rattle.life_elab_laws.proofs.ExpressionKinds.{variable_built}
 use Rattle.std.proofs.Common.{◌≡◌, ◌<◌, ◌+◌, ◌≤◌, ◌⊎◌, inl, inr, ℕ, zero, suc, Bool, true, false, ◌&&◌, ◌||◌, not, List, [], ◌∷◌, length, nat_eq, nat_le, nat_lt, slice_get, Option, Some, None, is_some, refl, sym, ap, ◌∙◌, subst, unwrap_or, arith, true≢false}
+use Rattle.std.specs.List.{list_all}
 use Rattle.std.proofs.lemmas.Bool.{and_from, and_parts, false≢true, le-leb, or_cases}
+use Rattle.std.proofs.lemmas.Bool.Decides.{nat_tests}
 use Rattle.std.proofs.lemmas.Option.{none-some, same_Some}
 use Rattle.life_types.specs.Trees.{is_plain, tree_at, tree_of, tree_within}
 use Rattle.life_types.specs.Types.{Types, class}
+use Rattle.life_types.specs.declared.ty.NameId.{NameId}
+use Rattle.life_types.specs.declared.ty.Ty.{Ty}
 use Rattle.life_types.specs.declared.ty.Ty.TheVariants as ty
+use Rattle.life_types.specs.declared.ty.TyId.{TyId}
 use Rattle.life_built.specs.Built.{is_built_variable, is_default, is_pointing, is_void as is_nothing}
 use Rattle.life_typed.specs.BaseTypes.{is_value, type_at}
 use Rattle.life_typed.specs.Programs.{FunctionForm, ProgramForm, PromiseForm, default}
+use Rattle.life_typed.specs.declared.typed_program.ParameterPromise.{ParameterPromise}
+use Rattle.life_typed.specs.declared.typed_program.TypedLocal.{TypedLocal}
+use Rattle.life_core.specs.Function.{Function}
+use Rattle.life_core.specs.declared.program.Local.{Local}
+use Rattle.life_core.specs.declared.program.LocalKind.{LocalKind}
+use Rattle.life_core.specs.declared.program.LocalKind.TheVariants.{Register}
 use Rattle.life_pset.specs.Shapes.{or_void, referred, shape, shape_if, ty_of, unslotted}
+use Rattle.life_proper.specs.OperandTypes.{is_void}
 use Rattle.life_proper.specs.WellFormedPrograms.{are_well_formed_locals, fits_kind, is_name, is_name_if, is_named_as, is_result_local, is_result_of, is_well_formed_local, may_stand, names_parameters}
 use Rattle.life_well_typed.specs.Names.{is_function_named, is_local_named}
+use Rattle.life_writer.specs.Registers.{nameless}
+use Rattle.life_writer.specs.Around.{Around}
+use Rattle.life_writer.specs.Variables.{kind}
 use Rattle.life_elab.specs.Functions.{first_state, function_from, parameter_local, promise_of, written}
+use Rattle.life_elab.specs.Programs.{around}
 use Rattle.life_elab_laws.proofs.Beginning.{given, given_count, parameter_locals, parameters_front, result_first, result_grows}
 use Rattle.life_elab_laws.proofs.Callees.{IsBuiltFunction, type_found}
+use Rattle.life_elab_laws.proofs.ExpressionKinds.{variable_built}
 use Rattle.life_elab_laws.proofs.Fronts.{IsFront, front_length}
+use Rattle.life_elab_laws.proofs.OperandsThere.{type_either}
 use Rattle.life_elab_laws.proofs.WrittenLocals.{AreWrittenLocals, IsIntermediate, IsOwn, fits_later, fits_register}
 
 -- ---- what a register or a variable holds

@@ -1,21 +1,21 @@
 -- Loops are well formed where their conditions are, their bodies and their steps.
-use Rattle.life_writer.specs.Around.{Around}
-use Rattle.life_elab_laws.proofs.Growing.{Begins}
-use Rattle.life_elab_laws.proofs.Doing.{DoesLevel}
-use Rattle.life_core.specs.Function.{Function}
-use Rattle.life_elab_laws.proofs.Setting.{Setting}
-use Rattle.life_elab_laws.proofs.Testing.{Tests}
-use Rattle.life_types.specs.Types.{Types}
-use Rattle.life_elab_laws.proofs.Forming.{formed_more}
-use Rattle.life_elab.specs.Statements.{looped}
-use Rattle.life_writer.specs.Variables.{with_outside}
 use Rattle.std.proofs.Common.{ℕ, Bool, true, false, List, [], length, refl}
+use Rattle.life_types.specs.Types.{Types}
+use Rattle.life_core.specs.Function.{Function}
 use Rattle.life_core.specs.Tree.{Tree, Turns, trees}
 use Rattle.life_well_typed.specs.Visible.{Visible, behind}
+use Rattle.life_writer.specs.Around.{Around}
+use Rattle.life_writer.specs.Variables.{with_outside}
 use Rattle.life_writer.specs.Writing.{State, Gives, with_code, write}
+use Rattle.life_elab.specs.Statements.{looped}
+use Rattle.life_elab_laws.proofs.Doing.{DoesLevel}
 use Rattle.life_elab_laws.proofs.Following.{Adds, Follows, HasRegister, begins_added, register_later}
 use Rattle.life_elab_laws.proofs.FormedStatements.{Asking, Forms, turns_formed}
+use Rattle.life_elab_laws.proofs.Forming.{formed_more}
+use Rattle.life_elab_laws.proofs.Growing.{Begins}
 use Rattle.life_elab_laws.proofs.Looping.{inside, inside_follows, past, step_follows}
+use Rattle.life_elab_laws.proofs.Setting.{Setting}
+use Rattle.life_elab_laws.proofs.Testing.{Tests}
 
 -- the body is written where all that lives stays outside of the loop, and the step behind it
 abbrev pub head : State → State

@@ -1,13 +1,13 @@
 -- Statements one after the other, lists of their own, branches, loops and what leaves: they are well formed where their parts are.
-use Rattle.life_core.specs.Step.{End}
-use Rattle.life_core.specs.Function.{Function}
-use Rattle.life_types.specs.declared.place.Place.{Place}
-use Rattle.life_types.specs.Types.{Types}
-use Rattle.std.proofs.lemmas.Bool.{and_from}
-use Rattle.life_writer.specs.Variables.{end}
-use Rattle.std.specs.List.{list_all}
 use Rattle.std.proofs.Common.{◌≡◌, ℕ, true, List, [], ◌∷◌}
+use Rattle.std.specs.List.{list_all}
+use Rattle.std.proofs.lemmas.Bool.{and_from}
+use Rattle.life_types.specs.Types.{Types}
+use Rattle.life_types.specs.declared.place.Place.{Place}
+use Rattle.life_core.specs.Function.{Function}
+use Rattle.life_core.specs.Step.{End}
 use Rattle.life_core.specs.Tree.{Tree, Acts, Choice, Turns}
+use Rattle.life_writer.specs.Variables.{end}
 use Rattle.life_writer.specs.Writing.{State, Gives, write}
 use Rattle.life_elab_laws.proofs.Growing.{Begins, Grows}
 use Rattle.life_proper.specs.WellFormed.{can_end, is_well_formed_tree}

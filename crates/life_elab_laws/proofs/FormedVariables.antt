@@ -1,33 +1,33 @@
 -- Variables as places and as pointers: their types in the finished function, and const where the text has it.
-use Rattle.life_elab_laws.proofs.Gifts.{IsPlaceOf}
-use Rattle.life_writer.specs.Around.{Around}
-use Rattle.life_elab_laws.proofs.Growing.{Begins}
-use Rattle.life_typed.specs.declared.typed_expr.Category.{Category}
-use Rattle.life_core.specs.Function.{Function}
-use Rattle.life_elab_laws.proofs.Fronts.{IsFront}
-use Rattle.life_core.specs.declared.program.Local.{Local}
-use Rattle.life_core.specs.declared.program.LocalKind.{LocalKind}
-use Rattle.life_writer.specs.Writing.{State}
-use Rattle.life_types.specs.declared.ty.Ty.{Ty}
-use Rattle.life_types.specs.declared.ty.TyId.{TyId}
-use Rattle.life_typed.specs.declared.typed_program.TypedLocal.{TypedLocal}
-use Rattle.std.proofs.lemmas.Bool.{false≢true}
-use Rattle.life_built.specs.Built.{is_built_variable}
-use Rattle.life_elab_laws.proofs.TypedKinds.{place_same}
 use Rattle.std.proofs.Common.{◌≡◌, ℕ, Bool, true, false, not, if◌then◌else◌, List, [], nat_lt, slice_get, Option, Some, None, refl, sym, ap, ◌∙◌, subst, unwrap_or}
+use Rattle.std.proofs.lemmas.Bool.{false≢true}
 use Rattle.life_types.specs.Types.{Types, class}
+use Rattle.life_types.specs.declared.ty.Ty.{Ty}
 use Rattle.life_types.specs.declared.ty.Ty.TheVariants as ty
+use Rattle.life_types.specs.declared.ty.TyId.{TyId}
+use Rattle.life_built.specs.Built.{is_built_variable}
 use Rattle.life_typed.specs.BaseTypes.{is_value, type_at}
 use Rattle.life_typed.specs.TypedForm.{Form, Typed}
+use Rattle.life_typed.specs.declared.typed_expr.Category.{Category}
 use Rattle.life_typed.specs.declared.typed_expr.Category.TheVariants as category
+use Rattle.life_typed.specs.declared.typed_program.TypedLocal.{TypedLocal}
 use Rattle.life_type_expr.specs.Operands.{place_of as place_typed, variable_of}
+use Rattle.life_core.specs.Function.{Function}
 use Rattle.life_core.specs.Operands.{Location, Through, behind, object_named, whole}
+use Rattle.life_core.specs.declared.program.Local.{Local}
+use Rattle.life_core.specs.declared.program.LocalKind.{LocalKind}
 use Rattle.life_core.specs.declared.program.LocalKind.TheVariants.{Object, Register}
 use Rattle.life_pset.specs.Shapes.{is_constant, or_void, referred, shape_if, shape_of, target_of, ty_if, ty_of, unslotted}
+use Rattle.life_writer.specs.Around.{Around}
 use Rattle.life_writer.specs.Variables.{kind, place_of, place_of_kind, variable, variable_place}
+use Rattle.life_writer.specs.Writing.{State}
+use Rattle.life_elab_laws.proofs.Fronts.{IsFront}
+use Rattle.life_elab_laws.proofs.Growing.{Begins}
+use Rattle.life_elab_laws.proofs.TypedKinds.{place_same}
 use Rattle.life_elab_laws.proofs.VariablePlaces.{IsVariableAt, IsVariableType, a_raw, a_reference, a_value, variable_type}
 use Rattle.life_proper.specs.OperandTypes.{is_void, keeps_const, pointee}
 use Rattle.life_proper.specs.Placed as placed
+use Rattle.life_elab_laws.proofs.Gifts.{IsPlaceOf}
 use Rattle.life_elab_laws.proofs.OperandsThere.{object_there, type_there, value_either, value_no_reference}
 
 keeps_all : (to : Bool) → keeps_const to false ≡ true

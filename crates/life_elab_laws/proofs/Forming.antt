@@ -1,11 +1,11 @@
 -- Code that is well formed, one piece after the other.
-use Rattle.life_proper.specs.WellFormed.{is_well_formed_tree}
-use Rattle.life_core.specs.Function.{Function}
-use Rattle.life_types.specs.Types.{Types}
-use Rattle.life_elab_laws.proofs.Shaping.{all_append}
-use Rattle.std.proofs.lemmas.Bool.{and_from}
 use Rattle.std.proofs.Common.{◌≡◌, ℕ, true, List, [], ◌∷◌, ◌++◌, refl}
+use Rattle.std.proofs.lemmas.Bool.{and_from}
+use Rattle.life_types.specs.Types.{Types}
+use Rattle.life_core.specs.Function.{Function}
 use Rattle.life_core.specs.Tree.{Tree, trees}
+use Rattle.life_proper.specs.WellFormed.{is_well_formed_tree}
+use Rattle.life_elab_laws.proofs.Shaping.{all_append}
 
 module _ (types : Types) (texts : ℕ) (fs : List Function) (f : Function) where
   abbrev pub Formed : List Tree → Type 0

@@ -1,37 +1,37 @@
 -- What is written for a whole function: all is ready on every way, and no way runs past the end.
-use Rattle.life_elab_laws.proofs.Growing.{Begins}
-use Rattle.life_core.specs.Function.{Function}
-use Rattle.life_elab_laws.proofs.GivingBack.{GivesValue}
-use Rattle.life_well_typed.specs.Functions.{IsBody}
-use Rattle.life_elab_laws.proofs.Callees.{IsBuiltFunction}
-use Rattle.life_elab_laws.proofs.Fronts.{IsFront}
-use Rattle.life_elab_laws.proofs.Exits.{Leaves}
-use Rattle.life_proper.specs.ResultsKnown.{ReturnsKnown}
-use Rattle.life_elab_laws.proofs.Setting.{Setting}
-use Rattle.life_writer.specs.Writing.{State}
-use Rattle.life_types.specs.declared.ty.Ty.{Ty}
-use Rattle.life_types.specs.Types.{Types}
-use Rattle.life_elab.specs.Programs.{around}
-use Rattle.life_writer.specs.Variables.{end_past}
-use Rattle.life_typed.specs.Ends.{ends}
-use Rattle.life_built.specs.Built.{is_built_statement}
-use Rattle.life_proper.specs.Plain.{is_plain_tree}
-use Rattle.life_elab_laws.proofs.Returning.{return_does}
-use Rattle.life_elab_laws.proofs.Statements.{statement_does}
 use Rattle.std.proofs.Common.{◌≡◌, ◌≤◌, ℕ, Bool, true, false, List, [], ◌∷◌, ◌++◌, length, slice_get, take, Some, None, is_none, refl, sym, ap, ◌∙◌, subst}
 use Rattle.std.proofs.lemmas.Bool.{and_from, false≢true}
+use Rattle.life_types.specs.Types.{Types}
+use Rattle.life_types.specs.declared.ty.Ty.{Ty}
+use Rattle.life_built.specs.Built.{is_built_statement}
 use Rattle.life_typed.specs.Programs.{FunctionForm, ProgramForm}
 use Rattle.life_typed.specs.TypedStatement.{StmtForm, block}
+use Rattle.life_core.specs.Function.{Function}
 use Rattle.life_core.specs.Shape.{breaks_inside, is_statement, tests_straight}
 use Rattle.life_core.specs.Tree.{Tree, Returns, trees}
 use Rattle.life_proper.specs.Checking.{Flow, body_flow, flow, is_checked, is_over}
 use Rattle.life_proper.specs.Knowing.{State as Knowing, entry_known}
+use Rattle.life_proper.specs.Plain.{is_plain_tree}
+use Rattle.life_proper.specs.ResultsKnown.{ReturnsKnown}
+use Rattle.life_well_typed.specs.Functions.{IsBody}
 use Rattle.life_well_typed.specs.Visible.{Visible, after, with_parameters}
+use Rattle.life_writer.specs.Variables.{end_past}
+use Rattle.life_writer.specs.Writing.{State}
+use Rattle.life_typed.specs.Ends.{ends}
 use Rattle.life_elab.specs.Functions.{body, first_state, returned_at_end, written}
+use Rattle.life_elab.specs.Programs.{around}
 use Rattle.life_elab.specs.Statements.{left, statement}
 use Rattle.life_elab_laws.proofs.Beginning.{entry_knows, first_code, first_follows, register_there}
+use Rattle.life_elab_laws.proofs.Callees.{IsBuiltFunction}
 use Rattle.life_elab_laws.proofs.Doing.{Acting, Does, does_then}
+use Rattle.life_elab_laws.proofs.Exits.{Leaves}
 use Rattle.life_elab_laws.proofs.Following.{Follows, HasRegister}
+use Rattle.life_elab_laws.proofs.Fronts.{IsFront}
+use Rattle.life_elab_laws.proofs.GivingBack.{GivesValue}
+use Rattle.life_elab_laws.proofs.Growing.{Begins}
+use Rattle.life_elab_laws.proofs.Returning.{return_does}
+use Rattle.life_elab_laws.proofs.Setting.{Setting}
+use Rattle.life_elab_laws.proofs.Statements.{statement_does}
 use Rattle.life_elab_laws.proofs.Stopping.{stops, stops_next, stops_right}
 
 module _ (p : ProgramForm) (form : FunctionForm) (T types : Types) (fs : List Function) (f : Function) (setting : Setting (around p form) types fs f) where

@@ -1,18 +1,18 @@
 -- What a part of an expression gives: which type it has in the finished function, and what is known of it where so many locals are there.
-use Rattle.life_typed.specs.declared.typed_expr.ExprType.{ExprType}
-use Rattle.life_core.specs.Function.{Function}
-use Rattle.life_proper.specs.declared.known.Known.{Known}
+use Rattle.std.proofs.Common.{◌≡◌, ◌≤◌, ◌&&◌, ℕ, Bool, true, List, [], ◌∷◌, None, ◌∙◌, arith}
+use Rattle.life_types.specs.Types.{Types}
 use Rattle.life_types.specs.declared.ty.Ty.{Ty}
 use Rattle.life_types.specs.declared.ty.TyId.{TyId}
-use Rattle.life_types.specs.Types.{Types}
+use Rattle.life_typed.specs.declared.typed_expr.ExprType.{ExprType}
+use Rattle.life_typed.specs.declared.typed_expr.ExprType.TheVariants.{NullPointer, Of, TextLiteral}
+use Rattle.life_core.specs.Function.{Function}
+use Rattle.life_core.specs.Operands.{Argument, Location, Null, Operand, Place as Aimed, Value}
 use Rattle.life_pset.specs.Shapes.{is_constant}
-use Rattle.std.proofs.Common.{◌≡◌, ◌≤◌, ◌&&◌, ℕ, Bool, true, List, [], ◌∷◌, None, ◌∙◌, arith}
-use Rattle.life_typed.specs.declared.typed_expr.ExprType.TheVariants.{Of, NullPointer, TextLiteral}
-use Rattle.life_core.specs.Operands.{Argument, Location, Operand, Value, Null, Place as Aimed}
 use Rattle.life_proper.specs.OperandTypes.{aims_at, keeps_const}
 use Rattle.life_proper.specs.Placed.{is_const_place, is_number_of, type_in, type_of}
 use Rattle.life_proper.specs.WellFormed.{are_arguments_for, have_own_slots}
-use Rattle.life_writer.specs.Pointers.{Pointing, At, As}
+use Rattle.life_proper.specs.declared.known.Known.{Known}
+use Rattle.life_writer.specs.Pointers.{As, At, Pointing}
 use Rattle.life_elab_laws.proofs.Making.{IsNumber, IsPlace, IsPointer, IsPointing, Keeps, a_target as to_target, an_object}
 
 -- a number in a register for each of these

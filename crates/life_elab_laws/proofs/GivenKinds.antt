@@ -1,17 +1,17 @@
 -- What is given to a value is a number, and to a raw pointer a pointer or nullptr.
-use Rattle.life_typed.specs.declared.typed_expr.Category.{Category}
-use Rattle.life_typed.specs.declared.typed_expr.ExprType.{ExprType}
-use Rattle.life_typed.specs.declared.misfit.Misfit.TheVariants.{General}
-use Rattle.life_types.specs.declared.ty.Ty.{Ty}
-use Rattle.life_typed.specs.TypedForm.{Typed}
-use Rattle.life_types.specs.Types.{Types}
-use Rattle.std.proofs.lemmas.Bool.{false≢true}
-use Rattle.life_type_expr.specs.Lists.{fits_at_all}
 use Rattle.std.proofs.Common.{◌≡◌, Bool, true, false, not, refl, if◌then◌else◌}
+use Rattle.std.proofs.lemmas.Bool.{false≢true}
+use Rattle.life_types.specs.Types.{Types}
+use Rattle.life_types.specs.declared.ty.Ty.{Ty}
 use Rattle.life_types.specs.declared.ty.Ty.TheVariants as ty
 use Rattle.life_typed.specs.BaseTypes.{is_raw, is_value}
 use Rattle.life_typed.specs.Conversions.{fits, unless}
+use Rattle.life_typed.specs.TypedForm.{Typed}
+use Rattle.life_typed.specs.declared.misfit.Misfit.TheVariants.{General}
+use Rattle.life_typed.specs.declared.typed_expr.Category.{Category}
+use Rattle.life_typed.specs.declared.typed_expr.ExprType.{ExprType}
 use Rattle.life_typed.specs.declared.typed_expr.ExprType.TheVariants.{Of, NullPointer, TextLiteral}
+use Rattle.life_type_expr.specs.Lists.{fits_at_all}
 use Rattle.life_well_typed.specs.Given.{is_asked, is_given, is_number, is_pointer}
 
 abbrev Fits : Types → Ty → ExprType → Category → Type 0

@@ -1,16 +1,15 @@
 -- A well formed function whose locals are flat, neither owners nor structs nor pointers to them: it gives nothing over, so nothing touches what is given.
-use Rattle.life_core.specs.Function.{Function}
-use Rattle.life_core.specs.declared.instr.Made.{Made}
-use Rattle.life_types.specs.declared.ty.Ty.{Ty}
-use Rattle.life_types.specs.declared.ty.TyId.{TyId}
-use Rattle.life_types.specs.Types.{Types}
-use Rattle.std.proofs.lemmas.Grind.{flat_map-append}
-use Rattle.life_elab_laws.proofs.OperandsThere.{same_is}
 use Rattle.std.proofs.Common.{◌≡◌, ℕ, Bool, true, false, ◌&&◌, not, if◌then◌else◌, nat_eq, flat_map, List, [], ◌∷◌, ◌++◌, slice_get, Option, Some, None, refl, sym, ap, ◌∙◌, subst, true≢false}
 use Rattle.std.specs.List.{list_all, list_any}
 use Rattle.std.proofs.lemmas.Bool.{and_from, and_parts, false≢true}
+use Rattle.std.proofs.lemmas.Grind.{flat_map-append}
+use Rattle.life_types.specs.Types.{Types}
+use Rattle.life_types.specs.declared.ty.Ty.{Ty}
 use Rattle.life_types.specs.declared.ty.Ty.TheVariants as ty
+use Rattle.life_types.specs.declared.ty.TyId.{TyId}
+use Rattle.life_core.specs.declared.instr.Made.{Made}
 use Rattle.life_core.specs.declared.instr.Made.TheVariants as made
+use Rattle.life_core.specs.Function.{Function}
 use Rattle.life_core.specs.Operands.{Argument, Value, GivenOver, PointerOf, Slot, Base, Location, Operand, Name, Through, Source}
 use Rattle.life_core.specs.Operands as source
 use Rattle.life_core.specs.Step.{Step, Move, Aim, Element, Cursor, Changes, Make, Call, Change, Erase}
@@ -20,6 +19,7 @@ use Rattle.life_proper.specs.GivenOver.{all_keep_given, given_argument, given_in
 use Rattle.life_proper.specs.OperandTypes.{is_composed, is_void, owned_target, pointee, same}
 use Rattle.life_proper.specs.Placed.{is_consumed, is_given, object_at, result_at, slot_at, type_at, type_in, type_of}
 use Rattle.life_proper.specs.WellFormed.{are_arguments_for, goes_to, have_own_slots, is_argument_for, is_call, is_change_of, is_made_for, is_well_formed_step, is_well_formed_tree, types_taken}
+use Rattle.life_elab_laws.proofs.OperandsThere.{same_is}
 
 -- ---- types
 

@@ -1,17 +1,17 @@
 -- Where each return of what is written stands behind a write of the result: parts one after the other, and code without returns.
-use Rattle.life_writer.specs.Around.{Around}
-use Rattle.life_core.specs.Function.{Function}
-use Rattle.life_proper.specs.declared.known.Known.{Known}
-use Rattle.life_types.specs.Types.{Types}
-use Rattle.life_typed.specs.Ends.{ends}
-use Rattle.life_proper.specs.Checking.{flow}
 use Rattle.std.proofs.Common.{◌≡◌, ℕ, true, ◌&&◌, List, [], ◌∷◌, ◌++◌, Some, None, refl, ap}
 use Rattle.std.proofs.lemmas.Bool.{and_parts, false≢true}
+use Rattle.life_types.specs.Types.{Types}
 use Rattle.life_typed.specs.BaseTypes.{is_value, type_at}
+use Rattle.life_typed.specs.Ends.{ends}
+use Rattle.life_core.specs.Function.{Function}
 use Rattle.life_core.specs.Shape.{is_condition, is_statement, is_straight, test_straight, tests_straight}
 use Rattle.life_core.specs.Tree.{Tree, Skip, Then, Acts, Asks, Both, Either, Negated, Choice, Turns, Breaks, Continues, Returns, Stops, trees}
+use Rattle.life_proper.specs.declared.known.Known.{Known}
+use Rattle.life_proper.specs.Checking.{flow}
 use Rattle.life_proper.specs.Knowing.{State, at_head, met}
 use Rattle.life_proper.specs.ResultsKnown.{IsKnownNumber, ReturnsKnown}
+use Rattle.life_writer.specs.Around.{Around}
 use Rattle.life_elab_laws.proofs.Exits.{Knows, MayKnow}
 use Rattle.life_elab_laws.proofs.Nowhere.{none_met, nowhere_flows}
 use Rattle.life_elab_laws.proofs.Shaping.{IsFine, IsFineTest}

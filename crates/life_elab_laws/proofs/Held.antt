@@ -1,11 +1,11 @@
 -- What is held is ready.
-use Rattle.life_proper.specs.declared.known.Known.{Known}
-use Rattle.life_core.specs.Operands.{Operand}
 use Rattle.std.proofs.Common.{◌≡◌, ℕ, true, List, ap, ◌∙◌}
-use Rattle.life_core.specs.Holdings.{Holding, AnObject, ANumber, APointer}
-use Rattle.life_proper.specs.declared.known.Known.TheVariants as known
+use Rattle.life_core.specs.Holdings.{ANumber, APointer, AnObject, Holding}
+use Rattle.life_core.specs.Operands.{Operand}
 use Rattle.life_proper.specs.Knowing.{known_at, same}
 use Rattle.life_proper.specs.ReadyKnown.{holds, is_operand_ready, is_sort}
+use Rattle.life_proper.specs.declared.known.Known.{Known}
+use Rattle.life_proper.specs.declared.known.Known.TheVariants as known
 use Rattle.life_elab_laws.proofs.Making.{IsPlace, a_target, an_object}
 
 pub number_held : (k : List Known) (r : ℕ) → known_at k r ≡ known.Number → holds k r ANumber ≡ true

@@ -1,51 +1,51 @@
 -- Single instructions that write a register: what is asked of each, and that it is a part behind what its operands give.
-use Rattle.life_core.specs.Tree.{Acts}
-use Rattle.life_core.specs.Function.{Function}
-use Rattle.life_types.specs.Trees.{HasPartsBelow}
-use Rattle.life_proper.specs.declared.known.Known.{Known}
-use Rattle.life_typed.specs.declared.typed_expr.ExprType.TheVariants.{Of}
-use Rattle.life_core.specs.declared.operation.Operation.{Operation}
-use Rattle.life_core.specs.declared.operation.Operator.{Operator}
-use Rattle.life_types.specs.declared.place.Place.{Place}
-use Rattle.life_types.specs.declared.ty.Ty.{Ty}
-use Rattle.life_types.specs.Types.{Types}
-use Rattle.life_elab_laws.proofs.Knowledge.{at_set}
-use Rattle.life_elab_laws.proofs.Shaping.{fine_acts}
-use Rattle.life_core.specs.ByValue.{is_by_value}
-use Rattle.life_proper.specs.OperandTypes.{is_promoted}
-use Rattle.std.proofs.lemmas.Option.{slice_get_within}
-use Rattle.std.specs.Prelude.{ℤ}
 use Rattle.std.proofs.Common.{◌≡◌, ◌<◌, ℕ, Bool, true, false, ◌&&◌, cond, List, [], ◌∷◌, ◌++◌, length, slice_set, Option, Some, None, refl, sym, ap, ◌∙◌, subst, arith}
 use Rattle.std.proofs.lemmas.Bool.{and_from, false≢true}
+use Rattle.std.proofs.lemmas.Option.{slice_get_within}
+use Rattle.std.specs.Prelude.{ℤ}
+use Rattle.life_types.specs.Trees.{HasPartsBelow}
+use Rattle.life_types.specs.Types.{Types}
 use Rattle.life_types.specs.contracts.ty.TyPartialEq.TheImpl.{ghosts as compared}
+use Rattle.life_types.specs.declared.place.Place.{Place}
+use Rattle.life_types.specs.declared.ty.Ty.{Ty}
 use Rattle.life_types.specs.declared.ty.Ty.TheVariants as ty
 use Rattle.life_typed.specs.BaseTypes.{is_raw, is_value}
-use Rattle.life_core.specs.Operands.{Operand, Source, Null, Place as Aimed, whole}
-use Rattle.life_core.specs.Holdings.{Holding, ANumber, APointer, sort_of}
-use Rattle.life_core.specs.Step.{Step, Aim}
+use Rattle.life_typed.specs.declared.typed_expr.ExprType.TheVariants.{Of}
+use Rattle.life_core.specs.ByValue.{is_by_value}
+use Rattle.life_core.specs.Function.{Function}
+use Rattle.life_core.specs.Holdings.{ANumber, APointer, Holding, sort_of}
+use Rattle.life_core.specs.Operands.{Null, Operand, Place as Aimed, Source, whole}
+use Rattle.life_core.specs.Step.{Aim, Step}
+use Rattle.life_core.specs.Tree.{Acts}
+use Rattle.life_core.specs.declared.operation.Operation.{Operation}
 use Rattle.life_core.specs.declared.operation.Operation.TheVariants as operation
+use Rattle.life_core.specs.declared.operation.Operator.{Operator}
 use Rattle.life_pset.specs.Shapes as shapes
-use Rattle.life_proper.specs.declared.known.Known.TheVariants as known
 use Rattle.life_proper.specs.Knowing.{known_as, known_at}
+use Rattle.life_proper.specs.OperandTypes.{is_promoted}
 use Rattle.life_proper.specs.OperandTypes as operands
 use Rattle.life_proper.specs.Placed.{is_number, is_number_of, type_at}
 use Rattle.life_proper.specs.ReadyKnown.{holds, is_operand_ready, is_operation_ready, is_sort, is_source_ready, is_step_ready, known_after}
 use Rattle.life_proper.specs.WellFormed.{answer_of, is_operation_of, is_source_of, is_well_formed_step}
-use Rattle.life_writer.specs.Pointers.{Pointing, At, As, located}
+use Rattle.life_proper.specs.declared.known.Known.{Known}
+use Rattle.life_proper.specs.declared.known.Known.TheVariants as known
+use Rattle.life_writer.specs.Pointers.{As, At, Pointing, located}
 use Rattle.life_writer.specs.Registers.{as_type, computed, constant, conversion, converted, eval, load, new_register, target}
 use Rattle.life_writer.specs.Values as values
-use Rattle.life_writer.specs.Writing.{State, Gives, emit, gives}
+use Rattle.life_writer.specs.Writing.{Gives, State, emit, gives}
 use Rattle.life_elab_laws.proofs.Emitting.{IsInto, IsNameless, IsWanted, Targets, keeps_set, new_targeted, targeted}
 use Rattle.life_elab_laws.proofs.Falling.{falling, falls_acts}
 use Rattle.life_elab_laws.proofs.Fronts.{front_itself, last_there}
 use Rattle.life_elab_laws.proofs.Gifts.{Gift, IsAt, IsGivenTo, a_number, a_place, a_pointer, a_pointing, both, nothing}
 use Rattle.life_elab_laws.proofs.Growing.{Begins, Grows, added}
+use Rattle.life_elab_laws.proofs.Held.{number_held, number_sort, place_ready}
+use Rattle.life_elab_laws.proofs.Knowledge.{at_set}
 use Rattle.life_elab_laws.proofs.Making.{IsOpen, IsPointing, Keeps}
 use Rattle.life_elab_laws.proofs.OperandsThere.{number_any, number_there, number_typed, type_there, value_either, value_same}
 use Rattle.life_elab_laws.proofs.Parts.{Makes, Part, Runs, and_part, gives_part, then_part}
+use Rattle.life_elab_laws.proofs.Shaping.{fine_acts}
 use Rattle.life_elab_laws.proofs.Types.{raw_register, same_types, type_added}
 use Rattle.life_elab_laws.proofs.WrittenLocals.{fits_register, registers_none}
-use Rattle.life_elab_laws.proofs.Held.{number_held, number_sort, place_ready}
 
 -- ---- the register that is written
 

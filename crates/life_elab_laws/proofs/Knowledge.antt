@@ -1,6 +1,6 @@
 -- What is known of each local, after one of them is written, and where two ways meet.
-use Rattle.life_proper.specs.declared.known.Known.{Known}
 use Rattle.std.proofs.Common.{◌≡◌, ◌<◌, ℕ, zero, suc, List, [], ◌∷◌, length, slice_set, refl, sym, ap, subst, arith}
+use Rattle.life_proper.specs.declared.known.Known.{Known}
 use Rattle.life_proper.specs.declared.known.Known.TheVariants as known
 use Rattle.life_proper.specs.Knowing.{agreed, agreed_all, known_at}
 

@@ -1,31 +1,31 @@
 -- Where variables end: at the end of a block, and before control goes elsewhere.
-use Rattle.life_elab_laws.proofs.Among.{Among}
-use Rattle.life_elab_laws.proofs.Growing.{Begins}
-use Rattle.life_core.specs.Step.{End}
-use Rattle.life_core.specs.Function.{Function}
-use Rattle.life_proper.specs.declared.known.Known.{Known}
-use Rattle.life_types.specs.declared.place.Place.{Place}
-use Rattle.life_proper.specs.ResultsKnown.{ReturnsKnown}
-use Rattle.life_types.specs.Types.{Types}
-use Rattle.life_elab_laws.proofs.Fronts.{front_length}
-use Rattle.life_elab.specs.Statements.{left}
-use Rattle.life_elab_laws.proofs.OrderedTypes.{order_none}
-use Rattle.std.proofs.lemmas.Option.{slice_get_within}
 use Rattle.std.proofs.Common.{◌≡◌, ◌<◌, ℕ, Bool, true, List, [], ◌∷◌, ◌++◌, drop, length, reverse, take, Some, refl, sym, ap, ◌∙◌, subst, arith, append_assoc, append-nil}
+use Rattle.std.proofs.lemmas.Option.{slice_get_within}
+use Rattle.life_types.specs.Types.{Types}
+use Rattle.life_types.specs.declared.place.Place.{Place}
+use Rattle.life_core.specs.Function.{Function}
+use Rattle.life_core.specs.Step.{End}
 use Rattle.life_core.specs.Tree.{Tree, Acts, trees}
+use Rattle.life_proper.specs.declared.known.Known.{Known}
 use Rattle.life_proper.specs.Checking.{Flow, before_next, flow, joined}
 use Rattle.life_proper.specs.Knowing.{State as Knowing}
 use Rattle.life_proper.specs.ReadyKnown.{can_end, known_blank}
+use Rattle.life_proper.specs.ResultsKnown.{ReturnsKnown}
 use Rattle.life_well_typed.specs.Visible.{Visible, behind}
 use Rattle.life_writer.specs.Around.{Around, result_local}
 use Rattle.life_writer.specs.Variables.{end, end_since, with_living_of}
 use Rattle.life_writer.specs.Writing.{State, with_code, write}
+use Rattle.life_elab.specs.Statements.{left}
+use Rattle.life_elab_laws.proofs.Among.{Among}
 use Rattle.life_elab_laws.proofs.Doing.{Acting, Does, IsStated, fine_stated, leaves_falling, leaves_may, stated_append}
 use Rattle.life_elab_laws.proofs.Ending.{end_knows, end_ready}
 use Rattle.life_elab_laws.proofs.Exits.{Knows, Leaves, MayKnow, leaves_then}
 use Rattle.life_elab_laws.proofs.Falling.{Falls, falling, falls_acts, flow_append}
 use Rattle.life_elab_laws.proofs.Following.{Adds, Follows, adds_coded, adds_none, follows_again, follows_coded, take_itself}
+use Rattle.life_elab_laws.proofs.Fronts.{front_length}
 use Rattle.life_elab_laws.proofs.GivingBack.{GivesValue, fine_known, known_append}
+use Rattle.life_elab_laws.proofs.Growing.{Begins}
+use Rattle.life_elab_laws.proofs.OrderedTypes.{order_none}
 use Rattle.life_elab_laws.proofs.Shaping.{IsFine, fine_acts, fine_none}
 
 module _ (types : Types) (fs : List Function) (f : Function) where

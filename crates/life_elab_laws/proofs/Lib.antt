@@ -13,6 +13,7 @@ pub mod Doing
 pub mod Emitting
 pub mod Ending
 pub mod Exits
+pub mod ExpressionForms
 pub mod ExpressionKinds
 pub mod ExpressionTypes
 pub mod Expressions

@@ -1,37 +1,37 @@
 -- Loops: what is known at the head of a loop is known again wherever control comes back to it.
-use Rattle.life_elab_laws.proofs.Growing.{Begins}
-use Rattle.life_core.specs.Function.{Function}
-use Rattle.life_proper.specs.declared.known.Known.{Known}
-use Rattle.life_core.specs.declared.program.Local.{Local}
-use Rattle.life_types.specs.declared.ty.NameId.{NameId}
-use Rattle.life_proper.specs.ResultsKnown.{ReturnsKnown}
-use Rattle.life_types.specs.Types.{Types}
-use Rattle.std.proofs.lemmas.Bool.{and_from}
-use Rattle.life_elab_laws.proofs.Shaping.{breaks_anywhere}
-use Rattle.life_elab_laws.proofs.Falling.{deciding}
-use Rattle.life_elab_laws.proofs.Fronts.{front_itself}
-use Rattle.life_proper.specs.Plain.{is_plain_tree}
-use Rattle.life_proper.proofs.Joining.{joined_end}
-use Rattle.life_elab_laws.proofs.WrittenLocals.{locals_added}
-use Rattle.life_elab_laws.proofs.OrderedTypes.{order_then}
-use Rattle.std.proofs.lemmas.Option.{same_Some}
-use Rattle.life_writer.specs.Variables.{with_outside}
 use Rattle.std.proofs.Common.{◌≡◌, ◌⊎◌, inl, inr, ℕ, zero, suc, Bool, true, false, ◌&&◌, ◌||◌, List, [], ◌∷◌, ◌++◌, length, slice_get, take, Some, None, refl, sym, ap, ◌∙◌, subst, arith, is_none}
+use Rattle.std.proofs.lemmas.Bool.{and_from}
+use Rattle.std.proofs.lemmas.Option.{same_Some}
+use Rattle.life_types.specs.Types.{Types}
+use Rattle.life_types.specs.declared.ty.NameId.{NameId}
+use Rattle.life_core.specs.Function.{Function}
 use Rattle.life_core.specs.Shape.{breaks_inside, is_condition, is_statement, test_straight, tests_straight}
 use Rattle.life_core.specs.Tree.{Tree, Turns, trees}
+use Rattle.life_core.specs.declared.program.Local.{Local}
+use Rattle.life_proper.specs.declared.known.Known.{Known}
 use Rattle.life_proper.specs.Checking.{Flow, flow, joined, of_body, of_step, of_test}
 use Rattle.life_proper.specs.Knowing.{State as Knowing, are_implied, comes_back, forgotten, is_intermediate, is_register, known_at, met, is_blank, is_forgotten}
+use Rattle.life_proper.specs.Plain.{is_plain_tree}
+use Rattle.life_proper.specs.ResultsKnown.{ReturnsKnown}
+use Rattle.life_proper.proofs.Joining.{joined_end}
 use Rattle.life_well_typed.specs.Visible.{Visible, behind}
 use Rattle.life_writer.specs.Around.{Around, result_local}
+use Rattle.life_writer.specs.Variables.{with_outside}
 use Rattle.life_writer.specs.Writing.{State, Gives, with_code, write}
 use Rattle.life_elab_laws.proofs.Among.{Among, among_or}
 use Rattle.life_elab_laws.proofs.Branching.{adds_uncoded, known_behind, leaves_same, visible_again}
 use Rattle.life_elab_laws.proofs.Doing.{Acting, DoesLevel, leaves_may, none_leaves}
 use Rattle.life_elab_laws.proofs.Exits.{AreNamed, Knows, Leaves, MayKnow, MayLeave, forgotten_implied, leaves_joined, may_met}
+use Rattle.life_elab_laws.proofs.Falling.{deciding}
 use Rattle.life_elab_laws.proofs.Following.{Adds, Follows, adds_coded, adds_then, begins_added, follows_again, follows_coded, follows_grown, follows_named, grows_adds, knows_alive, take_itself}
+use Rattle.life_elab_laws.proofs.Fronts.{front_itself}
 use Rattle.life_elab_laws.proofs.GivingBack.{GivesValue, asks_known, known_may}
+use Rattle.life_elab_laws.proofs.Growing.{Begins}
+use Rattle.life_elab_laws.proofs.OrderedTypes.{order_then}
 use Rattle.life_elab_laws.proofs.Shaped.{AreShaped, IsVariable, shaped_at}
 use Rattle.life_elab_laws.proofs.Testing.{Asked, AsksAll, Tests}
+use Rattle.life_elab_laws.proofs.Shaping.{breaks_anywhere}
+use Rattle.life_elab_laws.proofs.WrittenLocals.{locals_added}
 
 -- ---- at the head nothing is known of intermediate values, and the same of all others
 

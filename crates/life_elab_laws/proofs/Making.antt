@@ -1,20 +1,20 @@
 -- What a part of an expression writes: from knowledge in which all visible variables are there, to knowledge in which what it gives is.
-use Rattle.life_elab_laws.proofs.Falling.{Falls}
-use Rattle.life_elab_laws.proofs.Shaping.{IsFine}
-use Rattle.life_core.specs.Function.{Function}
-use Rattle.life_proper.specs.declared.known.Known.{Known}
-use Rattle.life_core.specs.declared.program.Local.{Local}
-use Rattle.life_types.specs.declared.ty.NameId.{NameId}
-use Rattle.life_core.specs.Tree.{Tree}
-use Rattle.life_types.specs.Types.{Types}
 use Rattle.std.proofs.Common.{◌≡◌, ◌<◌, ◌≤◌, ℕ, List, [], ◌∷◌, ◌++◌, Contains, length, slice_get, Option, Some, None, refl, sym, ap, ◌∙◌, subst, arith}
+use Rattle.life_types.specs.Types.{Types}
+use Rattle.life_types.specs.declared.ty.NameId.{NameId}
+use Rattle.life_core.specs.Function.{Function}
 use Rattle.life_core.specs.Operands.{Location, Operand, Null, Place as Aimed, behind, object_named, whole}
 use Rattle.life_core.specs.Holdings.{APointer, sort_of}
+use Rattle.life_core.specs.Tree.{Tree}
+use Rattle.life_core.specs.declared.program.Local.{Local}
+use Rattle.life_proper.specs.declared.known.Known.{Known}
 use Rattle.life_proper.specs.declared.known.Known.TheVariants as known
 use Rattle.life_proper.specs.Knowing.{known_as, known_at}
 use Rattle.life_writer.specs.Pointers.{Pointing, At, As}
 use Rattle.life_writer.specs.Writing.{State, Gives, gives, mapped}
+use Rattle.life_elab_laws.proofs.Falling.{Falls}
 use Rattle.life_elab_laws.proofs.Growing.{Begins, Grows, grows_none}
+use Rattle.life_elab_laws.proofs.Shaping.{IsFine}
 use Rattle.life_elab_laws.proofs.WrittenLocals.{AddsRegisters, registers_none}
 
 -- ---- what a part gives

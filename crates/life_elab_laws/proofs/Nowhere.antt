@@ -1,8 +1,8 @@
 -- Where no way comes in, none goes out, and all is ready.
-use Rattle.life_core.specs.Function.{Function}
-use Rattle.life_types.specs.Types.{Types}
-use Rattle.std.proofs.lemmas.Bool.{and_from}
 use Rattle.std.proofs.Common.{◌≡◌, true, List, None, refl, sym, ap, ◌∙◌, subst}
+use Rattle.std.proofs.lemmas.Bool.{and_from}
+use Rattle.life_types.specs.Types.{Types}
+use Rattle.life_core.specs.Function.{Function}
 use Rattle.life_core.specs.Tree.{Tree, Skip, Then, Acts, Asks, Both, Either, Negated, Choice, Turns, Breaks, Continues, Returns, Stops}
 use Rattle.life_proper.specs.Checking.{Flow, before_both, before_false, before_next, before_true, flow, joined, of_body, of_step, of_test, turned}
 use Rattle.life_proper.specs.Knowing.{State, at_head, comes_back, met}

@@ -1,19 +1,19 @@
 -- The types that registers and objects have in the finished function.
-use Rattle.life_core.specs.Function.{Function}
-use Rattle.life_core.specs.declared.program.Local.{Local}
-use Rattle.life_types.specs.declared.ty.Ty.{Ty}
-use Rattle.life_types.specs.declared.ty.TyId.{TyId}
-use Rattle.life_types.specs.Types.{Types}
-use Rattle.life_proper.specs.Knowing.{is_register}
-use Rattle.life_elab_laws.proofs.Types.{same_types}
 use Rattle.std.proofs.Common.{◌≡◌, ℕ, Bool, true, false, ◌&&◌, nat_lt, slice_get, Option, Some, None, refl, sym, ap, ◌∙◌, subst, unwrap_or, rules}
 use Rattle.std.proofs.lemmas.Bool.{and_from, and_parts, false≢true}
+use Rattle.life_types.specs.Types.{Types}
+use Rattle.life_types.specs.declared.ty.Ty.{Ty}
 use Rattle.life_types.specs.declared.ty.Ty.TheVariants as ty
+use Rattle.life_types.specs.declared.ty.TyId.{TyId}
+use Rattle.life_core.specs.Function.{Function}
+use Rattle.life_core.specs.declared.program.Local.{Local}
 use Rattle.life_core.specs.declared.program.LocalKind.TheVariants.{Object, Register}
+use Rattle.life_proper.specs.Knowing.{is_register}
 use Rattle.life_pset.specs.Shapes.{or_void, shape_if, shape_of, ty_if, ty_of, unslotted}
 use Rattle.life_proper.specs.OperandTypes.{is_reference, is_value, same}
 use Rattle.life_proper.specs.Placed.{has_kind, is_number, is_number_of, is_object, object_at, register_at, type_at}
 use Rattle.life_typed.specs.BaseTypes as base
+use Rattle.life_elab_laws.proofs.Types.{same_types}
 
 -- ---- types
 

@@ -1,20 +1,20 @@
 -- The type that an operator between two numbers answers, as the instruction has it.
-use Rattle.life_typed.specs.declared.typed_expr.BinaryOperator.{BinaryOperator}
-use Rattle.life_typed.specs.declared.typed_expr.ExprType.{ExprType}
-use Rattle.life_types.specs.declared.ty.Ty.{Ty}
-use Rattle.life_proper.specs.WellFormed.{answer_of}
-use Rattle.std.proofs.lemmas.Bool.{false≢true}
-use Rattle.life_elab_laws.proofs.TypedKinds.{given_true}
-use Rattle.life_well_typed.specs.Given.{is_number}
-use Rattle.life_proper.specs.OperandTypes.{is_promoted}
-use Rattle.life_writer.specs.Values.{operator_of}
-use Rattle.life_writer.specs.Around.{own_type}
 use Rattle.std.proofs.Common.{◌≡◌, Bool, true, false, ◌&&◌, cond, Some, refl, sym, ◌∙◌}
+use Rattle.std.proofs.lemmas.Bool.{false≢true}
+use Rattle.life_types.specs.declared.ty.Ty.{Ty}
 use Rattle.life_types.specs.declared.ty.Ty.TheVariants as ty
 use Rattle.life_typed.specs.BaseTypes.{is_iterator, is_text, is_value}
 use Rattle.life_typed.specs.Operators.{added_types, answer, are_equated, arithmetic, promoted, subtracted_types}
+use Rattle.life_typed.specs.declared.typed_expr.BinaryOperator.{BinaryOperator}
 use Rattle.life_typed.specs.declared.typed_expr.BinaryOperator.TheVariants as operator
+use Rattle.life_typed.specs.declared.typed_expr.ExprType.{ExprType}
 use Rattle.life_typed.specs.declared.typed_expr.ExprType.TheVariants.{Of, NullPointer, TextLiteral}
+use Rattle.life_well_typed.specs.Given.{is_number}
+use Rattle.life_writer.specs.Around.{own_type}
+use Rattle.life_writer.specs.Values.{operator_of}
+use Rattle.life_elab_laws.proofs.TypedKinds.{given_true}
+use Rattle.life_proper.specs.OperandTypes.{is_promoted}
+use Rattle.life_proper.specs.WellFormed.{answer_of}
 
 pub promoted_is : (a b : Ty) → is_promoted (promoted a b) ≡ true
 promoted_is a b = go _ _

@@ -1,11 +1,11 @@
 -- A part of what is written, with all that the laws ask of it: it grows what is written, adds nothing but registers without names, writes what is well
 -- formed, runs from where all visible variables are there, and gives what has the type that is wanted and is ready. And the ways to put parts together.
-use Rattle.life_core.specs.Tree.{Tree}
-use Rattle.life_core.specs.Function.{Function}
-use Rattle.life_proper.specs.declared.known.Known.{Known}
-use Rattle.life_types.specs.Types.{Types}
 use Rattle.std.proofs.Common.{◌≡◌, ℕ, List, [], ◌++◌, length, Option, None, refl, sym, ap, ◌∙◌, append-nil, append_assoc}
-use Rattle.life_writer.specs.Writing.{State, Gives, gives, mapped}
+use Rattle.life_types.specs.Types.{Types}
+use Rattle.life_core.specs.Function.{Function}
+use Rattle.life_core.specs.Tree.{Tree}
+use Rattle.life_proper.specs.declared.known.Known.{Known}
+use Rattle.life_writer.specs.Writing.{Gives, State, gives, mapped}
 use Rattle.life_elab_laws.proofs.Falling.{Falls, falls_append}
 use Rattle.life_elab_laws.proofs.Forming.{Formed, formed_append}
 use Rattle.life_elab_laws.proofs.Gifts.{Gift, both, nothing}

@@ -1,17 +1,17 @@
 -- The functions of a core program have the names of the typed ones, in their order, so no two of them have one.
-use Rattle.life_elab_laws.proofs.Programs.{AreWritten}
-use Rattle.life_core.specs.Function.{Function}
+use Rattle.std.proofs.Common.{◌≡◌, ℕ, true, ◌&&◌, ◌||◌, not, List, [], ◌∷◌, map, nat_eq, refl, ap, ◌∙◌, Bool}
+use Rattle.std.specs.List.{list_any}
+use Rattle.std.proofs.lemmas.Bool.{false≢true}
+use Rattle.life_types.specs.Types.{Types}
 use Rattle.life_types.specs.declared.ty.NameId.{NameId}
 use Rattle.life_types.specs.declared.ty.TyId.{TyId}
-use Rattle.life_types.specs.Types.{Types}
-use Rattle.std.proofs.lemmas.Bool.{false≢true}
 use Rattle.life_built.specs.Built.{has_no_structs}
-use Rattle.std.specs.List.{list_any}
+use Rattle.life_core.specs.Function.{Function}
 use Rattle.life_elab.specs.Programs.{member_names}
-use Rattle.std.proofs.Common.{◌≡◌, ℕ, true, ◌&&◌, ◌||◌, not, List, [], ◌∷◌, map, nat_eq, refl, ap, ◌∙◌, Bool}
 use Rattle.life_typed.specs.Programs.{FunctionForm, ProgramForm, StructForm}
 use Rattle.life_well_typed.specs.Names as typed
 use Rattle.life_proper.specs.WellFormedPrograms.{have_names, have_own_names, is_of_name}
+use Rattle.life_elab_laws.proofs.Programs.{AreWritten}
 
 module _ (p : ProgramForm) (types : Types) where
   none_named : (name : NameId) (fs : List FunctionForm) (cores : List Function) → AreWritten p types fs cores → list_any (is_of_name name) cores ≡ list_any (typed.is_of_name name) fs

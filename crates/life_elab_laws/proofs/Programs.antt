@@ -1,42 +1,42 @@
 -- The core program of a well typed program that is built: each of its functions is checked, among all of them, and has short places.
-use Rattle.life_elab_laws.proofs.WrittenLocals.{AreWrittenLocals}
-use Rattle.life_elab_laws.proofs.Growing.{Begins}
-use Rattle.life_core.specs.Function.{Function}
-use Rattle.life_elab_laws.proofs.GivingBack.{GivesValue}
-use Rattle.life_elab.specs.Bounds.{HaveShortPlaces}
-use Rattle.life_elab_laws.proofs.Calls.{IsCallee}
-use Rattle.life_proper.specs.ResultsKnown.{ReturnsKnown}
-use Rattle.life_elab_laws.proofs.Setting.{Setting}
-use Rattle.life_types.specs.declared.ty.Ty.{Ty}
-use Rattle.life_types.specs.declared.ty.TyId.{TyId}
-use Rattle.life_types.specs.Types.{Types}
-use Rattle.life_proper.specs.Knowing.{entry_known}
-use Rattle.life_elab_laws.proofs.ExpressionKinds.{function_built}
-use Rattle.std.specs.List.{list_all}
-use Rattle.life_elab_laws.proofs.ShortPlaces.{short_function}
 use Rattle.std.proofs.Common.{◌≡◌, ◌<◌, ◌⊎◌, ℕ, zero, suc, true, List, [], ◌∷◌, ◌++◌, length, map, slice_get, take, Some, option_map, refl, sym, ap, ◌∙◌, subst, arith, append_assoc, append-nil}
 use Rattle.std.proofs.lemmas.Bool.{and_from, and_parts}
 use Rattle.std.proofs.lemmas.Option.{none-some, same_Some, slice_get-map}
+use Rattle.std.specs.List.{list_all}
+use Rattle.life_types.specs.Types.{Types}
+use Rattle.life_types.specs.declared.ty.Ty.{Ty}
+use Rattle.life_types.specs.declared.ty.TyId.{TyId}
 use Rattle.life_built.specs.Built.{are_built_functions, has_built_types, has_no_structs, is_built}
 use Rattle.life_typed.specs.BaseTypes.{is_value, type_at}
 use Rattle.life_typed.specs.Programs.{FunctionForm, ProgramForm}
+use Rattle.life_core.specs.Function.{Function}
 use Rattle.life_core.specs.Holdings.{ANumber, Blank, result_sort}
 use Rattle.life_proper.specs.Checking.{are_checked, checked, is_checked}
+use Rattle.life_proper.specs.Knowing.{entry_known}
 use Rattle.life_proper.specs.ProperPrograms.{has_own_breaks, have_own_breaks}
 use Rattle.life_proper.specs.Plain.{are_plain, is_plain, is_plain_tree}
+use Rattle.life_proper.specs.ResultsKnown.{ReturnsKnown}
 use Rattle.life_pset.specs.Elements.{AreShort, elements_of}
 use Rattle.life_well_typed.specs.Functions.{AreWellTyped, IsWellTyped, IsWellTypedFunction}
+use Rattle.life_elab.specs.Bounds.{HaveShortPlaces}
 use Rattle.life_elab.specs.Functions.{first_state, function_from, written}
 use Rattle.life_elab.specs.Programs.{Functions, all_functions, around, core_program, functions, with_function}
 use Rattle.life_well_typed.specs.Names.{HasNames, is_function_named}
 use Rattle.life_well_typed.specs.Results.{HasResults, HaveResults}
 use Rattle.life_elab_laws.proofs.Beginning.{first_locals, first_shaped, first_types}
 use Rattle.life_elab_laws.proofs.Callees.{IsBuiltFunction, built_parts, callee_from, gives_from, gives_number, takes_values, type_found, values_at}
+use Rattle.life_elab_laws.proofs.Calls.{IsCallee}
+use Rattle.life_elab_laws.proofs.ExpressionKinds.{function_built}
 use Rattle.life_elab_laws.proofs.FormedLocals.{HasFormedHead, all_at, head_formed}
 use Rattle.life_elab_laws.proofs.Fronts.{IsFront, front_itself, front_then}
 use Rattle.life_elab_laws.proofs.FunctionWriting.{function_breaks, function_checked, function_finished, function_plain, function_returns}
+use Rattle.life_elab_laws.proofs.GivingBack.{GivesValue}
+use Rattle.life_elab_laws.proofs.Growing.{Begins}
 use Rattle.life_elab_laws.proofs.OrderedTypes.{KeepsOrder, order_none, order_then}
+use Rattle.life_elab_laws.proofs.Setting.{Setting}
 use Rattle.life_elab_laws.proofs.Shaped.{AreShaped, shaped_later}
+use Rattle.life_elab_laws.proofs.ShortPlaces.{short_function}
+use Rattle.life_elab_laws.proofs.WrittenLocals.{AreWrittenLocals}
 
 -- ---- one function among others
 

@@ -1,19 +1,19 @@
 -- The core program of a well typed program that is built and passes no limit is proper.
-use Rattle.life_well_typed.specs.Mains.{HasIntMain}
-use Rattle.life_well_typed.specs.Names.{HasNames}
+use Rattle.std.proofs.Common.{◌≡◌, true, ◌∙◌}
+use Rattle.life_built.specs.Built.{is_built}
+use Rattle.life_typed.specs.Programs.{ProgramForm}
 use Rattle.life_pset.specs.Limits.{IsProgramWithinLimits}
 use Rattle.life_proper.specs.ProperPrograms.{IsProperProgram}
-use Rattle.life_well_typed.specs.Functions.{IsWellTyped}
-use Rattle.life_typed.specs.Programs.{ProgramForm}
-use Rattle.life_elab.specs.Programs.{core_program}
-use Rattle.life_built.specs.Built.{is_built}
 use Rattle.life_proper.proofs.PlainPrograms.{plain_calls}
-use Rattle.life_elab_laws.proofs.WrittenResults.{program_writes_results}
 use Rattle.life_proper.proofs.ProperFunctions.{ready_program}
-use Rattle.std.proofs.Common.{◌≡◌, true, ◌∙◌}
+use Rattle.life_well_typed.specs.Functions.{IsWellTyped}
+use Rattle.life_well_typed.specs.Mains.{HasIntMain}
+use Rattle.life_well_typed.specs.Names.{HasNames}
 use Rattle.life_well_typed.specs.Results.{HasResults, HasTable}
+use Rattle.life_elab.specs.Programs.{core_program}
 use Rattle.life_elab_laws.proofs.Programs.{translation_breaks, translation_checked, translation_plain}
 use Rattle.life_elab_laws.proofs.WellFormedTranslations.{program_keeps_given, program_well_formed}
+use Rattle.life_elab_laws.proofs.WrittenResults.{program_writes_results}
 
 pub translation_proper : (p : ProgramForm) → IsWellTyped p → HasResults p → HasTable p → HasNames p → HasIntMain p → is_built p ≡ true → IsProgramWithinLimits (core_program p) → IsProperProgram (core_program p)
 translation_proper p typed results table names mains built limits = record {

@@ -1,47 +1,48 @@
 -- break, continue and return.
-use Rattle.life_elab_laws.proofs.Growing.{Begins}
-use Rattle.life_core.specs.Function.{Function}
-use Rattle.life_proper.specs.ResultsKnown.{IsKnownNumber}
-use Rattle.life_well_typed.specs.Statements.{IsReturned}
-use Rattle.life_proper.specs.declared.known.Known.{Known}
-use Rattle.life_core.specs.declared.program.Local.{Local}
-use Rattle.life_types.specs.declared.ty.NameId.{NameId}
-use Rattle.life_types.specs.declared.place.Place.{Place}
-use Rattle.life_elab_laws.proofs.Setting.{Setting}
-use Rattle.life_types.specs.declared.ty.Ty.{Ty}
-use Rattle.life_types.specs.Types.{Types}
-use Rattle.life_well_typed.specs.Visible.{Visible}
-use Rattle.life_elab_laws.proofs.Gifts.{a_number}
-use Rattle.life_elab_laws.proofs.Ending.{blank_beside}
-use Rattle.life_elab_laws.proofs.GivenKinds.{given_number}
-use Rattle.life_proper.specs.ReadyKnown.{is_result_ready}
-use Rattle.life_elab_laws.proofs.WrittenLocals.{locals_added}
-use Rattle.life_elab_laws.proofs.Nowhere.{nowhere_flows}
-use Rattle.life_elab_laws.proofs.Sides.{runs_side}
-use Rattle.std.proofs.lemmas.Option.{same_Some}
-use Rattle.life_writer.specs.Expressions.{value}
 use Rattle.std.proofs.Common.{◌≡◌, ◌⊎◌, inl, inr, Bool, true, false, ◌||◌, ℕ, List, [], ◌∷◌, ◌++◌, drop, reverse, take, Option, Some, None, refl, sym, ap, ◌∙◌, subst, append_assoc}
 use Rattle.std.proofs.lemmas.Bool.{and_from, false≢true}
+use Rattle.std.proofs.lemmas.Option.{same_Some}
+use Rattle.life_types.specs.Types.{Types}
+use Rattle.life_types.specs.declared.place.Place.{Place}
+use Rattle.life_types.specs.declared.ty.NameId.{NameId}
+use Rattle.life_types.specs.declared.ty.Ty.{Ty}
 use Rattle.life_types.specs.declared.ty.Ty.TheVariants as ty
 use Rattle.life_built.specs.Built.{is_built_expression, is_built_if_any, is_void}
 use Rattle.life_typed.specs.BaseTypes.{is_value, type_at}
 use Rattle.life_typed.specs.TypedForm.{Typed, whole as whole_form}
 use Rattle.life_type_stmt.specs.Returns as typing
+use Rattle.life_core.specs.Function.{Function}
 use Rattle.life_core.specs.Holdings.{ANumber, Blank, Holding, result_sort}
 use Rattle.life_core.specs.Tree.{Tree, Breaks, Continues, Returns, trees}
+use Rattle.life_core.specs.declared.program.Local.{Local}
+use Rattle.life_proper.specs.declared.known.Known.{Known}
 use Rattle.life_proper.specs.Checking.{Flow, flow}
 use Rattle.life_proper.specs.Knowing.{State as Knowing, known_as, known_at}
+use Rattle.life_proper.specs.ReadyKnown.{is_result_ready}
+use Rattle.life_proper.specs.ResultsKnown.{IsKnownNumber}
+use Rattle.life_well_typed.specs.Statements.{IsReturned}
+use Rattle.life_well_typed.specs.Visible.{Visible}
 use Rattle.life_writer.specs.Around.{Around, result_local}
+use Rattle.life_writer.specs.Expressions.{value}
 use Rattle.life_writer.specs.Writing.{State, Gives, with_code, write}
 use Rattle.life_elab.specs.Statements.{left, result_given}
 use Rattle.life_elab_laws.proofs.Among.{Among, among_drop, reverse_among}
 use Rattle.life_elab_laws.proofs.Doing.{Acting, Does, DoesLevel, acts_then, made_acts, made_knows, none_leaves}
+use Rattle.life_elab_laws.proofs.Ending.{blank_beside}
 use Rattle.life_elab_laws.proofs.Exits.{Leaves, MayKnow, MayLeave}
+use Rattle.life_elab_laws.proofs.ExpressionForms.{IsWhole}
+use Rattle.life_elab_laws.proofs.Expressions.{whole_expression}
+use Rattle.life_elab_laws.proofs.GivenKinds.{given_number}
 use Rattle.life_elab_laws.proofs.GivingBack.{GivesValue, fine_known, known_append, nowhere_number}
+use Rattle.life_elab_laws.proofs.Growing.{Begins}
 use Rattle.life_elab_laws.proofs.Following.{Follows, HasRegister, IsLiving, adds_coded, follows_coded, follows_grown, grows_adds, knows_alive}
+use Rattle.life_elab_laws.proofs.Gifts.{a_number}
 use Rattle.life_elab_laws.proofs.Leaving.{IsEnded, ended, left_acts, left_does, left_level, past_ready}
 use Rattle.life_elab_laws.proofs.Making.{Always, IsNumber, Makes}
-use Rattle.life_elab_laws.proofs.Expressions.{IsWhole, whole_expression}
+use Rattle.life_elab_laws.proofs.Nowhere.{nowhere_flows}
+use Rattle.life_elab_laws.proofs.Setting.{Setting}
+use Rattle.life_elab_laws.proofs.Sides.{runs_side}
+use Rattle.life_elab_laws.proofs.WrittenLocals.{locals_added}
 
 pub not_void : (t : Ty) → (is_void t || is_value t) ≡ true → typing.is_void t ≡ false → is_value t ≡ true
 not_void ty.Void b e = absurd (false≢true (sym e))

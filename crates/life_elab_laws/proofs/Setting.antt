@@ -1,18 +1,18 @@
 -- Where a function is written: in a program that is built, whose core functions take and give what they should.
-use Rattle.life_elab_laws.proofs.Shaped.{AreShaped}
-use Rattle.life_writer.specs.Around.{Around}
-use Rattle.life_core.specs.Function.{Function}
-use Rattle.life_typed.specs.Programs.{FunctionForm}
-use Rattle.life_elab_laws.proofs.Calls.{IsCallee}
-use Rattle.life_elab_laws.proofs.Fronts.{IsFront}
+use Rattle.std.proofs.Common.{◌≡◌, ◌⊎◌, ℕ, true, List, Some, slice_get}
+use Rattle.life_types.specs.Types.{Types}
 use Rattle.life_types.specs.declared.ty.Ty.{Ty}
 use Rattle.life_types.specs.declared.ty.TyId.{TyId}
-use Rattle.life_types.specs.Types.{Types}
-use Rattle.life_well_typed.specs.Expressions.{parameter_types}
-use Rattle.std.proofs.Common.{◌≡◌, ◌⊎◌, ℕ, true, List, Some, slice_get}
 use Rattle.life_built.specs.Built.{are_built_functions, are_built_variables, is_built_result}
 use Rattle.life_typed.specs.BaseTypes.{is_value, type_at}
+use Rattle.life_typed.specs.Programs.{FunctionForm}
+use Rattle.life_core.specs.Function.{Function}
 use Rattle.life_core.specs.Holdings.{ANumber, Blank, result_sort}
+use Rattle.life_well_typed.specs.Expressions.{parameter_types}
+use Rattle.life_writer.specs.Around.{Around}
+use Rattle.life_elab_laws.proofs.Calls.{IsCallee}
+use Rattle.life_elab_laws.proofs.Fronts.{IsFront}
+use Rattle.life_elab_laws.proofs.Shaped.{AreShaped}
 
 pub record Setting (a : Around) (types : Types) (fs : List Function) (f : Function) : Type 0 where
   pub front : IsFront a.program.types.types types.types

@@ -1,15 +1,15 @@
 -- The shape of what is written: statements and conditions where they belong, straight before tests, with no break or continue outside of a loop, and
 -- plain.
-use Rattle.life_core.specs.Function.{Function}
-use Rattle.life_types.specs.declared.place.Place.{Place}
-use Rattle.life_types.specs.Types.{Types}
-use Rattle.life_core.specs.ByValue.{is_by_value}
-use Rattle.life_proper.specs.Plain.{is_plain_tree}
 use Rattle.std.proofs.Common.{◌≡◌, Bool, true, false, ◌&&◌, List, [], ◌∷◌, ◌++◌, refl, sym, ◌∙◌}
 use Rattle.std.proofs.lemmas.Bool.{and_from, and_parts, false≢true}
+use Rattle.life_types.specs.Types.{Types}
+use Rattle.life_types.specs.declared.place.Place.{Place}
+use Rattle.life_core.specs.ByValue.{is_by_value}
+use Rattle.life_core.specs.Function.{Function}
 use Rattle.life_core.specs.Shape.{breaks_inside, is_condition, is_statement, is_straight, test_straight, tests_straight}
 use Rattle.life_core.specs.Step.{Step, Test}
 use Rattle.life_core.specs.Tree.{Tree, Skip, Then, Acts, Asks, Both, Either, Negated, Choice, Turns, Breaks, Continues, Returns, Stops, trees}
+use Rattle.life_proper.specs.Plain.{is_plain_tree}
 
 -- a test that holds of two parts where it holds of both
 module _ (P : Tree → Bool) (skip : P Skip ≡ true) (both : (a b : Tree) → P (Then a b) ≡ (P a && P b)) where

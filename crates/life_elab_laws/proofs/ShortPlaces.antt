@@ -1,28 +1,28 @@
 -- The places of a function that is translated have no steps: its objects are values, and nothing is behind its parameters.
-use Rattle.life_pset.specs.declared.element.AbsPlace.{AbsPlace}
-use Rattle.life_pset.specs.declared.element.Cause.{Cause}
-use Rattle.life_pset.specs.declared.element.Element.{Element}
-use Rattle.life_core.specs.Function.{Function}
-use Rattle.life_core.specs.declared.program.Local.{Local}
-use Rattle.life_core.specs.declared.program.LocalKind.{LocalKind}
-use Rattle.life_types.specs.declared.place.Place.{Place}
-use Rattle.life_types.specs.declared.ty.Ty.{Ty}
-use Rattle.life_types.specs.declared.ty.TyId.{TyId}
-use Rattle.life_types.specs.Types.{Types}
-use Rattle.life_proper.specs.Knowing.{is_register}
-use Rattle.std.proofs.lemmas.Bool.Decides.{nat_tests}
 use Rattle.std.proofs.Common.{◌≡◌, ◌<◌, ◌+◌, ℕ, zero, suc, Bool, true, false, ◌&&◌, ◌||◌, List, [], ◌∷◌, ◌++◌, if◌then◌else◌, flat_map, map, nat_lt, slice_get, Option, Some, None, is_none, refl, ap, ◌∙◌, subst, sym, unwrap_or, arith}
 use Rattle.std.proofs.lemmas.Bool.{false≢true, or_left}
+use Rattle.std.proofs.lemmas.Bool.Decides.{nat_tests}
 use Rattle.life_types.specs.Trees.{tree_at, tree_of, tree_within}
+use Rattle.life_types.specs.Types.{Types}
+use Rattle.life_types.specs.declared.place.Place.{Place}
+use Rattle.life_types.specs.declared.ty.Ty.{Ty}
 use Rattle.life_types.specs.declared.ty.Ty.TheVariants as ty
+use Rattle.life_types.specs.declared.ty.TyId.{TyId}
 use Rattle.life_built.specs.Built.{is_built_variable, is_pointing}
 use Rattle.life_typed.specs.BaseTypes.{is_value, type_at}
+use Rattle.life_core.specs.Function.{Function}
 use Rattle.life_core.specs.Linked.{Linked, code_of}
 use Rattle.life_core.specs.Step.{Step, Live, End, Copy, Move, Changes, Make, Call}
 use Rattle.life_core.specs.Tree.{Node, Action, Question, Return, Stop}
+use Rattle.life_core.specs.declared.program.Local.{Local}
+use Rattle.life_core.specs.declared.program.LocalKind.{LocalKind}
 use Rattle.life_core.specs.declared.program.LocalKind.TheVariants.{Object, Register, Range}
+use Rattle.life_proper.specs.Knowing.{is_register}
 use Rattle.life_pset.specs.Elements.{AreShort, causes_of_end, caused_at, caused_elements, elements_of, end_elements, input_places, inputs_among, inputs_from, inputs_of, local_inputs, local_place, locations_in, node_elements, object_places, objects_from, places_in, pointers_in, step_elements}
 use Rattle.life_pset.specs.Shapes.{is_variable, or_void, referred, shape, shape_if, ty_of, unslotted}
+use Rattle.life_pset.specs.declared.element.AbsPlace.{AbsPlace}
+use Rattle.life_pset.specs.declared.element.Cause.{Cause}
+use Rattle.life_pset.specs.declared.element.Element.{Element}
 use Rattle.life_pset.specs.declared.element.Element.TheVariants as element
 use Rattle.life_elab_laws.proofs.Shaped.{AreShaped, IsShaped}
 

@@ -1,16 +1,16 @@
 -- The two sides of a part: that it runs, and that what it writes is well formed.
-use Rattle.life_elab_laws.proofs.Making.{Always}
-use Rattle.life_core.specs.Function.{Function}
-use Rattle.life_elab_laws.proofs.Gifts.{Gift}
-use Rattle.life_elab_laws.proofs.Parts.{Makes}
-use Rattle.life_elab_laws.proofs.Conditions.{Tests}
-use Rattle.life_core.specs.Tree.{Tree}
+use Rattle.std.proofs.Common.{List, Option, subst, sym, ℕ}
 use Rattle.life_types.specs.Types.{Types}
-use Rattle.std.proofs.Common.{ℕ, List, Option, sym, subst}
-use Rattle.life_writer.specs.Writing.{State, Gives}
+use Rattle.life_core.specs.Function.{Function}
+use Rattle.life_core.specs.Tree.{Tree}
+use Rattle.life_writer.specs.Writing.{Gives, State}
+use Rattle.life_elab_laws.proofs.Conditions.{Tests}
 use Rattle.life_elab_laws.proofs.FormedStatements.{Asking, Writes}
 use Rattle.life_elab_laws.proofs.Forming.{Formed, formed_append}
+use Rattle.life_elab_laws.proofs.Gifts.{Gift}
+use Rattle.life_elab_laws.proofs.Making.{Always}
 use Rattle.life_elab_laws.proofs.Making as running
+use Rattle.life_elab_laws.proofs.Parts.{Makes}
 use Rattle.life_elab_laws.proofs.Testing as testing
 
 module _ (types : Types) (texts : ℕ) (fs : List Function) (f : Function) where

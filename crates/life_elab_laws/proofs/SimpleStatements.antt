@@ -1,24 +1,24 @@
 -- Assignments, steps, calls and output as statements.
+use Rattle.std.proofs.Common.{◌≡◌, ℕ, Bool, true, List, [], ◌∷◌, None, refl, ◌∙◌, ◌+◌, nat_lt, arith}
 use Rattle.std.proofs.lemmas.Bool.{and_parts}
 use Rattle.std.proofs.lemmas.Bool.Decides.{nat_tests}
-use Rattle.life_proper.specs.declared.known.Known.{Known}
-use Rattle.life_writer.specs.Around.{Around}
-use Rattle.life_elab.specs.Simples.{simple}
-use Rattle.life_elab_laws.proofs.Following.{Follows}
-use Rattle.life_core.specs.Function.{Function}
-use Rattle.life_elab_laws.proofs.Setting.{Setting}
 use Rattle.life_types.specs.Types.{Types}
-use Rattle.life_well_typed.specs.Visible.{Visible}
-use Rattle.life_elab_laws.proofs.Gifts.{nothing}
-use Rattle.std.proofs.Common.{◌≡◌, ◌+◌, ℕ, Bool, true, List, [], ◌∷◌, nat_lt, None, refl, ◌∙◌, arith}
 use Rattle.life_built.specs.Built.{are_built_items, is_built_item, is_built_simple}
 use Rattle.life_typed.specs.TypedStatement.{ItemForm, SimpleForm}
+use Rattle.life_core.specs.Function.{Function}
+use Rattle.life_proper.specs.declared.known.Known.{Known}
 use Rattle.life_well_typed.specs.Statements.{AreItems, IsSimple}
+use Rattle.life_well_typed.specs.Visible.{Visible}
+use Rattle.life_writer.specs.Around.{Around}
 use Rattle.life_writer.specs.Writing.{State, gives}
+use Rattle.life_elab.specs.Simples.{simple}
 use Rattle.life_elab.specs.Statements.{end_line, item, items}
 use Rattle.life_elab_laws.proofs.Doing.{DoesLevel, does_made, does_nothing, does_then}
+use Rattle.life_elab_laws.proofs.Following.{Follows}
 use Rattle.life_elab_laws.proofs.FormedStatements.{Forms, writes_forms}
+use Rattle.life_elab_laws.proofs.Gifts.{nothing}
 use Rattle.life_elab_laws.proofs.Parts.{leaf_part, then_part}
+use Rattle.life_elab_laws.proofs.Setting.{Setting}
 use Rattle.life_elab_laws.proofs.Sides.{formed_side, runs_side}
 use Rattle.life_elab_laws.proofs.Simples.{Acts, item_part, simple_part}
 use Rattle.life_elab_laws.proofs.VariablePlaces.{Stands, stands_later}

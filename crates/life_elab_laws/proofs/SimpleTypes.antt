@@ -1,30 +1,30 @@
 -- What is assigned, stepped, computed back and printed, by its type.
-use Rattle.life_typed.specs.declared.typed_expr.Category.{Category}
-use Rattle.life_tree.specs.declared.operator.CompoundOperator.{CompoundOperator}
-use Rattle.life_typed.specs.declared.typed_expr.ExprType.{ExprType}
-use Rattle.life_tree.specs.declared.operator.StepOperator.{StepOperator}
-use Rattle.life_types.specs.declared.ty.Ty.{Ty}
-use Rattle.life_types.specs.declared.ty.TyId.{TyId}
-use Rattle.life_typed.specs.TypedForm.{Typed}
+use Rattle.std.proofs.Common.{◌≡◌, Bool, true, false, ◌&&◌, refl, sym, ap, ◌∙◌, true≢false, not, subst}
+use Rattle.std.proofs.lemmas.Bool.{and_parts, false≢true}
 use Rattle.life_types.specs.Types.{Types}
-use Rattle.life_proper.specs.WellFormed.{answer_of}
+use Rattle.life_types.specs.declared.ty.Ty.{Ty}
+use Rattle.life_types.specs.declared.ty.Ty.TheVariants as ty
+use Rattle.life_types.specs.declared.ty.TyId.{TyId}
+use Rattle.life_tree.specs.declared.operator.CompoundOperator.{CompoundOperator}
+use Rattle.life_tree.specs.declared.operator.CompoundOperator.TheVariants as compound_by
+use Rattle.life_tree.specs.declared.operator.StepOperator.{StepOperator}
+use Rattle.life_tree.specs.declared.operator.StepOperator.TheVariants as step
+use Rattle.life_typed.specs.BaseTypes.{is_iterator, is_raw, is_text, is_value, type_at}
+use Rattle.life_typed.specs.Statements.{can_step, compounded, counted, fitting_where, is_printed}
+use Rattle.life_typed.specs.TypedForm.{Typed}
+use Rattle.life_typed.specs.declared.typed_expr.Category.{Category}
+use Rattle.life_typed.specs.declared.typed_expr.Category.TheVariants as category
+use Rattle.life_typed.specs.declared.typed_expr.ExprType.{ExprType}
+use Rattle.life_typed.specs.declared.typed_expr.ExprType.TheVariants.{NullPointer, Of, TextLiteral}
 use Rattle.life_type_expr.specs.Lists.{fits_at_all}
 use Rattle.life_type_expr.specs.Operands.{is_constant}
-use Rattle.life_well_typed.specs.Given.{is_number}
 use Rattle.life_type_stmt.specs.Simples.{is_place}
-use Rattle.life_writer.specs.Around.{own_type}
-use Rattle.std.proofs.Common.{◌≡◌, Bool, true, false, ◌&&◌, refl, sym, ap, ◌∙◌, true≢false, not, subst}
-use Rattle.std.proofs.lemmas.Bool.{false≢true, and_parts}
-use Rattle.life_types.specs.declared.ty.Ty.TheVariants as ty
-use Rattle.life_typed.specs.BaseTypes.{is_raw, is_value, is_iterator, is_text, type_at}
-use Rattle.life_typed.specs.declared.typed_expr.Category.TheVariants as category
-use Rattle.life_typed.specs.declared.typed_expr.ExprType.TheVariants.{Of, NullPointer, TextLiteral}
 use Rattle.life_type_stmt.specs.Simples as typing
+use Rattle.life_proper.specs.WellFormed.{answer_of}
+use Rattle.life_well_typed.specs.Given.{is_number}
+use Rattle.life_writer.specs.Around.{own_type}
 use Rattle.life_elab.specs.Simples.{compound_operator, step_operator}
-use Rattle.life_elab_laws.proofs.TypedKinds.{HasKind, IsKind, a_null, a_number, a_pointer, no_value, IsOperand, IsSimple as IsPlain, of_null, of_type}
-use Rattle.life_tree.specs.declared.operator.CompoundOperator.TheVariants as compound_by
-use Rattle.life_typed.specs.Statements.{can_step, compounded, counted, fitting_where, is_printed}
-use Rattle.life_tree.specs.declared.operator.StepOperator.TheVariants as step
+use Rattle.life_elab_laws.proofs.TypedKinds.{HasKind, IsKind, IsOperand, IsSimple as IsPlain, a_null, a_number, a_pointer, no_value, of_null, of_type}
 
 -- ---- targets
 

@@ -1,45 +1,36 @@
 -- Assignments, steps, calls that stand alone, and output.
-use Rattle.life_tree.specs.declared.operator.CompoundOperator.{CompoundOperator}
-use Rattle.life_typed.specs.declared.typed_expr.ExprType.{ExprType}
-use Rattle.life_core.specs.Function.{Function}
-use Rattle.life_proper.specs.declared.known.Known.{Known}
-use Rattle.life_typed.specs.declared.typed_expr.ExprType.TheVariants.{Of}
-use Rattle.life_core.specs.declared.operation.Operator.{Operator}
-use Rattle.life_types.specs.declared.place.Place.{Place}
-use Rattle.life_elab_laws.proofs.Setting.{Setting}
-use Rattle.life_tree.specs.declared.operator.StepOperator.{StepOperator}
-use Rattle.life_types.specs.declared.ty.Ty.{Ty}
-use Rattle.life_types.specs.declared.ty.TyId.{TyId}
-use Rattle.life_types.specs.Types.{Types}
-use Rattle.life_elab_laws.proofs.CallParts.{alone_formed}
-use Rattle.life_type_expr.specs.Lists.{fits_at_all}
-use Rattle.life_elab_laws.proofs.FormedFits.{given_raw}
-use Rattle.life_elab_laws.proofs.Fronts.{last_there}
-use Rattle.life_elab_laws.proofs.Emitting.{new_targeted}
-use Rattle.life_writer.specs.Pointers.{pointed}
-use Rattle.std.specs.Prelude.{pos}
-use Rattle.life_typed.specs.Operators.{promoted}
-use Rattle.life_elab_laws.proofs.OperatorTypes.{promoted_is}
-use Rattle.life_writer.specs.Values.{read}
-use Rattle.life_elab_laws.proofs.Types.{type_added}
 use Rattle.std.proofs.Common.{◌≡◌, ◌⊎◌, inl, inr, ◌<◌, ℕ, Bool, true, false, List, Contains, cond, length, nat_lt, not, slice_set, Option, Some, None, refl, sym, ap, ◌∙◌, subst, arith}
 use Rattle.std.proofs.lemmas.Bool.{and_from, and_parts, false≢true}
+use Rattle.std.specs.Prelude.{pos}
+use Rattle.life_types.specs.Types.{Types}
+use Rattle.life_types.specs.declared.place.Place.{Place}
+use Rattle.life_types.specs.declared.ty.Ty.{Ty}
 use Rattle.life_types.specs.declared.ty.Ty.TheVariants as ty
+use Rattle.life_types.specs.declared.ty.TyId.{TyId}
+use Rattle.life_tree.specs.declared.operator.CompoundOperator.{CompoundOperator}
+use Rattle.life_tree.specs.declared.operator.StepOperator.{StepOperator}
 use Rattle.life_built.specs.Built.{is_built_expression, is_built_item, is_built_simple}
 use Rattle.life_typed.specs.BaseTypes.{is_raw, is_value, type_at}
+use Rattle.life_typed.specs.Operators.{promoted}
 use Rattle.life_typed.specs.Statements.{can_step, compounded}
 use Rattle.life_typed.specs.TypedForm.{Typed, whole as whole_form}
 use Rattle.life_typed.specs.TypedStatement.{ItemForm, SimpleForm, assign, compound, discarded, line_end, one, printed, several, step}
-use Rattle.life_core.specs.Holdings.{Holding, ANumber, AView}
+use Rattle.life_typed.specs.declared.typed_expr.ExprType.{ExprType}
+use Rattle.life_typed.specs.declared.typed_expr.ExprType.TheVariants.{Of}
+use Rattle.life_type_expr.specs.Lists.{fits_at_all}
+use Rattle.life_core.specs.Function.{Function}
+use Rattle.life_core.specs.Holdings.{ANumber, AView, Holding}
 use Rattle.life_core.specs.Operands.{Operand, Text, whole as whole_local}
 use Rattle.life_core.specs.Step.{Aim, Ports, Save, Writes, WritesView}
 use Rattle.life_core.specs.declared.operation.Operation.TheVariants as operation
-use Rattle.life_proper.specs.declared.known.Known.TheVariants as known
+use Rattle.life_core.specs.declared.operation.Operator.{Operator}
 use Rattle.life_proper.specs.Knowing.{known_as, known_at, same}
 use Rattle.life_proper.specs.OperandTypes.{is_promoted, is_view}
 use Rattle.life_proper.specs.Placed.{is_const_place, is_number_of, type_in, type_of}
 use Rattle.life_proper.specs.ReadyKnown.{holds, is_operand_ready, is_source_ready}
 use Rattle.life_proper.specs.WellFormed.{answer_of, is_source_of}
+use Rattle.life_proper.specs.declared.known.Known.{Known}
+use Rattle.life_proper.specs.declared.known.Known.TheVariants as known
 use Rattle.life_well_typed.specs.Expressions.{IsExpression, parameter_types}
 use Rattle.life_well_typed.specs.Given.{is_given, is_number}
 use Rattle.life_well_typed.specs.Statements.{IsItem, IsSimple, ends_in_arguments}
@@ -47,15 +38,22 @@ use Rattle.life_writer.specs.Around.{Around, own_type}
 use Rattle.life_writer.specs.Around as around
 use Rattle.life_writer.specs.Calls.{Called, call_of, called_alone}
 use Rattle.life_writer.specs.Expressions.{handed_over, operand, pointer, pointing, value}
+use Rattle.life_writer.specs.Pointers.{pointed}
 use Rattle.life_writer.specs.Registers.{computed, constant as constant_step, converted, new_register}
+use Rattle.life_writer.specs.Values.{read}
 use Rattle.life_writer.specs.Values as values
 use Rattle.life_writer.specs.Writing.{State, emit, gives}
 use Rattle.life_elab.specs.Simples.{assigned, called_for_nothing, combined, compound_operator, discarded as written_alone, discarded_as, held, pointer_assigned, put_back, simple, step_operator, stepped, value_assigned}
 use Rattle.life_elab.specs.Statements.{end_line, item}
 use Rattle.life_elab_laws.proofs.Aiming.{pointed_formed, pointed_keeps, pointed_plain, pointed_ready}
+use Rattle.life_elab_laws.proofs.CallParts.{alone_formed}
 use Rattle.life_elab_laws.proofs.Calls.{alone_plain, alone_ready}
+use Rattle.life_elab_laws.proofs.Emitting.{new_targeted}
 use Rattle.life_elab_laws.proofs.ExpressionTypes.{own_value, value_no_raw}
-use Rattle.life_elab_laws.proofs.Expressions.{IsCall, IsForm, IsWhole, expression, result_later, whole_expression}
+use Rattle.life_elab_laws.proofs.ExpressionForms.{IsCall, IsForm, IsWhole}
+use Rattle.life_elab_laws.proofs.Expressions.{expression, result_later, whole_expression}
+use Rattle.life_elab_laws.proofs.FormedFits.{given_raw}
+use Rattle.life_elab_laws.proofs.Fronts.{last_there}
 use Rattle.life_elab_laws.proofs.Gifts.{Gift, IsPlaceOf, a_number, a_place, a_pointer, a_pointing, arguments, both, nothing}
 use Rattle.life_elab_laws.proofs.GivenKinds.{given_number, given_pointer}
 use Rattle.life_elab_laws.proofs.Growing.{Begins, Grows, added}
@@ -63,9 +61,12 @@ use Rattle.life_elab_laws.proofs.Held.{number_held, place_ready}
 use Rattle.life_elab_laws.proofs.Instructions.{acted_part, as_type_part, constant_part, converted_part, emit_part, load_part, operator_part}
 use Rattle.life_elab_laws.proofs.Making.{IsNumber, IsOpen, IsPlace, keeps_all}
 use Rattle.life_elab_laws.proofs.OperandsThere.{number_any, type_there}
+use Rattle.life_elab_laws.proofs.OperatorTypes.{promoted_is}
 use Rattle.life_elab_laws.proofs.Parts.{Makes, Part, and_part, gives_part, keep_part, seen_part, then_part, under_part}
+use Rattle.life_elab_laws.proofs.Setting.{Setting}
 use Rattle.life_elab_laws.proofs.SimpleTypes.{IsFree, compound_answer, compounded_numbers, free_place, own_counts, own_plain, own_same, printed_number, step_answer, step_value}
 use Rattle.life_elab_laws.proofs.TypedKinds.{HasKind, a_null, a_number as of_number, a_pointer as of_pointer, no_value, operand_kind, promoted_value, value_place}
+use Rattle.life_elab_laws.proofs.Types.{type_added}
 use Rattle.life_elab_laws.proofs.VariablePlaces.{Stands, stands_later}
 
 module _ (a : Around) (visible : List ℕ) (types : Types) (texts : ℕ) (fs : List Function) (f : Function) (setting : Setting a types fs f) where

@@ -1,42 +1,42 @@
 -- What is written for a well typed statement is ready: by recursion over statements.
-use Rattle.life_writer.specs.Around.{Around}
-use Rattle.life_core.specs.Function.{Function}
-use Rattle.life_types.specs.declared.place.Place.{Place}
-use Rattle.life_elab_laws.proofs.Setting.{Setting}
-use Rattle.life_elab_laws.proofs.Testing.{Tests}
-use Rattle.life_types.specs.Types.{Types}
-use Rattle.life_writer.specs.Expressions.{condition}
-use Rattle.life_elab_laws.proofs.Instructions.{constant_part}
-use Rattle.life_elab_laws.proofs.DeclarationWriting.{declaration_does}
-use Rattle.life_elab.specs.Declarations.{declared}
-use Rattle.life_writer.specs.Variables.{end_past}
-use Rattle.life_elab.specs.LastTokens.{last_token}
-use Rattle.life_elab_laws.proofs.Conditions.{non_zero_part}
 use Rattle.std.specs.Prelude.{pos}
-use Rattle.life_elab.specs.Simples.{simple_if}
-use Rattle.life_elab_laws.proofs.Sides.{test_side}
-use Rattle.life_elab_laws.proofs.Expressions.{whole_expression}
 use Rattle.std.proofs.Common.{◌≡◌, Bool, true, false, ◌&&◌, List, [], ◌∷◌, drop, length, reverse, Option, Some, None, refl}
 use Rattle.std.proofs.lemmas.Bool.{and_from, and_parts, false≢true, or_left}
+use Rattle.life_types.specs.Types.{Types}
+use Rattle.life_types.specs.declared.place.Place.{Place}
 use Rattle.life_types.specs.declared.ty.Ty.TheVariants as ty
 use Rattle.life_built.specs.Built.{is_built_expression, is_built_if_any, is_built_start, is_built_statement, is_built_step}
 use Rattle.life_typed.specs.TypedForm.{Typed, whole as whole_form}
 use Rattle.life_typed.specs.TypedStatement.{StmtForm, ForStartForm, SimpleForm, declared_first, done_first, block, empty, sentence, branching, while_loop, for_loop, range_loop, loop_break, loop_continue, returned, print, assertion, branch, declaration, no_more, chain}
+use Rattle.life_core.specs.Function.{Function}
 use Rattle.life_core.specs.Tree.{Tree, Choice, Returns, trees}
 use Rattle.life_well_typed.specs.Statements.{AreBranches, Decides, DecidesIfAny, IsSimpleIfAny, IsStart, IsStatement, is_one}
 use Rattle.life_well_typed.specs.Visible.{Visible, after, after_start, behind, with_next}
+use Rattle.life_writer.specs.Around.{Around}
+use Rattle.life_writer.specs.Expressions.{condition}
 use Rattle.life_writer.specs.Registers.{computed, constant}
+use Rattle.life_writer.specs.Variables.{end_past}
 use Rattle.life_writer.specs.Writing.{State, Gives, with_code}
+use Rattle.life_elab.specs.Declarations.{declared}
 use Rattle.life_typed.specs.Ends.{all_end, ends, last_ends}
+use Rattle.life_elab.specs.LastTokens.{last_token}
+use Rattle.life_elab.specs.Simples.{simple_if}
 use Rattle.life_elab.specs.Statements.{branches_of, condition_or_true, looped, result_given, started, statement}
 use Rattle.life_elab_laws.proofs.Branching.{asserted_does, branched_does, tested_follows, visible_again}
+use Rattle.life_elab_laws.proofs.Conditions.{non_zero_part}
+use Rattle.life_elab_laws.proofs.DeclarationWriting.{declaration_does}
 use Rattle.life_elab_laws.proofs.Doing.{Does, DoesLevel, does_nothing, does_then}
+use Rattle.life_elab_laws.proofs.Expressions.{whole_expression}
 use Rattle.life_elab_laws.proofs.Following.{Follows, HasRegister, follows_coded, register_later}
+use Rattle.life_elab_laws.proofs.Instructions.{constant_part}
 use Rattle.life_elab_laws.proofs.Leaving.{block_does, block_level}
 use Rattle.life_elab_laws.proofs.Looping.{inside, inside_follows, loop_does, past, step_follows}
 use Rattle.life_elab_laws.proofs.Returning.{break_does, continue_does, returned_does}
+use Rattle.life_elab_laws.proofs.Setting.{Setting}
+use Rattle.life_elab_laws.proofs.Sides.{test_side}
 use Rattle.life_elab_laws.proofs.SimpleStatements.{items_do, simple_does}
 use Rattle.life_elab_laws.proofs.Stopping.{still_stops, stops, stops_end, stops_right}
+use Rattle.life_elab_laws.proofs.Testing.{Tests}
 
 module _ (a : Around) (types : Types) (fs : List Function) (f : Function) (setting : Setting a types fs f) where
   abbrev IsTyped : StmtForm → Bool → Visible → Type 0

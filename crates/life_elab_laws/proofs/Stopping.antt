@@ -1,18 +1,18 @@
 -- Code that control doesn't run past: it returns on each way.
-use Rattle.life_writer.specs.Around.{Around}
-use Rattle.life_elab_laws.proofs.Doing.{Does}
-use Rattle.life_core.specs.Function.{Function}
-use Rattle.life_types.specs.declared.place.Place.{Place}
-use Rattle.life_writer.specs.Writing.{State}
-use Rattle.life_types.specs.Types.{Types}
-use Rattle.life_well_typed.specs.Visible.{Visible}
-use Rattle.life_writer.specs.Variables.{end}
-use Rattle.life_proper.specs.Checking.{flow}
 use Rattle.std.proofs.Common.{◌≡◌, ◌⊎◌, inl, inr, ℕ, Bool, true, false, ◌&&◌, ◌||◌, List, [], ◌∷◌, ◌++◌, None, refl, sym, subst}
 use Rattle.std.proofs.lemmas.Bool.{and_parts, false≢true, or_cases, or_left, or_right}
+use Rattle.life_types.specs.Types.{Types}
+use Rattle.life_types.specs.declared.place.Place.{Place}
+use Rattle.life_core.specs.Function.{Function}
 use Rattle.life_core.specs.Shape.{is_condition, is_statement}
 use Rattle.life_core.specs.Tree.{Tree, Then, Asks, Both, Either, Negated, Choice, Returns, trees}
+use Rattle.life_proper.specs.Checking.{flow}
 use Rattle.life_proper.specs.Knowing.{State as Knowing}
+use Rattle.life_well_typed.specs.Visible.{Visible}
+use Rattle.life_writer.specs.Around.{Around}
+use Rattle.life_writer.specs.Variables.{end}
+use Rattle.life_writer.specs.Writing.{State}
+use Rattle.life_elab_laws.proofs.Doing.{Does}
 use Rattle.life_elab_laws.proofs.Nowhere.{none_met, nowhere_flows}
 
 abbrev pub stops : Tree → Bool

@@ -1,15 +1,15 @@
 -- Conditions, and values that are decided by them.
-use Rattle.life_core.specs.Tree.{Tree}
-use Rattle.life_elab_laws.proofs.Falling.{Decides}
-use Rattle.life_elab_laws.proofs.Shaping.{IsFineTest}
-use Rattle.life_elab_laws.proofs.WrittenLocals.{AddsRegisters}
-use Rattle.life_core.specs.Function.{Function}
-use Rattle.life_proper.specs.declared.known.Known.{Known}
-use Rattle.life_types.specs.Types.{Types}
 use Rattle.std.proofs.Common.{◌≡◌, List, length, None}
+use Rattle.life_types.specs.Types.{Types}
+use Rattle.life_core.specs.Function.{Function}
+use Rattle.life_core.specs.Tree.{Tree}
+use Rattle.life_proper.specs.declared.known.Known.{Known}
 use Rattle.life_writer.specs.Writing.{State, Gives}
+use Rattle.life_elab_laws.proofs.Falling.{Decides}
 use Rattle.life_elab_laws.proofs.Growing.{Begins, Grows}
 use Rattle.life_elab_laws.proofs.Making.{Alive, Keeps}
+use Rattle.life_elab_laws.proofs.Shaping.{IsFineTest}
+use Rattle.life_elab_laws.proofs.WrittenLocals.{AddsRegisters}
 
 module _ (types : Types) (fs : List Function) (f : Function) where
   -- ---- what a condition writes

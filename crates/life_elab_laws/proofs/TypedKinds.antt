@@ -1,24 +1,24 @@
 -- The types that well typed expressions have, where they are built: values, pointers to values, nothing, and nullptr.
-use Rattle.life_typed.specs.declared.typed_expr.BinaryOperator.{BinaryOperator}
-use Rattle.life_typed.specs.declared.typed_expr.Category.{Category}
-use Rattle.life_typed.specs.declared.typed_expr.ExprType.{ExprType}
-use Rattle.life_types.specs.declared.place.Place.{Place}
-use Rattle.life_types.specs.declared.ty.Ty.{Ty}
-use Rattle.life_types.specs.declared.ty.TyId.{TyId}
-use Rattle.life_types.specs.Types.{Types}
-use Rattle.std.proofs.lemmas.Option.{cond_some}
-use Rattle.life_well_typed.specs.Given.{is_number}
 use Rattle.std.proofs.Common.{◌≡◌, Bool, true, false, ◌&&◌, ◌||◌, cond, Option, Some, None, Result, Ok, Err, refl, sym, ap, ◌∙◌, subst, true≢false}
 use Rattle.std.proofs.lemmas.Bool.{and_parts, false≢true}
+use Rattle.std.proofs.lemmas.Option.{cond_some}
+use Rattle.life_types.specs.Types.{Types}
+use Rattle.life_types.specs.declared.place.Place.{Place}
+use Rattle.life_types.specs.declared.ty.Ty.{Ty}
 use Rattle.life_types.specs.declared.ty.Ty.TheVariants as ty
+use Rattle.life_types.specs.declared.ty.TyId.{TyId}
 use Rattle.life_built.specs.Built.{is_pointing, is_void}
 use Rattle.life_typed.specs.BaseTypes.{is_iterator, is_raw, is_text, is_unique, is_value, is_view, type_at}
 use Rattle.life_typed.specs.Operators.{added, answer, answered, are_equated, are_iterators_of_one, arithmetic, equated, given, is_condition, is_nullable, is_text_like, joined_conditions, misfit, multiplied, ordered, promoted, subtracted}
 use Rattle.life_typed.specs.TypedForm.{Form, Typed}
+use Rattle.life_typed.specs.declared.typed_expr.BinaryOperator.{BinaryOperator}
 use Rattle.life_typed.specs.declared.typed_expr.BinaryOperator.TheVariants as operator
+use Rattle.life_typed.specs.declared.typed_expr.Category.{Category}
 use Rattle.life_typed.specs.declared.typed_expr.Category.TheVariants as category
+use Rattle.life_typed.specs.declared.typed_expr.ExprType.{ExprType}
 use Rattle.life_typed.specs.declared.typed_expr.ExprType.TheVariants.{Of, NullPointer, TextLiteral}
 use Rattle.life_type_expr.specs.Operands.{answer_of, combination, combined_to, place_of, value, variable_of}
+use Rattle.life_well_typed.specs.Given.{is_number}
 
 -- ---- what equations say
 

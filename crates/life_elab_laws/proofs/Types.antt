@@ -1,15 +1,15 @@
 -- The number of a type in a table that it was added to, and what a local of a type holds.
-use Rattle.life_core.specs.declared.program.LocalKind.TheVariants.{Register}
-use Rattle.life_types.specs.declared.ty.Ty.{Ty}
-use Rattle.std.proofs.lemmas.Bool.{false≢true}
-use Rattle.std.specs.List.{list_any}
-use Rattle.life_writer.specs.Registers.{number_of}
 use Rattle.std.proofs.Common.{◌≡◌, Bool, true, false, List, [], ◌∷◌, ◌++◌, if◌then◌else◌, slice_get, Some, refl, sym, ap, rules}
+use Rattle.std.specs.List.{list_any}
+use Rattle.std.proofs.lemmas.Bool.{false≢true}
 use Rattle.life_types.specs.Types.{class, with_type}
 use Rattle.life_types.specs.contracts.ty.TyPartialEq.TheImpl.{ghosts as compared}
+use Rattle.life_types.specs.declared.ty.Ty.{Ty}
 use Rattle.life_types.specs.declared.ty.Ty.TheVariants as ty
 use Rattle.life_core.specs.Holdings.{ANumber, APointer, held_if}
+use Rattle.life_core.specs.declared.program.LocalKind.TheVariants.{Register}
 use Rattle.life_typed.specs.BaseTypes.{is_raw, is_value}
+use Rattle.life_writer.specs.Registers.{number_of}
 use Rattle.life_elab_laws.proofs.Fronts.{IsFront, front_append, front_itself}
 
 -- ---- numbers

@@ -1,26 +1,26 @@
 -- Where the visible variables of a function lie while it is written.
-use Rattle.life_writer.specs.Around.{Around}
-use Rattle.life_core.specs.Function.{Function}
-use Rattle.life_proper.specs.declared.known.Known.{Known}
-use Rattle.life_core.specs.declared.program.Local.{Local}
-use Rattle.life_core.specs.declared.program.LocalKind.{LocalKind}
-use Rattle.life_typed.specs.declared.typed_expr.ExprType.TheVariants.{Of}
-use Rattle.life_types.specs.declared.ty.Ty.{Ty}
-use Rattle.life_types.specs.declared.ty.TyId.{TyId}
-use Rattle.life_typed.specs.declared.typed_program.TypedLocal.{TypedLocal}
-use Rattle.std.proofs.lemmas.Bool.{false≢true}
-use Rattle.life_proper.specs.Knowing.{known_as}
-use Rattle.std.proofs.lemmas.Option.{slice_get_within}
-use Rattle.life_type_expr.specs.Operands.{variable_of}
-use Rattle.life_core.specs.Operands.{whole}
 use Rattle.std.proofs.Common.{◌≡◌, ◌<◌, ℕ, Bool, true, ◌||◌, List, [], Contains, length, slice_get, Option, Some, None, refl, sym, ap, ◌∙◌, subst, unwrap_or, arith}
+use Rattle.std.proofs.lemmas.Bool.{false≢true}
+use Rattle.std.proofs.lemmas.Option.{slice_get_within}
 use Rattle.life_types.specs.Types.{Types, class, class_at}
+use Rattle.life_types.specs.declared.ty.Ty.{Ty}
 use Rattle.life_types.specs.declared.ty.Ty.TheVariants as ty
+use Rattle.life_types.specs.declared.ty.TyId.{TyId}
 use Rattle.life_built.specs.Built.{is_built_variable, is_pointing}
 use Rattle.life_typed.specs.BaseTypes.{is_raw, is_value, type_at}
 use Rattle.life_typed.specs.TypedForm.{Form, Typed}
+use Rattle.life_typed.specs.declared.typed_expr.ExprType.TheVariants.{Of}
+use Rattle.life_typed.specs.declared.typed_program.TypedLocal.{TypedLocal}
+use Rattle.life_type_expr.specs.Operands.{variable_of}
+use Rattle.life_core.specs.Function.{Function}
+use Rattle.life_core.specs.Operands.{whole}
 use Rattle.life_core.specs.Holdings.{AnObject, held_by, held_if, sort_of}
+use Rattle.life_core.specs.declared.program.Local.{Local}
+use Rattle.life_core.specs.declared.program.LocalKind.{LocalKind}
 use Rattle.life_core.specs.declared.program.LocalKind.TheVariants.{Object, Register}
+use Rattle.life_proper.specs.declared.known.Known.{Known}
+use Rattle.life_proper.specs.Knowing.{known_as}
+use Rattle.life_writer.specs.Around.{Around}
 use Rattle.life_writer.specs.Variables.{kind, place_of, place_of_kind, variable, variable_place}
 use Rattle.life_writer.specs.Writing.{State, with_code}
 use Rattle.life_elab_laws.proofs.Fronts.{IsFront, front_then}

@@ -1,31 +1,31 @@
 -- The core program of a well typed program that is built is well formed, and leaves alone what is given over.
-use Rattle.life_core.specs.Function.{Function}
-use Rattle.life_well_typed.specs.Names.{HasNames}
-use Rattle.life_well_typed.specs.Results.{HasResults}
-use Rattle.life_types.specs.Trees.{IsOrdered}
-use Rattle.life_well_typed.specs.Functions.{IsWellTyped}
-use Rattle.life_core.specs.declared.program.Local.{Local}
-use Rattle.life_types.specs.declared.ty.TyId.{TyId}
-use Rattle.life_types.specs.Types.{Types}
-use Rattle.life_elab.specs.Statements.{end_line}
-use Rattle.life_elab_laws.proofs.FormedFunctions.{function_formed}
-use Rattle.life_proper.specs.WellFormed.{is_well_formed_tree}
-use Rattle.std.specs.List.{list_all}
-use Rattle.std.proofs.lemmas.Bool.Decides.{nat_tests}
-use Rattle.life_elab_laws.proofs.ExpressionKinds.{variable_built}
-use Rattle.life_elab_laws.proofs.Shaped.{variable_later}
-use Rattle.life_elab.specs.Functions.{written}
 use Rattle.std.proofs.Common.{◌≡◌, ◌<◌, ◌⊎◌, inl, inr, ℕ, zero, suc, true, List, [], ◌∷◌, length, nat_le, nat_lt, slice_get, Some, refl, sym, ap, ◌∙◌, subst, arith, length-append}
+use Rattle.std.specs.List.{list_all}
 use Rattle.std.proofs.lemmas.Bool.{and_from, and_parts}
+use Rattle.std.proofs.lemmas.Bool.Decides.{nat_tests}
+use Rattle.life_types.specs.Trees.{IsOrdered}
+use Rattle.life_types.specs.Types.{Types}
+use Rattle.life_types.specs.declared.ty.TyId.{TyId}
 use Rattle.life_built.specs.Built.{are_built_functions, has_built_types, has_no_structs, is_built, is_built_variable}
 use Rattle.life_typed.specs.Programs.{FunctionForm, ProgramForm}
+use Rattle.life_core.specs.Function.{Function}
+use Rattle.life_core.specs.declared.program.Local.{Local}
 use Rattle.life_proper.specs.GivenOver.{all_keep_given, keeps_all_given}
+use Rattle.life_proper.specs.WellFormed.{is_well_formed_tree}
 use Rattle.life_proper.specs.WellFormedPrograms.{IsWellFormedProgram, are_well_formed_locals, is_name, is_result_of, is_well_formed_function, names_parameters}
+use Rattle.life_well_typed.specs.Functions.{IsWellTyped}
+use Rattle.life_well_typed.specs.Names.{HasNames}
+use Rattle.life_well_typed.specs.Results.{HasResults}
+use Rattle.life_elab.specs.Functions.{written}
 use Rattle.life_elab.specs.Programs.{around, core_program, texts_of}
+use Rattle.life_elab.specs.Statements.{end_line}
+use Rattle.life_elab_laws.proofs.ExpressionKinds.{variable_built}
 use Rattle.life_elab_laws.proofs.FlatLocals.{IsLocalType, flat_locals, variable_typed}
+use Rattle.life_elab_laws.proofs.FormedFunctions.{function_formed}
 use Rattle.life_elab_laws.proofs.GivenNothing.{gives_nothing, keeps_all}
 use Rattle.life_elab_laws.proofs.ProgramNames.{no_members, own_names}
 use Rattle.life_elab_laws.proofs.Programs.{AreWritten, IsWritten, count, each_written, front, functions_built, grows, locals, one_head, parts, result_at, same, typed_at, whole, whole_order, written_begins, written_setting}
+use Rattle.life_elab_laws.proofs.Shaped.{variable_later}
 use Rattle.life_elab_laws.proofs.WrittenLocals.{IsIntermediate, IsOwn, fits_later}
 
 -- what endl writes stands behind the texts

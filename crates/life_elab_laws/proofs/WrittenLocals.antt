@@ -1,23 +1,23 @@
 -- The locals of a function while it is written: registers without names, and those of its variables.
-use Rattle.life_writer.specs.Variables.{kind}
-use Rattle.life_writer.specs.Around.{Around}
+use Rattle.std.proofs.Common.{◌≡◌, ◌<◌, ◌≤◌, ◌⊎◌, inl, inr, ℕ, zero, suc, Bool, true, ◌||◌, List, [], ◌∷◌, ◌++◌, length, slice_get, Option, Some, None, refl, subst, unwrap_or, arith}
+use Rattle.std.proofs.lemmas.Bool.{false≢true}
+use Rattle.std.proofs.lemmas.Option.{none-some, same_Some, slice_get_within}
 use Rattle.life_types.specs.Trees.{HasPartsBelow}
-use Rattle.life_elab_laws.proofs.Fronts.{IsFront}
+use Rattle.life_types.specs.Types.{Types, class_at}
+use Rattle.life_types.specs.declared.ty.Ty.{Ty}
+use Rattle.life_types.specs.declared.ty.Ty.TheVariants as ty
+use Rattle.life_types.specs.declared.ty.TyId.{TyId}
+use Rattle.life_built.specs.Built.{is_pointing}
+use Rattle.life_typed.specs.BaseTypes.{is_value, type_at}
+use Rattle.life_typed.specs.declared.typed_program.TypedLocal.{TypedLocal}
 use Rattle.life_core.specs.declared.program.Local.{Local}
 use Rattle.life_core.specs.declared.program.LocalKind.TheVariants.{Register}
+use Rattle.life_writer.specs.Around.{Around}
+use Rattle.life_writer.specs.Variables.{kind}
 use Rattle.life_writer.specs.Writing.{State}
-use Rattle.life_types.specs.declared.ty.Ty.{Ty}
-use Rattle.life_types.specs.declared.ty.TyId.{TyId}
-use Rattle.life_typed.specs.declared.typed_program.TypedLocal.{TypedLocal}
-use Rattle.std.proofs.lemmas.Bool.{false≢true}
-use Rattle.life_built.specs.Built.{is_pointing}
-use Rattle.life_elab_laws.proofs.Shaped.{value_later}
-use Rattle.std.proofs.Common.{◌≡◌, ◌<◌, ◌≤◌, ◌⊎◌, inl, inr, ℕ, zero, suc, Bool, true, ◌||◌, List, [], ◌∷◌, ◌++◌, length, slice_get, Option, Some, None, refl, subst, unwrap_or, arith}
-use Rattle.std.proofs.lemmas.Option.{none-some, same_Some, slice_get_within}
-use Rattle.life_types.specs.Types.{Types, class_at}
-use Rattle.life_types.specs.declared.ty.Ty.TheVariants as ty
-use Rattle.life_typed.specs.BaseTypes.{is_value, type_at}
+use Rattle.life_elab_laws.proofs.Fronts.{IsFront}
 use Rattle.life_elab_laws.proofs.OrderedTypes.{KeepsOrder, order_none, order_then}
+use Rattle.life_elab_laws.proofs.Shaped.{value_later}
 
 -- ---- what a register without a name holds: a value, a pointer or reference to one, or a view
 

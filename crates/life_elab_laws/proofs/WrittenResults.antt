@@ -1,29 +1,29 @@
 -- The core program of a well typed program that is built writes its results: on every way to a return of a function that gives a value back the result was
 -- written, but for the int of main.
-use Rattle.life_core.specs.Function.{Function}
-use Rattle.life_elab_laws.proofs.GivingBack.{GivesValue}
-use Rattle.life_well_typed.specs.Results.{HasResults}
-use Rattle.life_core.specs.Holdings.{Holding}
-use Rattle.life_core.specs.Proper.{Holds}
-use Rattle.life_well_typed.specs.Functions.{IsWellTyped}
+use Rattle.std.proofs.Common.{◌≡◌, ℕ, zero, suc, Bool, true, false, ◌||◌, List, [], ◌∷◌, slice_get, Some, None, refl, sym, ap, ◌∙◌, subst}
+use Rattle.std.proofs.lemmas.Bool.{false≢true}
+use Rattle.std.proofs.lemmas.Option.{none-some, same_Some}
 use Rattle.life_types.specs.declared.ty.NameId.{NameId}
 use Rattle.life_types.specs.declared.ty.Ty.{Ty}
-use Rattle.life_typed.specs.Ends.{ends}
-use Rattle.std.proofs.lemmas.Bool.{false≢true}
-use Rattle.life_elab_laws.proofs.TypedKinds.{none_some}
-use Rattle.life_proper.proofs.ResultsFound.{results_found}
-use Rattle.life_type_stmt.specs.Bodies.{return_fault}
-use Rattle.std.proofs.Common.{◌≡◌, ℕ, zero, suc, Bool, true, false, ◌||◌, List, [], ◌∷◌, slice_get, Some, None, refl, sym, ap, ◌∙◌, subst}
-use Rattle.std.proofs.lemmas.Option.{none-some, same_Some}
 use Rattle.life_types.specs.declared.ty.Ty.TheVariants as ty
 use Rattle.life_built.specs.Built.{are_built_functions, is_built, is_void}
 use Rattle.life_typed.specs.BaseTypes.{is_value, type_at}
+use Rattle.life_typed.specs.Ends.{ends}
 use Rattle.life_typed.specs.Programs.{FunctionForm, ProgramForm, is_main}
+use Rattle.life_type_stmt.specs.Bodies.{return_fault}
 use Rattle.life_type_stmt.specs.Returns as typing
+use Rattle.life_core.specs.Function.{Function}
+use Rattle.life_core.specs.Holdings.{Holding}
+use Rattle.life_core.specs.Proper.{Holds}
 use Rattle.life_proper.specs.ResultsWritten.{HasResultWritten, HaveResultsWritten, WritesResults, is_written_by, writes_result}
+use Rattle.life_proper.proofs.ResultsFound.{results_found}
+use Rattle.life_well_typed.specs.Functions.{IsWellTyped}
 use Rattle.life_well_typed.specs.Mains.{HasIntMain, HaveIntMains}
+use Rattle.life_well_typed.specs.Results.{HasResults}
 use Rattle.life_elab.specs.Programs.{around, core_program}
+use Rattle.life_elab_laws.proofs.GivingBack.{GivesValue}
 use Rattle.life_elab_laws.proofs.Programs.{AreWritten, IsWritten, each_written, functions_built, one_checked, one_returns, parts, typed_at, whole, written_number, written_result}
+use Rattle.life_elab_laws.proofs.TypedKinds.{none_some}
 
 -- ---- what must be written is a value, and control doesn't run past the end
 
