@@ -14,6 +14,7 @@ use Rattle.life_typed.specs.declared.typed_program.TypedLocal.{TypedLocal}
 use Rattle.life_core.specs.Function.{Function}
 use Rattle.life_core.specs.Holdings.{AnObject, ANumber, Blank, Holding, given_holdings, held_by, held_if, parameter_sorts, result_if, result_sort, sort_of}
 use Rattle.life_core.specs.declared.program.Local.{Local}
+use Rattle.life_proper.specs.WellFormed.{local_type, types_taken}
 use Rattle.life_well_typed.specs.Expressions.{parameter_types, type_of}
 use Rattle.life_writer.specs.Around.{Around}
 use Rattle.life_writer.specs.Variables.{kind}
@@ -90,6 +91,13 @@ module _ (a : Around) (types : Types) (front : IsFront a.program.types.types typ
       ap (λ (h : Holding). h ∷ take (length ps) (given_holdings types (length ps) (parameter_locals a ps us ++ rest))) (held_parameter p u parts.0)
       ∙ ap (λ (hs : List Holding). AnObject ∷ hs) (objects_taken ps us rest (omega (arith, few)) parts.1)
 
+-- .. of the types of its parameters
+types_cut : (a : Around) (ps : List ParameterPromise) (us : List TypedLocal) (rest : List Local) → length ps ≤ length us
+    → map local_type (take (length ps) (parameter_locals a ps us ++ rest)) ≡ map type_of (take (length ps) us)
+types_cut a [] us rest few = refl
+types_cut a (p ∷ ps) [] rest few = absurd (omega (arith, few))
+types_cut a (p ∷ ps) (u ∷ us) rest few = ap (λ (ids : List TyId). u.ty ∷ ids) (types_cut a ps us rest (omega (arith, few)))
+
 value_taken : (a : Around) (ps : List ParameterPromise) (us : List TypedLocal) (y : ℕ) → length ps ≤ length us → are_values a.program.types (take (length ps) us) ≡ true → y < length ps
     → (l : Local) × (slice_get (parameter_locals a ps us) y ≡ Some l) × (is_value (type_at a.program.types l.ty) ≡ true)
 value_taken a [] us y few b lt = absurd (omega (arith, lt))
@@ -118,6 +126,14 @@ module _ (p : ProgramForm) (of : FunctionForm) (T types : Types) (fs : List Func
       ∙ ap (λ (ls : List Local). take (length of.parameters) (given_holdings types (length of.parameters) ls)) cut.1
       ∙ objects_taken (around p of) types front of.parameters of.locals cut.0 fits built.parameters
 
+  takes_types : types_taken core ≡ parameter_types (Some of)
+  takes_types =
+      let cut = front_cut (parameter_locals (around p of) of.parameters of.locals) core.locals
+      (front_then (parameter_locals (around p of) of.parameters of.locals) (first_state (around p of) T).locals core.locals (parameters_front (around p of) T fits table) locals) in
+      ap (λ (n : ℕ). map local_type (take n core.locals)) count
+      ∙ ap (λ (ls : List Local). map local_type (take (length of.parameters) ls)) cut.1
+      ∙ types_cut (around p of) of.parameters of.locals cut.0 fits
+
   pub takes_values : (y : ℕ) (l : Local) → slice_get core.locals y ≡ Some l → y < core.parameters → is_value (type_at types l.ty) ≡ true
   takes_values y l at lt =
       let taken = value_taken (around p of) of.parameters of.locals y fits built.parameters (omega (arith, lt, count)) in
@@ -141,7 +157,7 @@ module _ (p : ProgramForm) (of : FunctionForm) (T types : Types) (fs : List Func
       (record { locals = locals; table = subst (λ (x : Types). IsFront x.types types.types) (sym (first_types (around p of) T fits table)) later })
 
   pub callee_from : (g : ℕ) → slice_get fs g ≡ Some core → IsCallee p.types types fs g of
-  callee_from g there = record { core = core; there = there; takes = takes_objects; void = gives_nothing; number = gives_number }
+  callee_from g there = record { core = core; there = there; takes = takes_objects; void = gives_nothing; number = gives_number; typed = takes_types; gives = same }
 
   pub gives_from : (result_sort types core ≡ Blank) ⊎ (result_sort types core ≡ ANumber)
   gives_from = go (or_cases (is_void (type_at p.types of.result)) (is_value (type_at p.types of.result)) built.result)

@@ -1,10 +1,8 @@
 -- Calls: arguments in registers, and what a function that is called takes and gives.
-use Rattle.std.proofs.Common.{◌≡◌, ◌≤◌, ℕ, Bool, true, false, ◌||◌, not, List, [], ◌∷◌, length, map, slice_get, slice_set, Option, Some, None, refl, ap, ◌∙◌, arith}
+use Rattle.std.proofs.Common.{◌≡◌, ℕ, Bool, true, false, ◌||◌, not, List, [], ◌∷◌, map, slice_get, Option, Some, None, refl, ap, ◌∙◌}
 use Rattle.std.specs.List.{list_any}
 use Rattle.std.proofs.lemmas.Bool.{and_from, or_left, or_right}
 use Rattle.life_types.specs.Types.{Types}
-use Rattle.life_types.specs.declared.place.Place.{Place}
-use Rattle.life_types.specs.declared.ty.Ty.{Ty}
 use Rattle.life_types.specs.declared.ty.TyId.{TyId}
 use Rattle.life_built.specs.Built.{is_void}
 use Rattle.life_typed.specs.BaseTypes.{is_value, type_at}
@@ -17,21 +15,13 @@ use Rattle.life_proper.specs.declared.known.Known.{Known}
 use Rattle.life_proper.specs.declared.known.Known.TheVariants as known
 use Rattle.life_proper.specs.Knowing.{known_as, known_at, same}
 use Rattle.life_proper.specs.ReadyKnown.{are_arguments_ready, holds, is_call_ready, is_local, is_sort, is_step_ready, is_target_ready}
-use Rattle.life_writer.specs.Calls.{called, called_alone, handed}
-use Rattle.life_writer.specs.Registers.{computed}
-use Rattle.life_writer.specs.Writing.{State, Gives, mapped}
+use Rattle.life_proper.specs.WellFormed.{types_taken}
+use Rattle.life_writer.specs.Calls.{called, called_alone}
 use Rattle.life_well_typed.specs.Expressions.{parameter_types}
-use Rattle.life_elab_laws.proofs.Emitting.{IsInto}
-use Rattle.life_elab_laws.proofs.Leaves.{computed_made, number_held, number_sort}
-use Rattle.life_elab_laws.proofs.Making.{Always, IsNumber, IsOpen, Keeps, Makes, and_then}
+use Rattle.life_elab_laws.proofs.Gifts.{AreNumbersFor}
+use Rattle.life_elab_laws.proofs.Held.{number_held, number_sort}
 
 -- ---- arguments
-
--- a number in a register for each of these
-abbrev pub AreNumbersFor : List TyId → List Argument → ℕ → List Known → Type 0
-AreNumbersFor [] [] n k = Unit {0}
-AreNumbersFor (id ∷ ids) (Value r ∷ xs) n k = IsNumber r n k × AreNumbersFor ids xs n k
-AreNumbersFor _ _ n k = ⊥
 
 -- what so many value parameters hold
 abbrev pub objects : List TyId → List Holding
@@ -57,43 +47,17 @@ pub record IsCallee (table types : Types) (fs : List Function) (g : ℕ) (of : F
   pub takes : parameter_sorts types core ≡ objects (parameter_types (Some of))
   pub void : is_void (type_at table of.result) ≡ true → result_sort types core ≡ Blank
   pub number : is_value (type_at table of.result) ≡ true → result_sort types core ≡ ANumber
+  -- .. of the types of the typed one
+  pub typed : types_taken core ≡ parameter_types (Some of)
+  pub gives : core.result ≡ of.result
 
 module _ (types : Types) (fs : List Function) (f : Function) where
-  -- one argument before the others
-  pub numbers_stay : (ids : List TyId) (xs : List Argument) (n m : ℕ) (k j : List Known) → n ≤ m → AreNumbersFor ids xs n k → Keeps types fs f n None k j → AreNumbersFor ids xs m j
-  numbers_stay [] [] n m k j h a keeps = tt
-  numbers_stay (id ∷ ids) (Value r ∷ xs) n m k j h a keeps = ((omega (arith, h, a.0.0), keeps.below r a.0.0 tt ∙ a.0.1), numbers_stay ids xs n m k j h a.1 keeps)
-  numbers_stay _ _ n m k j h a keeps = absurd a
-
-  pub handed_made : (id : TyId) (ids : List TyId) (first : State → Gives ℕ) (others : State → Gives (List Argument)) (s : State) → IsOpen types fs f s
-      → Makes types fs f None s (first s) Always IsNumber → Makes types fs f None (first s).state (others (first s).state) Always (AreNumbersFor ids)
-      → Makes types fs f None s (handed first others s) Always (AreNumbersFor (id ∷ ids))
-  handed_made id ids first others s opened one more =
-      and_then types fs f None s (first s) _ Always (IsNumber (first s).given (length (first s).state.locals)) IsNumber (AreNumbersFor (id ∷ ids)) opened one behind (λ k j alive p keeps q. q)
-    where
-      behind : Makes types fs f None (first s).state (mapped (λ given. Value (first s).given ∷ given) (others (first s).state)) (IsNumber (first s).given (length (first s).state.locals)) (AreNumbersFor (id ∷ ids))
-      behind = record {
-        grown = more.grown;
-        registers = more.registers;
-        code = more.code;
-        written = more.written;
-        runs = λ b. let r = more.runs b in record {
-          fine = r.fine;
-          goes = λ k alive p. let g = r.goes k alive tt in record {
-            after = g.after;
-            falls = g.falls;
-            keeps = g.keeps;
-            gives = ((omega (arith, p.0, more.grown.count), g.keeps.below (first s).given p.0 tt ∙ p.1), g.gives);
-          };
-        };
-      }
-
   -- ---- a call that gives a number
 
   taken_plain : (g : ℕ) (table : Types) (of : FunctionForm) → IsCallee table types fs g of → takes_pointer types (slice_get fs g) ≡ false
   taken_plain g table of callee = ap (takes_pointer types) callee.there ∙ ap (list_any is_pointer) callee.takes ∙ no_pointers (parameter_types (Some of))
 
-  call_plain : (g : ℕ) (xs : List Argument) (table : Types) (of : FunctionForm) (r : ℕ) → IsCallee table types fs g of → is_pointer (sort_of types f r) ≡ false → is_by_value types fs f (called g xs r) ≡ true
+  pub call_plain : (g : ℕ) (xs : List Argument) (table : Types) (of : FunctionForm) (r : ℕ) → IsCallee table types fs g of → is_pointer (sort_of types f r) ≡ false → is_by_value types fs f (called g xs r) ≡ true
   call_plain g xs table of r callee e = ap not (ap (λ (b : Bool). b || is_pointer (sort_of types f r)) (taken_plain g table of callee) ∙ e)
 
   pub call_ready : (g : ℕ) (xs : List Argument) (n : ℕ) (table : Types) (of : FunctionForm) (r : ℕ) (k : List Known) → IsCallee table types fs g of → is_value (type_at table of.result) ≡ true
@@ -103,14 +67,6 @@ module _ (types : Types) (fs : List Function) (f : Function) where
       ∙ and_from (are_arguments_ready k (map known_as (parameter_sorts types callee.core)) xs) (is_target_ready types f k (known_as (result_sort types callee.core)) (Some (whole r)))
       (ap (λ (hs : List Holding). are_arguments_ready k (map known_as hs) xs) callee.takes ∙ numbers_ready (parameter_types (Some of)) xs n k numbers)
       (ap (λ (h : Holding). is_target_ready types f k (known_as h) (Some (whole r))) (callee.number v) ∙ or_left (is_local types f (whole r) ANumber) _ (number_sort (sort_of types f r) e))
-
-  pub call_made : (into : Option ℕ) (t : Ty) (place : Place) (g : ℕ) (xs : List Argument) (n : ℕ) (table : Types) (of : FunctionForm) (s : State) → IsCallee table types fs g of → is_value (type_at table of.result) ≡ true
-      → is_value t ≡ true → IsInto s into → Makes types fs f into s (computed into t place (called g xs) s) (AreNumbersFor (parameter_types (Some of)) xs n) IsNumber
-  call_made into t place g xs n table of s callee value v wanted =
-      computed_made types fs f into t place (called g xs) s (AreNumbersFor (parameter_types (Some of)) xs n) v wanted
-      (λ r e k alive p. call_ready g xs n table of r k callee value p e)
-      (λ r e k. ap (λ (h : Holding). slice_set k r (known_as h)) e)
-      (λ r e. call_plain g xs table of r callee (ap is_pointer e))
 
   -- ---- a call whose answer is thrown away, or that brings a variable to life
 

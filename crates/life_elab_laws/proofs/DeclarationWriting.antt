@@ -9,12 +9,9 @@ use Rattle.life_types.specs.declared.ty.Ty.TheVariants as ty
 use Rattle.life_types.specs.declared.ty.TyId.{TyId}
 use Rattle.life_built.specs.Built.{is_built_declaration, is_built_declared, is_built_expression, is_built_initial, is_built_variable, needs_no_temporary}
 use Rattle.life_typed.specs.BaseTypes.{is_value, type_at}
-use Rattle.life_typed.specs.Conversions.{is_place_of}
 use Rattle.life_typed.specs.Programs.{FunctionForm}
 use Rattle.life_typed.specs.TypedForm.{Typed, whole as whole_form}
 use Rattle.life_typed.specs.TypedStatement.{DeclarationForm, InitialForm, one, several}
-use Rattle.life_typed.specs.declared.typed_expr.Category.{Category}
-use Rattle.life_typed.specs.declared.typed_expr.Category.TheVariants as category
 use Rattle.life_typed.specs.declared.typed_program.TypedLocal.{TypedLocal}
 use Rattle.life_core.specs.Function.{Function}
 use Rattle.life_core.specs.Operands.{Argument, Place as Aimed, object_named, whole}
@@ -30,34 +27,37 @@ use Rattle.life_well_typed.specs.Expressions.{IsExpression, parameter_types}
 use Rattle.life_well_typed.specs.Given.{is_given, is_number}
 use Rattle.life_well_typed.specs.Statements.{IsDeclaration, IsInitialised}
 use Rattle.life_well_typed.specs.Visible.{Visible, with_next}
-use Rattle.life_writer.specs.Around.{Around, own_type, parameters_of, type_of}
+use Rattle.life_writer.specs.Around.{Around, own_type, type_of}
+use Rattle.life_writer.specs.Around as around
 use Rattle.life_writer.specs.Calls.{Called, call_of, called}
 use Rattle.life_writer.specs.Expressions.{handed_over, operand, pointing, value}
 use Rattle.life_writer.specs.Pointers.{Pointing, At, pointed}
 use Rattle.life_writer.specs.Variables.{kind, variable_local}
 use Rattle.life_writer.specs.Writing.{State, Gives, emit, gives, mapped, with_code}
 use Rattle.life_elab.specs.Declarations.{declared, declared_as, given_by_call, given_initial, given_one, given_value, live, object_given}
-use Rattle.life_elab_laws.proofs.CallForms.{call_made}
-use Rattle.life_elab_laws.proofs.Calls.{AreNumbersFor, born_plain, born_ready}
+use Rattle.life_elab_laws.proofs.Aiming.{aimed_after, aimed_ready, pointed_plain}
+use Rattle.life_elab_laws.proofs.Calls.{born_plain, born_ready}
 use Rattle.life_elab_laws.proofs.Declaring.{declared_does, its_local, new_below, new_ends, new_sort, with_new}
 use Rattle.life_elab_laws.proofs.Doing.{Does}
 use Rattle.life_elab_laws.proofs.ExpressionKinds.{variable_built}
-use Rattle.life_elab_laws.proofs.ExpressionWriting.{handed_over_made, place_made, pointing_whole, value_made}
+use Rattle.life_elab_laws.proofs.ExpressionForms.{IsWhole}
+use Rattle.life_elab_laws.proofs.Expressions.{expression, whole_expression}
 use Rattle.life_elab_laws.proofs.GivenKinds.{given_number, given_pointer}
 use Rattle.life_elab_laws.proofs.Falling.{Falls, falling, falls_acts, falls_append}
 use Rattle.life_elab_laws.proofs.Following.{Follows, follows_grown}
+use Rattle.life_elab_laws.proofs.FormedFits.{given_reference}
+use Rattle.life_elab_laws.proofs.Gifts.{AreNumbersFor, a_number, a_place, a_pointing, arguments}
 use Rattle.life_elab_laws.proofs.Growing.{Begins, Grows}
+use Rattle.life_elab_laws.proofs.Held.{number_held, object_held}
 use Rattle.life_elab_laws.proofs.Knowledge.{at_set, beside_set}
-use Rattle.life_elab_laws.proofs.Leaves.{number_held, object_held}
 use Rattle.life_elab_laws.proofs.Making.{Always, IsNumber, IsPlace, IsPointing, Makes, nothing_made, seen}
 use Rattle.life_elab_laws.proofs.Setting.{Setting}
 use Rattle.life_elab_laws.proofs.Shaping.{fine_acts, fine_append}
-use Rattle.life_elab_laws.proofs.SimpleWriting.{Done, aimed_after, aimed_ready, pointed_plain}
+use Rattle.life_elab_laws.proofs.Sides.{runs_side}
 use Rattle.life_elab_laws.proofs.VariablePlaces.{IsVariableType, a_raw, a_reference, a_value, value_held, variable_type}
 
-a_place : (c : Category) (target : TyId) → is_place_of c target ≡ true → (id : TyId) × (constant : Bool) × (c ≡ category.Place id constant)
-a_place category.Value target e = absurd (false≢true e)
-a_place (category.Place id constant) target e = (id, constant, refl)
+abbrev Done : Unit {0} → ℕ → List Known → Type 0
+Done x n k = Unit {0}
 
 module _ (a : Around) (types : Types) (fs : List Function) (f : Function) (setting : Setting a types fs f) (v : Visible) (in_loop : Bool) where
   module _ (u : TypedLocal) (s : State) (h : Follows types fs f a v s) (at : slice_get a.function.locals v.declared ≡ Some u) (built : is_built_variable a.program.types u.ty ≡ true) where
@@ -140,15 +140,18 @@ module _ (a : Around) (types : Types) (fs : List Function) (f : Function) (setti
         → Born (emit place (pointed (whole (length w.state.locals)) w.given) (with_new (variable_local a u) w.state))
     aimed_does t is held place w made =
         declared_does types fs f a setting.front v in_loop u s w (IsPointing types f) (Acts place (pointed (whole (length w.state.locals)) w.given) ∷ []) h at built made
-        (λ b. fine_acts types fs f place (pointed (whole (length w.state.locals)) w.given) (pointed_plain types fs f (whole (length w.state.locals)) w.given))
+        (λ b. fine_acts types fs f place (pointed (whole (length w.state.locals)) w.given) (pointed_plain types 0 fs f (whole (length w.state.locals)) w.given))
         (λ b k size q blank.
         falls_acts types fs f place (pointed (whole (length w.state.locals)) w.given) k
-        (aimed_ready types fs f (length w.state.locals) (length w.state.locals) w.given k (pointer_sort t is held w.state made.grown b) q)
-        ∙ ap falling (aimed_after types fs f (length w.state.locals) w.given k))
+        (aimed_ready types 0 fs f (length w.state.locals) (length w.state.locals) w.given k (pointer_sort t is held w.state made.grown b) q)
+        ∙ ap falling (aimed_after types 0 fs f (length w.state.locals) w.given k))
 
     -- ---- any variable that is given one expression
 
     module _ (e : Typed) (b : is_built_expression e ≡ true) (he : Whole e) where
+      whole_is : IsWhole a v.visible types 0 fs f setting (whole_form e)
+      whole_is = whole_expression a v.visible types 0 fs f setting (whole_form e) b he
+
       type_is : (t : Ty) → slice_get a.program.types.types u.ty.0 ≡ Some t → type_of a u.ty ≡ t
       type_is t is = ap (λ (o : Option Ty). unwrap_or o ty.Void) is
 
@@ -156,16 +159,13 @@ module _ (a : Around) (types : Types) (fs : List Function) (f : Function) (setti
         given_value_does : Born (given_value a u e s)
         given_value_does =
             valued_does t is worth (value a (whole_form e) (type_of a u.ty) None s)
-            (value_made a v.visible types fs f setting (whole_form e) b he n (type_of a u.ty) (ap is_value (type_is t is) ∙ worth) None s tt h.stands)
+            (runs_side types 0 fs f None s (value a (whole_form e) (type_of a u.ty) None s) (a_number types 0 fs f (type_of a u.ty)) (whole_is.valued n (type_of a u.ty) (ap is_value (type_is t is) ∙ worth) None s tt h.stands))
 
         given_by_call_does : (c : Called) → call_of e.form ≡ Some c → Born (given_by_call a u e.place c s)
         given_by_call_does c found =
-            let k = call_made a.program a.function.locals v.visible setting.variables setting.functions e.form e b he c found in
-            let ids = parameter_types (Some k.of) in
-            subst (λ (these : List TyId). Born (emit e.place (called c.function (handed_over a c.arguments these s).given (length (handed_over a c.arguments these s).state.locals)) (with_new (variable_local a u) (handed_over a c.arguments these s).state)))
-            (sym (ap parameters_of k.there))
-            (called_does t is worth c.function k.of e.place k.there (k.worth n) (handed_over a c.arguments ids s)
-            (handed_over_made a v.visible types fs f setting c.arguments k.built k.arguments ids k.given (setting.taken c.function k.of k.there) s h.stands))
+            let k = (expression a v.visible types 0 fs f setting e.form e b he).calls c found in
+            let w = handed_over a c.arguments (around.parameter_types a c.function) s in
+            called_does t is worth c.function k.of e.place k.there (k.worth n) w (runs_side types 0 fs f None s w (arguments types 0 fs f (parameter_types (Some k.of))) (k.hands s h.stands))
 
         object_does : (o : Option Called) → call_of e.form ≡ o → Born (object_given a u e o s)
         object_does None found = given_value_does
@@ -193,14 +193,16 @@ module _ (a : Around) (types : Types) (fs : List Function) (f : Function) (setti
           go (a_raw target constant is) =
               subst (λ (x : Ty). Born (given_one a u e x s)) (sym (type_is (ty.Raw target constant) is))
               (aimed_does (ty.Raw target constant) is refl e.place (pointing a (whole_form e) s)
-              (pointing_whole a v.visible types fs f setting (whole_form e) b he
-              (given_pointer a.program.types (ty.Raw target constant) e refl (subst (λ (x : Ty). is_given a.program.types x e ≡ true) (type_is (ty.Raw target constant) is) given)) s h.stands))
+              (runs_side types 0 fs f None s (pointing a (whole_form e) s) (a_pointing types 0 fs f e.ty)
+              (whole_is.points (given_pointer a.program.types (ty.Raw target constant) e refl (subst (λ (x : Ty). is_given a.program.types x e ≡ true) (type_is (ty.Raw target constant) is) given)) s h.stands)))
           go (a_reference target constant is w) =
-              let p = a_place e.category target (subst (λ (x : Ty). needs_no_temporary x e ≡ true) (type_is (ty.Reference target constant) is) temporary) in
-              subst (λ (x : Ty). Born (given_one a u e x s)) (sym (type_is (ty.Reference target constant) is))
-              (aimed_does (ty.Reference target constant) is refl e.place (mapped (λ o. At (Aimed o)) (operand a (whole_form e) s))
+              let r = ty.Reference target constant in
+              let bound = given_reference a.program.types target constant e w (subst (λ (x : Ty). needs_no_temporary x e ≡ true) (type_is r is) temporary) (subst (λ (x : Ty). is_given a.program.types x e ≡ true) (type_is r is) given) in
+              let Q = a_place types 0 fs f (type_at a.program.types target) bound.held in
+              subst (λ (x : Ty). Born (given_one a u e x s)) (sym (type_is r is))
+              (aimed_does r is refl e.place (mapped (λ o. At (Aimed o)) (operand a (whole_form e) s))
               (seen types fs f None s (operand a (whole_form e) s) (λ o. At (Aimed o)) Always IsPlace (IsPointing types f)
-              (place_made a v.visible types fs f setting (whole_form e) b he p.0 p.1 p.2 s h.stands) (λ o n k q. q)))
+              (runs_side types 0 fs f None s (operand a (whole_form e) s) Q (whole_is.names target bound.held bound.place w s h.stands)) (λ o n k q. q)))
 
     -- ---- any variable
 

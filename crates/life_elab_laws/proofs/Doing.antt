@@ -1,32 +1,27 @@
 -- What a statement writes: from knowledge between statements to such knowledge, and at each exit.
-use Rattle.std.proofs.Common.{◌≡◌, ◌≤◌, ℕ, Bool, true, false, List, [], ◌∷◌, ◌++◌, length, take, Option, Some, None, refl, sym, ap, ◌∙◌, subst, arith, append_assoc, append-nil}
+use Rattle.std.proofs.Common.{◌≡◌, ◌≤◌, ℕ, Bool, true, false, List, [], ◌++◌, length, take, Option, Some, None, refl, sym, ap, ◌∙◌, subst, append_assoc, append-nil}
 use Rattle.life_types.specs.Types.{Types}
-use Rattle.life_types.specs.declared.place.Place.{Place}
-use Rattle.life_core.specs.ByValue.{is_by_value}
 use Rattle.life_core.specs.Function.{Function}
 use Rattle.life_core.specs.Shape.{breaks_inside, is_statement, tests_straight}
-use Rattle.life_core.specs.Step.{Step}
-use Rattle.life_core.specs.Tree.{Tree, Acts, trees}
+use Rattle.life_core.specs.Tree.{Tree, trees}
 use Rattle.life_proper.specs.declared.known.Known.{Known}
 use Rattle.life_proper.specs.Checking.{Flow, flow}
 use Rattle.life_proper.specs.Knowing.{State as Knowing}
 use Rattle.life_proper.specs.Plain.{is_plain_tree}
-use Rattle.life_proper.specs.ReadyKnown.{is_step_ready, known_after}
 use Rattle.life_proper.specs.ResultsKnown.{ReturnsKnown}
 use Rattle.life_well_typed.specs.Visible.{Visible}
 use Rattle.life_writer.specs.Around.{Around, result_local}
-use Rattle.life_writer.specs.Writing.{State, Gives, emit, gives}
+use Rattle.life_writer.specs.Writing.{State, Gives}
 use Rattle.life_elab_laws.proofs.Exits.{Knows, Leaves, MayKnow, MayLeave, knows_written, leaves_then}
-use Rattle.life_elab_laws.proofs.Falling.{falling, falls_acts, flow_append}
+use Rattle.life_elab_laws.proofs.Falling.{falling, flow_append}
 use Rattle.life_elab_laws.proofs.Following.{Adds, Follows, adds_none, adds_then, begins_added, follows_grown, follows_named, grows_adds, knows_alive, take_front, take_itself}
-use Rattle.life_elab_laws.proofs.Fronts.{front_itself}
 use Rattle.life_elab_laws.proofs.GivingBack.{GivesValue, fine_known, known_append}
 use Rattle.life_elab_laws.proofs.Growing.{Begins}
-use Rattle.life_elab_laws.proofs.Making.{Alive, Always, Goes, Keeps, Makes}
+use Rattle.life_elab_laws.proofs.Making.{Always, Goes, Makes}
 use Rattle.life_elab_laws.proofs.Nowhere.{IsNowhere, nowhere_flows}
 use Rattle.life_elab_laws.proofs.OrderedTypes.{KeepsOrder, order_none, order_then}
-use Rattle.life_elab_laws.proofs.Shaping.{IsFine, all_append, fine_acts}
-use Rattle.life_elab_laws.proofs.WrittenLocals.{AreWrittenLocals, locals_added, registers_none}
+use Rattle.life_elab_laws.proofs.Shaping.{IsFine, all_append}
+use Rattle.life_elab_laws.proofs.WrittenLocals.{AreWrittenLocals, locals_added}
 
 module _ (types : Types) (fs : List Function) (f : Function) where
   -- ---- statements and lists of them
@@ -176,34 +171,4 @@ module _ (types : Types) (fs : List Function) (f : Function) where
     written = made.written;
     acts = made_acts a v in_loop into s w Q h made;
     returns = λ b gives o k. fine_known types fs f (result_local a) made.code (made.runs b).fine o;
-  }
-
-  -- ---- an instruction that leaves all that is known
-
-  pub acted : (place : Place) (i : Step) (s : State) (P : List Known → Type 0)
-      → (Begins types f s → (k : List Known) → Alive types fs f s k → P k → is_step_ready types fs f k i ≡ true)
-      → ((k : List Known) → P k → Keeps types fs f (length s.locals) None k (known_after types f i k)) → is_by_value types fs f i ≡ true
-      → Makes types fs f None s (gives tt (emit place i s)) P (λ (x : Unit {0}) n k. Unit {0})
-  acted place i s P ready after plain = record {
-    grown = record {
-      locals = front_itself s.locals;
-      types = front_itself s.types.types;
-      count = omega arith;
-      variables = refl;
-      living = refl;
-      outside = refl;
-      shaped = λ types h. h;
-    };
-    registers = registers_none types s;
-    code = Acts place i ∷ [];
-    written = refl;
-    runs = λ b. record {
-      fine = fine_acts types fs f place i plain;
-      goes = λ k alive p. record {
-        after = known_after types f i k;
-        falls = falls_acts types fs f place i k (ready (record { locals = b.locals; table = b.table }) k alive p);
-        keeps = after k p;
-        gives = tt;
-      };
-    };
   }

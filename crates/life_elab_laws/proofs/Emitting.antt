@@ -1,5 +1,5 @@
 -- A register that an instruction writes.
-use Rattle.std.proofs.Common.{◌≡◌, ◌<◌, ℕ, true, List, [], ◌∷◌, ◌++◌, length, slice_get, slice_set, Option, Some, None, refl, sym, ap, ◌∙◌, arith}
+use Rattle.std.proofs.Common.{◌≡◌, ◌<◌, ℕ, true, List, length, slice_get, slice_set, Option, Some, None, refl, sym, ap, ◌∙◌, arith}
 use Rattle.std.proofs.lemmas.Option.{none-some, same_Some, slice_get_within}
 use Rattle.life_types.specs.Trees.{HasPartsBelow}
 use Rattle.life_types.specs.Types.{Types, class}
@@ -7,25 +7,18 @@ use Rattle.life_types.specs.declared.place.Place.{Place}
 use Rattle.life_types.specs.declared.ty.NameId.{NameId}
 use Rattle.life_types.specs.declared.ty.Ty.{Ty}
 use Rattle.life_typed.specs.BaseTypes.{is_value}
-use Rattle.life_core.specs.ByValue.{is_by_value}
 use Rattle.life_core.specs.Function.{Function}
 use Rattle.life_core.specs.Holdings.{Holding, ANumber, held_if, sort_of}
-use Rattle.life_core.specs.Step.{Step}
-use Rattle.life_core.specs.Tree.{Acts}
 use Rattle.life_core.specs.declared.program.Local.{Local}
 use Rattle.life_core.specs.declared.program.LocalKind.{LocalKind}
 use Rattle.life_core.specs.declared.program.LocalKind.TheVariants.{Register}
 use Rattle.life_proper.specs.declared.known.Known.{Known}
-use Rattle.life_proper.specs.Knowing.{known_as, known_at}
-use Rattle.life_proper.specs.ReadyKnown.{is_step_ready, known_after}
 use Rattle.life_writer.specs.Registers.{new_register, target}
-use Rattle.life_writer.specs.Writing.{State, Gives, emit, gives}
-use Rattle.life_elab_laws.proofs.Falling.{falling, falls_acts}
+use Rattle.life_writer.specs.Writing.{State, Gives}
 use Rattle.life_elab_laws.proofs.Growing.{Begins, Grows, added, grows_none, register_below, register_grows, register_sort, register_there, sort_there}
-use Rattle.life_elab_laws.proofs.Knowledge.{at_set, beside_set, set_length}
-use Rattle.life_elab_laws.proofs.Making.{Alive, IsBeside, Keeps, Makes, Runs}
+use Rattle.life_elab_laws.proofs.Knowledge.{beside_set, set_length}
+use Rattle.life_elab_laws.proofs.Making.{IsBeside, Keeps}
 use Rattle.life_elab_laws.proofs.OrderedTypes.{type_ordered}
-use Rattle.life_elab_laws.proofs.Shaping.{fine_acts}
 use Rattle.life_elab_laws.proofs.Types.{type_added, value_register}
 use Rattle.life_elab_laws.proofs.WrittenLocals.{AddsRegisters, fits_below, fits_register, register_pushed, registers_none, value_fits}
 
@@ -42,18 +35,6 @@ pub record IsWanted (s : State) (r : ℕ) : Type 0 where
 abbrev pub IsInto : State → Option ℕ → Type 0
 IsInto s None = Unit {0}
 IsInto s (Some r) = IsWanted s r
-
-pub into_later : (s s' : State) (into : Option ℕ) → Grows s s' → IsInto s into → IsInto s' into
-into_later s s' None g h = tt
-into_later s s' (Some r) g h = record {
-  local = h.local;
-  there = g.locals r h.local h.there;
-  nameless = h.nameless;
-  kind = h.kind;
-  ty = h.ty;
-  typed = g.types h.local.ty.0 h.ty h.typed;
-  value = h.value;
-}
 
 module _ (types : Types) (fs : List Function) (f : Function) where
   -- of a sort, and without a name, in the finished function
@@ -123,38 +104,3 @@ module _ (types : Types) (fs : List Function) (f : Function) where
       clash y l name there named e =
           let one : is.local ≡ l = same_Some is.local l (sym is.there ∙ ap (slice_get f.locals) e ∙ there) in
           none-some name (sym is.nameless ∙ ap (λ (u : Local). u.name) one ∙ named)
-
-  -- an instruction that writes it
-  pub emitted : {A : Type 0} (into : Option ℕ) (s : State) (w : Gives ℕ) (h : Holding) (place : Place) (step : ℕ → Step) (x : A) (P : List Known → Type 0) (O : A → ℕ → List Known → Type 0)
-      → Targets h into s w
-      → ((r : ℕ) → sort_of types f r ≡ h → (k : List Known) → Alive types fs f s k → P k → is_step_ready types fs f k (step r) ≡ true)
-      → ((r : ℕ) → sort_of types f r ≡ h → (k : List Known) → known_after types f (step r) k ≡ slice_set k r (known_as h))
-      → ((r : ℕ) → sort_of types f r ≡ h → is_by_value types fs f (step r) ≡ true)
-      → ((k : List Known) → w.given < length w.state.locals → known_at k w.given ≡ known_as h → sort_of types f w.given ≡ h → O x (length w.state.locals) k)
-      → Makes types fs f into s (gives x (emit place (step w.given) w.state)) P O
-  emitted into s w h place step x P O t ready after plain given = record {
-    grown = record {
-      locals = t.grown.locals;
-      types = t.grown.types;
-      count = t.grown.count;
-      variables = t.grown.variables;
-      living = t.grown.living;
-      outside = t.grown.outside;
-      shaped = t.grown.shaped;
-    };
-    registers = t.registers;
-    code = Acts place (step w.given) ∷ [];
-    written = ap (λ c. c ++ Acts place (step w.given) ∷ []) t.unwritten;
-    runs = λ b. runs (t.there (record { locals = b.locals; table = b.table }));
-  }
-    where
-      runs : IsNameless h w.given → Runs types fs f into s (gives x (emit place (step w.given) w.state)) P O (Acts place (step w.given) ∷ [])
-      runs is = record {
-        fine = fine_acts types fs f place (step w.given) (plain w.given is.sort);
-        goes = λ k alive p. record {
-          after = slice_set k w.given (known_as h);
-          falls = falls_acts types fs f place (step w.given) k (ready w.given is.sort k alive p) ∙ ap falling (after w.given is.sort k);
-          keeps = keeps_set (length s.locals) into h w.given (known_as h) k is t.beside;
-          gives = given (slice_set k w.given (known_as h)) t.below (at_set k w.given (known_as h) (omega (arith, alive.sized, slice_get_within f.locals w.given is.local is.there))) is.sort;
-        };
-      }

@@ -5,22 +5,22 @@ use Rattle.life_types.specs.Types.{Types}
 use Rattle.life_types.specs.declared.ty.Ty.{Ty}
 use Rattle.life_types.specs.declared.ty.Ty.TheVariants as ty
 use Rattle.life_types.specs.declared.ty.TyId.{TyId}
-use Rattle.life_built.specs.Built.{are_built_functions, are_built_variables, is_built_form, is_built_function, is_built_result, is_built_variable}
+use Rattle.life_built.specs.Built.{are_built_functions, are_built_variables, is_built_function, is_built_result, is_built_variable}
 use Rattle.life_names.specs.Found.{not_found}
 use Rattle.life_names.specs.declared.fault.IllKind.TheVariants as kinds
 use Rattle.life_typed.specs.BaseTypes.{is_raw, is_value, type_at}
 use Rattle.life_typed.specs.Operators.{dereferenced, is_condition, negated, negated_type, promoted}
-use Rattle.life_typed.specs.Programs.{FunctionForm, ProgramForm}
-use Rattle.life_typed.specs.TypedForm.{Form, Typed, number, character, boolean, text, null, local, call, construct, paren, move, make_unique, text_of, input, member, dereference, index, method, negate, not, address_of, binary, typed, nothing, ◌⨟◌}
+use Rattle.life_typed.specs.Programs.{FunctionForm}
+use Rattle.life_typed.specs.TypedForm.{Form, Typed, local, dereference, not, typed}
 use Rattle.life_typed.specs.declared.typed_expr.Category.{Category}
 use Rattle.life_typed.specs.declared.typed_expr.Category.TheVariants as category
 use Rattle.life_typed.specs.declared.typed_expr.ExprType.{ExprType}
 use Rattle.life_typed.specs.declared.typed_expr.ExprType.TheVariants.{Of}
 use Rattle.life_typed.specs.declared.typed_program.TypedLocal.{TypedLocal}
 use Rattle.life_type_expr.specs.Operands.{dereferenced_to, inverted, negated_to, number_type, place_of, pointed_to, value}
-use Rattle.life_well_typed.specs.Expressions.{HasResult, IsAddress, IsExpression, IsMadeOf, IsVariable, typed_in}
+use Rattle.life_well_typed.specs.Expressions.{HasResult, IsAddress, IsVariable}
 use Rattle.life_well_typed.specs.Given.{is_number}
-use Rattle.life_elab_laws.proofs.TypedKinds.{HasKind, IsKind, a_null, a_number, a_pointer, answer_value, combined_as, err_ok, kind_of_place, kind_of_result, kind_of_variable, kind_same, kind_value, no_value, ok_same, operand_kind, promoted_value, value_place}
+use Rattle.life_elab_laws.proofs.TypedKinds.{HasKind, IsKind, a_null, a_number, a_pointer, err_ok, kind_of_result, kind_of_variable, no_value, ok_same, promoted_value, value_place}
 
 -- ---- what is built
 
@@ -58,7 +58,7 @@ number_value n = go _
     go true = refl
     go false = refl
 
-kind_local : (types : Types) (locals : List TypedLocal) (x : ℕ) (e : Typed) → are_built_variables types locals ≡ true → IsVariable types x (slice_get locals x) e → IsKind types e
+pub kind_local : (types : Types) (locals : List TypedLocal) (x : ℕ) (e : Typed) → are_built_variables types locals ≡ true → IsVariable types x (slice_get locals x) e → IsKind types e
 kind_local types locals x e b h = go (slice_get locals x) refl h
   where
     go : (o : Option TypedLocal) → slice_get locals x ≡ o → IsVariable types x o e → IsKind types e
@@ -168,55 +168,3 @@ addressed_as types inner e k h = go inner.category refl h
     go : (o : Category) → inner.category ≡ o → IsAddress types o e → IsAddressed types inner e
     go category.Value at h = absurd h
     go (category.Place id c) at h = record { target = id; constant = c; place = at; worth = typed_as id c at h.0 k.kind; is = h.1 }
-
--- ---- any expression
-
-module _ (p : ProgramForm) (locals : List TypedLocal) (visible : List ℕ) (variables : are_built_variables p.types locals ≡ true) (functions : are_built_functions p.types p.functions ≡ true) where
-  mutual
-    pub kind_of : (form : Form) → is_built_form form ≡ true → IsExpression p locals visible form → IsKind p.types (typed_in form)
-    kind_of (typed place t c form) b h = kind_made form (record { place = place; ty = t; category = c; form = form }) b h
-    kind_of _ b h = absurd h
-
-    pub kind_made : (form : Form) (e : Typed) → is_built_form form ≡ true → IsMadeOf p locals visible e form → IsKind p.types e
-    kind_made (number n) e b h = kind_value p.types e (number_type n) h.0 (number_value n)
-    kind_made (character c) e b h = kind_value p.types e ty.Char h.0 refl
-    kind_made (boolean x) e b h = kind_value p.types e ty.Bool h refl
-    kind_made null e b h = record { kind = a_null h.0 h.1; place = λ id c at. absurd (value_place (sym h.1 ∙ at)) }
-    kind_made (local x) e b h = kind_local p.types locals x e variables h.1
-    kind_made (call g arguments closing) e b h = kind_call p.types p.functions g e functions h.0
-    kind_made (paren inner closing) e b h =
-        kind_same p.types (typed_in inner) e (sym (ap (λ (x : Typed). x.ty) (ok_same h.0))) (sym (ap (λ (x : Typed). x.category) (ok_same h.0))) (kind_of inner b h.1)
-    kind_made input e b h = kind_value p.types e ty.Long h refl
-    kind_made (dereference inner) e b h =
-        let d = dereferenced_as p.types (typed_in inner) e (kind_of inner b h.1) h.0 in
-        kind_of_place p.types e d.target d.constant d.form d.is (a_number (type_at p.types d.target) (ap (λ (x : Typed). x.ty) d.is) d.value)
-    kind_made (negate inner) e b h =
-        let n = negated_as p.types (typed_in inner) e (kind_of inner b h.1) h.0 in kind_value p.types e n.ty n.is n.worth
-    kind_made (not inner) e b h = kind_value p.types e ty.Bool (inverted_as (typed_in inner) e h.0).is refl
-    kind_made (address_of inner) e b h =
-        let d = addressed_as p.types (typed_in inner) e (kind_of inner b h.1) h.0 in
-        record {
-          kind = a_pointer d.target d.constant (ap (λ (x : Typed). x.ty) d.is) d.worth;
-          place = λ id c at. absurd (value_place (sym (ap (λ (x : Typed). x.category) d.is) ∙ at));
-        }
-    kind_made (binary o left right) e b h =
-        let parts = and_parts (is_built_form left) (is_built_form right) b in
-        let l = kind_of left parts.0 h.1 in
-        let r = kind_of right parts.1 h.2 in
-        let c = combined_as o e.place (typed_in left) (typed_in right) e h.0 in
-        let v = answer_value o (typed_in left).ty (typed_in right).ty c.ty (operand_kind p.types (typed_in left) l) (operand_kind p.types (typed_in right) r) c.answer in
-        record {
-          kind = a_number c.ty c.is.0 v;
-          place = λ id d at. absurd (value_place (sym c.is.1 ∙ at));
-        }
-    kind_made (text id) e b h = absurd (false≢true b)
-    kind_made (construct structure elements closing) e b h = absurd (false≢true b)
-    kind_made (move x) e b h = absurd (false≢true b)
-    kind_made (make_unique id argument closing) e b h = absurd (false≢true b)
-    kind_made (text_of inner closing) e b h = absurd (false≢true b)
-    kind_made (member base which) e b h = absurd (false≢true b)
-    kind_made (index base position closing) e b h = absurd (false≢true b)
-    kind_made (method base called arguments closing) e b h = absurd (false≢true b)
-    kind_made (typed place t c form) e b h = absurd h
-    kind_made nothing e b h = absurd h
-    kind_made (first ⨟ others) e b h = absurd h

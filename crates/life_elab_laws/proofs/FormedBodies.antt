@@ -7,7 +7,6 @@ use Rattle.life_types.specs.declared.place.Place.{Place}
 use Rattle.life_types.specs.declared.ty.Ty.TheVariants as ty
 use Rattle.life_built.specs.Built.{is_built_expression, is_built_if_any, is_built_start, is_built_statement, is_built_step}
 use Rattle.life_typed.specs.Ends.{ends}
-use Rattle.life_typed.specs.Programs.{FunctionForm}
 use Rattle.life_typed.specs.TypedForm.{Typed, whole as whole_form}
 use Rattle.life_typed.specs.TypedStatement.{StmtForm, ForStartForm, SimpleForm, declared_first, done_first, block, empty, sentence, branching, while_loop, for_loop, range_loop, loop_break, loop_continue, returned, print, assertion, branch, declaration, no_more, chain}
 use Rattle.life_core.specs.Function.{Function}
@@ -26,53 +25,53 @@ use Rattle.life_elab.specs.LastTokens.{last_token}
 use Rattle.life_elab.specs.Simples.{simple_if}
 use Rattle.life_elab.specs.Statements.{branches_of, condition_or_true, end_line, looped, started, statement}
 use Rattle.life_elab_laws.proofs.Branching.{tested_follows, visible_again}
+use Rattle.life_elab_laws.proofs.Conditions.{non_zero_part}
 use Rattle.life_elab_laws.proofs.Doing.{does_nothing}
+use Rattle.life_elab_laws.proofs.Expressions.{whole_expression}
 use Rattle.life_elab_laws.proofs.Following.{Follows, HasRegister, begins_added, follows_coded, register_later}
 use Rattle.life_elab_laws.proofs.FormedBranches.{asserted_forms, branched_forms}
-use Rattle.life_elab_laws.proofs.FormedCalls.{IsTypedCallee}
-use Rattle.life_elab_laws.proofs.FormedConditions.{Asking, non_zero_writes}
 use Rattle.life_elab_laws.proofs.FormedDeclared.{declaration_forms}
-use Rattle.life_elab_laws.proofs.FormedExpressions.{condition_whole}
-use Rattle.life_elab_laws.proofs.FormedLeaves.{constant_writes}
 use Rattle.life_elab_laws.proofs.FormedLeaving.{begins_ended, ended_forms, left_forms, returned_forms}
 use Rattle.life_elab_laws.proofs.FormedLoops.{loop_forms}
-use Rattle.life_elab_laws.proofs.FormedSingles.{items_forms, simple_forms}
-use Rattle.life_elab_laws.proofs.FormedStatements.{Forms, forms_then}
+use Rattle.life_elab_laws.proofs.FormedStatements.{Asking, Forms, forms_then}
 use Rattle.life_elab_laws.proofs.Growing.{Begins}
+use Rattle.life_elab_laws.proofs.Instructions.{constant_part}
 use Rattle.life_elab_laws.proofs.Setting.{Setting}
+use Rattle.life_elab_laws.proofs.Sides.{asking_side}
+use Rattle.life_elab_laws.proofs.SimpleStatements.{items_forms, simple_forms}
 use Rattle.life_elab_laws.proofs.Statements.{DoesOver, begun, branches_do, decided, decided_or_true, level_of, loop_done, statement_does, stepped}
 
-module _ (a : Around) (types : Types) (texts : ℕ) (fs : List Function) (f : Function) (setting : Setting a types fs f)
-    (callees : (g : ℕ) (of : FunctionForm) → slice_get a.program.functions g ≡ Some of → IsTypedCallee fs g of) (lines : nat_lt (end_line a) texts ≡ true)
+module _ (a : Around) (types : Types) (texts : ℕ) (fs : List Function) (f : Function) (setting : Setting a types fs f) (lines : nat_lt (end_line a) texts ≡ true)
     (nameless : (l : Local) → slice_get f.locals f.parameters ≡ Some l → is_void (ty_of types f.result) ≡ false → l.name ≡ None) where
   -- ---- the end of a block
 
   block_forms : (v : Visible) (n : ℕ) (place : Place) (s t : State) → Follows types fs f a v t → Forms types texts fs f s t → Forms types texts fs f s (end_since place n t)
   block_forms v n place s t follows inner b c =
       let ended : Begins types f (end_past n place t) = record { locals = b.locals; table = b.table } in
-      ended_forms a types texts fs f setting callees lines nameless n place v t follows ended
-      (inner (begins_ended a types texts fs f setting callees lines nameless (reverse (drop n t.living)) place t ended) c)
+      ended_forms a types texts fs f setting lines nameless n place v t follows ended
+      (inner (begins_ended a types texts fs f setting lines nameless (reverse (drop n t.living)) place t ended) c)
 
   -- ---- the parts of loops
 
   asked : (v : Visible) (e : Typed) (s : State) → is_built_expression e ≡ true → Decides a.program a.function.locals a.function.result v.visible e → Follows types fs f a v s → Asking types texts fs f s (condition a (whole_form e) s)
-  asked v e s b h follows = condition_whole a v.visible types texts fs f setting callees (whole_form e) b h.1 h.0 s follows.stands
+  asked v e s b h follows = asking_side types texts fs f s (condition a (whole_form e) s) ((whole_expression a v.visible types texts fs f setting (whole_form e) b h.1).conditions h.0 s follows.stands)
 
   asked_or_true : (v : Visible) (keyword : Place) (e : Option Typed) (s : State) → is_built_if_any e ≡ true → DecidesIfAny a.program a.function.locals a.function.result v.visible e → Follows types fs f a v s
       → Asking types texts fs f s (condition_or_true a keyword e s)
   asked_or_true v keyword None s b h follows =
-      non_zero_writes types texts fs f keyword ty.Bool (computed None ty.Bool keyword (constant (pos 1))) s (constant_writes types texts fs f None ty.Bool keyword (pos 1) (with_code [] s) refl tt)
+      asking_side types texts fs f s (condition_or_true a keyword None s)
+      (non_zero_part types texts fs f keyword ty.Bool (computed None ty.Bool keyword (constant (pos 1))) s (constant_part types texts fs f None ty.Bool keyword (pos 1) (with_code [] s) refl tt))
   asked_or_true v keyword (Some e) s b h follows = asked v e s b h follows
 
   step_forms : (v : Visible) (it : Option SimpleForm) (s : State) → is_built_step it ≡ true → IsSimpleIfAny a.program a.function.locals a.function.result v.visible it → Follows types fs f a v s → Forms types texts fs f s (simple_if a it s)
   step_forms v None s b h follows begins c = c
-  step_forms v (Some it) s b h follows begins c = simple_forms a types texts fs f setting callees lines v.visible it s b h follows.stands begins c
+  step_forms v (Some it) s b h follows begins c = simple_forms a types texts fs f setting lines v.visible it s b h follows.stands begins c
 
   start_forms : (v : Visible) (start : Option ForStartForm) (s : State) → is_built_start a.program.types a.function.locals start ≡ true → IsStart a.program a.function.locals a.function.result start v → Follows types fs f a v s
       → Forms types texts fs f s (started a start s)
   start_forms v None s b h follows begins c = c
-  start_forms v (Some (declared_first d)) s b h follows begins c = declaration_forms a types texts fs f setting callees lines v d s b h follows begins c
-  start_forms v (Some (done_first it)) s b h follows begins c = simple_forms a types texts fs f setting callees lines v.visible it s b h follows.stands begins c
+  start_forms v (Some (declared_first d)) s b h follows begins c = declaration_forms a types texts fs f setting lines v d s b h follows begins c
+  start_forms v (Some (done_first it)) s b h follows begins c = simple_forms a types texts fs f setting lines v.visible it s b h follows.stands begins c
 
   -- ---- any statement
 
@@ -83,7 +82,7 @@ module _ (a : Around) (types : Types) (texts : ℕ) (fs : List Function) (f : Fu
         let inner = statement_does a types fs f setting items in_loop v s b h follows register in
         block_forms (after items v) (length s.living) closing s (statement a items s) inner.does.follows (statement_forms items in_loop v s b h follows register)
     statement_forms (empty place) in_loop v s b h follows register = λ begins c. c
-    statement_forms (sentence it semicolon) in_loop v s b h follows register = simple_forms a types texts fs f setting callees lines v.visible it s b h follows.stands
+    statement_forms (sentence it semicolon) in_loop v s b h follows register = simple_forms a types texts fs f setting lines v.visible it s b h follows.stands
     statement_forms (branching branches last) in_loop v s b h follows register =
         let parts = and_parts (is_built_statement a.program.types a.function.locals branches) (is_built_statement a.program.types a.function.locals last) b in
         branches_forms branches in_loop v s parts.0 h.0 follows register (statement a last) (after last (after branches v)) (ends last)
@@ -122,14 +121,14 @@ module _ (a : Around) (types : Types) (texts : ℕ) (fs : List Function) (f : Fu
         (λ t later there. statement_forms body true v1 t three.1 h.4 later there)
         (λ t later. step_forms (behind v1 u) stepping t three.0 h.2 later)))
     statement_forms (range_loop keyword x name colon range closing body) in_loop v s b h follows register = absurd (false≢true b)
-    statement_forms (loop_break keyword semicolon) in_loop v s b h follows register = left_forms a types texts fs f setting callees lines nameless s.outside keyword Breaks refl v s follows
-    statement_forms (loop_continue keyword semicolon) in_loop v s b h follows register = left_forms a types texts fs f setting callees lines nameless s.outside keyword Continues refl v s follows
-    statement_forms (returned keyword value semicolon) in_loop v s b h follows register = returned_forms a types texts fs f setting callees lines nameless v s follows register keyword value b h
-    statement_forms (print these semicolon) in_loop v s b h follows register = items_forms a types texts fs f setting callees lines v.visible these s b h follows.stands
+    statement_forms (loop_break keyword semicolon) in_loop v s b h follows register = left_forms a types texts fs f setting lines nameless s.outside keyword Breaks refl v s follows
+    statement_forms (loop_continue keyword semicolon) in_loop v s b h follows register = left_forms a types texts fs f setting lines nameless s.outside keyword Continues refl v s follows
+    statement_forms (returned keyword value semicolon) in_loop v s b h follows register = returned_forms a types texts fs f setting lines nameless v s follows register keyword value b h
+    statement_forms (print these semicolon) in_loop v s b h follows register = items_forms a types texts fs f setting lines v.visible these s b h follows.stands
     statement_forms (assertion keyword decides closing semicolon) in_loop v s b h follows register =
         asserted_forms types texts fs f s (condition a (whole_form decides) s) (asked v decides s b h follows) keyword
     statement_forms (branch keyword decides closing body) in_loop v s b h follows register = absurd h
-    statement_forms (declaration d semicolon) in_loop v s b h follows register = declaration_forms a types texts fs f setting callees lines v d s b h follows
+    statement_forms (declaration d semicolon) in_loop v s b h follows register = declaration_forms a types texts fs f setting lines v d s b h follows
     statement_forms no_more in_loop v s b h follows register = λ begins c. c
     statement_forms (chain first others) in_loop v s b h follows register =
         let parts = and_parts (is_built_statement a.program.types a.function.locals first) (is_built_statement a.program.types a.function.locals others) b in

@@ -7,8 +7,7 @@ use Rattle.life_core.specs.Tree.{Tree, Skip, Choice, Stops, trees}
 use Rattle.life_writer.specs.Writing.{State, Gives, with_code, write}
 use Rattle.life_elab_laws.proofs.Branching.{adds_uncoded}
 use Rattle.life_elab_laws.proofs.Following.{Adds, begins_added}
-use Rattle.life_elab_laws.proofs.FormedConditions.{Asking}
-use Rattle.life_elab_laws.proofs.FormedStatements.{Forms, choice_formed}
+use Rattle.life_elab_laws.proofs.FormedStatements.{Asking, Forms, choice_formed}
 use Rattle.life_elab_laws.proofs.Forming.{formed_more}
 use Rattle.life_elab_laws.proofs.Growing.{Begins}
 
@@ -20,12 +19,12 @@ module _ (types : Types) (texts : ℕ) (fs : List Function) (f : Function) (s : 
       let last : Begins types f r = record { locals = b.locals; table = b.table } in
       let between = begins_added types fs f t r (adds_uncoded types fs f t r [] two) last in
       let tested = begins_added types fs f w.state t (adds_uncoded types fs f w.state t [] one) between in
-      formed_more types texts fs f w.state.code (Choice w.given (trees t.code) (trees r.code)) (test.formed tested tt c)
-      (choice_formed types texts fs f w.given (trees t.code) (trees r.code) (test.gives tested tt) (first between refl) (second last refl))
+      formed_more types texts fs f w.state.code (Choice w.given (trees t.code) (trees r.code)) (test.formed tested c)
+      (choice_formed types texts fs f w.given (trees t.code) (trees r.code) (test.gives tested) (first between refl) (second last refl))
 
   -- a run ends where the condition doesn't hold
   pub asserted_forms : (keyword : Place) → Forms types texts fs f s (write (Choice w.given Skip (Stops keyword)) w.state)
   asserted_forms keyword b c =
       let tested : Begins types f w.state = record { locals = b.locals; table = b.table } in
-      formed_more types texts fs f w.state.code (Choice w.given Skip (Stops keyword)) (test.formed tested tt c)
-      (choice_formed types texts fs f w.given Skip (Stops keyword) (test.gives tested tt) refl refl)
+      formed_more types texts fs f w.state.code (Choice w.given Skip (Stops keyword)) (test.formed tested c)
+      (choice_formed types texts fs f w.given Skip (Stops keyword) (test.gives tested) refl refl)

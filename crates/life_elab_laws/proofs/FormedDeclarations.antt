@@ -1,5 +1,5 @@
 -- Declarations are well formed, where typing lets no const be lost and no reference be without an initialiser: that is asked here.
-use Rattle.std.proofs.Common.{◌≡◌, ℕ, Bool, true, false, ◌&&◌, not, List, [], ◌∷◌, ◌++◌, length, slice_get, Option, Some, None, refl, sym, ap, ◌∙◌, subst}
+use Rattle.std.proofs.Common.{◌≡◌, ℕ, Bool, true, false, ◌&&◌, not, List, [], ◌∷◌, ◌++◌, length, slice_get, Option, Some, None, refl, sym, ap, ◌∙◌}
 use Rattle.std.proofs.lemmas.Bool.{and_from, or_left, or_right}
 use Rattle.life_types.specs.Types.{Types, class}
 use Rattle.life_types.specs.declared.place.Place.{Place}
@@ -8,7 +8,6 @@ use Rattle.life_types.specs.declared.ty.Ty.TheVariants as ty
 use Rattle.life_types.specs.declared.ty.TyId.{TyId}
 use Rattle.life_built.specs.Built.{is_built_expression}
 use Rattle.life_typed.specs.BaseTypes.{is_value, type_at}
-use Rattle.life_typed.specs.Programs.{FunctionForm}
 use Rattle.life_typed.specs.TypedForm.{Typed, whole as whole_form}
 use Rattle.life_typed.specs.declared.typed_expr.Category.TheVariants as category
 use Rattle.life_typed.specs.declared.typed_expr.ExprType.{ExprType}
@@ -22,14 +21,13 @@ use Rattle.life_core.specs.declared.program.LocalKind.TheVariants.{Object}
 use Rattle.life_pset.specs.Shapes as shapes
 use Rattle.life_well_typed.specs.Expressions.{IsExpression, parameter_types}
 use Rattle.life_well_typed.specs.Given.{is_number, is_pointer}
-use Rattle.life_writer.specs.Around.{Around, parameters_of, type_of}
+use Rattle.life_writer.specs.Around.{Around, type_of}
 use Rattle.life_writer.specs.Calls.{Called, called}
 use Rattle.life_writer.specs.Expressions.{handed_over, operand, pointing, value}
 use Rattle.life_writer.specs.Pointers.{pointed}
 use Rattle.life_writer.specs.Variables.{kind, variable_local, with_variable}
-use Rattle.life_writer.specs.Writing.{State, emit}
+use Rattle.life_writer.specs.Writing.{State}
 use Rattle.life_elab.specs.Declarations.{given_by_call, given_value, live, pointer_given, reference_given}
-use Rattle.life_elab_laws.proofs.CallForms.{IsCall}
 use Rattle.life_elab_laws.proofs.Fronts.{front_append, front_itself, last_there}
 use Rattle.life_elab_laws.proofs.Growing.{Begins}
 use Rattle.life_elab_laws.proofs.Setting.{Setting}
@@ -39,16 +37,19 @@ use Rattle.life_proper.specs.OperandTypes as operands
 use Rattle.life_proper.specs.Placed.{is_const_place, is_number_of, object_at, register_at, type_in}
 use Rattle.life_proper.specs.Placed as placed
 use Rattle.life_proper.specs.WellFormed.{can_live, goes_to, is_well_formed_step}
-use Rattle.life_elab_laws.proofs.FormedCalls.{IsTypedCallee, called_formed, goes_object}
-use Rattle.life_elab_laws.proofs.FormedExpressions.{handed_over_writes, place_writes, pointing_whole, value_writes}
+use Rattle.life_writer.specs.Around as around
+use Rattle.life_elab_laws.proofs.Aiming.{keeps_further, pointed_formed, takes_from}
+use Rattle.life_elab_laws.proofs.CallParts.{called_formed, goes_object}
+use Rattle.life_elab_laws.proofs.ExpressionForms.{IsCall}
+use Rattle.life_elab_laws.proofs.Expressions.{whole_expression}
 use Rattle.life_elab_laws.proofs.FormedStatements.{Forms}
-use Rattle.life_elab_laws.proofs.FormedSimples.{keeps_further, pointed_formed, takes_from}
 use Rattle.life_elab_laws.proofs.FormedVariables.{object_place, reference_there, type_found, type_later, value_kind}
 use Rattle.life_elab_laws.proofs.Forming.{formed_more}
+use Rattle.life_elab_laws.proofs.Gifts.{a_number, a_place, a_pointing, arguments}
 use Rattle.life_elab_laws.proofs.OperandsThere.{object_there, register_there, type_there, value_either, value_no_reference, value_same}
+use Rattle.life_elab_laws.proofs.Sides.{formed_side}
 
-module _ (a : Around) (visible : List ℕ) (types : Types) (texts : ℕ) (fs : List Function) (f : Function) (setting : Setting a types fs f)
-    (callees : (g : ℕ) (of : FunctionForm) → slice_get a.program.functions g ≡ Some of → IsTypedCallee fs g of) where
+module _ (a : Around) (visible : List ℕ) (types : Types) (texts : ℕ) (fs : List Function) (f : Function) (setting : Setting a types fs f) where
   abbrev Whole : Typed → Type 0
   Whole e = IsExpression a.program a.function.locals visible (whole_form e)
 
@@ -110,54 +111,48 @@ module _ (a : Around) (visible : List ℕ) (types : Types) (texts : ℕ) (fs : L
       → Forms types texts fs f s (given_value a v e s)
   given_value_forms v e s be he n worth stands b c =
       let w = value a (whole_form e) (type_of a v.ty) None s in
-      let first = value_writes a visible types texts fs f setting callees (whole_form e) be he n (type_of a v.ty) worth None s tt stands in
+      let first = formed_side types texts fs f None s w (a_number types texts fs f (type_of a v.ty)) ((whole_expression a visible types texts fs f setting (whole_form e) be he).valued n (type_of a v.ty) worth None s tt stands) in
       let here : Begins types f (with_variable (variable_local a v) w.state).state = record { locals = b.locals; table = b.table } in
       let early = before v w.state here in
       formed_more types texts fs f (w.state.code ++ Acts v.place (Live (length w.state.locals) Plain) ∷ []) (Acts v.place (Save (object_named (length w.state.locals)) w.given))
-      (formed_more types texts fs f w.state.code (Acts v.place (Live (length w.state.locals) Plain)) (first.formed early tt c) (value_lives v w.state here worth))
-      (value_saved v w.state here worth w.given (first.gives early tt))
+      (formed_more types texts fs f w.state.code (Acts v.place (Live (length w.state.locals) Plain)) (first.formed early c) (value_lives v w.state here worth))
+      (value_saved v w.state here worth w.given (first.gives early))
 
   -- a call brings it to life, where it gives its type
-  pub given_by_call_forms : (v : TypedLocal) (c : Called) (t : ExprType) (place : Place) (s : State) (is : IsCall a.program a.function.locals visible setting.variables setting.functions c t)
+  pub given_by_call_forms : (v : TypedLocal) (c : Called) (t : ExprType) (place : Place) (s : State) (is : IsCall a visible types texts fs f setting c t)
       → shapes.ty_of types is.of.result ≡ type_at a.program.types v.ty → is_value (type_at a.program.types v.ty) ≡ true → Stands types fs f a visible s → Forms types texts fs f s (given_by_call a v place c s)
-  given_by_call_forms v c t place s is same worth stands =
-      subst (λ (these : List TyId). Forms types texts fs f s (emit place (called c.function (handed_over a c.arguments these s).given (length (handed_over a c.arguments these s).state.locals)) (with_variable (variable_local a v) (handed_over a c.arguments these s).state).state))
-      (sym (ap parameters_of is.there)) main
-    where
-      main : Forms types texts fs f s (emit place (called c.function (handed_over a c.arguments (parameter_types (Some is.of)) s).given (length (handed_over a c.arguments (parameter_types (Some is.of)) s).state.locals)) (with_variable (variable_local a v) (handed_over a c.arguments (parameter_types (Some is.of)) s).state).state)
-      main b r =
-          let ids = parameter_types (Some is.of) in
-          let w = handed_over a c.arguments ids s in
-          let x = length w.state.locals in
-          let first = handed_over_writes a visible types texts fs f setting callees c.arguments is.built is.arguments ids is.given (setting.taken c.function is.of is.there) s stands in
-          let here : Begins types f (with_variable (variable_local a v) w.state).state = record { locals = b.locals; table = b.table } in
-          let early = before v w.state here in
-          formed_more types texts fs f w.state.code (Acts place (called c.function w.given x)) (first.formed early tt r)
-          (called_formed types texts fs f c.function w.given is.of (Some (whole x)) (callees c.function is.of is.there) (first.gives early tt)
-          (ap (λ (u : Ty). goes_to types texts fs f u (Some (whole x))) same
-          ∙ goes_object types texts fs f (type_at a.program.types v.ty) x worth (type_declared v w.state here worth) (object_declared v w.state here worth)))
+  given_by_call_forms v c t place s is same worth stands b r =
+      let w = handed_over a c.arguments (around.parameter_types a c.function) s in
+      let x = length w.state.locals in
+      let first = formed_side types texts fs f None s w (arguments types texts fs f (parameter_types (Some is.of))) (is.hands s stands) in
+      let here : Begins types f (with_variable (variable_local a v) w.state).state = record { locals = b.locals; table = b.table } in
+      let early = before v w.state here in
+      formed_more types texts fs f w.state.code (Acts place (called c.function w.given x)) (first.formed early r)
+      (called_formed types texts fs f a.program.types c.function w.given is.of (Some (whole x)) (setting.callees c.function is.of is.there) (first.gives early)
+      (ap (λ (u : Ty). goes_to types texts fs f u (Some (whole x))) same
+      ∙ goes_object types texts fs f (type_at a.program.types v.ty) x worth (type_declared v w.state here worth) (object_declared v w.state here worth)))
 
   pub pointer_given_forms : (v : TypedLocal) (e : Typed) (s : State) (target : TyId) (constant : Bool) → is_built_expression e ≡ true → Whole e → is_pointer e.ty ≡ true
       → slice_get a.program.types.types v.ty.0 ≡ Some (ty.Raw target constant) → takes_from types (ty.Raw target constant) e.ty ≡ true → Stands types fs f a visible s → Forms types texts fs f s (pointer_given a v e s)
   pointer_given_forms v e s target constant be he given found taken stands b c =
       let w = pointing a (whole_form e) s in
-      let first = pointing_whole a visible types texts fs f setting callees (whole_form e) be he given s stands in
+      let first = formed_side types texts fs f None s w (a_pointing types texts fs f e.ty) ((whole_expression a visible types texts fs f setting (whole_form e) be he).points given s stands) in
       let here : Begins types f (with_variable (variable_local a v) w.state).state = record { locals = b.locals; table = b.table } in
       let early = before v w.state here in
-      formed_more types texts fs f w.state.code (Acts e.place (pointed (whole (length w.state.locals)) w.given)) (first.formed early tt c)
-      (pointed_formed a visible types texts fs f setting callees (whole (length w.state.locals)) (ty.Raw target constant) e.ty w.given refl (raw_declared v w.state here target constant found) taken (first.gives early tt))
+      formed_more types texts fs f w.state.code (Acts e.place (pointed (whole (length w.state.locals)) w.given)) (first.formed early c)
+      (pointed_formed types texts fs f (whole (length w.state.locals)) (ty.Raw target constant) e.ty w.given refl (raw_declared v w.state here target constant found) taken (first.gives early))
 
   pub reference_given_forms : (v : TypedLocal) (e : Typed) (s : State) (target : TyId) (constant held : Bool) → is_built_expression e ≡ true → Whole e → e.category ≡ category.Place target held
       → slice_get a.program.types.types v.ty.0 ≡ Some (ty.Reference target constant) → is_value (type_at a.program.types target) ≡ true → keeps_const constant held ≡ true → Stands types fs f a visible s
       → Forms types texts fs f s (reference_given a v e s)
   reference_given_forms v e s target constant held be he at found worth kept stands b c =
       let w = operand a (whole_form e) s in
-      let first = place_writes a visible types texts fs f setting callees (whole_form e) be he target held at worth s stands in
+      let first = formed_side types texts fs f None s w (a_place types texts fs f (type_at a.program.types target) held) ((whole_expression a visible types texts fs f setting (whole_form e) be he).names target held at worth s stands) in
       let here : Begins types f (with_variable (variable_local a v) w.state).state = record { locals = b.locals; table = b.table } in
       let early = before v w.state here in
-      let place = first.gives early tt in
+      let place = first.gives early in
       let later = type_later a.program.types types setting.front target worth in
-      formed_more types texts fs f w.state.code (Acts e.place (Aim (whole (length w.state.locals)) (Aimed w.given))) (first.formed early tt c)
+      formed_more types texts fs f w.state.code (Acts e.place (Aim (whole (length w.state.locals)) (Aimed w.given))) (first.formed early c)
       (ap (λ (t : Ty). aims_at types t (placed.type_of types f w.given) && keeps_const (shapes.is_constant t) (is_const_place types f w.given)) (reference_declared v w.state here target constant found worth)
       ∙ and_from (same (shapes.ty_of types target) (placed.type_of types f w.given)) (keeps_const constant (is_const_place types f w.given))
       (ap (same (shapes.ty_of types target)) (place.typed ∙ sym later) ∙ value_same (shapes.ty_of types target) (ap operands.is_value later ∙ value_either (type_at a.program.types target) worth))

@@ -8,7 +8,6 @@ use Rattle.life_types.specs.declared.ty.Ty.TheVariants as ty
 use Rattle.life_types.specs.declared.ty.TyId.{TyId}
 use Rattle.life_built.specs.Built.{is_built_declaration, is_built_declared, is_built_expression, is_built_initial, is_built_variable, is_pointing, needs_no_temporary}
 use Rattle.life_typed.specs.BaseTypes.{is_value, type_at}
-use Rattle.life_typed.specs.Programs.{FunctionForm}
 use Rattle.life_typed.specs.TypedForm.{Typed, whole as whole_form}
 use Rattle.life_typed.specs.TypedStatement.{DeclarationForm, InitialForm, one, several}
 use Rattle.life_typed.specs.declared.typed_program.TypedLocal.{TypedLocal}
@@ -24,14 +23,11 @@ use Rattle.life_writer.specs.Variables.{variable_local, with_variable}
 use Rattle.life_writer.specs.Writing.{State}
 use Rattle.life_elab.specs.Declarations.{declared, declared_as, given_by_call, given_initial, given_one, given_value, live, object_given}
 use Rattle.life_elab.specs.Statements.{end_line}
-use Rattle.life_elab_laws.proofs.CallForms.{call_made}
 use Rattle.life_elab_laws.proofs.DeclarationWriting.{value_given}
 use Rattle.life_elab_laws.proofs.ExpressionKinds.{variable_built}
 use Rattle.life_elab_laws.proofs.Following.{Follows}
-use Rattle.life_elab_laws.proofs.FormedCalls.{IsTypedCallee}
 use Rattle.life_elab_laws.proofs.FormedDeclarations.{given_by_call_forms, given_value_forms, live_forms, pointer_given_forms, raw_lives, reference_given_forms, value_lives}
 use Rattle.life_elab_laws.proofs.FormedFits.{given_raw, given_reference}
-use Rattle.life_elab_laws.proofs.FormedSingles.{result_later}
 use Rattle.life_elab_laws.proofs.FormedStatements.{Forms}
 use Rattle.life_elab_laws.proofs.GivenKinds.{given_number, given_pointer}
 use Rattle.life_elab_laws.proofs.Growing.{Begins}
@@ -40,9 +36,9 @@ use Rattle.life_elab_laws.proofs.TypedKinds.{none_some}
 use Rattle.life_elab_laws.proofs.Types.{same_types}
 use Rattle.life_elab_laws.proofs.VariablePlaces.{IsVariableType, a_raw, a_reference, a_value, variable_type}
 use Rattle.life_proper.specs.WellFormed.{can_live}
+use Rattle.life_elab_laws.proofs.Expressions.{expression, result_later}
 
-module _ (a : Around) (types : Types) (texts : ℕ) (fs : List Function) (f : Function) (setting : Setting a types fs f)
-    (callees : (g : ℕ) (of : FunctionForm) → slice_get a.program.functions g ≡ Some of → IsTypedCallee fs g of) (lines : nat_lt (end_line a) texts ≡ true) where
+module _ (a : Around) (types : Types) (texts : ℕ) (fs : List Function) (f : Function) (setting : Setting a types fs f) (lines : nat_lt (end_line a) texts ≡ true) where
   module _ (v : Visible) (u : TypedLocal) (s : State) (h : Follows types fs f a v s) (at : slice_get a.function.locals v.declared ≡ Some u) (built : is_built_variable a.program.types u.ty ≡ true) where
     abbrev Born : State → Type 0
     Born s' = Forms types texts fs f s s'
@@ -56,11 +52,11 @@ module _ (a : Around) (types : Types) (texts : ℕ) (fs : List Function) (f : Fu
     -- ---- it is given nothing
 
     alone_forms : default_fault (type_of a u.ty) ≡ None → Born (live a u s).state
-    alone_forms none = live_forms a v.visible types texts fs f setting callees u s (λ b. go b (variable_type a.program.types u.ty built))
+    alone_forms none = live_forms a v.visible types texts fs f setting u s (λ b. go b (variable_type a.program.types u.ty built))
       where
         go : Begins types f (with_variable (variable_local a u) s).state → IsVariableType a.program.types u.ty → can_live types texts fs f (length s.locals) ≡ true
-        go b (a_value t is w) = value_lives a v.visible types texts fs f setting callees u s b (ap is_value (type_is t is) ∙ w)
-        go b (a_raw target constant is) = raw_lives a v.visible types texts fs f setting callees u s b target constant is
+        go b (a_value t is w) = value_lives a v.visible types texts fs f setting u s b (ap is_value (type_is t is) ∙ w)
+        go b (a_raw target constant is) = raw_lives a v.visible types texts fs f setting u s b target constant is
         go b (a_reference target constant is w) = absurd (none_some (sym (subst (λ (t : Ty). default_fault t ≡ None) (type_is (ty.Reference target constant) is) none)))
 
     -- ---- it is given one expression
@@ -69,13 +65,13 @@ module _ (a : Around) (types : Types) (texts : ℕ) (fs : List Function) (f : Fu
       -- an object
       module _ (worth : is_value (type_of a u.ty) ≡ true) (n : is_number e.ty ≡ true) where
         by_value : Born (given_value a u e s)
-        by_value = given_value_forms a v.visible types texts fs f setting callees u e s b he n worth h.stands
+        by_value = given_value_forms a v.visible types texts fs f setting u e s b he n worth h.stands
 
         by_call : (c : Called) → call_of e.form ≡ Some c → compared.eq (own_type e.ty) (type_of a u.ty) ≡ true → Born (given_by_call a u e.place c s)
         by_call c found same =
-            let is = call_made a.program a.function.locals v.visible setting.variables setting.functions e.form e b he c found in
-            given_by_call_forms a v.visible types texts fs f setting callees u c e.ty e.place s is
-            (result_later a types texts fs f setting callees lines c.function is.of is.there ∙ sym (ap own_type is.own) ∙ same_types (own_type e.ty) (type_of a u.ty) same) worth h.stands
+            let is = (expression a v.visible types texts fs f setting e.form e b he).calls c found in
+            given_by_call_forms a v.visible types texts fs f setting u c e.ty e.place s is
+            (result_later a v.visible types texts fs f setting c.function is.of is.there ∙ sym (ap own_type is.own) ∙ same_types (own_type e.ty) (type_of a u.ty) same) worth h.stands
 
         object_forms : (o : Option Called) → call_of e.form ≡ o → Born (object_given a u e o s)
         object_forms None found = by_value
@@ -102,13 +98,13 @@ module _ (a : Around) (types : Types) (texts : ℕ) (fs : List Function) (f : Fu
           go (a_raw target constant is) =
               let r = ty.Raw target constant in
               subst (λ (x : Ty). Born (given_one a u e x s)) (sym (type_is r is))
-              (pointer_given_forms a v.visible types texts fs f setting callees u e s target constant b he (given_pointer a.program.types r e refl (as_given r is)) is
+              (pointer_given_forms a v.visible types texts fs f setting u e s target constant b he (given_pointer a.program.types r e refl (as_given r is)) is
               (given_raw a.program.types types setting.front target constant (pointing_worth target constant is) e (as_given r is)) h.stands)
           go (a_reference target constant is w) =
               let r = ty.Reference target constant in
               let bound = given_reference a.program.types target constant e w (subst (λ (x : Ty). needs_no_temporary x e ≡ true) (type_is r is) temporary) (as_given r is) in
               subst (λ (x : Ty). Born (given_one a u e x s)) (sym (type_is r is))
-              (reference_given_forms a v.visible types texts fs f setting callees u e s target constant bound.held b he bound.place is w bound.kept h.stands)
+              (reference_given_forms a v.visible types texts fs f setting u e s target constant bound.held b he bound.place is w bound.kept h.stands)
 
     -- ---- any variable
 

@@ -28,7 +28,6 @@ use Rattle.life_elab_laws.proofs.Callees.{IsBuiltFunction}
 use Rattle.life_elab_laws.proofs.Emitting.{IsWanted}
 use Rattle.life_elab_laws.proofs.Following.{Follows, HasRegister, begins_added}
 use Rattle.life_elab_laws.proofs.FormedBodies.{statement_forms}
-use Rattle.life_elab_laws.proofs.FormedCalls.{IsTypedCallee}
 use Rattle.life_elab_laws.proofs.FormedLeaving.{left_forms}
 use Rattle.life_elab_laws.proofs.FormedStatements.{Forms, forms_then}
 use Rattle.life_elab_laws.proofs.Fronts.{IsFront}
@@ -60,8 +59,7 @@ result_nameless p form T types fs f setting fits t result table count same local
 
 -- ---- the body
 
-module _ (p : ProgramForm) (form : FunctionForm) (T types : Types) (texts : ℕ) (fs : List Function) (f : Function) (setting : Setting (around p form) types fs f)
-    (callees : (g : ℕ) (of : FunctionForm) → slice_get p.functions g ≡ Some of → IsTypedCallee fs g of) (lines : nat_lt (end_line (around p form)) texts ≡ true) where
+module _ (p : ProgramForm) (form : FunctionForm) (T types : Types) (texts : ℕ) (fs : List Function) (f : Function) (setting : Setting (around p form) types fs f) (lines : nat_lt (end_line (around p form)) texts ≡ true) where
   module _ (nameless : (l : Local) → slice_get f.locals f.parameters ≡ Some l → is_void (ty_of types f.result) ≡ false → l.name ≡ None) where
     body_forms : (it : StmtForm) (s : State) → ends form.body ≡ ends it → IsBody p form it → is_built_statement p.types form.locals it ≡ true → Follows types fs f (around p form) (with_parameters (length form.parameters)) s → HasRegister (around p form) s
         → Forms types texts fs f s (body (around p form) it s)
@@ -71,7 +69,7 @@ module _ (p : ProgramForm) (form : FunctionForm) (T types : Types) (texts : ℕ)
         v = with_parameters (length form.parameters)
 
         whole : Forms types texts fs f s (statement (around p form) items s)
-        whole = statement_forms (around p form) types texts fs f setting callees lines nameless items false v s b h follows register
+        whole = statement_forms (around p form) types texts fs f setting lines nameless items false v s b h follows register
 
         -- .. where control runs past the last statement too
         go : (e : Bool) → ends (block items closing) ≡ e → Forms types texts fs f s (returned_at_end e closing (statement (around p form) items s))
@@ -81,7 +79,7 @@ module _ (p : ProgramForm) (form : FunctionForm) (T types : Types) (texts : ℕ)
             let inner = statement_does (around p form) types fs f setting items false v s b h follows register in
             let last = return_does (around p form) types fs f setting (after items v) false t inner.does.follows (λ gives. false≢true (sym e ∙ sym is ∙ gives.1)) closing in
             forms_then types texts fs f s t (left 0 closing (Returns closing) t) (begins_added types fs f t (left 0 closing (Returns closing) t) last.does.adds) whole
-            (left_forms (around p form) types texts fs f setting callees lines nameless 0 closing (Returns closing) refl (after items v) t inner.does.follows)
+            (left_forms (around p form) types texts fs f setting lines nameless 0 closing (Returns closing) refl (after items v) t inner.does.follows)
     body_forms _ s is h b follows register = absurd h
 
   -- the whole

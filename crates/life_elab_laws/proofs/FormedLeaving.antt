@@ -5,7 +5,6 @@ use Rattle.life_types.specs.declared.place.Place.{Place}
 use Rattle.life_types.specs.declared.ty.NameId.{NameId}
 use Rattle.life_built.specs.Built.{is_built_if_any}
 use Rattle.life_typed.specs.BaseTypes.{type_at}
-use Rattle.life_typed.specs.Programs.{FunctionForm}
 use Rattle.life_typed.specs.TypedForm.{Typed, whole as whole_form}
 use Rattle.life_core.specs.Function.{Function}
 use Rattle.life_core.specs.Tree.{Tree, Returns}
@@ -20,10 +19,7 @@ use Rattle.life_writer.specs.Writing.{State}
 use Rattle.life_elab.specs.Statements.{end_line, left, result_given}
 use Rattle.life_elab_laws.proofs.Among.{Among, among_drop, reverse_among}
 use Rattle.life_elab_laws.proofs.Following.{Follows, HasRegister, follows_grown}
-use Rattle.life_elab_laws.proofs.FormedCalls.{IsTypedCallee}
 use Rattle.life_elab_laws.proofs.FormedEnds.{all_end, variable_ends}
-use Rattle.life_elab_laws.proofs.FormedLeaves.{IsNumberOf}
-use Rattle.life_elab_laws.proofs.FormedReturns.{result_writes}
 use Rattle.life_elab_laws.proofs.FormedStatements.{Forms, end_forms, forms_then, tree_forms, writes_forms}
 use Rattle.life_elab_laws.proofs.GivenKinds.{given_number}
 use Rattle.life_elab_laws.proofs.Growing.{Begins}
@@ -31,9 +27,11 @@ use Rattle.life_elab_laws.proofs.Returning.{not_void}
 use Rattle.life_elab_laws.proofs.Setting.{Setting}
 use Rattle.life_proper.specs.OperandTypes.{is_void}
 use Rattle.life_proper.specs.WellFormed.{can_end, is_well_formed_tree}
+use Rattle.life_elab_laws.proofs.Expressions.{whole_expression}
+use Rattle.life_elab_laws.proofs.Gifts.{IsNumberOf, a_number}
+use Rattle.life_elab_laws.proofs.Sides.{formed_side}
 
-module _ (a : Around) (types : Types) (texts : ℕ) (fs : List Function) (f : Function) (setting : Setting a types fs f)
-    (callees : (g : ℕ) (of : FunctionForm) → slice_get a.program.functions g ≡ Some of → IsTypedCallee fs g of) (lines : nat_lt (end_line a) texts ≡ true)
+module _ (a : Around) (types : Types) (texts : ℕ) (fs : List Function) (f : Function) (setting : Setting a types fs f) (lines : nat_lt (end_line a) texts ≡ true)
     (nameless : (l : Local) → slice_get f.locals f.parameters ≡ Some l → is_void (shapes.ty_of types f.result) ≡ false → l.name ≡ None) where
   -- ---- what ends
 
@@ -67,7 +65,7 @@ module _ (a : Around) (types : Types) (texts : ℕ) (fs : List Function) (f : Fu
       let t = type_at a.program.types a.function.result in
       let worth = not_void t setting.result r.0 in
       let w = value a (whole_form e) t (Some (result_local a)) s in
-      let first = result_writes a v.visible types texts fs f setting callees e s b r.2 (given_number a.program.types t e worth r.1) worth register h.stands in
+      let first = formed_side types texts fs f (Some (result_local a)) s w (a_number types texts fs f t) ((whole_expression a v.visible types texts fs f setting (whole_form e) b r.2).valued (given_number a.program.types t e worth r.1) t worth (Some (result_local a)) s (register worth) h.stands) in
       forms_then types texts fs f s w.state (left 0 keyword (Returns keyword) w.state) (λ begins. begins_ended (reverse (drop 0 w.state.living)) keyword w.state (record { locals = begins.locals; table = begins.table }))
       (writes_forms types texts fs f s w (IsNumberOf types texts fs f t) first)
       (left_forms 0 keyword (Returns keyword) refl v w.state (follows_grown types fs f a v s w.state first.grown h))

@@ -10,8 +10,7 @@ use Rattle.life_writer.specs.Writing.{State, Gives, with_code, write}
 use Rattle.life_elab.specs.Statements.{looped}
 use Rattle.life_elab_laws.proofs.Doing.{DoesLevel}
 use Rattle.life_elab_laws.proofs.Following.{Adds, Follows, HasRegister, begins_added, register_later}
-use Rattle.life_elab_laws.proofs.FormedConditions.{Asking}
-use Rattle.life_elab_laws.proofs.FormedStatements.{Forms, turns_formed}
+use Rattle.life_elab_laws.proofs.FormedStatements.{Asking, Forms, turns_formed}
 use Rattle.life_elab_laws.proofs.Forming.{formed_more}
 use Rattle.life_elab_laws.proofs.Growing.{Begins}
 use Rattle.life_elab_laws.proofs.Looping.{inside, inside_follows, past, step_follows}
@@ -35,8 +34,8 @@ module _ (types : Types) (texts : ℕ) (fs : List Function) (f : Function) where
       let between : Begins types f t = record { locals = behind.locals; table = behind.table } in
       let before = begins_added types fs f (head w.state) t one between in
       let tested : Begins types f w.state = record { locals = before.locals; table = before.table } in
-      formed_more types texts fs f w.state.code (Turns w.given (trees t.code) (trees r.code)) (test.formed tested tt c)
-      (turns_formed types texts fs f w.given (trees t.code) (trees r.code) (test.gives tested tt) (body between refl) (step last refl))
+      formed_more types texts fs f w.state.code (Turns w.given (trees t.code) (trees r.code)) (test.formed tested c)
+      (turns_formed types texts fs f w.given (trees t.code) (trees r.code) (test.gives tested) (body between refl) (step last refl))
 
   -- the whole loop, whose body and step are done
   module _ (a : Around) (setting : Setting a types fs f) (v u : Visible) (in_loop : Bool) (test : State → Gives Tree) (body step : State → State) (s : State) (follows : Follows types fs f a v s) (register : HasRegister a s)

@@ -9,10 +9,9 @@ use Rattle.life_core.specs.Step.{End}
 use Rattle.life_core.specs.Tree.{Tree, Acts, Choice, Turns}
 use Rattle.life_writer.specs.Variables.{end}
 use Rattle.life_writer.specs.Writing.{State, Gives, write}
-use Rattle.life_elab_laws.proofs.Growing.{Begins}
+use Rattle.life_elab_laws.proofs.Growing.{Begins, Grows}
 use Rattle.life_proper.specs.WellFormed.{can_end, is_well_formed_tree}
-use Rattle.life_elab_laws.proofs.FormedLeaves.{Freely}
-use Rattle.life_elab_laws.proofs.Forming.{Formed, Writes, formed_more}
+use Rattle.life_elab_laws.proofs.Forming.{Formed, formed_more}
 
 module _ (types : Types) (texts : ℕ) (fs : List Function) (f : Function) where
   -- what is written from one state to another is well formed, in the finished function
@@ -22,8 +21,18 @@ module _ (types : Types) (texts : ℕ) (fs : List Function) (f : Function) where
   pub forms_then : (s t u : State) → (Begins types f u → Begins types f t) → Forms s t → Forms t u → Forms s u
   forms_then s t u before first second b c = second b (first (before b) c)
 
-  pub writes_forms : {A : Type 0} (s : State) (w : Gives A) (Q : A → Type 0) → Writes types texts fs f s w Freely Q → Forms s w.state
-  writes_forms s w Q first b c = first.formed b tt c
+  -- .. and what is given has a type
+  pub record Writes {A : Type 0} (s : State) (w : Gives A) (Q : A → Type 0) : Type 0 where
+    pub grown : Grows s w.state
+    pub formed : Begins types f w.state → Formed types texts fs f s.code → Formed types texts fs f w.state.code
+    pub gives : Begins types f w.state → Q w.given
+
+  -- a condition writes nothing but itself
+  abbrev pub Asking : State → Gives Tree → Type 0
+  Asking s w = Writes s w (λ t. is_well_formed_tree types texts fs f t ≡ true)
+
+  pub writes_forms : {A : Type 0} (s : State) (w : Gives A) (Q : A → Type 0) → Writes s w Q → Forms s w.state
+  writes_forms s w Q first b c = first.formed b c
 
   -- a tree at the end of the list
   pub tree_forms : (t : Tree) (s : State) → (Begins types f s → is_well_formed_tree types texts fs f t ≡ true) → Forms s (write t s)

@@ -27,7 +27,7 @@ use Rattle.life_elab_laws.proofs.TypedKinds.{place_same}
 use Rattle.life_elab_laws.proofs.VariablePlaces.{IsVariableAt, IsVariableType, a_raw, a_reference, a_value, variable_type}
 use Rattle.life_proper.specs.OperandTypes.{is_void, keeps_const, pointee}
 use Rattle.life_proper.specs.Placed as placed
-use Rattle.life_elab_laws.proofs.FormedLeaves.{IsPlaceOf}
+use Rattle.life_elab_laws.proofs.Gifts.{IsPlaceOf}
 use Rattle.life_elab_laws.proofs.OperandsThere.{object_there, type_there, value_either, value_no_reference}
 
 keeps_all : (to : Bool) → keeps_const to false ≡ true

@@ -1,5 +1,5 @@
 -- What a part of an expression writes: from knowledge in which all visible variables are there, to knowledge in which what it gives is.
-use Rattle.std.proofs.Common.{◌≡◌, ◌<◌, ◌≤◌, ℕ, List, [], ◌∷◌, ◌++◌, Contains, length, slice_get, Option, Some, None, refl, sym, ap, ◌∙◌, subst, arith, append_assoc}
+use Rattle.std.proofs.Common.{◌≡◌, ◌<◌, ◌≤◌, ℕ, List, [], ◌∷◌, ◌++◌, Contains, length, slice_get, Option, Some, None, refl, sym, ap, ◌∙◌, subst, arith}
 use Rattle.life_types.specs.Types.{Types}
 use Rattle.life_types.specs.declared.ty.NameId.{NameId}
 use Rattle.life_core.specs.Function.{Function}
@@ -12,10 +12,10 @@ use Rattle.life_proper.specs.declared.known.Known.TheVariants as known
 use Rattle.life_proper.specs.Knowing.{known_as, known_at}
 use Rattle.life_writer.specs.Pointers.{Pointing, At, As}
 use Rattle.life_writer.specs.Writing.{State, Gives, gives, mapped}
-use Rattle.life_elab_laws.proofs.Falling.{Falls, falls_append}
-use Rattle.life_elab_laws.proofs.Growing.{Begins, Grows, begins_before, grows_none, grows_then}
-use Rattle.life_elab_laws.proofs.Shaping.{IsFine, fine_append}
-use Rattle.life_elab_laws.proofs.WrittenLocals.{AddsRegisters, registers_none, registers_then}
+use Rattle.life_elab_laws.proofs.Falling.{Falls}
+use Rattle.life_elab_laws.proofs.Growing.{Begins, Grows, grows_none}
+use Rattle.life_elab_laws.proofs.Shaping.{IsFine}
+use Rattle.life_elab_laws.proofs.WrittenLocals.{AddsRegisters, registers_none}
 
 -- ---- what a part gives
 
@@ -105,55 +105,6 @@ module _ (types : Types) (fs : List Function) (f : Function) where
     pub code : List Tree
     pub written : w.state.code ≡ s.code ++ code
     pub runs : Begins types f w.state → Runs into s w P Q code
-
-  -- where more is known
-  pub under : {A : Type 0} (into : Option ℕ) (s : State) (w : Gives A) (P R : List Known → Type 0) (Q : A → ℕ → List Known → Type 0) → Makes into s w P Q → ((k : List Known) → R k → P k) → Makes into s w R Q
-  under into s w P R Q made more = record {
-    grown = made.grown;
-    registers = made.registers;
-    code = made.code;
-    written = made.written;
-    runs = λ b. let r = made.runs b in record { fine = r.fine; goes = λ k alive p. r.goes k alive (more k p) };
-  }
-
-  pub anyway : {A : Type 0} (into : Option ℕ) (s : State) (w : Gives A) (P : List Known → Type 0) (Q : A → ℕ → List Known → Type 0) → Makes into s w Always Q → Makes into s w P Q
-  anyway into s w P Q made = under into s w Always P Q made (λ k p. tt)
-
-  -- one part and then the next
-  pub and_given : {A B : Type 0} (into : Option ℕ) (s : State) (w : Gives A) (v : Gives B) (P R : List Known → Type 0) (Q : A → ℕ → List Known → Type 0) (O : B → ℕ → List Known → Type 0)
-      → IsOpen s → Makes None s w P Q → Makes into w.state v R O
-      → ((k j : List Known) → Alive s k → P k → Keeps (length s.locals) None k j → Q w.given (length w.state.locals) j → R j)
-      → Makes into s v P O
-  and_given into s w v P R Q O opened first second step = record {
-    grown = grows_then s w.state v.state first.grown second.grown;
-    registers = registers_then types s w.state v.state second.grown.types first.registers second.registers;
-    code = first.code ++ second.code;
-    written = second.written ∙ ap (λ (c : List Tree). c ++ second.code) first.written ∙ append_assoc s.code first.code second.code;
-    runs = λ b. both (first.runs (begins_before types f w.state v.state second.grown b)) (second.runs b);
-  }
-    where
-      goes_on : (k : List Known) → Goes None s w Q first.code k → Runs into w.state v R O second.code → Alive s k → P k → Goes into s v O (first.code ++ second.code) k
-      goes_on k g r alive p =
-          let next = r.goes g.after (alive_later s w.state k g.after opened first.grown alive g.keeps) (step k g.after alive p g.keeps g.gives) in
-          record {
-            after = next.after;
-            falls = falls_append types fs f first.code second.code k g.after next.after g.falls next.falls;
-            keeps = keeps_then (length s.locals) (length w.state.locals) into k g.after next.after first.grown.count g.keeps next.keeps;
-            gives = next.gives;
-          }
-
-      both : Runs None s w P Q first.code → Runs into w.state v R O second.code → Runs into s v P O (first.code ++ second.code)
-      both r q = record {
-        fine = fine_append types fs f first.code second.code r.fine q.fine;
-        goes = λ k alive p. goes_on k (r.goes k alive p) q alive p;
-      }
-
-  -- .. where the first asks for nothing
-  pub and_then : {A B : Type 0} (into : Option ℕ) (s : State) (w : Gives A) (v : Gives B) (P R : List Known → Type 0) (Q : A → ℕ → List Known → Type 0) (O : B → ℕ → List Known → Type 0)
-      → IsOpen s → Makes None s w Always Q → Makes into w.state v R O
-      → ((k j : List Known) → Alive s k → P k → Keeps (length s.locals) None k j → Q w.given (length w.state.locals) j → R j)
-      → Makes into s v P O
-  and_then into s w v P R Q O opened first second step = and_given into s w v P R Q O opened (anyway None s w P Q first) second step
 
   -- what is given is seen otherwise
   pub seen : {A B : Type 0} (into : Option ℕ) (s : State) (w : Gives A) (g : A → B) (P : List Known → Type 0) (Q : A → ℕ → List Known → Type 0) (O : B → ℕ → List Known → Type 0)

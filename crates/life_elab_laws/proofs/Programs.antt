@@ -219,7 +219,7 @@ module _ (p : ProgramForm) (typed : IsWellTyped p) (built : are_built_functions 
       table = w.later;
     }
 
-  callee : (g : ℕ) (of : FunctionForm) → slice_get p.functions g ≡ Some of → IsCallee p.types whole.types whole.functions g of
+  pub callee : (g : ℕ) (of : FunctionForm) → slice_get p.functions g ≡ Some of → IsCallee p.types whole.types whole.functions g of
   callee g of at = let found = written_at p whole.types p.functions whole.functions g of each_written at in written_callee g of at found.0 found.2 found.1
 
   pub written_setting : (n : ℕ) (f : FunctionForm) (at : slice_get p.functions n ≡ Some f) (core : Function) → IsWritten p whole.types f core → Setting (around p f) whole.types whole.functions core

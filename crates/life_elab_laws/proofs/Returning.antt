@@ -30,16 +30,18 @@ use Rattle.life_elab_laws.proofs.Among.{Among, among_drop, reverse_among}
 use Rattle.life_elab_laws.proofs.Doing.{Acting, Does, DoesLevel, acts_then, made_acts, made_knows, none_leaves}
 use Rattle.life_elab_laws.proofs.Ending.{blank_beside}
 use Rattle.life_elab_laws.proofs.Exits.{Leaves, MayKnow, MayLeave}
-use Rattle.life_elab_laws.proofs.ExpressionWriting.{value_made}
+use Rattle.life_elab_laws.proofs.ExpressionForms.{IsWhole}
+use Rattle.life_elab_laws.proofs.Expressions.{whole_expression}
 use Rattle.life_elab_laws.proofs.GivenKinds.{given_number}
 use Rattle.life_elab_laws.proofs.GivingBack.{GivesValue, fine_known, known_append, nowhere_number}
 use Rattle.life_elab_laws.proofs.Growing.{Begins}
 use Rattle.life_elab_laws.proofs.Following.{Follows, HasRegister, IsLiving, adds_coded, follows_coded, follows_grown, grows_adds, knows_alive}
+use Rattle.life_elab_laws.proofs.Gifts.{a_number}
 use Rattle.life_elab_laws.proofs.Leaving.{IsEnded, ended, left_acts, left_does, left_level, past_ready}
 use Rattle.life_elab_laws.proofs.Making.{Always, IsNumber, Makes}
 use Rattle.life_elab_laws.proofs.Nowhere.{nowhere_flows}
-use Rattle.life_elab_laws.proofs.ResultRegisters.{value_register}
 use Rattle.life_elab_laws.proofs.Setting.{Setting}
+use Rattle.life_elab_laws.proofs.Sides.{runs_side}
 use Rattle.life_elab_laws.proofs.WrittenLocals.{locals_added}
 
 pub not_void : (t : Ty) → (is_void t || is_value t) ≡ true → typing.is_void t ≡ false → is_value t ≡ true
@@ -119,8 +121,11 @@ module _ (a : Around) (types : Types) (fs : List Function) (f : Function) (setti
       worth : is_value t ≡ true
       worth = not_void t setting.result r.0
 
+      whole_is : IsWhole a v.visible types 0 fs f setting (whole_form e)
+      whole_is = whole_expression a v.visible types 0 fs f setting (whole_form e) b_e r.2
+
       made : Makes types fs f (Some (result_local a)) s w Always IsNumber
-      made = value_made a v.visible types fs f setting (whole_form e) b_e r.2 (given_number a.program.types t e worth r.1) t worth (Some (result_local a)) s (register worth).0 h.stands
+      made = runs_side types 0 fs f (Some (result_local a)) s w (a_number types 0 fs f t) (whole_is.valued (given_number a.program.types t e worth r.1) t worth (Some (result_local a)) s (register worth) h.stands)
 
       later : Follows types fs f a v w.state
       later = follows_grown types fs f a v s w.state made.grown h
@@ -159,7 +164,7 @@ module _ (a : Around) (types : Types) (fs : List Function) (f : Function) (setti
             subst (λ (q : Flow). IsKnownNumber (result_local a) (flow types fs f (trees d.code) q.next).next) (sym g.falls)
             (subst (λ (q : Flow). IsKnownNumber (result_local a) q.next) (sym (d.falls g.after (past_ready types fs f a v w.state later b 0 g.after mid)))
             (blank_beside ending g.after (result_local a) not_ending
-            ∙ ap (known_at g.after) (sym (value_register a v.visible types fs f setting (whole_form e) b_e r.2 (given_number a.program.types t e worth r.1) t (result_local a) s))
+            ∙ ap (known_at g.after) (sym (whole_is.lands (given_number a.program.types t e worth r.1) t (result_local a) s))
             ∙ g.gives.1))
 
         returned_from : Does types fs f a v in_loop s behind

@@ -23,18 +23,20 @@ use Rattle.life_elab.specs.LastTokens.{last_token}
 use Rattle.life_elab.specs.Simples.{simple_if}
 use Rattle.life_elab.specs.Statements.{branches_of, condition_or_true, looped, result_given, started, statement}
 use Rattle.life_elab_laws.proofs.Branching.{asserted_does, branched_does, tested_follows, visible_again}
+use Rattle.life_elab_laws.proofs.Conditions.{non_zero_part}
 use Rattle.life_elab_laws.proofs.DeclarationWriting.{declaration_does}
 use Rattle.life_elab_laws.proofs.Doing.{Does, DoesLevel, does_nothing, does_then}
-use Rattle.life_elab_laws.proofs.ExpressionWriting.{condition_whole}
+use Rattle.life_elab_laws.proofs.Expressions.{whole_expression}
 use Rattle.life_elab_laws.proofs.Following.{Follows, HasRegister, follows_coded, register_later}
-use Rattle.life_elab_laws.proofs.Leaves.{constant_made}
+use Rattle.life_elab_laws.proofs.Instructions.{constant_part}
 use Rattle.life_elab_laws.proofs.Leaving.{block_does, block_level}
 use Rattle.life_elab_laws.proofs.Looping.{inside, inside_follows, loop_does, past, step_follows}
 use Rattle.life_elab_laws.proofs.Returning.{break_does, continue_does, returned_does}
 use Rattle.life_elab_laws.proofs.Setting.{Setting}
+use Rattle.life_elab_laws.proofs.Sides.{test_side}
 use Rattle.life_elab_laws.proofs.SimpleStatements.{items_do, simple_does}
 use Rattle.life_elab_laws.proofs.Stopping.{still_stops, stops, stops_end, stops_right}
-use Rattle.life_elab_laws.proofs.Testing.{Tests, non_zero_made}
+use Rattle.life_elab_laws.proofs.Testing.{Tests}
 
 module _ (a : Around) (types : Types) (fs : List Function) (f : Function) (setting : Setting a types fs f) where
   abbrev IsTyped : StmtForm → Bool → Visible → Type 0
@@ -72,22 +74,24 @@ module _ (a : Around) (types : Types) (fs : List Function) (f : Function) (setti
   -- ---- the parts of loops
 
   pub decided : (v : Visible) (e : Typed) (s : State) → is_built_expression e ≡ true → Decides a.program a.function.locals a.function.result v.visible e → Follows types fs f a v s → Tests types fs f s (condition a (whole_form e) s)
-  decided v e s b h follows = condition_whole a v.visible types fs f setting (whole_form e) b h.1 h.0 s follows.stands
+  decided v e s b h follows = test_side types 0 fs f s (condition a (whole_form e) s) ((whole_expression a v.visible types 0 fs f setting (whole_form e) b h.1).conditions h.0 s follows.stands)
 
   pub decided_or_true : (v : Visible) (keyword : Place) (e : Option Typed) (s : State) → is_built_if_any e ≡ true → DecidesIfAny a.program a.function.locals a.function.result v.visible e → Follows types fs f a v s
       → Tests types fs f s (condition_or_true a keyword e s)
-  decided_or_true v keyword None s b h follows = non_zero_made types fs f keyword (computed None ty.Bool keyword (constant (pos 1))) s (constant_made types fs f None ty.Bool keyword (pos 1) (with_code [] s) refl tt)
+  decided_or_true v keyword None s b h follows =
+      test_side types 0 fs f s (condition_or_true a keyword None s)
+      (non_zero_part types 0 fs f keyword ty.Bool (computed None ty.Bool keyword (constant (pos 1))) s (constant_part types 0 fs f None ty.Bool keyword (pos 1) (with_code [] s) refl tt))
   decided_or_true v keyword (Some e) s b h follows = decided v e s b h follows
 
   pub stepped : (v : Visible) (it : Option SimpleForm) (s : State) → is_built_step it ≡ true → IsSimpleIfAny a.program a.function.locals a.function.result v.visible it → Follows types fs f a v s → DoesLevel types fs f a v false s (simple_if a it s)
   stepped v None s b h follows = record { does = does_nothing types fs f a v false s follows; level = refl }
-  stepped v (Some it) s b h follows = simple_does a types fs f setting a.function.result v false it s b h follows
+  stepped v (Some it) s b h follows = simple_does a types fs f setting v false it s b h follows
 
   pub begun : (v : Visible) (in_loop : Bool) (start : Option ForStartForm) (s : State) → is_built_start a.program.types a.function.locals start ≡ true → IsStart a.program a.function.locals a.function.result start v → Follows types fs f a v s
       → Does types fs f a (after_start start v) in_loop s (started a start s)
   begun v in_loop None s b h follows = does_nothing types fs f a v in_loop s follows
   begun v in_loop (Some (declared_first d)) s b h follows = declaration_does a types fs f setting v in_loop a.function.result d s follows b h
-  begun v in_loop (Some (done_first it)) s b h follows = (simple_does a types fs f setting a.function.result v in_loop it s b h follows).does
+  begun v in_loop (Some (done_first it)) s b h follows = (simple_does a types fs f setting v in_loop it s b h follows).does
 
   -- a loop whose body and step are done
   pub loop_done : (v u : Visible) (in_loop : Bool) (test : State → Gives Tree) (body step : State → State) (s : State) → Follows types fs f a v s → HasRegister a s → (h : Tests types fs f s (test s))
@@ -118,7 +122,7 @@ module _ (a : Around) (types : Types) (fs : List Function) (f : Function) (setti
     statement_does (empty place) in_loop v s b h follows register =
         done_alone (empty place) in_loop v s (record { does = does_nothing types fs f a v in_loop s follows; level = refl }) (λ e. runs_on e) (λ before e. e)
     statement_does (sentence it semicolon) in_loop v s b h follows register =
-        done_alone (sentence it semicolon) in_loop v s (simple_does a types fs f setting a.function.result v in_loop it s b h follows) (λ e. runs_on e) (λ before e. e)
+        done_alone (sentence it semicolon) in_loop v s (simple_does a types fs f setting v in_loop it s b h follows) (λ e. runs_on e) (λ before e. e)
     statement_does (branching branches last) in_loop v s b h follows register =
         let parts = and_parts (is_built_statement a.program.types a.function.locals branches) (is_built_statement a.program.types a.function.locals last) b in
         let all = branches_do branches in_loop v s parts.0 h.0 follows register (statement a last) (after last (after branches v)) (ends last)
@@ -166,7 +170,7 @@ module _ (a : Around) (types : Types) (fs : List Function) (f : Function) (setti
         (λ e. stops_right (end_past 0 keyword t).code (Returns keyword ∷ []) refl)
         (λ before e. e)
     statement_does (print items semicolon) in_loop v s b h follows register =
-        done_alone (print items semicolon) in_loop v s (items_do a types fs f setting a.function.result v in_loop items s b h follows) (λ e. runs_on e) (λ before e. e)
+        done_alone (print items semicolon) in_loop v s (items_do a types fs f setting v in_loop items s b h follows) (λ e. runs_on e) (λ before e. e)
     statement_does (assertion keyword decides closing semicolon) in_loop v s b h follows register =
         done_alone (assertion keyword decides closing semicolon) in_loop v s
         (asserted_does types fs f a v in_loop s (condition a (whole_form decides) s) follows (decided v decides s b h follows) keyword) (λ e. runs_on e) (λ before e. e)

@@ -21,12 +21,10 @@ use Rattle.life_elab.specs.Programs.{around, core_program, texts_of}
 use Rattle.life_elab.specs.Statements.{end_line}
 use Rattle.life_elab_laws.proofs.ExpressionKinds.{variable_built}
 use Rattle.life_elab_laws.proofs.FlatLocals.{IsLocalType, flat_locals, variable_typed}
-use Rattle.life_elab_laws.proofs.FormedCallees.{typed_callee}
-use Rattle.life_elab_laws.proofs.FormedCalls.{IsTypedCallee}
 use Rattle.life_elab_laws.proofs.FormedFunctions.{function_formed}
 use Rattle.life_elab_laws.proofs.GivenNothing.{gives_nothing, keeps_all}
 use Rattle.life_elab_laws.proofs.ProgramNames.{no_members, own_names}
-use Rattle.life_elab_laws.proofs.Programs.{AreWritten, IsWritten, count, each_written, front, functions_built, grows, locals, one_head, parts, result_at, same, typed_at, whole, whole_order, written_at, written_begins, written_setting}
+use Rattle.life_elab_laws.proofs.Programs.{AreWritten, IsWritten, count, each_written, front, functions_built, grows, locals, one_head, parts, result_at, same, typed_at, whole, whole_order, written_begins, written_setting}
 use Rattle.life_elab_laws.proofs.Shaped.{variable_later}
 use Rattle.life_elab_laws.proofs.WrittenLocals.{IsIntermediate, IsOwn, fits_later}
 
@@ -50,12 +48,6 @@ module _ (p : ProgramForm) (typed : IsWellTyped p) (built : are_built_functions 
   abbrev texts : ℕ
   texts = length (texts_of p)
 
-  typed_callees : (g : ℕ) (of : FunctionForm) → slice_get p.functions g ≡ Some of → IsTypedCallee functions g of
-  typed_callees g of at =
-      let found = written_at p types p.functions functions g of (each_written p typed built results) at in
-      typed_callee p of found.2.before functions found.0 (typed_at p p.functions g of typed at).parameters found.2.table
-      (count p typed built results g of at found.0 found.2) (same p typed built results g of at found.0 found.2) (locals p typed built results g of at found.0 found.2) g found.1
-
   -- ---- one function
 
   module _ (n : ℕ) (f : FunctionForm) (at : slice_get p.functions n ≡ Some f) (core : Function) (w : IsWritten p types f core) where
@@ -74,7 +66,7 @@ module _ (p : ProgramForm) (typed : IsWellTyped p) (built : are_built_functions 
     body_formed =
         let t = result_at p.types p.functions n f results at in
         let is = typed_at p p.functions n f typed at in
-        function_formed p f w.before types texts functions core (written_setting p typed built results n f at core w) typed_callees (text_there p f)
+        function_formed p f w.before types texts functions core (written_setting p typed built results n f at core w) (text_there p f)
         is.parameters (parts p typed built results n f at) is.body t.0 t.1 w.table (written_begins p typed built results n f at core w)
         (count p typed built results n f at core w) (same p typed built results n f at core w) (locals p typed built results n f at core w) (ap (λ (c : Function). c.body) w.is)
 

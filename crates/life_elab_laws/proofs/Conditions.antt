@@ -1,0 +1,293 @@
+-- Conditions, and values that are decided by them.
+use Rattle.std.proofs.Common.{◌≡◌, ◌<◌, ℕ, Bool, true, false, cond, List, [], ◌∷◌, ◌++◌, length, slice_set, Option, Some, None, refl, sym, ap, ◌∙◌, subst, arith}
+use Rattle.std.proofs.lemmas.Bool.{and_from, or_left}
+use Rattle.std.proofs.lemmas.Option.{slice_get_within}
+use Rattle.std.specs.Prelude.{pos, ℤ}
+use Rattle.life_types.specs.Types.{Types}
+use Rattle.life_types.specs.declared.place.Place.{Place}
+use Rattle.life_types.specs.declared.ty.Ty.{Ty}
+use Rattle.life_typed.specs.BaseTypes.{is_raw, is_value}
+use Rattle.life_core.specs.Function.{Function}
+use Rattle.life_core.specs.Holdings.{ANumber, APointer, sort_of}
+use Rattle.life_core.specs.Operands.{Location}
+use Rattle.life_core.specs.Step.{NonZero, NotNull, Test}
+use Rattle.life_core.specs.Tree.{Acts, Asks, Both, Choice, Either, Then, Tree, trees}
+use Rattle.life_pset.specs.Shapes as shapes
+use Rattle.life_proper.specs.Knowing.{agreed_all}
+use Rattle.life_proper.specs.Placed.{is_number_of, type_in}
+use Rattle.life_proper.specs.ReadyKnown.{holds_at, is_sort, is_test_ready}
+use Rattle.life_proper.specs.WellFormed.{is_well_formed_step, is_well_formed_test, is_well_formed_tree}
+use Rattle.life_proper.specs.declared.known.Known.{Known}
+use Rattle.life_proper.specs.declared.known.Known.TheVariants as known
+use Rattle.life_writer.specs.Conditions.{answer, branched, by_branch, condition_from, joined, negation, non_zero, not_null, tested}
+use Rattle.life_writer.specs.Registers.{constant, target}
+use Rattle.life_writer.specs.Writing.{Gives, State, mapped, with_code}
+use Rattle.life_elab_laws.proofs.Emitting.{IsNameless, Targets, keeps_set, targeted}
+use Rattle.life_elab_laws.proofs.Falling.{Decides, Falls, decides_asks, decides_behind, decides_both, decides_either, decides_negated, falls_acts, falls_choice}
+use Rattle.life_elab_laws.proofs.Gifts.{Gift, a_number, a_pointer, nothing}
+use Rattle.life_elab_laws.proofs.Growing.{Begins, Grows, begins_before, grows_then}
+use Rattle.life_elab_laws.proofs.Held.{number_held, number_sort, pointer_held}
+use Rattle.life_elab_laws.proofs.Instructions.{IsIntoOf, into_of_later, is_constant, is_into, raw_either, target_number}
+use Rattle.life_elab_laws.proofs.Knowledge.{agreed_length, at_agreed, at_set}
+use Rattle.life_elab_laws.proofs.Making.{Alive, IsBeside, IsOpen, Keeps, alive_later, keeps_then}
+use Rattle.life_elab_laws.proofs.OperandsThere.{number_any}
+use Rattle.life_elab_laws.proofs.Parts.{Goes, Makes, Runs}
+use Rattle.life_elab_laws.proofs.Shaping.{IsFineTest, fine_acts, fine_asks, fine_behind, fine_both, fine_choice, fine_either, fine_negated}
+use Rattle.life_elab_laws.proofs.WrittenLocals.{AddsRegisters, registers_then}
+
+module _ (types : Types) (texts : ℕ) (fs : List Function) (f : Function) where
+  -- ---- what a condition writes
+
+  pub record Asked (s : State) (t : Tree) (k : List Known) : Type 0 where
+    pub on : List Known
+    pub off : List Known
+    pub decides : Decides types fs f t k on off
+    pub keeps_on : Keeps types fs f (length s.locals) None k on
+    pub keeps_off : Keeps types fs f (length s.locals) None k off
+
+  pub record AsksAll (s : State) (t : Tree) : Type 0 where
+    pub fine : IsFineTest types fs f t
+    pub formed : is_well_formed_tree types texts fs f t ≡ true
+    pub goes : (k : List Known) → Alive types fs f s k → Asked s t k
+
+  pub record Tests (s : State) (w : Gives Tree) : Type 0 where
+    pub grown : Grows s w.state
+    pub registers : AddsRegisters types s w.state
+    pub unwritten : w.state.code ≡ s.code
+    pub runs : Begins types f w.state → AsksAll s w.given
+
+  -- ---- where two ways meet
+
+  pub keeps_agreed : (n : ℕ) (into : Option ℕ) (k j l : List Known) → Keeps types fs f n into k j → Keeps types fs f n into k l → Keeps types fs f n into k (agreed_all j l)
+  keeps_agreed n into k j l first second = record {
+    sized = agreed_length j l sizes ∙ first.sized;
+    below = λ y lt b. at_agreed j l y sizes (first.below y lt b ∙ sym (second.below y lt b)) ∙ first.below y lt b;
+    named = λ y u name there is. at_agreed j l y sizes (first.named y u name there is ∙ sym (second.named y u name there is)) ∙ first.named y u name there is;
+  }
+    where
+      sizes : length j ≡ length l
+      sizes = first.sized ∙ sym second.sized
+
+  -- ---- single tests
+
+  -- of what a part gives
+  pub tested_part : {A : Type 0} (place : Place) (test : A → Test) (value : State → Gives A) (s : State) (Q : Gift types texts fs f A) → ((x : A) (n : ℕ) (k : List Known) → Q.ready x n k → is_test_ready k (test x) ≡ true)
+      → ((x : A) → Q.typed x → is_well_formed_test types texts fs f (test x) ≡ true) → Makes types texts fs f None (with_code [] s) (value (with_code [] s)) Q → Tests s (tested place (λ s. mapped test (value s)) s)
+  tested_part {A = A} place test value s Q ready formed made = record {
+    grown = record {
+      locals = made.grown.locals;
+      types = made.grown.types;
+      count = made.grown.count;
+      variables = made.grown.variables;
+      living = made.grown.living;
+      outside = made.grown.outside;
+      shaped = made.grown.shaped;
+    };
+    registers = made.registers;
+    unwritten = refl;
+    runs = λ b. subst (λ (c : List Tree). AsksAll s (Then (trees c) (Asks place (test w.given)))) (sym made.written) (all (made.runs (record { locals = b.locals; table = b.table }) tt));
+  }
+    where
+      w : Gives A
+      w = value (with_code [] s)
+
+      all : Runs types texts fs f (nothing types texts fs f) tt None (with_code [] s) w Q made.code → AsksAll s (Then (trees made.code) (Asks place (test w.given)))
+      all r = record {
+        fine = fine_behind types fs f made.code (Asks place (test w.given)) r.fine (fine_asks types fs f place (test w.given));
+        formed = and_from (is_well_formed_tree types texts fs f (trees made.code)) (is_well_formed_test types texts fs f (test w.given)) r.formed (formed w.given r.typed);
+        goes = λ k alive. let g = r.goes k (record { sized = alive.sized; living = alive.living }) tt in record {
+          on = g.after;
+          off = g.after;
+          decides = decides_behind types fs f made.code (Asks place (test w.given)) k g.after g.after g.after g.falls (decides_asks types fs f place (test w.given) g.after (ready w.given (length w.state.locals) g.after g.gives));
+          keeps_on = record { sized = g.keeps.sized; below = g.keeps.below; named = g.keeps.named };
+          keeps_off = record { sized = g.keeps.sized; below = g.keeps.below; named = g.keeps.named };
+        };
+      }
+
+  pub non_zero_part : (place : Place) (t : Ty) (value : State → Gives ℕ) (s : State) → Makes types texts fs f None (with_code [] s) (value (with_code [] s)) (a_number types texts fs f t) → Tests s (non_zero place value s)
+  non_zero_part place t value s made =
+      tested_part place NonZero value s (a_number types texts fs f t) (λ r n k h. number_held k r h.1) (λ r h. number_any types f t r h) made
+
+  pub not_null_part : (place : Place) (t : Ty) (pointer : State → Gives Location) (s : State) → is_raw t ≡ true → Makes types texts fs f None (with_code [] s) (pointer (with_code [] s)) (a_pointer types texts fs f t)
+      → Tests s (not_null place pointer s)
+  not_null_part place t pointer s raw made =
+      tested_part place NotNull pointer s (a_pointer types texts fs f t) (λ l n k h. ap (λ (q : Location). holds_at k q APointer) h.is ∙ pointer_held k h.local h.held)
+      (λ l h. or_left (shapes.is_raw (type_in types f l)) (shapes.is_unique (type_in types f l)) (ap shapes.is_raw h ∙ raw_either t raw)) made
+
+  -- ---- conditions of others
+
+  pub negation_part : (w : State → Gives Tree) (s : State) → Tests s (w s) → Tests s (negation w s)
+  negation_part w s t = record {
+    grown = t.grown;
+    registers = t.registers;
+    unwritten = t.unwritten;
+    runs = λ b. let r = t.runs b in record {
+      fine = fine_negated types fs f (w s).given r.fine;
+      formed = r.formed;
+      goes = λ k alive. let g = r.goes k alive in record {
+        on = g.off;
+        off = g.on;
+        decides = decides_negated types fs f (w s).given k g.on g.off g.decides;
+        keeps_on = g.keeps_off;
+        keeps_off = g.keeps_on;
+      };
+    };
+  }
+
+  module _ (left right : State → Gives Tree) (s : State) (opened : IsOpen types fs f s) (first : Tests s (left s)) (second : Tests (left s).state (right (left s).state)) where
+    grown : Grows s (right (left s).state).state
+    grown = grows_then s (left s).state (right (left s).state).state first.grown second.grown
+
+    registers : AddsRegisters types s (right (left s).state).state
+    registers = registers_then types s (left s).state (right (left s).state).state second.grown.types first.registers second.registers
+
+    before : Begins types f (right (left s).state).state → Begins types f (left s).state
+    before b = begins_before types f (left s).state (right (left s).state).state second.grown b
+
+    -- what the second keeps
+    then_keeps : (k j l : List Known) → Keeps types fs f (length s.locals) None k j → Keeps types fs f (length (left s).state.locals) None j l → Keeps types fs f (length s.locals) None k l
+    then_keeps k j l a b = keeps_then types fs f (length s.locals) (length (left s).state.locals) None k j l first.grown.count a b
+
+    both_asked : (k : List Known) → Alive types fs f s k → Asked s (left s).given k → AsksAll (left s).state (right (left s).state).given → Asked s (Both (left s).given (right (left s).state).given) k
+    both_asked k alive g q =
+        let h = q.goes g.on (alive_later types fs f s (left s).state k g.on opened first.grown alive g.keeps_on) in
+        record {
+          on = h.on;
+          off = agreed_all g.off h.off;
+          decides = decides_both types fs f (left s).given (right (left s).state).given k g.on g.off h.on h.off g.decides h.decides;
+          keeps_on = then_keeps k g.on h.on g.keeps_on h.keeps_on;
+          keeps_off = keeps_agreed (length s.locals) None k g.off h.off g.keeps_off (then_keeps k g.on h.off g.keeps_on h.keeps_off);
+        }
+
+    either_asked : (k : List Known) → Alive types fs f s k → Asked s (left s).given k → AsksAll (left s).state (right (left s).state).given → Asked s (Either (left s).given (right (left s).state).given) k
+    either_asked k alive g q =
+        let h = q.goes g.off (alive_later types fs f s (left s).state k g.off opened first.grown alive g.keeps_off) in
+        record {
+          on = agreed_all g.on h.on;
+          off = h.off;
+          decides = decides_either types fs f (left s).given (right (left s).state).given k g.on g.off h.on h.off g.decides h.decides;
+          keeps_on = keeps_agreed (length s.locals) None k g.on h.on g.keeps_on (then_keeps k g.off h.on g.keeps_off h.keeps_on);
+          keeps_off = then_keeps k g.off h.off g.keeps_off h.keeps_off;
+        }
+
+    pub both_part : Tests s (joined Both left right s)
+    both_part = record {
+      grown = grown;
+      registers = registers;
+      unwritten = second.unwritten ∙ first.unwritten;
+      runs = λ b. both (first.runs (before b)) (second.runs b);
+    }
+      where
+        both : AsksAll s (left s).given → AsksAll (left s).state (right (left s).state).given → AsksAll s (Both (left s).given (right (left s).state).given)
+        both r q = record {
+          fine = fine_both types fs f (left s).given (right (left s).state).given r.fine q.fine;
+          formed = and_from (is_well_formed_tree types texts fs f (left s).given) (is_well_formed_tree types texts fs f (right (left s).state).given) r.formed q.formed;
+          goes = λ k alive. both_asked k alive (r.goes k alive) q;
+        }
+
+    pub either_part : Tests s (joined Either left right s)
+    either_part = record {
+      grown = grown;
+      registers = registers;
+      unwritten = second.unwritten ∙ first.unwritten;
+      runs = λ b. either (first.runs (before b)) (second.runs b);
+    }
+      where
+        either : AsksAll s (left s).given → AsksAll (left s).state (right (left s).state).given → AsksAll s (Either (left s).given (right (left s).state).given)
+        either r q = record {
+          fine = fine_either types fs f (left s).given (right (left s).state).given r.fine q.fine;
+          formed = and_from (is_well_formed_tree types texts fs f (left s).given) (is_well_formed_tree types texts fs f (right (left s).state).given) r.formed q.formed;
+          goes = λ k alive. either_asked k alive (r.goes k alive) q;
+        }
+
+  -- ---- an answer in a register
+
+  answered : (place : Place) (n : ℤ) (r : ℕ) (k : List Known) → sort_of types f r ≡ ANumber → Falls types fs f (Acts place (constant n r) ∷ []) k (slice_set k r known.Number)
+  answered place n r k e = falls_acts types fs f place (constant n r) k (and_from (is_sort (sort_of types f r) ANumber) true (number_sort (sort_of types f r) e) refl)
+
+  answer_formed : (place : Place) (n : ℤ) (t : Ty) (r : ℕ) → is_number_of types f t r ≡ true → is_well_formed_tree types texts fs f (answer place n r) ≡ true
+  answer_formed place n t r e =
+      and_from (is_well_formed_step types texts fs f (constant n r)) true ((is_constant types texts fs f (nothing types texts fs f) tt t n).formed r e tt) refl
+
+  pub by_branch_part : (into : Option ℕ) (t : Ty) (place : Place) (condition : State → Gives Tree) (s : State) → is_value t ≡ true → IsIntoOf t s into → IsOpen types fs f s
+      → Tests s (condition s) → Makes types texts fs f into s (by_branch into t place condition s) (a_number types texts fs f t)
+  by_branch_part into t place condition s v wanted opened test =
+      made (target place into t (condition s).state) (targeted types fs f place t (condition s).state into v (is_into t (condition s).state into later)) (target_number types texts fs f place into t (condition s).state v later)
+    where
+      later : IsIntoOf t (condition s).state into
+      later = into_of_later t s (condition s).state into test.grown wanted
+
+      chosen : ℕ → Tree
+      chosen r = Choice (condition s).given (answer place (pos 1) r) (answer place (pos 0) r)
+
+      run : (w : Gives ℕ) → Targets types fs f ANumber into (condition s).state w → IsNameless types fs f ANumber w.given → is_number_of types f t w.given ≡ true → AsksAll s (condition s).given
+          → Runs types texts fs f (nothing types texts fs f) tt into s (branched place (condition s).given w.given w.state) (a_number types texts fs f t) (chosen w.given ∷ [])
+      run w target is number asks = record {
+        fine = fine_choice types fs f (condition s).given (Acts place (constant (pos 1) w.given) ∷ []) (Acts place (constant (pos 0) w.given) ∷ []) asks.fine
+            (fine_acts types fs f place (constant (pos 1) w.given) refl) (fine_acts types fs f place (constant (pos 0) w.given) refl);
+        formed = and_from (is_well_formed_tree types texts fs f (chosen w.given)) true
+            (and_from (is_well_formed_tree types texts fs f (condition s).given) _ asks.formed
+            (and_from (is_well_formed_tree types texts fs f (answer place (pos 1) w.given)) (is_well_formed_tree types texts fs f (answer place (pos 0) w.given)) (answer_formed place (pos 1) t w.given number) (answer_formed place (pos 0) t w.given number)))
+            refl;
+        typed = number;
+        goes = λ k alive p. went k alive (asks.goes k alive);
+      }
+        where
+          beside : (y : ℕ) → y < length s.locals → IsBeside into y → w.given ≡ y → ⊥
+          beside y lt b = target.beside y (omega (arith, lt, test.grown.count)) b
+
+          written : (k j : List Known) → Keeps types fs f (length s.locals) None k j → Keeps types fs f (length s.locals) into k (slice_set j w.given known.Number)
+          written k j keeps =
+              keeps_then types fs f (length s.locals) (length s.locals) into k j (slice_set j w.given known.Number) (omega arith) keeps
+              (keeps_set types fs f (length s.locals) into ANumber w.given known.Number j is beside)
+
+          size : (k j : List Known) → Alive types fs f s k → Keeps types fs f (length s.locals) None k j → w.given < length j
+          size k j alive keeps = omega (arith, keeps.sized, alive.sized, slice_get_within f.locals w.given is.local is.there)
+
+          went : (k : List Known) → Alive types fs f s k → Asked s (condition s).given k → Goes types texts fs f into s (branched place (condition s).given w.given w.state) (a_number types texts fs f t) (chosen w.given ∷ []) k
+          went k alive g = record {
+            after = agreed_all (slice_set g.on w.given known.Number) (slice_set g.off w.given known.Number);
+            falls = falls_choice types fs f (condition s).given (Acts place (constant (pos 1) w.given) ∷ []) (Acts place (constant (pos 0) w.given) ∷ []) k g.on g.off
+                (slice_set g.on w.given known.Number) (slice_set g.off w.given known.Number) g.decides (answered place (pos 1) w.given g.on is.sort) (answered place (pos 0) w.given g.off is.sort);
+            keeps = keeps_agreed (length s.locals) into k (slice_set g.on w.given known.Number) (slice_set g.off w.given known.Number) (written k g.on g.keeps_on) (written k g.off g.keeps_off);
+            gives = (
+              target.below,
+              at_agreed (slice_set g.on w.given known.Number) (slice_set g.off w.given known.Number) w.given
+                  ((written k g.on g.keeps_on).sized ∙ sym (written k g.off g.keeps_off).sized)
+                  (at_set g.on w.given known.Number (size k g.on alive g.keeps_on) ∙ sym (at_set g.off w.given known.Number (size k g.off alive g.keeps_off)))
+                  ∙ at_set g.on w.given known.Number (size k g.on alive g.keeps_on),
+            );
+          }
+
+      made : (w : Gives ℕ) → Targets types fs f ANumber into (condition s).state w → (Begins types f w.state → is_number_of types f t w.given ≡ true) → Makes types texts fs f into s (branched place (condition s).given w.given w.state) (a_number types texts fs f t)
+      made w target number = record {
+        grown = record {
+          locals = (grows_then s (condition s).state w.state test.grown target.grown).locals;
+          types = (grows_then s (condition s).state w.state test.grown target.grown).types;
+          count = (grows_then s (condition s).state w.state test.grown target.grown).count;
+          variables = (grows_then s (condition s).state w.state test.grown target.grown).variables;
+          living = (grows_then s (condition s).state w.state test.grown target.grown).living;
+          outside = (grows_then s (condition s).state w.state test.grown target.grown).outside;
+          shaped = (grows_then s (condition s).state w.state test.grown target.grown).shaped;
+        };
+        registers = registers_then types s (condition s).state w.state target.grown.types test.registers target.registers;
+        code = chosen w.given ∷ [];
+        written = ap (λ (c : List Tree). c ++ chosen w.given ∷ []) (target.unwritten ∙ test.unwritten);
+        runs = λ b p.
+            let here : Begins types f w.state = record { locals = b.locals; table = b.table } in
+            run w target (target.there here) (number here) (test.runs (begins_before types f (condition s).state w.state target.grown here));
+      }
+
+  -- ---- any condition
+
+  pub condition_part : (decision : Option (State → Gives Tree)) (t : Ty) (place : Place) (pointer : State → Gives Location) (value : State → Gives ℕ) (s : State)
+      → ((w : State → Gives Tree) → decision ≡ Some w → Tests s (w s))
+      → (decision ≡ None → is_raw t ≡ true → Makes types texts fs f None (with_code [] s) (pointer (with_code [] s)) (a_pointer types texts fs f t))
+      → (decision ≡ None → is_raw t ≡ false → Makes types texts fs f None (with_code [] s) (value (with_code [] s)) (a_number types texts fs f t))
+      → Tests s (condition_from decision t place pointer value s)
+  condition_part (Some w) t place pointer value s decided pointed valued = decided w refl
+  condition_part None t place pointer value s decided pointed valued = go (is_raw t) refl
+    where
+      go : (b : Bool) → is_raw t ≡ b → Tests s (cond b (not_null place pointer s) (non_zero place value s))
+      go true e = not_null_part place t pointer s e (pointed refl e)
+      go false e = non_zero_part place t value s (valued refl e)

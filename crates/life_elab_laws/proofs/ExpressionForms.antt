@@ -1,0 +1,270 @@
+-- What all laws ask of an expression and of what it is made by, and the ways to make a form: as a value, by tests, as a pointer, as a place, in parentheses.
+use Rattle.std.proofs.Common.{◌≡◌, ◌⊎◌, ℕ, Bool, true, false, cond, List, [], slice_get, Option, Some, None, refl, sym, ap, ◌∙◌, subst}
+use Rattle.std.proofs.lemmas.Bool.{false≢true}
+use Rattle.life_types.specs.Types.{Types}
+use Rattle.life_types.specs.contracts.ty.TyPartialEq.TheImpl.{ghosts as compared}
+use Rattle.life_types.specs.declared.place.Place.{Place}
+use Rattle.life_types.specs.declared.ty.Ty.{Ty}
+use Rattle.life_types.specs.declared.ty.Ty.TheVariants as ty
+use Rattle.life_types.specs.declared.ty.TyId.{TyId}
+use Rattle.life_typed.specs.BaseTypes.{is_raw, is_value, type_at}
+use Rattle.life_typed.specs.Operators.{is_condition}
+use Rattle.life_typed.specs.Programs.{FunctionForm}
+use Rattle.life_typed.specs.TypedForm.{Form, Typed, paren, typed}
+use Rattle.life_typed.specs.declared.typed_expr.Category.{Category}
+use Rattle.life_typed.specs.declared.typed_expr.Category.TheVariants as category
+use Rattle.life_typed.specs.declared.typed_expr.ExprType.{ExprType}
+use Rattle.life_typed.specs.declared.typed_expr.ExprType.TheVariants.{Of}
+use Rattle.life_type_expr.specs.Operands.{value as value_typed}
+use Rattle.life_core.specs.Function.{Function}
+use Rattle.life_core.specs.Operands.{Argument, Location, Operand}
+use Rattle.life_core.specs.Tree.{Tree}
+use Rattle.life_well_typed.specs.Expressions.{parameter_types, typed_in}
+use Rattle.life_well_typed.specs.Given.{is_number, is_pointer}
+use Rattle.life_well_typed.specs.Statements.{ends_in_arguments}
+use Rattle.life_writer.specs.Around.{Around, own_type}
+use Rattle.life_writer.specs.Around as around
+use Rattle.life_writer.specs.Calls.{Called, call_of}
+use Rattle.life_writer.specs.Expressions.{condition, decision, handed_over, made, operand, pointer, pointing, value}
+use Rattle.life_writer.specs.Pointers.{Pointing, located}
+use Rattle.life_writer.specs.Registers.{as_type, computed, conversion}
+use Rattle.life_writer.specs.Values as values
+use Rattle.life_writer.specs.Writing.{Gives, State, with_code}
+use Rattle.life_elab_laws.proofs.Conditions.{Tests, by_branch_part, condition_part}
+use Rattle.life_elab_laws.proofs.ExpressionTypes.{condition_number, number_no_pointer, own_value, pointer_fits, raw_is}
+use Rattle.life_elab_laws.proofs.Fronts.{front_length, front_then}
+use Rattle.life_elab_laws.proofs.Gifts.{a_number, a_place, a_pointer, a_pointing, arguments}
+use Rattle.life_elab_laws.proofs.Gifts as gifts
+use Rattle.life_elab_laws.proofs.Instructions.{IsIntoOf, as_type_part, located_part, read_part}
+use Rattle.life_elab_laws.proofs.Parts.{Makes, then_part}
+use Rattle.life_elab_laws.proofs.Setting.{Setting}
+use Rattle.life_elab_laws.proofs.TypedKinds.{IsKind, a_number as is_number_kind, kind_same, none_some, value_place}
+use Rattle.life_elab_laws.proofs.VariablePlaces.{Stands, stands_apart}
+use Rattle.life_elab_laws.proofs.WrittenLocals.{fits_below, fits_later, fits_register}
+
+module _ (a : Around) (visible : List ℕ) (types : Types) (texts : ℕ) (fs : List Function) (f : Function) (setting : Setting a types fs f) where
+  abbrev pub Standing : State → Type 0
+  Standing s = Stands types fs f a visible s
+
+  abbrev pub Valued : Ty → Option ℕ → State → Gives ℕ → Type 0
+  Valued t into s w = Makes types texts fs f into s w (a_number types texts fs f t)
+
+  abbrev pub Placed : Ty → Bool → State → Gives Operand → Type 0
+  Placed t constant s w = Makes types texts fs f None s w (a_place types texts fs f t constant)
+
+  abbrev pub Pointed : Ty → State → Gives Location → Type 0
+  Pointed t s w = Makes types texts fs f None s w (a_pointer types texts fs f t)
+
+  abbrev pub Points : ExprType → State → Gives Pointing → Type 0
+  Points t s w = Makes types texts fs f None s w (a_pointing types texts fs f t)
+
+  abbrev pub Hands : FunctionForm → State → Gives (List Argument) → Type 0
+  Hands of s w = Makes types texts fs f None s w (arguments types texts fs f (parameter_types (Some of)))
+
+  abbrev pub Decided : State → Gives Tree → Type 0
+  Decided s w = Tests types texts fs f s w
+
+  -- ---- what is asked
+
+  -- of the call that an expression is, also in parentheses
+  pub record IsCall (c : Called) (t : ExprType) : Type 0 where
+    pub of : FunctionForm
+    pub there : slice_get a.program.functions c.function ≡ Some of
+    pub kind : (t ≡ Of ty.Void) ⊎ (is_number t ≡ true)
+    pub worth : is_number t ≡ true → is_value (type_at a.program.types of.result) ≡ true
+    pub own : t ≡ Of (type_at a.program.types of.result)
+    pub hands : (s : State) → Standing s → Hands of s (handed_over a c.arguments (around.parameter_types a c.function) s)
+
+  -- of what an expression is made by
+  pub record IsForm (form : Form) (e : Typed) : Type 0 where
+    pub kind : IsKind a.program.types e
+    -- a number that is neither a place nor decided by tests is computed
+    pub computes : e.category ≡ category.Value → is_number e.ty ≡ true → (place : Place) → decision a form place ≡ None → (into : Option ℕ) (s : State) → IsIntoOf (own_type e.ty) s into → Standing s
+        → Valued (own_type e.ty) into s (made a form place (own_type e.ty) into s)
+    -- .. in the register that is wanted
+    pub lands : e.category ≡ category.Value → is_number e.ty ≡ true → (place : Place) → decision a form place ≡ None → (r : ℕ) (s : State) → (made a form place (own_type e.ty) (Some r) s).given ≡ r
+    -- a place with a value is named
+    pub names : (id : TyId) (constant : Bool) → e.category ≡ category.Place id constant → is_value (type_at a.program.types id) ≡ true → (s : State) → Standing s → Placed (type_at a.program.types id) constant s (operand a form s)
+    -- a pointer points
+    pub points : is_pointer e.ty ≡ true → (s : State) → Standing s → Points e.ty s (pointing a form s)
+    -- what is made of conditions decides
+    pub decides : (place : Place) (w : State → Gives Tree) → decision a form place ≡ Some w → (s : State) → Standing s → Decided s (w s)
+    -- what is a call is one of a function that is there; and what stands alone and is none is a number
+    pub calls : (c : Called) → call_of form ≡ Some c → IsCall c e.ty
+    pub alone : ends_in_arguments form ≡ true → call_of form ≡ None → is_number e.ty ≡ true
+
+  -- of a whole expression
+  pub record IsWhole (form : Form) : Type 0 where
+    pub kind : IsKind a.program.types (typed_in form)
+    pub valued : is_number (typed_in form).ty ≡ true → (to : Ty) → is_value to ≡ true → (into : Option ℕ) (s : State) → IsIntoOf to s into → Standing s → Valued to into s (value a form to into s)
+    pub lands : is_number (typed_in form).ty ≡ true → (to : Ty) (r : ℕ) (s : State) → (value a form to (Some r) s).given ≡ r
+    pub names : (id : TyId) (constant : Bool) → (typed_in form).category ≡ category.Place id constant → is_value (type_at a.program.types id) ≡ true → (s : State) → Standing s → Placed (type_at a.program.types id) constant s (operand a form s)
+    pub points : is_pointer (typed_in form).ty ≡ true → (s : State) → Standing s → Points (typed_in form).ty s (pointing a form s)
+    pub pointers : (u : Ty) → (typed_in form).ty ≡ Of u → is_raw u ≡ true → (s : State) → Standing s → Pointed u s (pointer a form s)
+    pub conditions : is_condition (typed_in form).ty ≡ true → (s : State) → Standing s → Decided s (condition a form s)
+    pub decides : (place : Place) (w : State → Gives Tree) → decision a form place ≡ Some w → (s : State) → Standing s → Decided s (w s)
+    pub calls : (c : Called) → call_of form ≡ Some c → IsCall c (typed_in form).ty
+
+  -- ---- a whole expression, of what it is made by
+
+  value_from : (d : Option (State → Gives Tree)) (t : Ty) (place : Place) (c : Category) (at : State → Gives Operand) (make : Option ℕ → State → Gives ℕ) (into : Option ℕ) (s : State)
+      → is_value t ≡ true → IsIntoOf t s into → Standing s
+      → ((w : State → Gives Tree) → d ≡ Some w → Decided s (w s))
+      → (d ≡ None → c ≡ category.Value → Valued t into s (make into s))
+      → ((id : TyId) (constant : Bool) → c ≡ category.Place id constant → Placed t constant s (at s))
+      → Valued t into s (values.value_from t place c d at make into s)
+  value_from (Some w) t place c at make into s v wanted stands decides makes places = by_branch_part types texts fs f into t place w s v wanted stands.opened (decides w refl)
+  value_from None t place category.Value at make into s v wanted stands decides makes places = makes refl refl
+  value_from None t place (category.Place id constant) at make into s v wanted stands decides makes places =
+      read_part types texts fs f t constant place at into s v wanted stands.opened (places id constant refl)
+
+  -- .. it lands in the register that is wanted
+  lands_from : (t : Ty) (place : Place) (d : Option (State → Gives Tree)) (c : Category) (at : State → Gives Operand) (make : Option ℕ → State → Gives ℕ) (r : ℕ) (s : State)
+      → (d ≡ None → c ≡ category.Value → (make (Some r) s).given ≡ r) → (values.value_from t place c d at make (Some r) s).given ≡ r
+  lands_from t place (Some w) c at make r s makes = refl
+  lands_from t place None category.Value at make r s makes = makes refl refl
+  lands_from t place None (category.Place id constant) at make r s makes = refl
+
+  lands_as : (from to : Ty) (place : Place) (given : Option ℕ → State → Gives ℕ) (r : ℕ) (s : State) → (given (Some r) s).given ≡ r → (as_type from to place given (Some r) s).given ≡ r
+  lands_as from to place given r s here = go (compared.eq from to)
+    where
+      go : (b : Bool) → (cond b (given (Some r) s) (computed (Some r) to place (conversion (given None s).given) (given None s).state)).given ≡ r
+      go true = here
+      go false = refl
+
+  pointer_part : (w : State → Gives Pointing) (t : ExprType) (u : Ty) (place : Place) (s : State) → t ≡ Of u → is_raw u ≡ true → fits_register a.program.types u ≡ true → Standing s → Points t s (w s)
+      → Pointed u s (located place (own_type t) (w s).given (w s).state)
+  pointer_part w t u place s is raw fits stands first =
+      subst (λ (x : ExprType). Pointed u s (located place (own_type x) (w s).given (w s).state)) (sym is) (go (subst (λ (x : ExprType). Points x s (w s)) is first))
+    where
+      go : Points (Of u) s (w s) → Pointed u s (located place u (w s).given (w s).state)
+      go first =
+          then_part types texts fs f (gifts.nothing types texts fs f) tt None s (w s) _ (a_pointing types texts fs f (Of u)) (a_pointer types texts fs f u) stands.opened first
+          (located_part types texts fs f (w s).given u place (w s).state raw (fits_later a.program.types types setting.front u fits)
+          (fits_below a.program.types (w s).state.types (front_length a.program.types.types (w s).state.types.types (front_then a.program.types.types s.types.types (w s).state.types.types stands.table first.grown.types)) u fits))
+
+  pub whole_of : (place : Place) (t : ExprType) (c : Category) (form : Form) → IsForm form (record { place = place; ty = t; category = c; form = form }) → IsWhole (typed place t c form)
+  whole_of place t c form is = record {
+    kind = is.kind;
+    valued = λ n to v into s wanted stands.
+        as_type_part types texts fs f (gifts.nothing types texts fs f) tt (own_type t) to place (values.value_from (own_type t) place c (decision a form place) (operand a form) (made a form place (own_type t))) into s v wanted stands.opened
+        (λ i wanted. own_value_part n i s wanted stands);
+    lands = λ n to r s.
+        lands_as (own_type t) to place (values.value_from (own_type t) place c (decision a form place) (operand a form) (made a form place (own_type t))) r s
+        (lands_from (own_type t) place (decision a form place) c (operand a form) (made a form place (own_type t)) r s (λ none at. is.lands at n place none r s));
+    names = is.names;
+    points = is.points;
+    pointers = λ u at raw s stands. pointer_part (pointing a form) t u place s at raw (fits u at raw) stands (is.points (ap is_pointer at ∙ raw) s stands);
+    conditions = λ h s stands.
+        let apart = stands_apart types fs f a visible s stands in
+        condition_part types texts fs f (decision a form place) (own_type t) place (pointer a (typed place t c form)) (values.read_or_made (own_type t) place c (operand a form) (made a form place (own_type t)) None) s
+        (λ w at. is.decides place w at s stands)
+        (λ none raw. let at = raw_is t raw in pointer_part (pointing a form) t (own_type t) place (with_code [] s) at raw (fits (own_type t) at raw) apart (is.points (ap is_pointer at ∙ raw) (with_code [] s) apart))
+        (λ none raw.
+        let n = condition_number a.program.types e is.kind.kind h raw in
+        value_from None (own_type t) place c (operand a form) (made a form place (own_type t)) None (with_code [] s) (own_value t n) tt apart (λ w at. absurd (none_some at))
+        (λ un at. is.computes at n place none None (with_code [] s) tt apart)
+        (λ id constant at. named n id constant at (with_code [] s) apart));
+    decides = λ at w eq s stands. is.decides place w eq s stands;
+    calls = is.calls;
+  }
+    where
+      e : Typed
+      e = record { place = place; ty = t; category = c; form = form }
+
+      fits : (u : Ty) → t ≡ Of u → is_raw u ≡ true → fits_register a.program.types u ≡ true
+      fits u at raw = subst (λ (x : ExprType). fits_register a.program.types (own_type x) ≡ true) at (pointer_fits a.program.types e is.kind.kind (ap (λ (x : ExprType). is_raw (own_type x)) at ∙ raw))
+
+      named : is_number t ≡ true → (id : TyId) (constant : Bool) → c ≡ category.Place id constant → (s : State) → Standing s → Placed (own_type t) constant s (operand a form s)
+      named n id constant at s stands =
+          let own = is.kind.place id constant at in
+          subst (λ (u : Ty). Placed u constant s (operand a form s)) (sym (ap own_type own)) (is.names id constant at (sym (ap is_number own) ∙ n) s stands)
+
+      own_value_part : is_number t ≡ true → (into : Option ℕ) (s : State) → IsIntoOf (own_type t) s into → Standing s
+          → Valued (own_type t) into s (values.value_from (own_type t) place c (decision a form place) (operand a form) (made a form place (own_type t)) into s)
+      own_value_part n into s wanted stands =
+          value_from (decision a form place) (own_type t) place c (operand a form) (made a form place (own_type t)) into s (own_value t n) wanted stands
+          (λ w at. is.decides place w at s stands)
+          (λ none at. is.computes at n place none into s wanted stands)
+          (λ id constant at. named n id constant at s stands)
+
+  -- ---- the ways to make a form
+
+  -- what is no place
+  pub no_place : (form : Form) (e : Typed) → e.category ≡ category.Value → (id : TyId) (constant : Bool) → e.category ≡ category.Place id constant → is_value (type_at a.program.types id) ≡ true → (s : State) → Standing s
+      → Placed (type_at a.program.types id) constant s (operand a form s)
+  no_place form e is id constant at v s stands = absurd (value_place (sym is ∙ at))
+
+  pub of_number : (t : ExprType) (u : Ty) → t ≡ Of u → is_value u ≡ true → is_number t ≡ true
+  of_number t u is v = ap is_number is ∙ v
+
+  -- a value of a type, by tests or not
+  pub decided_form : (form : Form) (e : Typed) (t : Ty) → e.ty ≡ Of t → e.category ≡ category.Value → is_value t ≡ true → call_of form ≡ None
+      → ((place : Place) → decision a form place ≡ None → (into : Option ℕ) (s : State) → IsIntoOf t s into → Standing s → Valued t into s (made a form place t into s))
+      → ((place : Place) → decision a form place ≡ None → (r : ℕ) (s : State) → (made a form place t (Some r) s).given ≡ r)
+      → ((place : Place) (w : State → Gives Tree) → decision a form place ≡ Some w → (s : State) → Standing s → Decided s (w s)) → IsForm form e
+  decided_form form e t is c v none makes lands decides = record {
+    kind = record { kind = is_number_kind t is v; place = λ id constant at. absurd (value_place (sym c ∙ at)) };
+    computes = λ at n place un into s wanted stands.
+        subst (λ (u : Ty). IsIntoOf u s into → Valued u into s (made a form place u into s)) (sym (ap own_type is)) (λ w. makes place un into s w stands) wanted;
+    lands = λ at n place un r s. subst (λ (u : Ty). (made a form place u (Some r) s).given ≡ r) (sym (ap own_type is)) (lands place un r s);
+    names = no_place form e c;
+    points = λ p. absurd (number_no_pointer e.ty (of_number e.ty t is v) p);
+    decides = decides;
+    calls = λ d at. absurd (none_some (sym none ∙ at));
+    alone = λ ends at. of_number e.ty t is v;
+  }
+
+  pub value_form : (form : Form) (e : Typed) (t : Ty) → e.ty ≡ Of t → e.category ≡ category.Value → is_value t ≡ true → call_of form ≡ None → ((place : Place) → decision a form place ≡ None)
+      → ((place : Place) (into : Option ℕ) (s : State) → IsIntoOf t s into → Standing s → Valued t into s (made a form place t into s))
+      → ((place : Place) (r : ℕ) (s : State) → (made a form place t (Some r) s).given ≡ r) → IsForm form e
+  value_form form e t is c v none plain makes lands =
+      decided_form form e t is c v none (λ place un. makes place) (λ place un. lands place) (λ place w at. absurd (none_some (sym (plain place) ∙ at)))
+
+  -- a value that is given by its type alone
+  pub literal : (form : Form) (e : Typed) (t : Ty) → e ≡ value_typed e.place t e.form → is_value t ≡ true → call_of form ≡ None → ((place : Place) → decision a form place ≡ None)
+      → ((place : Place) (into : Option ℕ) (s : State) → IsIntoOf t s into → Standing s → Valued t into s (made a form place t into s))
+      → ((place : Place) (r : ℕ) (s : State) → (made a form place t (Some r) s).given ≡ r) → IsForm form e
+  literal form e t is v none plain makes lands = value_form form e t (ap (λ (y : Typed). y.ty) is) (ap (λ (y : Typed). y.category) is) v none plain makes lands
+
+  -- a pointer that is no place
+  pub pointer_form : (form : Form) (e : Typed) → IsKind a.program.types e → e.category ≡ category.Value → (is_number e.ty ≡ true → ⊥) → call_of form ≡ None → ends_in_arguments form ≡ false → ((place : Place) → decision a form place ≡ None)
+      → (is_pointer e.ty ≡ true → (s : State) → Standing s → Points e.ty s (pointing a form s)) → IsForm form e
+  pointer_form form e kind c never none ends plain points = record {
+    kind = kind;
+    computes = λ at n. absurd (never n);
+    lands = λ at n. absurd (never n);
+    names = no_place form e c;
+    points = points;
+    decides = λ place w at. absurd (none_some (sym (plain place) ∙ at));
+    calls = λ d at. absurd (none_some (sym none ∙ at));
+    alone = λ h at. absurd (false≢true (sym ends ∙ h));
+  }
+
+  -- a place
+  pub place_form : (form : Form) (e : Typed) → IsKind a.program.types e → (e.category ≡ category.Value → ⊥) → call_of form ≡ None → ends_in_arguments form ≡ false → ((place : Place) → decision a form place ≡ None)
+      → ((id : TyId) (constant : Bool) → e.category ≡ category.Place id constant → is_value (type_at a.program.types id) ≡ true → (s : State) → Standing s → Placed (type_at a.program.types id) constant s (operand a form s))
+      → (is_pointer e.ty ≡ true → (s : State) → Standing s → Points e.ty s (pointing a form s)) → IsForm form e
+  place_form form e kind c none ends plain names points = record {
+    kind = kind;
+    computes = λ at. absurd (c at);
+    lands = λ at. absurd (c at);
+    names = names;
+    points = points;
+    decides = λ place w at. absurd (none_some (sym (plain place) ∙ at));
+    calls = λ d at. absurd (none_some (sym none ∙ at));
+    alone = λ h at. absurd (false≢true (sym ends ∙ h));
+  }
+
+  -- what is in parentheses
+  pub paren_form : (inner : Form) (closing : Place) (e : Typed) → (typed_in inner).ty ≡ e.ty → (typed_in inner).category ≡ e.category → IsWhole inner → IsForm (paren inner closing) e
+  paren_form inner closing e t c is = record {
+    kind = kind_same a.program.types (typed_in inner) e (sym t) (sym c) is.kind;
+    computes = λ at n place none into s wanted stands. is.valued (ap is_number t ∙ n) (own_type e.ty) (own_value e.ty n) into s wanted stands;
+    lands = λ at n place none r s. is.lands (ap is_number t ∙ n) (own_type e.ty) r s;
+    names = λ id constant at. is.names id constant (c ∙ at);
+    points = λ p s stands. subst (λ (x : ExprType). Points x s (pointing a inner s)) t (is.points (ap is_pointer t ∙ p) s stands);
+    decides = is.decides;
+    calls = λ d at. subst (IsCall d) t (is.calls d at);
+    alone = λ ends at. absurd (false≢true ends);
+  }

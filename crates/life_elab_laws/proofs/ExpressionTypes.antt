@@ -1,0 +1,134 @@
+-- The types of expressions that are built.
+use Rattle.std.proofs.Common.{◌≡◌, ◌⊎◌, inl, inr, ℕ, true, false, ◌||◌, List, refl, sym, ap, ◌∙◌, subst, true≢false, Ok}
+use Rattle.std.proofs.lemmas.Bool.{false≢true}
+use Rattle.life_types.specs.Types.{Types}
+use Rattle.life_types.specs.declared.ty.Ty.{Ty}
+use Rattle.life_types.specs.declared.ty.Ty.TheVariants as ty
+use Rattle.life_built.specs.Built.{is_void}
+use Rattle.life_typed.specs.BaseTypes.{is_raw, is_value}
+use Rattle.life_typed.specs.Operators.{is_condition, negated, negated_type, promoted}
+use Rattle.life_typed.specs.Programs.{ProgramForm}
+use Rattle.life_typed.specs.TypedForm.{Form, Typed, typed}
+use Rattle.life_typed.specs.declared.typed_expr.Category.TheVariants as category
+use Rattle.life_typed.specs.declared.typed_expr.ExprType.{ExprType}
+use Rattle.life_typed.specs.declared.typed_expr.ExprType.TheVariants.{NullPointer, Of, TextLiteral}
+use Rattle.life_typed.specs.declared.typed_program.TypedLocal.{TypedLocal}
+use Rattle.life_type_expr.specs.Operands.{answer_of, negated_to}
+use Rattle.life_proper.specs.OperandTypes.{is_promoted}
+use Rattle.life_well_typed.specs.Expressions.{IsExpression, typed_in}
+use Rattle.life_well_typed.specs.Given.{is_number, is_pointer}
+use Rattle.life_writer.specs.Around.{own_type}
+use Rattle.life_writer.specs.Around as around
+use Rattle.life_writer.specs.Conditions.{is_null, stands_for_null}
+use Rattle.life_elab_laws.proofs.OperatorTypes.{promoted_is}
+use Rattle.life_elab_laws.proofs.TypedKinds.{HasKind, IsKind, a_null, a_number, a_pointer, err_ok, no_value, ok_same}
+use Rattle.life_elab_laws.proofs.WrittenLocals.{fits_register, value_fits}
+
+-- ---- types of expressions
+
+pub own_value : (t : ExprType) → is_number t ≡ true → is_value (own_type t) ≡ true
+own_value (Of t) e = e
+own_value NullPointer e = absurd (false≢true e)
+own_value TextLiteral e = absurd (false≢true e)
+
+pub own_raw : (t : ExprType) (u : Ty) → t ≡ Of u → is_raw u ≡ true → is_raw (own_type t) ≡ true
+own_raw t u is raw = ap (λ (x : ExprType). is_raw (own_type x)) is ∙ raw
+
+pub raw_own : (t : ExprType) → is_raw (own_type t) ≡ true → (u : Ty) × (t ≡ Of u) × (is_raw u ≡ true)
+raw_own (Of u) e = (u, refl, e)
+raw_own NullPointer e = absurd (false≢true e)
+raw_own TextLiteral e = absurd (false≢true e)
+
+-- a condition that is no pointer is a number
+pub condition_number : (types : Types) (e : Typed) → HasKind types e → is_condition e.ty ≡ true → is_raw (own_type e.ty) ≡ false → is_number e.ty ≡ true
+condition_number types e (a_number t is v) c r = ap is_number is ∙ v
+condition_number types e (a_pointer target constant is v) c r = absurd (true≢false (sym (ap (λ (x : ExprType). is_raw (own_type x)) is) ∙ r))
+condition_number types e (no_value is v) c r = absurd (false≢true (sym (ap is_condition is) ∙ c))
+condition_number types e (a_null is v) c r = absurd (false≢true (sym (ap is_condition is) ∙ c))
+
+-- a pointer is one to a value
+pub pointer_fits : (types : Types) (e : Typed) → HasKind types e → is_raw (own_type e.ty) ≡ true → fits_register types (own_type e.ty) ≡ true
+pointer_fits types e (a_number t is v) r = ap (λ (x : ExprType). fits_register types (own_type x)) is ∙ value_fits types t v
+pointer_fits types e (a_pointer target constant is v) r = ap (λ (x : ExprType). fits_register types (own_type x)) is ∙ v
+pointer_fits types e (no_value is v) r = absurd (false≢true (sym (ap (λ (x : ExprType). is_raw (own_type x)) is) ∙ r))
+pointer_fits types e (a_null is v) r = absurd (false≢true (sym (ap (λ (x : ExprType). is_raw (own_type x)) is) ∙ r))
+
+pub null_stands : (p : ProgramForm) (locals : List TypedLocal) (visible : List ℕ) (form : Form) → IsExpression p locals visible form → stands_for_null form ≡ is_null (typed_in form).ty
+null_stands p locals visible (typed place t c form) h = refl
+null_stands p locals visible _ h = absurd h
+
+pub null_type : (t : ExprType) → is_null t ≡ true → t ≡ NullPointer
+null_type (Of u) e = absurd (false≢true e)
+null_type NullPointer e = refl
+null_type TextLiteral e = absurd (false≢true e)
+
+-- what a call gives is no place
+pub result_value : (t : Ty) (types : Types) (e : Typed) → (is_void t || is_value t) ≡ true → e ≡ answer_of t types e.place e.form → e.category ≡ category.Value
+result_value ty.Void types e b is = ap (λ (x : Typed). x.category) is
+result_value ty.Bool types e b is = ap (λ (x : Typed). x.category) is
+result_value ty.Char types e b is = ap (λ (x : Typed). x.category) is
+result_value ty.Int types e b is = ap (λ (x : Typed). x.category) is
+result_value ty.Long types e b is = ap (λ (x : Typed). x.category) is
+result_value ty.Size types e b is = ap (λ (x : Typed). x.category) is
+result_value _ types e b is = absurd (false≢true b)
+
+pub result_number : (t : Ty) (types : Types) (e : Typed) → (is_void t || is_value t) ≡ true → e ≡ answer_of t types e.place e.form → is_number e.ty ≡ true → is_value t ≡ true
+result_number ty.Void types e b is n = absurd (false≢true (sym (ap (λ (x : Typed). is_number x.ty) is) ∙ n))
+result_number ty.Bool types e b is n = refl
+result_number ty.Char types e b is n = refl
+result_number ty.Int types e b is n = refl
+result_number ty.Long types e b is n = refl
+result_number ty.Size types e b is n = refl
+result_number _ types e b is n = absurd (false≢true b)
+
+pub value_no_raw : (t : Ty) → is_value t ≡ true → is_raw t ≡ false
+value_no_raw ty.Bool v = refl
+value_no_raw ty.Char v = refl
+value_no_raw ty.Int v = refl
+value_no_raw ty.Long v = refl
+value_no_raw ty.Size v = refl
+value_no_raw _ v = absurd (false≢true v)
+
+-- minus gives what the operand is promoted to
+pub negated_promoted : (types : Types) (inner e : Typed) → IsKind types inner → negated_to (negated inner.ty) e.place inner ≡ Ok e → is_promoted (own_type e.ty) ≡ true
+negated_promoted types inner e k h = go k.kind
+  where
+    go : HasKind types inner → is_promoted (own_type e.ty) ≡ true
+    go (a_number t is v) =
+        let here : negated_to (negated_type t) e.place inner ≡ Ok e = subst (λ (x : ExprType). negated_to (negated x) e.place inner ≡ Ok e) is h in
+        let plain : negated_to (Ok (promoted t t)) e.place inner ≡ Ok e = rw v at here in
+        sym (ap (λ (y : Typed). is_promoted (own_type y.ty)) (ok_same plain)) ∙ promoted_is t t
+    go (a_pointer target constant is v) = absurd (err_ok (sym (ap (λ t. negated_to (negated t) e.place inner) is) ∙ h))
+    go (no_value is v) = absurd (err_ok (sym (ap (λ t. negated_to (negated t) e.place inner) is) ∙ h))
+    go (a_null is v) = absurd (err_ok (sym (ap (λ t. negated_to (negated t) e.place inner) is) ∙ h))
+
+pub type_in_own : (form : Form) → around.type_in form ≡ own_type (typed_in form).ty
+type_in_own (typed place t c form) = refl
+type_in_own _ = refl
+
+-- what a call gives
+pub result_kind : (t : Ty) (types : Types) (e : Typed) → (is_void t || is_value t) ≡ true → e ≡ answer_of t types e.place e.form
+    → ((e.ty ≡ Of ty.Void) ⊎ (is_number e.ty ≡ true)) × (is_number e.ty ≡ true → is_value t ≡ true) × (e.ty ≡ Of t)
+result_kind ty.Void types e b is = (inl (ap (λ (x : Typed). x.ty) is), (λ n. absurd (false≢true (sym (ap (λ (x : Typed). is_number x.ty) is) ∙ n))), ap (λ (x : Typed). x.ty) is)
+result_kind ty.Bool types e b is = (inr (ap (λ (x : Typed). is_number x.ty) is), (λ n. refl), ap (λ (x : Typed). x.ty) is)
+result_kind ty.Char types e b is = (inr (ap (λ (x : Typed). is_number x.ty) is), (λ n. refl), ap (λ (x : Typed). x.ty) is)
+result_kind ty.Int types e b is = (inr (ap (λ (x : Typed). is_number x.ty) is), (λ n. refl), ap (λ (x : Typed). x.ty) is)
+result_kind ty.Long types e b is = (inr (ap (λ (x : Typed). is_number x.ty) is), (λ n. refl), ap (λ (x : Typed). x.ty) is)
+result_kind ty.Size types e b is = (inr (ap (λ (x : Typed). is_number x.ty) is), (λ n. refl), ap (λ (x : Typed). x.ty) is)
+result_kind _ types e b is = absurd (false≢true b)
+
+pub number_no_pointer : (t : ExprType) → is_number t ≡ true → is_pointer t ≡ true → ⊥
+number_no_pointer (Of t) n is = false≢true (sym (value_no_raw t n) ∙ is)
+number_no_pointer NullPointer n is = false≢true n
+number_no_pointer TextLiteral n is = false≢true n
+
+-- a pointer's type, or nullptr
+pub pointer_type : (t : ExprType) → is_pointer t ≡ true → ((u : Ty) × (t ≡ Of u) × (is_raw u ≡ true)) ⊎ (t ≡ NullPointer)
+pointer_type (Of u) e = inl (u, refl, e)
+pointer_type NullPointer e = inr refl
+pointer_type TextLiteral e = absurd (false≢true e)
+
+pub raw_is : (t : ExprType) → is_raw (own_type t) ≡ true → t ≡ Of (own_type t)
+raw_is (Of u) e = refl
+raw_is NullPointer e = absurd (false≢true e)
+raw_is TextLiteral e = absurd (false≢true e)

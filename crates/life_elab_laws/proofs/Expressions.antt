@@ -1,0 +1,334 @@
+-- What is written for a well typed expression, by one recursion: each form says by one way how it is written, and has all laws by that.
+use Rattle.std.proofs.Common.{◌≡◌, ◌⊎◌, inl, inr, ℕ, zero, suc, Bool, true, false, List, [], ◌∷◌, Contains, slice_get, Option, Some, None, refl, sym, ap, ◌∙◌, subst, unwrap_or}
+use Rattle.std.proofs.lemmas.Bool.{and_from, and_parts, false≢true}
+use Rattle.std.specs.Prelude.{pos}
+use Rattle.life_types.specs.Types.{Types}
+use Rattle.life_types.specs.declared.place.Place.{Place}
+use Rattle.life_types.specs.declared.ty.Ty.{Ty}
+use Rattle.life_types.specs.declared.ty.Ty.TheVariants as ty
+use Rattle.life_types.specs.declared.ty.TyId.{TyId}
+use Rattle.life_built.specs.Built.{is_built_form}
+use Rattle.life_typed.specs.BaseTypes.{is_raw, is_value, type_at}
+use Rattle.life_typed.specs.Operators.{promoted}
+use Rattle.life_typed.specs.Programs.{FunctionForm}
+use Rattle.life_typed.specs.TypedForm.{Form, Typed, number, character, boolean, text, null, local, call, construct, paren, move, make_unique, text_of, input, member, dereference, index, method, negate, not, address_of, binary, typed, nothing, ◌⨟◌}
+use Rattle.life_typed.specs.declared.typed_expr.BinaryOperator.{BinaryOperator}
+use Rattle.life_typed.specs.declared.typed_expr.Category.TheVariants as category
+use Rattle.life_typed.specs.declared.typed_expr.ExprType.{ExprType}
+use Rattle.life_typed.specs.declared.typed_expr.ExprType.TheVariants.{NullPointer, Of}
+use Rattle.life_typed.specs.declared.typed_program.TypedLocal.{TypedLocal}
+use Rattle.life_type_expr.specs.Operands.{number_type, variable_of}
+use Rattle.life_core.specs.Function.{Function}
+use Rattle.life_core.specs.Operands.{Argument, Location, Null, Operand, Place as Aimed, Through, whole}
+use Rattle.life_core.specs.Tree.{Tree}
+use Rattle.life_pset.specs.Shapes as shapes
+use Rattle.life_proper.specs.OperandTypes.{aims_at, keeps_const}
+use Rattle.life_proper.specs.OperandTypes as operands
+use Rattle.life_proper.specs.Placed.{is_const_place}
+use Rattle.life_proper.specs.Placed as placed
+use Rattle.life_proper.specs.WellFormed.{answer_of}
+use Rattle.life_well_typed.specs.Expressions.{AreExpressions, HasResult, IsExpression, IsMadeOf, IsVariable, are_given, parameter_types, typed_in}
+use Rattle.life_well_typed.specs.Given.{is_given, is_number, is_pointer}
+use Rattle.life_writer.specs.Around.{Around, own_type, parameters_of}
+use Rattle.life_writer.specs.Around as around
+use Rattle.life_writer.specs.Calls.{Called}
+use Rattle.life_writer.specs.Expressions.{common, condition, decision, handed_over, made, operand, pointer, pointing, value}
+use Rattle.life_writer.specs.Pointers.{As, At, Pointing}
+use Rattle.life_writer.specs.Values as values
+use Rattle.life_writer.specs.Variables.{variable, variable_place}
+use Rattle.life_writer.specs.Writing.{Gives, State, gives}
+use Rattle.life_elab_laws.proofs.CallParts.{call_part, handed_part, none_handed}
+use Rattle.life_elab_laws.proofs.Conditions.{Tests, negation_part}
+use Rattle.life_elab_laws.proofs.Deciding.{binary_decided, binary_numbers, no_test}
+use Rattle.life_elab_laws.proofs.ExpressionForms.{IsCall, IsForm, IsWhole, decided_form, literal, no_place, of_number, paren_form, place_form, pointer_form, value_form, whole_of}
+use Rattle.life_elab_laws.proofs.ExpressionKinds.{IsAddressed, IsDereferenced, addressed_as, dereferenced_as, function_built, inverted_as, kind_local, negated_as, number_value, result_built, variable_built}
+use Rattle.life_elab_laws.proofs.ExpressionTypes.{negated_promoted, number_no_pointer, own_value, pointer_type, result_kind, result_value, type_in_own}
+use Rattle.life_elab_laws.proofs.FormedVariables.{behind_place, const_same, pointer_formed, type_later, variable_formed}
+use Rattle.life_elab_laws.proofs.Gifts.{IsGivenAs, a_number, a_place, a_pointer, a_pointing, arguments}
+use Rattle.life_elab_laws.proofs.Gifts as gifts
+use Rattle.life_elab_laws.proofs.GivenKinds.{given_number}
+use Rattle.life_elab_laws.proofs.Instructions.{IsIntoOf, constant_part, input_part, negated_part, operated_part}
+use Rattle.life_elab_laws.proofs.Making.{a_target}
+use Rattle.life_elab_laws.proofs.OperandsThere.{value_either, value_same}
+use Rattle.life_elab_laws.proofs.OperatorTypes.{number_answer, promoted_is}
+use Rattle.life_elab_laws.proofs.Parts.{Makes, leaf_part, seen_part}
+use Rattle.life_elab_laws.proofs.Setting.{Setting}
+use Rattle.life_elab_laws.proofs.TypedKinds.{HasKind, IsCombined, IsKind, IsOperand, a_null, a_number as is_number_kind, a_pointer as is_pointer_kind, answer_value, combined_as, kind_of_place, kind_of_result, no_value, none_some, ok_same, operand_kind, place_same, promoted_value, some_same, value_place}
+use Rattle.life_elab_laws.proofs.VariablePlaces.{Stands, named_raw, pointer_there, stands_later, variable_there}
+
+module _ (a : Around) (visible : List ℕ) (types : Types) (texts : ℕ) (fs : List Function) (f : Function) (setting : Setting a types fs f) where
+  abbrev pub Standing : State → Type 0
+  Standing s = Stands types fs f a visible s
+
+  abbrev pub Valued : Ty → Option ℕ → State → Gives ℕ → Type 0
+  Valued t into s w = Makes types texts fs f into s w (a_number types texts fs f t)
+
+  abbrev pub Placed : Ty → Bool → State → Gives Operand → Type 0
+  Placed t constant s w = Makes types texts fs f None s w (a_place types texts fs f t constant)
+
+  abbrev pub Pointed : Ty → State → Gives Location → Type 0
+  Pointed t s w = Makes types texts fs f None s w (a_pointer types texts fs f t)
+
+  abbrev pub Points : ExprType → State → Gives Pointing → Type 0
+  Points t s w = Makes types texts fs f None s w (a_pointing types texts fs f t)
+
+  abbrev pub Hands : FunctionForm → State → Gives (List Argument) → Type 0
+  Hands of s w = Makes types texts fs f None s w (arguments types texts fs f (parameter_types (Some of)))
+
+  abbrev pub Decided : State → Gives Tree → Type 0
+  Decided s w = Tests types texts fs f s w
+
+  -- ---- variables
+
+  variable_names : (x : ℕ) (e : Typed) (s : State) → Standing s → Contains visible x → IsVariable a.program.types x (slice_get a.function.locals x) e
+      → (id : TyId) (constant : Bool) → e.category ≡ category.Place id constant → is_value (type_at a.program.types id) ≡ true → Placed (type_at a.program.types id) constant s (gives (variable_place s x) s)
+  variable_names x e s stands c h id constant at v = go (slice_get a.function.locals x) refl h
+    where
+      go : (o : Option TypedLocal) → slice_get a.function.locals x ≡ o → IsVariable a.program.types x o e → Placed (type_at a.program.types id) constant s (gives (variable_place s x) s)
+      go None found h = absurd h
+      go (Some l) found h =
+          let built = variable_built a.program.types a.function.locals x l setting.variables found in
+          leaf_part types texts fs f (variable_place s x) s (a_place types texts fs f (type_at a.program.types id) constant)
+          (λ b. variable_formed types texts fs f a setting.front s b x l (stands.seen x l c found) e (local x) built h id constant at v)
+          (λ b k alive. variable_there types fs f a setting.front s b x l (stands.seen x l c found) built k alive)
+
+  raw_found : (l : TypedLocal) (target : TyId) (constant : Bool) → type_at a.program.types l.ty ≡ ty.Raw target constant → slice_get a.program.types.types l.ty.0 ≡ Some (ty.Raw target constant)
+  raw_found l target constant e = go (slice_get a.program.types.types l.ty.0) refl e
+    where
+      clash : ty.Void ≡ ty.Raw target constant → ⊥
+      clash e = cc
+
+      go : (o : Option Ty) → slice_get a.program.types.types l.ty.0 ≡ o → unwrap_or o ty.Void ≡ ty.Raw target constant → slice_get a.program.types.types l.ty.0 ≡ Some (ty.Raw target constant)
+      go None is e = absurd (clash e)
+      go (Some t) is e = is ∙ ap Some e
+
+  variable_points : (x : ℕ) (e : Typed) (s : State) → Standing s → Contains visible x → IsVariable a.program.types x (slice_get a.function.locals x) e → (t : Ty) → e.ty ≡ Of t → is_raw t ≡ true → Points e.ty s (gives (As (whole (variable s x))) s)
+  variable_points x e s stands c h t of raw = go (slice_get a.function.locals x) refl h
+    where
+      go : (o : Option TypedLocal) → slice_get a.function.locals x ≡ o → IsVariable a.program.types x o e → Points e.ty s (gives (As (whole (variable s x))) s)
+      go None found h = absurd h
+      go (Some l) found is =
+          let n = named_raw a.program.types e l (local x) (variable_built a.program.types a.function.locals x l setting.variables found) is t of raw in
+          let own : e.ty ≡ Of (ty.Raw n.0 n.1) = ap (λ (y : Typed). y.ty) (is ∙ ap (λ (u : Ty). variable_of u a.program.types l.ty l.constant e.place (local x)) n.2) ∙ ap Of n.2 in
+          leaf_part types texts fs f (As (whole (variable s x))) s (a_pointing types texts fs f e.ty)
+          (λ b. subst (λ (u : ExprType). IsGivenAs types texts fs f u (As (whole (variable s x)))) (sym own)
+          (pointer_formed types texts fs f a setting.front s b x l (stands.seen x l c found) n.0 n.1 (raw_found l n.0 n.1 n.2)))
+          (λ b k alive. pointer_there types fs f a setting.front s b x l (stands.seen x l c found) n.0 n.1 n.2 k alive)
+
+  -- it is a place
+  variable_no_value : (x : ℕ) (e : Typed) → IsVariable a.program.types x (slice_get a.function.locals x) e → e.category ≡ category.Value → ⊥
+  variable_no_value x e h is = go (slice_get a.function.locals x) h
+    where
+      go : (o : Option TypedLocal) → IsVariable a.program.types x o e → ⊥
+      go None h = h
+      go (Some l) h = named (type_at a.program.types l.ty) h
+        where
+          named : (t : Ty) → e ≡ variable_of t a.program.types l.ty l.constant e.place (local x) → ⊥
+          named (ty.Reference target constant) h = value_place (sym is ∙ ap (λ (y : Typed). y.category) h)
+          named _ h = value_place (sym is ∙ ap (λ (y : Typed). y.category) h)
+
+  null_value : (e : Typed) → IsKind a.program.types e → e.ty ≡ NullPointer → e.category ≡ category.Value
+  null_value e k is = go k.kind
+    where
+      of_null : (t : Ty) → e.ty ≡ Of t → e.category ≡ category.Value
+      of_null t at = absurd (clash (sym at ∙ is))
+        where
+          clash : Of t ≡ NullPointer → ⊥
+          clash e = cc
+
+      go : HasKind a.program.types e → e.category ≡ category.Value
+      go (is_number_kind t at v) = of_null t at
+      go (is_pointer_kind target constant at v) = of_null (ty.Raw target constant) at
+      go (no_value at v) = v
+      go (a_null at v) = v
+
+  variable_form : (x : ℕ) (e : Typed) → Contains visible x → IsVariable a.program.types x (slice_get a.function.locals x) e → IsForm a visible types texts fs f setting (local x) e
+  variable_form x e c h = place_form a visible types texts fs f setting (local x) e kind (variable_no_value x e h) refl refl (λ place. refl) (λ id constant at v s stands. variable_names x e s stands c h id constant at v) (λ p s stands. go (pointer_type e.ty p) s stands)
+    where
+      kind : IsKind a.program.types e
+      kind = kind_local a.program.types a.function.locals x e setting.variables h
+
+      go : ((u : Ty) × (e.ty ≡ Of u) × (is_raw u ≡ true)) ⊎ (e.ty ≡ NullPointer) → (s : State) → Standing s → Points e.ty s (pointing a (local x) s)
+      go (inl u) s stands = variable_points x e s stands c h u.0 u.1 u.2
+      go (inr empty) s stands = absurd (variable_no_value x e h (null_value e kind empty))
+
+  -- ---- calls
+
+  -- what a function gives back has the type that it has in the program's table
+  pub result_later : (g : ℕ) (of : FunctionForm) → slice_get a.program.functions g ≡ Some of → shapes.ty_of types of.result ≡ type_at a.program.types of.result
+  result_later g of there =
+      let t = setting.results g of there in
+      ap shapes.or_void (setting.front of.result.0 t.0 t.1) ∙ sym (ap (λ (o : Option Ty). unwrap_or o ty.Void) t.1)
+
+  call_form : (g : ℕ) (given : Form) (closing : Place) (e : Typed) → HasResult a.program.types (slice_get a.program.functions g) e
+      → ((of : FunctionForm) → slice_get a.program.functions g ≡ Some of → (s : State) → Standing s → Hands of s (handed_over a given (parameter_types (Some of)) s)) → IsForm a visible types texts fs f setting (call g given closing) e
+  call_form g given closing e h hands = go (slice_get a.program.functions g) refl h
+    where
+      go : (o : Option FunctionForm) → slice_get a.program.functions g ≡ o → HasResult a.program.types o e → IsForm a visible types texts fs f setting (call g given closing) e
+      go None at h = absurd h
+      go (Some of) at h =
+          let built = result_built a.program.types of (function_built a.program.types a.program.functions g of setting.functions at) in
+          let k = result_kind (type_at a.program.types of.result) a.program.types e built h in
+          let is : IsCall a visible types texts fs f setting (record { function = g; arguments = given }) e.ty = record {
+            of = of;
+            there = at;
+            kind = k.0;
+            worth = k.1;
+            own = k.2;
+            hands = λ s stands. subst (λ (ids : List TyId). Hands of s (handed_over a given ids s)) (sym (ap parameters_of at)) (hands of at s stands);
+          } in
+          record {
+            kind = kind_of_result a.program.types e (type_at a.program.types of.result) built h;
+            computes = λ c n place none into s wanted stands.
+                call_part types texts fs f a.program.types g of into (own_type e.ty) place s (handed_over a given (around.parameter_types a g) s) (setting.callees g of at) (k.1 n) (result_later g of at ∙ sym (ap own_type k.2))
+                (own_value e.ty n) wanted stands.opened (is.hands s stands);
+            lands = λ c n place none r s. refl;
+            names = no_place a visible types texts fs f setting (call g given closing) e (result_value (type_at a.program.types of.result) a.program.types e built h);
+            points = λ p. absurd (no_pointer k.0 p);
+            decides = λ place w at. absurd (none_some at);
+            calls = λ c at. subst (λ (d : Called). IsCall a visible types texts fs f setting d e.ty) (some_same at) is;
+            alone = λ ends none. absurd (none_some (sym none));
+          }
+        where
+          no_pointer : (e.ty ≡ Of ty.Void) ⊎ (is_number e.ty ≡ true) → is_pointer e.ty ≡ true → ⊥
+          no_pointer (inl void) p = false≢true (sym (ap is_pointer void) ∙ p)
+          no_pointer (inr n) p = number_no_pointer e.ty n p
+
+  -- ---- pointers
+
+  dereference_form : (inner : Form) (e : Typed) → (d : IsDereferenced a.program.types (typed_in inner) e) → IsWhole a visible types texts fs f setting inner → IsForm a visible types texts fs f setting (dereference inner) e
+  dereference_form inner e d is =
+      place_form a visible types texts fs f setting (dereference inner) e (kind_of_place a.program.types e d.target d.constant d.form d.is (is_number_kind (type_at a.program.types d.target) own d.value))
+      (λ at. value_place (sym at ∙ ap (λ (y : Typed). y.category) d.is)) refl refl (λ place. refl) names (λ p. absurd (number_no_pointer e.ty (of_number a visible types texts fs f setting e.ty (type_at a.program.types d.target) own d.value) p))
+    where
+      own : e.ty ≡ Of (type_at a.program.types d.target)
+      own = ap (λ (y : Typed). y.ty) d.is
+
+      names : (id : TyId) (constant : Bool) → e.category ≡ category.Place id constant → is_value (type_at a.program.types id) ≡ true → (s : State) → Standing s
+          → Placed (type_at a.program.types id) constant s (operand a (dereference inner) s)
+      names id constant at v s stands =
+          let same : category.Place d.target d.constant ≡ category.Place id constant = sym (ap (λ (y : Typed). y.category) d.is) ∙ at in
+          let u : Ty = ty.Raw d.target d.constant in
+          subst (λ (c : Bool). Placed (type_at a.program.types id) c s (operand a (dereference inner) s)) (const_same d.target id d.constant constant same)
+          (seen_part types texts fs f (gifts.nothing types texts fs f) tt None s (pointer a inner s) (a_pointer types texts fs f u) (λ q. Through q []) (a_place types texts fs f (type_at a.program.types id) d.constant)
+          (is.pointers u d.pointer refl s stands)
+          (λ b h. behind_place types texts fs f (pointer a inner s).given u d.target d.constant (type_at a.program.types id) h refl refl refl
+          (type_later a.program.types types setting.front d.target d.value ∙ ap (type_at a.program.types) (place_same d.target id d.constant constant same)) v)
+          (λ n k q. a_target q.local (ap (λ (m : Location). Through m []) q.is) q.below q.held))
+
+  address_form : (inner : Form) (e : Typed) → (d : IsAddressed a.program.types (typed_in inner) e) → IsWhole a visible types texts fs f setting inner → IsForm a visible types texts fs f setting (address_of inner) e
+  address_form inner e d is =
+      pointer_form a visible types texts fs f setting (address_of inner) e (record { kind = is_pointer_kind d.target d.constant own d.worth; place = λ id c at. absurd (value_place (sym no ∙ at)) }) no (λ n. false≢true (sym (ap is_number own) ∙ n)) refl refl (λ place. refl)
+      (λ p s stands. subst (λ (t : ExprType). Points t s (pointing a (address_of inner) s)) (sym own)
+      (seen_part types texts fs f (gifts.nothing types texts fs f) tt None s (operand a inner s) (a_place types texts fs f (type_at a.program.types d.target) d.constant) (λ o. At (Aimed o)) (a_pointing types texts fs f (Of (ty.Raw d.target d.constant)))
+      (is.names d.target d.constant d.place d.worth s stands)
+      (λ b h. let later = type_later a.program.types types setting.front d.target d.worth in
+      and_from (aims_at types (ty.Raw d.target d.constant) (placed.type_of types f (operand a inner s).given)) (keeps_const d.constant (is_const_place types f (operand a inner s).given))
+      (ap (aims_at types (ty.Raw d.target d.constant)) (h.typed ∙ sym later) ∙ value_same (shapes.ty_of types d.target) (ap operands.is_value later ∙ value_either (type_at a.program.types d.target) d.worth)) h.held)
+      (λ n k q. q)))
+    where
+      own : e.ty ≡ Of (ty.Raw d.target d.constant)
+      own = ap (λ (y : Typed). y.ty) d.is
+
+      no : e.category ≡ category.Value
+      no = ap (λ (y : Typed). y.category) d.is
+
+  null_form : (e : Typed) → e.ty ≡ NullPointer → e.category ≡ category.Value → IsForm a visible types texts fs f setting null e
+  null_form e t c =
+      pointer_form a visible types texts fs f setting null e (record { kind = a_null t c; place = λ id d at. absurd (value_place (sym c ∙ at)) }) c (λ n. false≢true (sym (ap is_number t) ∙ n)) refl refl (λ place. refl)
+      (λ p s stands. subst (λ (u : ExprType). Points u s (gives (At Null) s)) (sym t) (leaf_part types texts fs f (At Null) s (a_pointing types texts fs f NullPointer) (λ b. refl) (λ b k alive. tt)))
+
+  -- ---- operators
+
+  binary_form : (o : BinaryOperator) (left right : Form) (e : Typed) → (c : IsCombined o (typed_in left) (typed_in right) e) → IsExpression a.program a.function.locals visible left → IsExpression a.program a.function.locals visible right
+      → IsWhole a visible types texts fs f setting left → IsWhole a visible types texts fs f setting right → IsForm a visible types texts fs f setting (binary o left right) e
+  binary_form o left right e c hl hr l r =
+      decided_form a visible types texts fs f setting (binary o left right) e c.ty c.is.0 c.is.1 v refl makes (λ place none r s. refl)
+      (λ place w at s stands. binary_decided a visible types texts fs f o place left right e c hl hr lo ro l.conditions r.conditions l.pointers r.pointers w s stands at)
+    where
+      lo : IsOperand (typed_in left).ty
+      lo = operand_kind a.program.types (typed_in left) l.kind
+
+      ro : IsOperand (typed_in right).ty
+      ro = operand_kind a.program.types (typed_in right) r.kind
+
+      v : is_value c.ty ≡ true
+      v = answer_value o (typed_in left).ty (typed_in right).ty c.ty lo ro c.answer
+
+      makes : (place : Place) → decision a (binary o left right) place ≡ None → (into : Option ℕ) (s : State) → IsIntoOf c.ty s into → Standing s → Valued c.ty into s (made a (binary o left right) place c.ty into s)
+      makes place none into s wanted stands =
+          let both = binary_numbers a visible types texts fs f o place left right e c hl hr lo ro none in
+          let never = no_test a visible types texts fs f o place left right none in
+          let t = common left right in
+          let w = promoted_value (around.type_in left) (around.type_in right) in
+          let first = l.valued both.0 t w None s tt stands in
+          let later = stands_later types fs f a visible s (value a left t None s).state first.grown stands in
+          let own : c.ty ≡ answer_of (values.operator_of o) t =
+          number_answer o (typed_in left).ty (typed_in right).ty c.ty both.0 both.1 never.0 never.1 c.answer
+          ∙ sym (ap (λ (x : Ty). answer_of (values.operator_of o) (promoted x (around.type_in right))) (type_in_own left) ∙ ap (λ (x : Ty). answer_of (values.operator_of o) (promoted (own_type (typed_in left).ty) x)) (type_in_own right)) in
+          operated_part types texts fs f into t c.ty place (values.operator_of o) (value a left t None) (value a right t None) s (promoted_is (around.type_in left) (around.type_in right)) (sym own) v wanted stands.opened first
+          (r.valued both.1 t w None (value a left t None s).state tt later)
+
+  -- ---- any expression
+
+  mutual
+    pub whole_expression : (form : Form) → is_built_form form ≡ true → IsExpression a.program a.function.locals visible form → IsWhole a visible types texts fs f setting form
+    whole_expression (typed place t c form) b h = whole_of a visible types texts fs f setting place t c form (expression form (record { place = place; ty = t; category = c; form = form }) b h)
+    whole_expression _ b h = absurd h
+
+    -- each form by the way it is made
+    pub expression : (form : Form) (e : Typed) → is_built_form form ≡ true → IsMadeOf a.program a.function.locals visible e form → IsForm a visible types texts fs f setting form e
+    expression (number n) e b h = literal a visible types texts fs f setting (number n) e (number_type n) h.0 (number_value n) refl (λ place. refl) (λ place into s wanted stands. constant_part types texts fs f into (number_type n) place (values.long n) s (number_value n) wanted) (λ place r s. refl)
+    expression (character c) e b h = literal a visible types texts fs f setting (character c) e ty.Char h.0 refl refl (λ place. refl) (λ place into s wanted stands. constant_part types texts fs f into ty.Char place (pos c) s refl wanted) (λ place r s. refl)
+    expression (boolean x) e b h = literal a visible types texts fs f setting (boolean x) e ty.Bool h refl refl (λ place. refl) (λ place into s wanted stands. constant_part types texts fs f into ty.Bool place (values.truth x) s refl wanted) (λ place r s. refl)
+    expression null e b h = null_form e h.0 h.1
+    expression (local x) e b h = variable_form x e h.0 h.1
+    expression (call g given closing) e b h = call_form g given closing e h.0 (λ of at s stands. handed given b h.2 (parameter_types (Some of)) (subst (λ (o : Option FunctionForm). are_given a.program.types (parameter_types o) given ≡ true) at h.1) (setting.taken g of at) s stands)
+    expression (paren inner closing) e b h = paren_form a visible types texts fs f setting inner closing e (ap (λ (y : Typed). y.ty) (ok_same h.0)) (ap (λ (y : Typed). y.category) (ok_same h.0)) (whole_expression inner b h.1)
+    expression input e b h = literal a visible types texts fs f setting input e ty.Long h refl refl (λ place. refl) (λ place into s wanted stands. input_part types texts fs f into ty.Long place s refl wanted) (λ place r s. refl)
+    expression (dereference inner) e b h = let is = whole_expression inner b h.1 in dereference_form inner e (dereferenced_as a.program.types (typed_in inner) e is.kind h.0) is
+    expression (negate inner) e b h =
+        let is = whole_expression inner b h.1 in
+        let g = negated_as a.program.types (typed_in inner) e is.kind h.0 in
+        let own : e.ty ≡ Of g.ty = ap (λ (y : Typed). y.ty) g.is in
+        value_form a visible types texts fs f setting (negate inner) e g.ty own (ap (λ (y : Typed). y.category) g.is) g.worth refl (λ place. refl)
+        (λ place into s wanted stands. negated_part types texts fs f g.ty place (value a inner g.ty None) into s g.worth (sym (ap (λ (t : ExprType). operands.is_promoted (own_type t)) own) ∙ negated_promoted a.program.types (typed_in inner) e is.kind h.0) wanted stands.opened
+        (is.valued g.number g.ty g.worth None s tt stands))
+        (λ place r s. refl)
+    expression (not inner) e b h =
+        let is = whole_expression inner b h.1 in
+        let g = inverted_as (typed_in inner) e h.0 in
+        decided_form a visible types texts fs f setting (not inner) e ty.Bool (ap (λ (y : Typed). y.ty) g.is) (ap (λ (y : Typed). y.category) g.is) refl refl (λ place none. absurd (none_some (sym none))) (λ place none. absurd (none_some (sym none)))
+        (λ place w at s stands. subst (λ (v : State → Gives Tree). Decided s (v s)) (some_same at) (negation_part types texts fs f (condition a inner) s (is.conditions g.condition s stands)))
+    expression (address_of inner) e b h = let is = whole_expression inner b h.1 in address_form inner e (addressed_as a.program.types (typed_in inner) e is.kind h.0) is
+    expression (binary o left right) e b h =
+        let parts = and_parts (is_built_form left) (is_built_form right) b in
+        binary_form o left right e (combined_as o e.place (typed_in left) (typed_in right) e h.0) h.1 h.2 (whole_expression left parts.0 h.1) (whole_expression right parts.1 h.2)
+    expression (text id) e b h = absurd (false≢true b)
+    expression (construct structure elements closing) e b h = absurd (false≢true b)
+    expression (move x) e b h = absurd (false≢true b)
+    expression (make_unique id argument closing) e b h = absurd (false≢true b)
+    expression (text_of inner closing) e b h = absurd (false≢true b)
+    expression (member base which) e b h = absurd (false≢true b)
+    expression (index base position closing) e b h = absurd (false≢true b)
+    expression (method base which given closing) e b h = absurd (false≢true b)
+    expression (typed at t c form) e b h = absurd h
+    expression nothing e b h = absurd h
+    expression (first ⨟ others) e b h = absurd h
+
+    -- arguments
+    pub handed : (form : Form) → is_built_form form ≡ true → AreExpressions a.program a.function.locals visible form → (ids : List TyId) → are_given a.program.types ids form ≡ true
+        → ((n : ℕ) (id : TyId) → slice_get ids n ≡ Some id → is_value (type_at a.program.types id) ≡ true) → (s : State) → Standing s
+        → Makes types texts fs f None s (handed_over a form ids s) (arguments types texts fs f ids)
+    handed nothing b h [] g v s stands = none_handed types texts fs f s
+    handed nothing b h (id ∷ ids) g v s stands = absurd (false≢true g)
+    handed (e ⨟ es) b h [] g v s stands = absurd (false≢true g)
+    handed (e ⨟ es) b h (id ∷ ids) g v s stands =
+        let parts = and_parts (is_built_form e) (is_built_form es) b in
+        let given = and_parts (is_given a.program.types (type_at a.program.types id) (typed_in e)) (are_given a.program.types ids es) g in
+        let t = type_at a.program.types id in
+        let worth = v zero id refl in
+        let first = (whole_expression e parts.0 h.0).valued (given_number a.program.types t (typed_in e) worth given.0) t worth None s tt stands in
+        handed_part types texts fs f id t ids (value a e t None) (handed_over a es ids) s (type_later a.program.types types setting.front id worth) stands.opened first
+        (handed es parts.1 h.1 ids given.1 (λ n. v (suc n)) (value a e t None s).state (stands_later types fs f a visible s (value a e t None s).state first.grown stands))
+    handed _ b h ids g v s stands = absurd h

@@ -1,0 +1,350 @@
+-- Single instructions that write a register: what is asked of each, and that it is a part behind what its operands give.
+use Rattle.std.proofs.Common.{◌≡◌, ◌<◌, ℕ, Bool, true, false, ◌&&◌, cond, List, [], ◌∷◌, ◌++◌, length, slice_set, Option, Some, None, refl, sym, ap, ◌∙◌, subst, arith}
+use Rattle.std.proofs.lemmas.Bool.{and_from, false≢true}
+use Rattle.std.proofs.lemmas.Option.{slice_get_within}
+use Rattle.std.specs.Prelude.{ℤ}
+use Rattle.life_types.specs.Trees.{HasPartsBelow}
+use Rattle.life_types.specs.Types.{Types}
+use Rattle.life_types.specs.contracts.ty.TyPartialEq.TheImpl.{ghosts as compared}
+use Rattle.life_types.specs.declared.place.Place.{Place}
+use Rattle.life_types.specs.declared.ty.Ty.{Ty}
+use Rattle.life_types.specs.declared.ty.Ty.TheVariants as ty
+use Rattle.life_typed.specs.BaseTypes.{is_raw, is_value}
+use Rattle.life_typed.specs.declared.typed_expr.ExprType.TheVariants.{Of}
+use Rattle.life_core.specs.ByValue.{is_by_value}
+use Rattle.life_core.specs.Function.{Function}
+use Rattle.life_core.specs.Holdings.{ANumber, APointer, Holding, sort_of}
+use Rattle.life_core.specs.Operands.{Null, Operand, Place as Aimed, Source, whole}
+use Rattle.life_core.specs.Step.{Aim, Step}
+use Rattle.life_core.specs.Tree.{Acts}
+use Rattle.life_core.specs.declared.operation.Operation.{Operation}
+use Rattle.life_core.specs.declared.operation.Operation.TheVariants as operation
+use Rattle.life_core.specs.declared.operation.Operator.{Operator}
+use Rattle.life_pset.specs.Shapes as shapes
+use Rattle.life_proper.specs.Knowing.{known_as, known_at}
+use Rattle.life_proper.specs.OperandTypes.{is_promoted}
+use Rattle.life_proper.specs.OperandTypes as operands
+use Rattle.life_proper.specs.Placed.{is_number, is_number_of, type_at}
+use Rattle.life_proper.specs.ReadyKnown.{holds, is_operand_ready, is_operation_ready, is_sort, is_source_ready, is_step_ready, known_after}
+use Rattle.life_proper.specs.WellFormed.{answer_of, is_operation_of, is_source_of, is_well_formed_step}
+use Rattle.life_proper.specs.declared.known.Known.{Known}
+use Rattle.life_proper.specs.declared.known.Known.TheVariants as known
+use Rattle.life_writer.specs.Pointers.{As, At, Pointing, located}
+use Rattle.life_writer.specs.Registers.{as_type, computed, constant, conversion, converted, eval, load, new_register, target}
+use Rattle.life_writer.specs.Values as values
+use Rattle.life_writer.specs.Writing.{Gives, State, emit, gives}
+use Rattle.life_elab_laws.proofs.Emitting.{IsInto, IsNameless, IsWanted, Targets, keeps_set, new_targeted, targeted}
+use Rattle.life_elab_laws.proofs.Falling.{falling, falls_acts}
+use Rattle.life_elab_laws.proofs.Fronts.{front_itself, last_there}
+use Rattle.life_elab_laws.proofs.Gifts.{Gift, IsAt, IsGivenTo, a_number, a_place, a_pointer, a_pointing, both, nothing}
+use Rattle.life_elab_laws.proofs.Growing.{Begins, Grows, added}
+use Rattle.life_elab_laws.proofs.Held.{number_held, number_sort, place_ready}
+use Rattle.life_elab_laws.proofs.Knowledge.{at_set}
+use Rattle.life_elab_laws.proofs.Making.{IsOpen, IsPointing, Keeps}
+use Rattle.life_elab_laws.proofs.OperandsThere.{number_any, number_there, number_typed, type_there, value_either, value_same}
+use Rattle.life_elab_laws.proofs.Parts.{Makes, Part, Runs, and_part, gives_part, then_part}
+use Rattle.life_elab_laws.proofs.Shaping.{fine_acts}
+use Rattle.life_elab_laws.proofs.Types.{raw_register, same_types, type_added}
+use Rattle.life_elab_laws.proofs.WrittenLocals.{fits_register, registers_none}
+
+-- ---- the register that is written
+
+-- the one that is wanted has this type
+abbrev pub IsIntoOf : Ty → State → Option ℕ → Type 0
+IsIntoOf t s None = Unit {0}
+IsIntoOf t s (Some r) = (is : IsWanted s r) × (is.ty ≡ t)
+
+pub into_of_later : (t : Ty) (s s' : State) (into : Option ℕ) → Grows s s' → IsIntoOf t s into → IsIntoOf t s' into
+into_of_later t s s' None g h = tt
+into_of_later t s s' (Some r) g h = (
+  record {
+    local = h.0.local;
+    there = g.locals r h.0.local h.0.there;
+    nameless = h.0.nameless;
+    kind = h.0.kind;
+    ty = h.0.ty;
+    typed = g.types h.0.local.ty.0 h.0.ty h.0.typed;
+    value = h.0.value;
+  },
+  h.1,
+)
+
+pub is_into : (t : Ty) (s : State) (into : Option ℕ) → IsIntoOf t s into → IsInto s into
+is_into t s None h = tt
+is_into t s (Some r) h = h.0
+
+-- a raw pointer, by both definitions
+pub raw_either : (t : Ty) → is_raw t ≡ true → shapes.is_raw t ≡ true
+raw_either (ty.Raw target constant) e = refl
+raw_either _ e = absurd (false≢true e)
+
+module _ (types : Types) (texts : ℕ) (fs : List Function) (f : Function) where
+  abbrev G : Type 0 → Type 1
+  G A = Gift types texts fs f A
+
+  -- ---- an instruction that writes a register, behind what gave x
+
+  pub emit_part : {A C : Type 0} (P : G A) (x : A) (into : Option ℕ) (s : State) (w : Gives ℕ) (h : Holding) (place : Place) (step : ℕ → Step) (y : C) (O : G C)
+      → Targets types fs f h into s w
+      → (Begins types f w.state → P.typed x → (is_well_formed_step types texts fs f (step w.given) ≡ true) × O.typed y)
+      → ((r n : ℕ) (k : List Known) → sort_of types f r ≡ h → P.ready x n k → is_step_ready types fs f k (step r) ≡ true)
+      → ((r : ℕ) (k : List Known) → sort_of types f r ≡ h → known_after types f (step r) k ≡ slice_set k r (known_as h))
+      → ((r : ℕ) → sort_of types f r ≡ h → is_by_value types fs f (step r) ≡ true)
+      → ((k : List Known) → w.given < length w.state.locals → known_at k w.given ≡ known_as h → sort_of types f w.given ≡ h → O.ready y (length w.state.locals) k)
+      → Part types texts fs f P x into s (gives y (emit place (step w.given) w.state)) O
+  emit_part P x into s w h place step y O t typed ready after plain given = record {
+    grown = record {
+      locals = t.grown.locals;
+      types = t.grown.types;
+      count = t.grown.count;
+      variables = t.grown.variables;
+      living = t.grown.living;
+      outside = t.grown.outside;
+      shaped = t.grown.shaped;
+    };
+    registers = t.registers;
+    code = Acts place (step w.given) ∷ [];
+    written = ap (λ c. c ++ Acts place (step w.given) ∷ []) t.unwritten;
+    runs = λ b p. let here : Begins types f w.state = record { locals = b.locals; table = b.table } in runs (t.there here) (typed here p);
+  }
+    where
+      runs : IsNameless types fs f h w.given → (is_well_formed_step types texts fs f (step w.given) ≡ true) × O.typed y → Runs types texts fs f P x into s (gives y (emit place (step w.given) w.state)) O (Acts place (step w.given) ∷ [])
+      runs is wf = record {
+        fine = fine_acts types fs f place (step w.given) (plain w.given is.sort);
+        formed = and_from (is_well_formed_step types texts fs f (step w.given)) true wf.0 refl;
+        typed = wf.1;
+        goes = λ k alive p. record {
+          after = slice_set k w.given (known_as h);
+          falls = falls_acts types fs f place (step w.given) k (ready w.given (length s.locals) k is.sort p) ∙ ap falling (after w.given k is.sort);
+          keeps = keeps_set types fs f (length s.locals) into h w.given (known_as h) k is t.beside;
+          gives = given (slice_set k w.given (known_as h)) t.below (at_set k w.given (known_as h) (omega (arith, alive.sized, slice_get_within f.locals w.given is.local is.there))) is.sort;
+        };
+      }
+
+  -- ---- instructions that compute
+
+  -- what is asked of an instruction that computes a number of a type from what gave x
+  pub record Computes {A : Type 0} (P : G A) (x : A) (t : Ty) (step : ℕ → Step) : Type 0 where
+    pub ready : (r n : ℕ) (k : List Known) → sort_of types f r ≡ ANumber → P.ready x n k → is_step_ready types fs f k (step r) ≡ true
+    pub after : (r : ℕ) (k : List Known) → sort_of types f r ≡ ANumber → known_after types f (step r) k ≡ slice_set k r known.Number
+    pub plain : (r : ℕ) → sort_of types f r ≡ ANumber → is_by_value types fs f (step r) ≡ true
+    pub formed : (r : ℕ) → is_number_of types f t r ≡ true → P.typed x → is_well_formed_step types texts fs f (step r) ≡ true
+
+  pub target_number : (place : Place) (into : Option ℕ) (t : Ty) (s : State) → is_value t ≡ true → IsIntoOf t s into → Begins types f (target place into t s).state → is_number_of types f t (target place into t s).given ≡ true
+  target_number place None t s v wanted b =
+      number_there types f (length s.locals) (added place t s) t (b.locals (length s.locals) (added place t s) (last_there s.locals (added place t s))) refl
+      (b.table (added place t s).ty.0 t (type_added s.types.types t)) (value_either t v)
+  target_number place (Some x) t s v wanted b =
+      number_there types f x wanted.0.local t (b.locals x wanted.0.local wanted.0.there) wanted.0.kind
+      (b.table wanted.0.local.ty.0 t (wanted.0.typed ∙ ap Some wanted.1)) (value_either t v)
+
+  pub computed_part : {A : Type 0} (P : G A) (x : A) (into : Option ℕ) (t : Ty) (place : Place) (step : ℕ → Step) (s : State) → is_value t ≡ true → IsIntoOf t s into → Computes P x t step
+      → Part types texts fs f P x into s (computed into t place step s) (a_number types texts fs f t)
+  computed_part P x into t place step s v wanted is =
+      let w = target place into t s in
+      emit_part P x into s w ANumber place step w.given (a_number types texts fs f t) (targeted types fs f place t s into v (is_into t s into wanted))
+      (λ b p. let here = target_number place into t s v wanted b in (is.formed w.given here p, here))
+      is.ready is.after is.plain (λ k lt e sort. (lt, e))
+
+  -- an operation between registers
+  pub evaluates : {A : Type 0} (P : G A) (x : A) (t : Ty) (o : Operation) → ((n : ℕ) (k : List Known) → P.ready x n k → is_operation_ready k o ≡ true) → (P.typed x → is_operation_of types texts fs f t o ≡ true)
+      → Computes P x t (eval o)
+  evaluates P x t o ready formed = record {
+    ready = λ r n k e p. and_from (is_sort (sort_of types f r) ANumber) (is_operation_ready k o) (number_sort (sort_of types f r) e) (ready n k p);
+    after = λ r k e. refl;
+    plain = λ r e. refl;
+    formed = λ r e p.
+        and_from (is_number types f r) (is_operation_of types texts fs f (type_at types f r) o) (number_any types f t r e)
+        (subst (λ (u : Ty). is_operation_of types texts fs f u o ≡ true) (number_typed types f t r e) (formed p));
+  }
+
+  pub is_constant : {A : Type 0} (P : G A) (x : A) (t : Ty) (n : ℤ) → Computes P x t (constant n)
+  is_constant P x t n = evaluates P x t (operation.Number n) (λ m k p. refl) (λ p. refl)
+
+  -- ---- leaves
+
+  pub constant_part : (into : Option ℕ) (t : Ty) (place : Place) (n : ℤ) (s : State) → is_value t ≡ true → IsIntoOf t s into → Makes types texts fs f into s (computed into t place (constant n) s) (a_number types texts fs f t)
+  constant_part into t place n s v wanted = computed_part (nothing types texts fs f) tt into t place (constant n) s v wanted (is_constant (nothing types texts fs f) tt t n)
+
+  pub input_part : (into : Option ℕ) (t : Ty) (place : Place) (s : State) → t ≡ ty.Long → IsIntoOf t s into → Makes types texts fs f into s (computed into t place values.input s) (a_number types texts fs f t)
+  input_part into t place s long wanted =
+      computed_part (nothing types texts fs f) tt into t place values.input s (ap is_value long) wanted
+      (record {
+        ready = λ r n k e p. number_sort (sort_of types f r) e;
+        after = λ r k e. refl;
+        plain = λ r e. refl;
+        formed = λ r e p. subst (λ (u : Ty). is_number_of types f u r ≡ true) long e;
+      })
+
+  -- ---- from one register
+
+  pub negation_part : (into : Option ℕ) (t : Ty) (place : Place) (from : ℕ) (s : State) → is_value t ≡ true → is_promoted t ≡ true → IsIntoOf t s into
+      → Part types texts fs f (a_number types texts fs f t) from into s (computed into t place (values.negated from) s) (a_number types texts fs f t)
+  negation_part into t place from s v p wanted =
+      computed_part (a_number types texts fs f t) from into t place (values.negated from) s v wanted
+      (evaluates (a_number types texts fs f t) from t (operation.Negate from) (λ n k h. number_held k from h.1) (λ h. and_from (is_promoted t) (is_number_of types f t from) p h))
+
+  pub conversion_part : (into : Option ℕ) (u t : Ty) (place : Place) (from : ℕ) (s : State) → is_value t ≡ true → IsIntoOf t s into
+      → Part types texts fs f (a_number types texts fs f u) from into s (computed into t place (conversion from) s) (a_number types texts fs f t)
+  conversion_part into u t place from s v wanted =
+      computed_part (a_number types texts fs f u) from into t place (conversion from) s v wanted
+      (evaluates (a_number types texts fs f u) from t (operation.Convert from) (λ n k h. number_held k from h.1) (λ h. number_any types f u from h))
+
+  -- .. from two of one type
+
+  operator_formed : (u : Ty) (o : Operator) (x y : ℕ) → is_promoted u ≡ true → operands.is_value (answer_of o u) ≡ true → is_number_of types f u x ≡ true → is_number_of types f u y ≡ true
+      → is_operation_of types texts fs f (answer_of o u) (operation.Binary o x y) ≡ true
+  operator_formed u o x y p v one other =
+      subst (λ (w : Ty). (is_promoted w && (is_number_of types f w x && (is_number_of types f w y && same_type w))) ≡ true) (number_typed types f u x one)
+      (and_from (is_promoted u) _ p (and_from (is_number_of types f u x) _ one (and_from (is_number_of types f u y) (same_type u) other (value_same (answer_of o u) v))))
+    where
+      same_type : Ty → Bool
+      same_type w = operands.same (answer_of o u) (answer_of o w)
+
+  pub operator_part : (into : Option ℕ) (u t : Ty) (place : Place) (o : Operator) (x : ℕ × ℕ) (s : State) → is_promoted u ≡ true → answer_of o u ≡ t → is_value t ≡ true → IsIntoOf t s into
+      → Part types texts fs f (both types texts fs f (a_number types texts fs f u) (a_number types texts fs f u)) x into s (computed into t place (values.binary o x.0 x.1) s) (a_number types texts fs f t)
+  operator_part into u t place o x s p answers v wanted =
+      let P = both types texts fs f (a_number types texts fs f u) (a_number types texts fs f u) in
+      computed_part P x into t place (values.binary o x.0 x.1) s v wanted
+      (evaluates P x t (operation.Binary o x.0 x.1)
+      (λ n k h. and_from (holds k x.0 ANumber) (holds k x.1 ANumber) (number_held k x.0 h.0.1) (number_held k x.1 h.1.1))
+      (λ h. subst (λ (a : Ty). is_operation_of types texts fs f a (operation.Binary o x.0 x.1) ≡ true) answers
+      (operator_formed u o x.0 x.1 p (value_either (answer_of o u) (ap is_value answers ∙ v)) h.0 h.1)))
+
+  -- .. from a place
+
+  pub load_part : (into : Option ℕ) (t : Ty) (constant : Bool) (place : Place) (o : Operand) (s : State) → is_value t ≡ true → IsIntoOf t s into
+      → Part types texts fs f (a_place types texts fs f t constant) o into s (computed into t place (load o) s) (a_number types texts fs f t)
+  load_part into t constant place o s v wanted =
+      computed_part (a_place types texts fs f t constant) o into t place (load o) s v wanted
+      (record {
+        ready = λ r n k e p. and_from (is_sort (sort_of types f r) ANumber) (is_operand_ready k o) (number_sort (sort_of types f r) e) (place_ready o n k p);
+        after = λ r k e. refl;
+        plain = λ r e. refl;
+        formed = λ r e h. subst (λ (u : Ty). is_number_of types f u r ≡ true) (sym h.typed) e;
+      })
+
+  -- ---- behind other parts
+
+  -- what is read from a place
+  pub read_part : (t : Ty) (constant : Bool) (place : Place) (at : State → Gives Operand) (into : Option ℕ) (s : State) → is_value t ≡ true → IsIntoOf t s into → IsOpen types fs f s
+      → Makes types texts fs f None s (at s) (a_place types texts fs f t constant) → Makes types texts fs f into s (values.read t place at into s) (a_number types texts fs f t)
+  read_part t constant place at into s v wanted opened first =
+      then_part types texts fs f (nothing types texts fs f) tt into s (at s) _ (a_place types texts fs f t constant) (a_number types texts fs f t) opened first
+      (load_part into t constant place (at s).given (at s).state v (into_of_later t s (at s).state into first.grown wanted))
+
+  -- one operand and an operation
+  pub negated_part : (t : Ty) (place : Place) (value : State → Gives ℕ) (into : Option ℕ) (s : State) → is_value t ≡ true → is_promoted t ≡ true → IsIntoOf t s into → IsOpen types fs f s
+      → Makes types texts fs f None s (value s) (a_number types texts fs f t) → Makes types texts fs f into s (computed into t place (values.negated (value s).given) (value s).state) (a_number types texts fs f t)
+  negated_part t place value into s v p wanted opened first =
+      then_part types texts fs f (nothing types texts fs f) tt into s (value s) _ (a_number types texts fs f t) (a_number types texts fs f t) opened first
+      (negation_part into t place (value s).given (value s).state v p (into_of_later t s (value s).state into first.grown wanted))
+
+  -- a value as one of another type
+  pub as_type_part : {A : Type 0} (P : G A) (x : A) (from to : Ty) (place : Place) (given : Option ℕ → State → Gives ℕ) (into : Option ℕ) (s : State) → is_value to ≡ true → IsIntoOf to s into → IsOpen types fs f s
+      → ((into : Option ℕ) → IsIntoOf from s into → Part types texts fs f P x into s (given into s) (a_number types texts fs f from))
+      → Part types texts fs f P x into s (as_type from to place given into s) (a_number types texts fs f to)
+  as_type_part P x from to place given into s v wanted opened value = go (compared.eq from to) refl
+    where
+      other : Part types texts fs f P x into s (computed into to place (conversion (given None s).given) (given None s).state) (a_number types texts fs f to)
+      other =
+          let first = value None tt in
+          then_part types texts fs f P x into s (given None s) _ (a_number types texts fs f from) (a_number types texts fs f to) opened first
+          (conversion_part into from to place (given None s).given (given None s).state v (into_of_later to s (given None s).state into first.grown wanted))
+
+      go : (b : Bool) → compared.eq from to ≡ b → Part types texts fs f P x into s (cond b (given into s) (computed into to place (conversion (given None s).given) (given None s).state)) (a_number types texts fs f to)
+      go true e =
+          let one = same_types from to e in
+          subst (λ (t : Ty). Part types texts fs f P x into s (given into s) (a_number types texts fs f t)) one (value into (subst (λ (t : Ty). IsIntoOf t s into) (sym one) wanted))
+      go false e = other
+
+  -- .. that is there already
+  pub converted_part : (from to : Ty) (place : Place) (r : ℕ) (s : State) → is_value to ≡ true → IsOpen types fs f s
+      → Part types texts fs f (a_number types texts fs f from) r None s (converted from to place r s) (a_number types texts fs f to)
+  converted_part from to place r s v opened = as_type_part (a_number types texts fs f from) r from to place there None s v tt opened (λ into h. stays into h)
+    where
+      there : Option ℕ → State → Gives ℕ
+      there into s = gives r s
+
+      stays : (into : Option ℕ) → IsIntoOf from s into → Part types texts fs f (a_number types texts fs f from) r into s (there into s) (a_number types texts fs f from)
+      stays into h = gives_part types texts fs f (a_number types texts fs f from) r into r s (a_number types texts fs f from) (λ b e. e) (λ b k alive e. e)
+
+  -- an operator between two
+  pub operated_part : (into : Option ℕ) (u t : Ty) (place : Place) (o : Operator) (left right : State → Gives ℕ) (s : State) → is_promoted u ≡ true → answer_of o u ≡ t → is_value t ≡ true → IsIntoOf t s into → IsOpen types fs f s
+      → (first : Makes types texts fs f None s (left s) (a_number types texts fs f u)) → Makes types texts fs f None (left s).state (right (left s).state) (a_number types texts fs f u)
+      → Makes types texts fs f into s (values.operated into t place o left right s) (a_number types texts fs f t)
+  operated_part into u t place o left right s p answers v wanted opened first second =
+      let P = a_number types texts fs f u in
+      let l = left s in
+      let r = right l.state in
+      then_part types texts fs f (nothing types texts fs f) tt into s (gives (l.given, r.given) r.state) _ (both types texts fs f P P) (a_number types texts fs f t) opened
+      (and_part types texts fs f (nothing types texts fs f) tt s l r P P opened first second)
+      (operator_part into u t place o (l.given, r.given) r.state p answers v (into_of_later t l.state r.state into second.grown (into_of_later t s l.state into first.grown wanted)))
+
+  -- ---- pointers
+
+  aimed_formed : (t : Ty) (source : Source) → is_raw t ≡ true → IsGivenTo types texts fs f t (At source) → is_source_of types texts fs f t source ≡ true
+  aimed_formed t Null raw h = raw_either t raw
+  aimed_formed t (Aimed o) raw h = h
+  aimed_formed t _ raw h = absurd h
+
+  aimed_ready : (k : List Known) (h : Holding) (source : Source) (n : ℕ) → h ≡ APointer → IsPointing types f (At source) n k → is_source_ready k (known_as h) source ≡ true
+  aimed_ready k h source n e p = ap (λ (g : Holding). is_source_ready k (known_as g) source) e ∙ go source p
+    where
+      go : (source : Source) → IsPointing types f (At source) n k → is_source_ready k known.Pointer source ≡ true
+      go Null p = refl
+      go (Aimed o) p = place_ready o n k p
+      go _ p = absurd p
+
+  raw_at : (place : Place) (t : Ty) (s : State) → is_raw t ≡ true → Begins types f (new_register place t s).state → IsAt types texts fs f t (whole (new_register place t s).given)
+  raw_at place (ty.Raw target constant) s raw b =
+      let t : Ty = ty.Raw target constant in
+      let l = added place t s in
+      type_there types f _ l t (b.locals _ l (last_there s.locals l)) (b.table l.ty.0 t (type_added s.types.types t)) refl
+  raw_at place _ s raw b = absurd (false≢true raw)
+
+  -- a variable is where it is, and anything else comes into a register
+  pub located_part : (p : Pointing) (t : Ty) (place : Place) (s : State) → is_raw t ≡ true → fits_register types t ≡ true → HasPartsBelow s.types (length s.types.types) t
+      → Part types texts fs f (a_pointing types texts fs f (Of t)) p None s (located place t p s) (a_pointer types texts fs f t)
+  located_part (As l) t place s raw fits below =
+      gives_part types texts fs f (a_pointing types texts fs f (Of t)) (As l) None l s (a_pointer types texts fs f t) (λ b h. h) (λ b k alive h. h)
+  located_part (At source) t place s raw fits below =
+      let w = new_register place t s in
+      emit_part (a_pointing types texts fs f (Of t)) (At source) None s w APointer place (λ r. Aim (whole r) source) (whole w.given) (a_pointer types texts fs f t)
+      (new_targeted types fs f place t APointer s (raw_register t raw) fits below)
+      (λ b h. let at = raw_at place t s raw b in (ap (λ (u : Ty). is_source_of types texts fs f u source) at ∙ aimed_formed t source raw h, at))
+      (λ r n k e h. aimed_ready k (sort_of types f r) source n e h)
+      (λ r k e. ap (λ (h : Holding). slice_set k r (known_as h)) e)
+      (λ r e. refl)
+      (λ k lt e sort. record { local = w.given; is = refl; below = lt; held = e; sort = sort })
+
+  -- ---- an instruction that leaves all that is known
+
+  pub acted_part : {A : Type 0} (P : G A) (x : A) (place : Place) (i : Step) (s : State) → (P.typed x → is_well_formed_step types texts fs f i ≡ true) → ((n : ℕ) (k : List Known) → P.ready x n k → is_step_ready types fs f k i ≡ true)
+      → ((n m : ℕ) (k : List Known) → P.ready x n k → Keeps types fs f m None k (known_after types f i k)) → is_by_value types fs f i ≡ true
+      → Part types texts fs f P x None s (gives tt (emit place i s)) (nothing types texts fs f)
+  acted_part P x place i s formed ready after plain = record {
+    grown = record {
+      locals = front_itself s.locals;
+      types = front_itself s.types.types;
+      count = omega arith;
+      variables = refl;
+      living = refl;
+      outside = refl;
+      shaped = λ types h. h;
+    };
+    registers = registers_none types s;
+    code = Acts place i ∷ [];
+    written = refl;
+    runs = λ b p. record {
+      fine = fine_acts types fs f place i plain;
+      formed = and_from (is_well_formed_step types texts fs f i) true (formed p) refl;
+      typed = tt;
+      goes = λ k alive p. record {
+        after = known_after types f i k;
+        falls = falls_acts types fs f place i k (ready (length s.locals) k p);
+        keeps = after (length s.locals) (length s.locals) k p;
+        gives = tt;
+      };
+    };
+  }
