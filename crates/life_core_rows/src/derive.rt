@@ -3,13 +3,15 @@ ghost use Rattle.std.specs.Prelude.{◌≡◌, ◌<◌, length};
 ghost use Rattle.life_core.specs.Function.{function_of};
 ghost use Rattle.life_pset.specs.Elements.{IsWithinLimits};
 ghost use Rattle.life_pset.specs.Table.{table_of};
+ghost use Rattle.life_fix.specs.Solution.{AllLimited};
 
 use life_base::Steps;
 use life_contract::Signatures;
 use life_core::{CoreFn, Edge, FnId, Names, Point, edges};
 use life_fix::{Solution, diagnostics, solve};
+use life_plan::{facts_in, transfer};
 use life_pset::{ElementTable, Fact};
-use life_rules::{Diag, facts_in, transfer};
+use life_rules::Diag;
 use life_sets::{BitRows, Rows, SetRows};
 use life_types::{NoMemory, TypeTable};
 use std::alloc::Global;
@@ -123,7 +125,9 @@ fn push_all_carried<R: Rows, L: Ledger>(
     steps: &mut Steps<L>,
     all: &mut Vec<Carried>,
 ) -> Result<bool, NoMemory>
-    requires { IsWithinLimits given.types.now (function_of given.f.now) }
+    requires limits { IsWithinLimits given.types.now (function_of given.f.now) }
+    requires locations { AllLimited R.location_limit (length (table_of given.types.now (function_of given.f.now)).locations) sol.now.rows }
+    requires elements { AllLimited R.element_limit (length (table_of given.types.now (function_of given.f.now)).elements) sol.now.rows }
 {
     let mut right = true;
     let edges = edges(given.alloc, given.f)?;
@@ -143,7 +147,9 @@ fn push_carried<R: Rows, L: Ledger>(
     steps: &mut Steps<L>,
     all: &mut Vec<Carried>,
 ) -> Result<bool, NoMemory>
-    requires { IsWithinLimits given.types.now (function_of given.f.now) }
+    requires limits { IsWithinLimits given.types.now (function_of given.f.now) }
+    requires locations { AllLimited R.location_limit (length (table_of given.types.now (function_of given.f.now)).locations) sol.now.rows }
+    requires elements { AllLimited R.element_limit (length (table_of given.types.now (function_of given.f.now)).elements) sol.now.rows }
 {
     match sol.row(edge.from) {
         None => Ok(true),
@@ -158,7 +164,9 @@ fn push_from<R: Rows, L: Ledger>(
     steps: &mut Steps<L>,
     all: &mut Vec<Carried>,
 ) -> Result<bool, NoMemory>
-    requires { IsWithinLimits given.types.now (function_of given.f.now) }
+    requires limits { IsWithinLimits given.types.now (function_of given.f.now) }
+    requires locations { R.location_limit row.now ≡ length (table_of given.types.now (function_of given.f.now)).locations }
+    requires elements { R.element_limit row.now ≡ length (table_of given.types.now (function_of given.f.now)).elements }
 {
     let table = ElementTable::of(given.alloc, given.f, given.types)?;
     let mut into = R::empty(given.alloc, table.location_count(), table.element_count())?;
@@ -179,6 +187,8 @@ fn carry<R: Rows, L: Ledger>(
 ) -> Result<bool, NoMemory>
     requires limits { IsWithinLimits given.types.now (function_of given.f.now) }
     requires table { table.now ≡ table_of given.types.now (function_of given.f.now) }
+    requires from_locations { R.location_limit row.now ≡ length table.now.locations }
+    requires from_elements { R.element_limit row.now ≡ length table.now.elements }
     requires locations { R.location_limit into.old ≡ length table.now.locations }
     requires elements { R.element_limit into.old ≡ length table.now.elements }
     ensures locations { R.location_limit into.new ≡ R.location_limit into.old }

@@ -1,5 +1,5 @@
 -- What is wrong at the points of a function, collected from the rows of a solution.
-use Rattle.std.proofs.Common.{◌≡◌, ◌⊎◌, ◌↔◌, ℕ, zero, suc, ◌+◌, ◌<◌, ◌≤◌, refl, ap, sym, ◌∙◌, inl, inr, Bool, false, arith, subst, List, [], ◌∷◌, ◌++◌, length, map, option_map, Option, Some, None, Contains, slice_get, add-one}
+use Rattle.std.proofs.Common.{◌≡◌, ◌⊎◌, ◌↔◌, ℕ, zero, suc, ◌+◌, ◌<◌, ◌≤◌, refl, ap, sym, ◌∙◌, inl, inr, Bool, true, false, arith, subst, List, [], ◌∷◌, ◌++◌, length, map, option_map, Option, Some, None, Contains, slice_get, add-one}
 use Rattle.std.specs.List.{flat_map}
 use Rattle.std.proofs.lemmas.Bool.{cases_eq, cases_lt}
 use Rattle.std.proofs.lemmas.List.{append-nil, length-map}
@@ -18,7 +18,8 @@ use Rattle.life_types.specs.declared.place.Place.{Place}
 use Rattle.life_core.specs.declared.node.SpotRef.{SpotRef}
 use Rattle.life_core.specs.declared.stmt.Point.{Point}
 use Rattle.life_contract.specs.Signatures.{Signature}
-use Rattle.life_pset.proofs.Members.{none_in_empty}
+use Rattle.life_pset.proofs.Members.{none_in_empty, cons_cases}
+use Rattle.std.specs.Prelude.{IsTrue}
 use Rattle.life_pset.specs.Table.{Table, IsOf, Names, table_of}
 use Rattle.life_pset.specs.declared.element.Fact.{Fact}
 use Rattle.life_rules.proofs.Giving.{at_head, cond_none, in_tail, flat_map_empty, flat_map_from, flat_map_into, one_premise, two_premises, AllIn}
@@ -33,7 +34,11 @@ use Rattle.life_rules.specs.Lines.{Line}
 use Rattle.life_rules.specs.Listing.{IsListing}
 use Rattle.life_rules.specs.declared.diag.Diag.{Diag}
 use Rattle.life_fix.specs.Finding.{all_wrong, IsWrongBy, IsWrongIn}
+use Rattle.life_rules.specs.ToldAt.{spot_tells}
+use Rattle.life_rules.proofs.Untold.{first_untold, second_untold, untold}
+use Rattle.life_fix.specs.Told.{AreTold}
 use Rattle.life_fix.specs.Solution.{IsSolution, Solved, numbered_row, row_of}
+use Rattle.life_fix.proofs.PointRows.{there}
 
 -- a listing of the same wrongs
 pub same_wrongs : {W V : Diag → Type 0} {line : Diag → Line} {ds : List Diag} → ((d : Diag) → W d ↔ V d) → IsListing W line ds → IsListing V line ds
@@ -71,7 +76,51 @@ all_of_told sigs types function f spot facts (a ∷ b ∷ []) d within h =
     (flat_map_into (diags_of_two sigs types function f (Some spot) a) facts b d (within b (in_tail a (b ∷ []) b (at_head b []))) h))
 all_of_told sigs types function f spot facts (a ∷ b ∷ c ∷ more) d within h = absurd h
 
-pub wrong_in_facts : (sigs : List Signature) (types : Types) (function : ℕ) (f : Function) (t : Table) (has : ℕ → ℕ → Bool) (spot : Spot) (facts : List Fact) (old new : List Diag) → ((x : Fact) → Contains facts x ↔ Holds t has x)
+-- what is told is told of locations where something may be
+module _ (sigs : List Signature) (types : Types) (function : ℕ) (f : Function) (spot : Spot) where
+  told_or_not : (b : Bool) → (b ≡ true) ⊎ (b ≡ false)
+  told_or_not true = inl refl
+  told_or_not false = inr refl
+
+  one_told : (a : Fact) (d : Diag) → Contains (diags_at sigs types function f (Some spot) a) d → IsTrue (spot_tells types f (Some spot) a.location)
+  one_told a d h =
+      elim (told_or_not (spot_tells types f (Some spot) a.location)) [
+        | inl told ↦ told
+        | inr untold_here ↦ absurd (none_in_empty d (subst (λ (ds : List Diag). Contains ds d) (untold sigs types function f (Some spot) a untold_here) h))
+      ]
+
+  first_told : (a b : Fact) (d : Diag) → Contains (diags_of_two sigs types function f (Some spot) a b) d → IsTrue (spot_tells types f (Some spot) a.location)
+  first_told a b d h =
+      elim (told_or_not (spot_tells types f (Some spot) a.location)) [
+        | inl told ↦ told
+        | inr untold_here ↦ absurd (none_in_empty d (subst (λ (ds : List Diag). Contains ds d) (first_untold sigs types function f (Some spot) a b untold_here) h))
+      ]
+
+  second_told : (a b : Fact) (d : Diag) → Contains (diags_of_two sigs types function f (Some spot) a b) d → IsTrue (spot_tells types f (Some spot) b.location)
+  second_told a b d h =
+      elim (told_or_not (spot_tells types f (Some spot) b.location)) [
+        | inl told ↦ told
+        | inr untold_here ↦ absurd (none_in_empty d (subst (λ (ds : List Diag). Contains ds d) (second_untold sigs types function f (Some spot) a b untold_here) h))
+      ]
+
+  all_told : (premises : List Fact) (d : Diag) → Tells sigs types function f (Some spot) premises d → (x : Fact) → Contains premises x → IsTrue (spot_tells types f (Some spot) x.location)
+  all_told [] d h x in_premises = absurd h
+  all_told (a ∷ []) d h x in_premises =
+      elim (cons_cases a [] x in_premises) [
+        | inl is ↦ subst (λ (y : Fact). IsTrue (spot_tells types f (Some spot) y.location)) is (one_told a d h)
+        | inr none ↦ absurd (none_in_empty x none)
+      ]
+  all_told (a ∷ b ∷ []) d h x in_premises =
+      elim (cons_cases a (b ∷ []) x in_premises) [
+        | inl is ↦ subst (λ (y : Fact). IsTrue (spot_tells types f (Some spot) y.location)) is (first_told a b d h)
+        | inr rest ↦ elim (cons_cases b [] x rest) [
+          | inl is ↦ subst (λ (y : Fact). IsTrue (spot_tells types f (Some spot) y.location)) is (second_told a b d h)
+          | inr none ↦ absurd (none_in_empty x none)
+        ]
+      ]
+  all_told (a ∷ b ∷ c ∷ more) d h x in_premises = absurd h
+
+pub wrong_in_facts : (sigs : List Signature) (types : Types) (function : ℕ) (f : Function) (t : Table) (has : ℕ → ℕ → Bool) (spot : Spot) (facts : List Fact) (old new : List Diag) → AreTold types f spot t has facts
     → new ≡ old ++ all_wrong sigs types function f spot facts → (d : Diag) → Contains new d ↔ (Contains old d ⊎ IsWrongBy sigs types function f t has spot d)
 wrong_in_facts sigs types function f t has spot facts old new held is d =
     let all = all_wrong sigs types function f spot facts in (
@@ -80,13 +129,13 @@ wrong_in_facts sigs types function f t has spot facts old new held is d =
             | inl was ↦ inl was
             | inr wrong ↦
                 let told = told_of_all sigs types function f spot facts d wrong in
-                inr (told.0, ((λ x k. (held x).0 (told.1.0 x k)), told.1.1))
+                inr (told.0, ((λ x k. ((held x).0 (told.1.0 x k)).0), told.1.1))
           ],
       λ h.
           subst (λ (ds : List Diag). Contains ds d) (sym is)
           (elim h [
             | inl was ↦ Contains-append_left old all d was
-            | inr told ↦ Contains-append_right old all d (all_of_told sigs types function f spot facts told.0 d (λ x k. (held x).1 (told.1.0 x k)) told.1.1)
+            | inr told ↦ Contains-append_right old all d (all_of_told sigs types function f spot facts told.0 d (λ x k. (held x).1 (told.1.0 x k, all_told sigs types function f spot told.0 d told.1.1 x k)) told.1.1)
           ]),
     )
 
@@ -215,11 +264,6 @@ row_holds has location_limit element_limit sigs types f solution solves point ro
       let of = of_table derives in
       subst (λ (t : Table). Holds t (has row) x) (sym solves.table) (of.0, (of.1.0, (of.1.1, (solves.pairs point row at of.0 of.1.0).1 (x, (of.1.1, derives))))),
 )
-
-there : {A : Type 0} (xs : List A) (k : ℕ) → k < length xs → (x : A) × (slice_get xs k ≡ Some x)
-there [] k lt = absurd (omega (arith, lt))
-there (x ∷ xs) zero lt = (x, refl)
-there (x ∷ xs) (suc k) lt = there xs k (omega (arith, lt))
 
 wrong_at : {R : Type 0} (has : R → ℕ → ℕ → Bool) (location_limit element_limit : R → ℕ) (sigs : List Signature) (types : Types) (function : ℕ) (f : Function) (solution : Solved R) → IsSolution has location_limit element_limit sigs types f solution
     → (point : Point) (row : R) (spot : Spot) → row_of solution.rows point ≡ Some row → spot_of f point ≡ Some spot → (d : Diag) → IsWrongBy sigs types function f solution.table (has row) spot d ↔ IsWrongAt sigs types function f point.0 d

@@ -1,13 +1,16 @@
 pub mod Candidates
+pub mod EdgeRuns
 pub mod Finding
 pub mod FirstKept
+pub mod Halves
 pub mod Listed
-pub mod Logs
 pub mod PointRows
 pub mod ProgramFound
 pub mod ProgramSteps
+pub mod PutBack
 pub mod Runs
 pub mod Sizes
 pub mod Solved
 pub mod Starting
 pub mod States
+pub mod ToldFacts

@@ -1,10 +1,11 @@
 -- Rows in a list: that of point 1 stands at place 0.
-use Rattle.std.proofs.Common.{◌≡◌, ◌≢◌, ℕ, zero, suc, ◌+◌, ◌<◌, ◌≤◌, List, [], ◌∷◌, ◌++◌, refl, ap, sym, ◌∙◌, inl, inr, ◌⊎◌, arith, subst, Some, Bool, false, length, get_or}
-use Rattle.std.proofs.lemmas.Option.{slice_get_within, slice_get-get_or}
-use Rattle.std.specs.Prelude.{◌↔◌, IsTrue, slice_get, slice_set}
-use Rattle.life_rules.specs.FactSets.{Gains}
-use Rattle.life_fix.specs.Solution.{numbered_row}
-use Rattle.life_fix.specs.Solving.{pairs_in, pairs_at, GainsAt}
+use Rattle.std.proofs.Common.{◌≡◌, ◌≢◌, ℕ, zero, suc, ◌+◌, ◌<◌, ◌≤◌, List, [], ◌∷◌, ◌++◌, refl, ap, sym, ◌∙◌, inl, inr, ◌⊎◌, arith, Some, None, Option, Bool, false, length, get_or}
+use Rattle.std.proofs.lemmas.Option.{get_or_from_slice_get, slice_get_within, slice_get-get_or}
+use Rattle.std.specs.Borrow.{Bor}
+use Rattle.std.specs.Option.{option_copied}
+use Rattle.std.specs.Prelude.{IfSome, slice_get, slice_set}
+use Rattle.life_fix.specs.Solution.{numbered_row, AllLimited}
+use Rattle.life_fix.specs.Solving.{pairs_in, pairs_at}
 
 pub get_set_same : {A : Type 0} (xs : List A) (i : ℕ) (y : A) → i < length xs → slice_get (slice_set xs i y) i ≡ Some y
 get_set_same [] i y h = absurd (omega (arith, h))
@@ -21,6 +22,19 @@ get_set_other (x ∷ xs) (suc i) (suc p) y h = get_set_other xs i p y (λ e. h (
 -- what an index reads
 pub row_at : {A : Type 0} (xs : List A) (i : ℕ) (x : A) → i < length xs → x ≡ get_or xs i x → slice_get xs i ≡ Some x
 row_at xs i x h is = slice_get-get_or xs i x h ∙ ap Some (sym is)
+
+-- what stands at a place within a list
+pub there : {A : Type 0} (xs : List A) (k : ℕ) → k < length xs → (x : A) × (slice_get xs k ≡ Some x)
+there [] k lt = absurd (omega (arith, lt))
+there (x ∷ xs) zero lt = (x, refl)
+there (x ∷ xs) (suc k) lt = there xs k (omega (arith, lt))
+
+-- what stands in a list with one more at its end
+pub push_at : {A : Type 0} (xs : List A) (y : A) (k : ℕ) (x : A) → slice_get (xs ++ y ∷ []) k ≡ Some x → (slice_get xs k ≡ Some x) ⊎ ((k ≡ length xs) × (y ≡ x))
+push_at [] y zero x h = inr (refl, cc)
+push_at [] y (suc k) x h = absurd (cc)
+push_at (z ∷ xs) y zero x h = inl h
+push_at (z ∷ xs) y (suc k) x h = elim (push_at xs y k x h) [ inl was ↦ inl was | inr new ↦ inr (ap suc new.0, new.1) ]
 
 pub same_or_not : (m n : ℕ) → (m ≡ n) ⊎ (m ≢ n)
 same_or_not zero zero = inl refl
@@ -40,6 +54,14 @@ pub within_rows : {R : Type 0} (rows : List R) (p : ℕ) (row : R) → numbered_
 within_rows rows zero row at = absurd (cc)
 within_rows rows (suc n) row at = let lt = slice_get_within rows n row at in (omega arith, omega (arith, lt))
 
+-- .. and has the limits that all rows have
+pub limit_at : {R : Type 0} (limit : R → ℕ) (n : ℕ) (rows : List R) (p : ℕ) (row : Option (Bor R)) → option_copied row ≡ numbered_row rows p → AllLimited limit n rows → IfSome row (λ r. limit r.now ≡ n)
+limit_at limit n rows p None at all = tt
+limit_at limit n rows zero (Some r) at all = absurd (cc)
+limit_at limit n rows (suc k) (Some r) at all =
+    let here : slice_get rows k ≡ Some r.now = sym at in
+    sym (ap limit (get_or_from_slice_get rows k r.now r.now here)) ∙ all k r.now (slice_get_within rows k r.now here)
+
 -- one row is written
 module _ {R : Type 0} (has : R → ℕ → ℕ → Bool) (rows : List R) (i : ℕ) (row new : R) (at : slice_get rows i ≡ Some row) where
   fits : i < length rows
@@ -48,39 +70,9 @@ module _ {R : Type 0} (has : R → ℕ → ℕ → Bool) (rows : List R) (i : �
   pub pairs_same : pairs_at has (slice_set rows i new) (suc i) ≡ has new
   pairs_same = ap (pairs_in has) (get_set_same rows i new fits)
 
-  pairs_was : pairs_at has rows (suc i) ≡ has row
-  pairs_was = ap (pairs_in has) at
-
   pub pairs_other : (p : ℕ) → p ≢ suc i → pairs_at has (slice_set rows i new) p ≡ pairs_at has rows p
   pairs_other zero d = refl
   pairs_other (suc p) d = ap (pairs_in has) (get_set_other rows i p new (λ e. d (ap suc e)))
-
-  -- what the row gains is gained at its point
-  gains_here : (added : ℕ → ℕ → Type 0) → Gains (has row) (has new) added → GainsAt (suc i) (pairs_at has rows) (pairs_at has (slice_set rows i new)) added
-  gains_here added gains p l e =
-      elim (same_or_not p (suc i)) [
-        | inl is ↦ subst (λ (q : ℕ). IsTrue (pairs_at has (slice_set rows i new) q l e) ↔ (IsTrue (pairs_at has rows q l e) ⊎ ((q ≡ suc i) × added l e))) (sym is) here
-        | inr other ↦
-            let same = ap (λ (s : ℕ → ℕ → Bool). s l e) (pairs_other p other) in
-            (λ h. inl (sym same ∙ h), λ h. elim h [ inl was ↦ same ∙ was | inr c ↦ absurd (other c.0) ])
-      ]
-    where
-      same_here : pairs_at has (slice_set rows i new) (suc i) l e ≡ has new l e
-      same_here = ap (λ (s : ℕ → ℕ → Bool). s l e) pairs_same
-
-      was_here : pairs_at has rows (suc i) l e ≡ has row l e
-      was_here = ap (λ (s : ℕ → ℕ → Bool). s l e) pairs_was
-
-      here : IsTrue (pairs_at has (slice_set rows i new) (suc i) l e) ↔ (IsTrue (pairs_at has rows (suc i) l e) ⊎ ((suc i ≡ suc i) × added l e))
-      here = (
-        λ h. elim ((gains l e).0 (sym same_here ∙ h)) [ inl was ↦ inl (was_here ∙ was) | inr c ↦ inr (refl, c) ],
-        λ h. same_here ∙ elim h [ inl was ↦ (gains l e).1 (inl (sym was_here ∙ was)) | inr c ↦ (gains l e).1 (inr c.1) ],
-      )
-
-  pub gains_at : (p : ℕ) → i + 1 ≡ p → (added : ℕ → ℕ → Type 0) → Gains (has row) (has new) added → GainsAt p (pairs_at has rows) (pairs_at has (slice_set rows i new)) added
-  gains_at p is added gains =
-      let e : suc i ≡ p = omega (arith, is) in
-      subst (λ (q : ℕ). GainsAt q (pairs_at has rows) (pairs_at has (slice_set rows i new)) added) e (gains_here added gains)
 
 -- one more row without pairs
 none_push : {R : Type 0} (has : R → ℕ → ℕ → Bool) (rows : List R) (row : R) → ((k l e : ℕ) → pairs_in has (slice_get rows k) l e ≡ false) → ((l e : ℕ) → has row l e ≡ false) → (k l e : ℕ) → pairs_in has (slice_get (rows ++ row ∷ []) k) l e ≡ false

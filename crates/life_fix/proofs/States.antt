@@ -1,11 +1,6 @@
 -- Why a state in which no edge is due is the solution.
-use Rattle.std.proofs.Common.{◌≡◌, ℕ, zero, suc, ◌<◌, ◌≤◌, List, [], ◌∷◌, refl, ap, sym, ◌∙◌, arith, subst, Some, None, Option, Bool, false, length, get_or, take, inl, inr, true≢false}
-use Rattle.std.proofs.lemmas.Bool.Decides.{leb_tells}
-use Rattle.std.proofs.lemmas.List.{take_all}
-use Rattle.std.proofs.lemmas.Option.{slice_get-get_or}
-use Rattle.std.specs.Prelude.{IsTrue, slice_get, Contains, nat_lt}
-use Rattle.std.specs.declared.alloc.Global.{Global}
-use Rattle.std.specs.declared.vec.Vec.{Vec}
+use Rattle.std.proofs.Common.{◌≡◌, ℕ, zero, suc, ◌≤◌, List, [], ◌∷◌, sym, arith, subst, Some, Bool, false, length}
+use Rattle.std.specs.Prelude.{IsTrue, slice_get, Contains}
 use Rattle.life_types.specs.Types.{Types}
 use Rattle.life_contract.specs.Signatures.{Signature}
 use Rattle.life_core.specs.Function.{Function}
@@ -16,10 +11,10 @@ use Rattle.life_pset.specs.Table.{Table, Names, IsOf, table_of}
 use Rattle.life_pset.specs.declared.element.Fact.{Fact}
 use Rattle.life_rules.specs.Deriving.{Derives, entry, along, entry_facts}
 use Rattle.life_rules.specs.FactSets.{IsPairOf}
-use Rattle.life_rules.specs.NewFacts.{facts_of, CarriesFrom}
-use Rattle.life_rules.proofs.SetLemmas.{holds_iff}
-use Rattle.life_fix.specs.Solving.{is_due, log_at, point_at, AreLogs, IsCarried, IsPartial, IsSettled, IsSolved}
-use Rattle.life_fix.proofs.PointRows.{row_at}
+use Rattle.life_plan.specs.declared.plan.Plan.{Plan}
+use Rattle.life_plan.proofs.Settled.{carried_settled}
+use Rattle.life_fix.specs.Solving.{point_at, IsPartial, IsSettled, IsSolved}
+use Rattle.life_fix.proofs.PointRows.{row_at, there}
 
 -- a pair of numbers stands for one fact
 pub one_name : (t : Table) (l e : ℕ) (x y : Fact) → Names t l e x → Names t l e y → x ≡ y
@@ -65,24 +60,10 @@ complete sigs types f pairs join starts settled _ x (along edge premises at held
       ),
     )
 
--- what an edge that isn't due has carried is all that its first point has
-settled_edge : (sigs : List Signature) (types : Types) (f : Function) (edge : Edge) (c : Option ℕ) (pairs : ℕ → ℕ → ℕ → Bool) (logs : List (Vec (ℕ × ℕ) Global)) → AreLogs (table_of types f) pairs logs
-    → ((n : ℕ) → c ≡ Some n → IsCarried sigs types f edge n pairs logs) → is_due c (length (log_at logs edge.from.0)) ≡ false → IsSettled sigs types f edge pairs
-settled_edge sigs types f edge None pairs logs are carried clean = absurd (cc)
-settled_edge sigs types f edge (Some n) pairs logs are carried clean = λ l e p.
-    let log = log_at logs edge.from.0 in
-    let t = table_of types f in
-    let is = carried n refl in
-    let all : take n log ≡ log = take_all n log (past n (length log) clean) in
-    is.there l e (subst (λ (xs : List (ℕ × ℕ)). CarriesFrom sigs types f edge (facts_of t xs) l e) (sym all) (p.0, (p.1.0, (p.1.1.0, (λ y h. (holds_iff t log (pairs edge.from.0) ((are edge.from.0).each) y).1 (p.1.1.1.0 y h), p.1.1.1.1)))))
-  where
-    past : (a b : ℕ) → nat_lt a b ≡ false → b ≤ a
-    past a b h = elim (leb_tells (suc a) b) [ inl lower ↦ absurd (true≢false (sym lower.0 ∙ h)) | inr higher ↦ omega (arith, higher.1) ]
-
 -- a state in which no edge is due is the solution
-solved : (sigs : List Signature) (types : Types) (f : Function) (carried : List (Option ℕ)) (pairs : ℕ → ℕ → ℕ → Bool) (logs : List (Vec (ℕ × ℕ) Global)) → AllJoin (points_of f) (edges_of f) → IsPartial sigs types f (edges_of f) carried pairs logs
-    → length carried ≡ length (edges_of f) → ((k : ℕ) (edge : Edge) (c : Option ℕ) → slice_get (edges_of f) k ≡ Some edge → slice_get carried k ≡ Some c → is_due c (length (log_at logs edge.from.0)) ≡ false) → IsSolved sigs types f pairs
-solved sigs types f carried pairs logs join partial len clean p l e low high = (
+solved : (sigs : List Signature) (types : Types) (f : Function) (plans : List Plan) (dues : ℕ → ℕ → Bool) (pairs : ℕ → ℕ → ℕ → Bool) → AllJoin (points_of f) (edges_of f) → IsPartial sigs types f (edges_of f) plans dues pairs
+    → length plans ≡ length (edges_of f) → ((k l : ℕ) → dues k l ≡ false) → IsSolved sigs types f pairs
+solved sigs types f plans dues pairs join partial len none p l e low high = (
   partial.sound p l e,
   λ d. complete sigs types f pairs join partial.starts edge_settled (point_at p) d.0 d.1.1 high l e d.1.0,
 )
@@ -90,15 +71,11 @@ solved sigs types f carried pairs logs join partial len clean p l e low high = (
     edge_settled : (edge : Edge) → Contains (edges_of f) edge → IsSettled sigs types f edge pairs
     edge_settled edge at =
         let k = at.0 in
-        let fits : k < length carried = omega (arith, at.1, len) in
-        let c = get_or carried k None in
-        let reads = slice_get-get_or carried k None fits in
-        let here = row_at (edges_of f) k edge at.1 (sym at.2) in
-        settled_edge sigs types f edge c pairs logs partial.logged (λ n is. partial.settled k n edge here (reads ∙ ap (λ (d : Option ℕ). Some d) is)) (clean k edge c here reads)
+        let plan = there plans k (omega (arith, at.1, len)) in
+        carried_settled sigs types f edge plan.0 (dues k) (pairs edge.from.0) (pairs edge.to.0) (partial.carried k edge plan.0 (row_at (edges_of f) k edge at.1 (sym at.2)) plan.1) (none k)
 
-pub solved_all : (sigs : List Signature) (types : Types) (f : Function) (es : List Edge) → es ≡ edges_of f → (carried : List (Option ℕ)) (pairs : ℕ → ℕ → ℕ → Bool) (logs : List (Vec (ℕ × ℕ) Global)) → AllJoin (points_of f) es → IsPartial sigs types f es carried pairs logs → length carried ≡ length es
-    → ((k : ℕ) (edge : Edge) (c : Option ℕ) → slice_get es k ≡ Some edge → slice_get carried k ≡ Some c → is_due c (length (log_at logs edge.from.0)) ≡ false) → IsSolved sigs types f pairs
-solved_all sigs types f es is carried pairs logs join partial len clean =
-    let P : List Edge → Type 0 = λ es. AllJoin (points_of f) es → IsPartial sigs types f es carried pairs logs → length carried ≡ length es
-    → ((k : ℕ) (edge : Edge) (c : Option ℕ) → slice_get es k ≡ Some edge → slice_get carried k ≡ Some c → is_due c (length (log_at logs edge.from.0)) ≡ false) → IsSolved sigs types f pairs in
-    subst P (sym is) (solved sigs types f carried pairs logs) join partial len clean
+pub solved_all : (sigs : List Signature) (types : Types) (f : Function) (es : List Edge) → es ≡ edges_of f → (plans : List Plan) (dues : ℕ → ℕ → Bool) (pairs : ℕ → ℕ → ℕ → Bool) → AllJoin (points_of f) es → IsPartial sigs types f es plans dues pairs → length plans ≡ length es
+    → ((k l : ℕ) → dues k l ≡ false) → IsSolved sigs types f pairs
+solved_all sigs types f es is plans dues pairs join partial len none =
+    let P : List Edge → Type 0 = λ es. AllJoin (points_of f) es → IsPartial sigs types f es plans dues pairs → length plans ≡ length es → ((k l : ℕ) → dues k l ≡ false) → IsSolved sigs types f pairs in
+    subst P (sym is) (solved sigs types f plans dues pairs) join partial len none

@@ -3,3 +3,4 @@ pub mod Finding
 pub mod Programs
 pub mod Solution
 pub mod Solving
+pub mod Told

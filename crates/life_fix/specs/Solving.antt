@@ -1,20 +1,21 @@
 -- What the solver keeps on its way.
-use Rattle.std.specs.Prelude.{◌≡◌, length, map, ℕ, zero, suc, ◌+◌, ◌-◌, ◌*◌, ◌≤◌, Bool, true, false, nat_lt, List, [], ◌∷◌, ◌++◌, Option, Some, None, IsTrue, ◌↔◌, ◌⊎◌, slice_get, take, Contains}
-use Rattle.std.specs.declared.alloc.Global.{Global}
-use Rattle.std.specs.declared.vec.Vec.{Vec}
+use Rattle.std.specs.Prelude.{◌≡◌, length, map, ℕ, zero, suc, ◌+◌, ◌-◌, ◌*◌, ◌<◌, ◌≤◌, ◌≢◌, Bool, true, false, ◌||◌, List, [], ◌∷◌, Option, Some, None, IsTrue, ◌↔◌, ◌⊎◌, All, slice_get}
 use Rattle.life_types.specs.Types.{Types}
 use Rattle.life_contract.specs.Signatures.{Signature}
 use Rattle.life_core.specs.Function.{Function, function_of}
-use Rattle.life_core.specs.Linked.{code_of, edges_of, points_of, spot_of_linked, AllJoin}
+use Rattle.life_core.specs.Linked.{code_of, edges_of, points_of, spot_of_linked, AllJoin, AreAscending}
 use Rattle.life_core.specs.Node.{spot_seen}
 use Rattle.life_core.specs.declared.stmt.Edge.{Edge}
 use Rattle.life_core.specs.declared.stmt.Point.{Point}
 use Rattle.life_pset.specs.Elements.{IsWithinLimits}
 use Rattle.life_pset.specs.Table.{Table, table_of}
-use Rattle.life_pset.specs.declared.element.Fact.{Fact}
 use Rattle.life_rules.specs.Deriving.{entry_facts}
-use Rattle.life_rules.specs.FactSets.{CarriesPair, IsPairOf}
-use Rattle.life_rules.specs.NewFacts.{facts_of, fresh_along, CarriesFrom}
+use Rattle.life_rules.specs.FactSets.{CarriesPair, GainsSome, IsPairOf}
+use Rattle.life_sets.specs.NumberSets.{Numbers, holds}
+use Rattle.life_plan.specs.Carried.{none_due, IsCarried}
+use Rattle.life_plan.specs.Crossing.{crossing_of}
+use Rattle.life_plan.specs.Noted.{HasNewAt}
+use Rattle.life_plan.specs.declared.plan.Plan.{Plan}
 use Rattle.life_fix.specs.Solution.{IsDerivedPair, numbered_row}
 use Rattle.life_fix.specs.declared.flow.Flow.{Flow}
 
@@ -26,7 +27,9 @@ pub record IsFlow (flow : Flow) : Type 0 where
   pub table : flow.table.now ≡ table_of flow.types.now (function_of flow.f.now)
   pub edges : flow.edges.now ≡ edges_of (function_of flow.f.now)
   pub join : AllJoin (points_of (function_of flow.f.now)) flow.edges.now
+  pub ascend : AreAscending flow.edges.now
   pub spots : map spot_seen flow.spots.now ≡ map spot_of_linked (code_of (function_of flow.f.now))
+  pub count : length flow.spots.now ≡ points_of (function_of flow.f.now)
 
 -- ---- sets of pairs at points, which are numbered from 1
 
@@ -45,17 +48,9 @@ point_at p = record { 0 = p }
 abbrev pub IsSolved : List Signature → Types → Function → (ℕ → ℕ → ℕ → Bool) → Type 0
 IsSolved sigs types f pairs = (p l e : ℕ) → 1 ≤ p → p ≤ points_of f → IsTrue (pairs p l e) ↔ IsDerivedPair sigs types f (point_at p) l e
 
--- the pairs after are the pairs before and, at one point, these
-abbrev pub GainsAt : ℕ → (before after : ℕ → ℕ → ℕ → Bool) → (ℕ → ℕ → Type 0) → Type 0
-GainsAt to before after added = (p l e : ℕ) → IsTrue (after p l e) ↔ (IsTrue (before p l e) ⊎ ((p ≡ to) × added l e))
-
--- the first of the points, if there is one, gained the pairs of these facts
-abbrev pub StartsAs : Table → List Fact → (points : ℕ) → (before after : ℕ → ℕ → ℕ → Bool) → Type 0
-StartsAs t facts points before after = GainsAt 1 before after (λ l e. (1 ≤ points) × IsPairOf t facts l e)
-
--- the edge was run: its second point gained what comes of those pairs of its first that it hadn't carried
-abbrev pub RunsEdge : List Signature → Types → Function → Edge → List (ℕ × ℕ) → (carried : Option ℕ) → (before after : ℕ → ℕ → ℕ → Bool) → Type 0
-RunsEdge sigs types f edge log carried before after = GainsAt edge.to.0 before after (IsPairOf (table_of types f) (fresh_along (table_of types f) sigs types f edge log carried))
+-- the first of the points, if there is one, has the pairs of what holds at the entry, and the others have none
+abbrev pub IsStart : Types → Function → (ℕ → ℕ → ℕ → Bool) → Type 0
+IsStart types f pairs = (p l e : ℕ) → IsTrue (pairs p l e) ↔ (((p ≡ 1) × (1 ≤ points_of f)) × IsPairOf (table_of types f) (entry_facts types f) l e)
 
 -- what is carried along the edge is there
 abbrev pub IsSettled : List Signature → Types → Function → Edge → (ℕ → ℕ → ℕ → Bool) → Type 0
@@ -76,53 +71,59 @@ abbrev pub size_of : (ℕ → ℕ → Bool) → ℕ → ℕ → ℕ
 size_of has zero elements = 0
 size_of has (suc n) elements = size_of_location (has n) elements + size_of has n elements
 
--- ---- logs: the pairs at each point in the order in which they came
+-- ---- which locations are due for an edge: those of its first point that gained since it was run
 
-abbrev pub log_in : Option (Vec (ℕ × ℕ) Global) → List (ℕ × ℕ)
-log_in None = []
-log_in (Some log) = log.items
+abbrev pub set_in : Option Numbers → ℕ → Bool
+set_in None = λ n. false
+set_in (Some set) = holds set
 
-abbrev pub log_at : List (Vec (ℕ × ℕ) Global) → ℕ → List (ℕ × ℕ)
-log_at logs p = log_in (numbered_row logs p)
+-- the set at this place of a list: empty where there is none
+abbrev pub set_at : List Numbers → ℕ → ℕ → Bool
+set_at sets k = set_in (slice_get sets k)
 
--- the log has the pairs of the row, and isn't longer than they are many
-pub record IsLog (locations elements : ℕ) (has : ℕ → ℕ → Bool) (log : List (ℕ × ℕ)) : Type 0 where
-  pub each : (l e : ℕ) → Contains log (l, e) ↔ IsTrue (has l e)
-  pub few : length log ≤ size_of has locations elements
+-- every set is one of numbers below the limit
+abbrev pub AreSized : ℕ → List Numbers → Type 0
+AreSized limit sets = All (λ set. set.limit ≡ limit) sets
 
-abbrev pub AreLogs : Table → (ℕ → ℕ → ℕ → Bool) → List (Vec (ℕ × ℕ) Global) → Type 0
-AreLogs t pairs logs = (p : ℕ) → IsLog (length t.locations) (length t.elements) (pairs p) (log_at logs p)
+-- those between two places of a list have these numbers besides, and the others stay
+abbrev pub AddsBetween : (first past : ℕ) → (added : ℕ → Bool) → (before after : ℕ → ℕ → Bool) → Type 0
+AddsBetween first past added before after = (k l : ℕ) → IsTrue (after k l) ↔ (IsTrue (before k l) ⊎ (((first ≤ k) × (k < past)) × IsTrue (added l)))
 
--- the pair, if this holds
-abbrev pub pair_if : Bool → ℕ → ℕ → List (ℕ × ℕ)
-pair_if true l e = (l, e) ∷ []
-pair_if false l e = []
+-- some number below the limit is in the set
+abbrev pub has_some : (ℕ → Bool) → ℕ → Bool
+has_some set zero = false
+has_some set (suc n) = set n || has_some set n
 
--- the log after begins with the log before
-abbrev pub Grows : (before after : List (ℕ × ℕ)) → Type 0
-Grows before after = (more : List (ℕ × ℕ)) × (after ≡ before ++ more)
+-- ---- what holds on the way
 
-abbrev pub AllGrow : (before after : List (Vec (ℕ × ℕ) Global)) → Type 0
-AllGrow before after = (p : ℕ) → Grows (log_at before p) (log_at after p)
-
--- ---- how much an edge has carried: None where it wasn't run, and else so many pairs of the log of its first point
-
--- whether the edge has to be run, where the log has so many pairs
-abbrev pub is_due : Option ℕ → ℕ → Bool
-is_due None pairs = true
-is_due (Some n) pairs = nat_lt n pairs
-
--- that many are there, and what is carried from them is there, too
-pub record IsCarried (sigs : List Signature) (types : Types) (f : Function) (edge : Edge) (n : ℕ) (pairs : ℕ → ℕ → ℕ → Bool) (logs : List (Vec (ℕ × ℕ) Global)) : Type 0 where
-  pub within : n ≤ length (log_at logs edge.from.0)
-  pub there : (l e : ℕ) → CarriesFrom sigs types f edge (facts_of (table_of types f) (take n (log_at logs edge.from.0))) l e → IsTrue (pairs edge.to.0 l e)
-
--- on the way only derived facts are there, the entry's facts are, and so is what the edges have carried
-pub record IsPartial (sigs : List Signature) (types : Types) (f : Function) (edges : List Edge) (carried : List (Option ℕ)) (pairs : ℕ → ℕ → ℕ → Bool) (logs : List (Vec (ℕ × ℕ) Global)) : Type 0 where
+-- only derived facts are there, the entry's facts are, and so is what each edge carries, but of what is due for it
+pub record IsPartial (sigs : List Signature) (types : Types) (f : Function) (edges : List Edge) (plans : List Plan) (dues : ℕ → ℕ → Bool) (pairs : ℕ → ℕ → ℕ → Bool) : Type 0 where
   pub sound : (p l e : ℕ) → IsTrue (pairs p l e) → IsDerivedPair sigs types f (point_at p) l e
   pub starts : 1 ≤ points_of f → (l e : ℕ) → IsPairOf (table_of types f) (entry_facts types f) l e → IsTrue (pairs 1 l e)
-  pub logged : AreLogs (table_of types f) pairs logs
-  pub settled : (k n : ℕ) (edge : Edge) → slice_get edges k ≡ Some edge → slice_get carried k ≡ Some (Some n) → IsCarried sigs types f edge n pairs logs
+  pub carried : (k : ℕ) (edge : Edge) (plan : Plan) → slice_get edges k ≡ Some edge → slice_get plans k ≡ Some plan → IsCarried (crossing_of sigs types f edge) plan (dues k) (pairs edge.from.0) (pairs edge.to.0)
+
+-- the plan was just made for the edge: where every location is due, nothing has to be there
+abbrev pub IsMade : List Signature → Types → Function → Edge → Plan → Type 0
+IsMade sigs types f edge plan = (due : ℕ → Bool) (from into : ℕ → ℕ → Bool) → ((l : ℕ) → l < length (table_of types f).locations → due l ≡ true) → IsCarried (crossing_of sigs types f edge) plan due from into
+
+abbrev pub AreMade : List Signature → Types → Function → List Edge → List Plan → Type 0
+AreMade sigs types f edges plans = (k : ℕ) (edge : Edge) (plan : Plan) → slice_get edges k ≡ Some edge → slice_get plans k ≡ Some plan → IsMade sigs types f edge plan
+
+-- a plan was run from one set into another: that one has all that is carried, and gained nothing else, at these locations alone
+pub record RunsRow (sigs : List Signature) (types : Types) (f : Function) (edge : Edge) (plan : Plan) (gained : ℕ → Bool) (from before after : ℕ → ℕ → Bool) : Type 0 where
+  pub carried : IsCarried (crossing_of sigs types f edge) plan none_due from after
+  pub sound : GainsSome before after (CarriesPair sigs types f edge from)
+  pub noted : (l : ℕ) → IsTrue (gained l) ↔ HasNewAt before after l
+
+-- .. from the row of the edge's first point into that of its second, and the other rows stay
+pub record RunsEdge (sigs : List Signature) (types : Types) (f : Function) (edge : Edge) (plan : Plan) (gained : ℕ → Bool) (before after : ℕ → ℕ → ℕ → Bool) : Type 0 where
+  pub row : RunsRow sigs types f edge plan gained (before edge.from.0) (before edge.to.0) (after edge.to.0)
+  pub others : (p l e : ℕ) → p ≢ edge.to.0 → after p l e ≡ before p l e
+
+-- the edge with this number, which was run, isn't due any more; for each edge that leaves the point, what the point gained is due
+abbrev pub IsPutBack : List Edge → (k point : ℕ) → (gained : ℕ → Bool) → (before after : ℕ → ℕ → Bool) → Type 0
+IsPutBack edges k point gained before after =
+    (j : ℕ) (edge : Edge) → slice_get edges j ≡ Some edge → (l : ℕ) → IsTrue (after j l) ↔ (((edge.from.0 ≡ point) × IsTrue (gained l)) ⊎ ((j ≢ k) × IsTrue (before j l)))
 
 -- ---- how many runs are left
 
@@ -130,14 +131,14 @@ pub record IsPartial (sigs : List Signature) (types : Types) (f : Function) (edg
 abbrev pub most_pairs : Table → ℕ
 most_pairs t = length t.locations * length t.elements
 
--- how often an edge may still be run, where a row has at most so many pairs
-abbrev pub runs_left : ℕ → Option ℕ → ℕ
-runs_left most None = most + 1
-runs_left most (Some n) = most - n
+-- how often an edge may still be run: once where it is due, and once for each pair that its first point may still gain
+abbrev pub runs_left : Table → (due : ℕ → Bool) → (has : ℕ → ℕ → Bool) → ℕ
+runs_left t due has = bit (has_some due (length t.locations)) + (most_pairs t - size_of has (length t.locations) (length t.elements))
 
-abbrev pub left_of : ℕ → List (Option ℕ) → ℕ
-left_of most [] = 0
-left_of most (c ∷ cs) = runs_left most c + left_of most cs
+-- .. and all edges
+abbrev pub left_of : Table → List Edge → (dues : ℕ → ℕ → Bool) → (pairs : ℕ → ℕ → ℕ → Bool) → ℕ
+left_of t [] dues pairs = 0
+left_of t (edge ∷ edges) dues pairs = runs_left t (dues 0) (pairs edge.from.0) + left_of t edges (λ k. dues (suc k)) pairs
 
 -- how many steps a function takes at most
 abbrev pub most_steps : Types → Function → ℕ

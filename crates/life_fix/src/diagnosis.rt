@@ -1,7 +1,7 @@
 // The diagnostics of a function.
 ghost use Rattle.std.specs.List.{flat_map};
 ghost use Rattle.std.specs.Option.{option_copied};
-ghost use Rattle.std.specs.Prelude.{◌≡◌, ◌++◌, ◌⊎◌, ◌↔◌, Contains, IfOk, OnOk, Some};
+ghost use Rattle.std.specs.Prelude.{◌≡◌, ◌++◌, ◌⊎◌, ◌↔◌, Contains, IfOk, IfSome, OnOk, Some, length};
 ghost use Rattle.life_core.specs.Function.{function_of};
 ghost use Rattle.life_core.specs.Node.{spot_seen};
 ghost use Rattle.life_pset.specs.Elements.{IsWithinLimits};
@@ -15,10 +15,11 @@ ghost use Rattle.life_fix.specs.Solution.{IsSolution};
 
 use crate::listing::{listed, push_candidates};
 use crate::solution::Solution;
+use crate::told::told_facts;
 use life_contract::Signatures;
 use life_core::{CoreFn, FnId, Names, Point, SpotRef, spots};
 use life_pset::{ElementTable, Fact};
-use life_rules::{Diag, facts_in, push_diags, push_diags_of_two, tells_first};
+use life_rules::{Diag, push_diags, push_diags_of_two, tells_first};
 use life_sets::Rows;
 use life_types::{NoMemory, TypeTable};
 use std::alloc::Global;
@@ -94,6 +95,8 @@ fn push_row<R: Rows>(
     row: Option<&R>,
     out: &mut Vec<Diag>,
 ) -> Result<(), NoMemory>
+    requires locations { IfSome row (λ row. R.location_limit row.now ≡ length table.now.locations) }
+    requires elements { IfSome row (λ row. R.element_limit row.now ≡ length table.now.elements) }
     ensures { OnOk result ((d : Diag) → Contains out.new.items d
         ↔ (Contains out.old.items d ⊎ IsWrongIn sigs.now types.now function (function_of f.now) table.now R.has (spot_seen spot.entry) (option_copied row.entry) d)) }
 {
@@ -115,10 +118,12 @@ fn push_wrong_by<R: Rows>(
     row: &R,
     out: &mut Vec<Diag>,
 ) -> Result<(), NoMemory>
+    requires locations { R.location_limit row.now ≡ length table.now.locations }
+    requires elements { R.element_limit row.now ≡ length table.now.elements }
     ensures { OnOk result ((d : Diag) → Contains out.new.items d
         ↔ (Contains out.old.items d ⊎ IsWrongBy sigs.now types.now function (function_of f.now) table.now (R.has row.now) (spot_seen spot.entry) d)) }
 {
-    let facts = facts_in(alloc, table, row)?;
+    let facts = told_facts(alloc, types, f, spot, table, row)?;
     push_all_wrong(alloc, sigs, types, function, f, spot, &facts, out)?;
     Ok(())
 }

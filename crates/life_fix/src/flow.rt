@@ -1,17 +1,20 @@
 // What is solved, and one step along an edge.
-ghost use Rattle.std.specs.Prelude.{◌≡◌, ◌+◌, ◌≤◌, length, IfSome, OnOk};
+ghost use Rattle.std.specs.Prelude.{◌≡◌, ◌+◌, ◌≤◌, length, IfOk, OnOk};
 ghost use Rattle.life_core.specs.Function.{function_of};
 ghost use Rattle.life_core.specs.Linked.{IsJoined};
+ghost use Rattle.life_sets.specs.NumberSets.{holds};
+ghost use Rattle.life_plan.specs.Carried.{IsCarried, IsRoom};
+ghost use Rattle.life_plan.specs.Crossing.{crossing_of};
 ghost use Rattle.life_fix.specs.Solution.{AllLimited};
-ghost use Rattle.life_fix.specs.Solving.{log_at, pairs_at, AllGrow, AreLogs, IsFlow, RunsEdge};
+ghost use Rattle.life_fix.specs.Solving.{pairs_at, IsFlow, IsMade, RunsEdge, RunsRow};
 
-use crate::log::add_facts;
 use life_base::Steps;
 use life_contract::Signatures;
 use life_core::{CoreFn, Edge, Point, SpotRef};
+use life_plan::{EdgeContext, Plan, Workspace};
 use life_pset::ElementTable;
-use life_rules::{given_by_new, spot_in};
-use life_sets::Rows;
+use life_rules::spot_in;
+use life_sets::{NumberSet, Rows};
 use life_types::{NoMemory, TypeTable};
 use std::alloc::Global;
 use std::sync::ledger::Ledger;
@@ -27,53 +30,182 @@ pub struct Flow<'a> {
     pub spots: &'a [SpotRef<'a>],
 }
 
-/// Adds to the row of the edge's second point what the edge carries from those pairs of its first
-/// that it hasn't carried yet, with what it carries from two of which one was carried before.
-/// It takes one step.
+/// The plan of an edge, which has carried nothing yet.
+pub fn plan_of(alloc: Global, flow: &Flow, edge: Edge) -> Result<Plan, NoMemory>
+    requires { IsFlow flow.now }
+    ensures { IfOk result (λ plan. IsMade flow.now.sigs.now flow.now.types.now (function_of flow.now.f.now) edge plan) }
+{
+    let context = EdgeContext {
+        f: flow.f,
+        sigs: flow.sigs,
+        types: flow.types,
+        table: flow.table,
+        edge,
+        spot: spot_in(flow.spots, edge.from),
+    };
+    Plan::of(alloc, &context)
+}
+
+/// Runs an edge: adds to the row of its second point what it carries from its first, of which these
+/// locations are due, and tells at which locations that row gained a pair. It takes one step.
 pub fn run_edge<R: Rows, L: Ledger>(
     alloc: Global,
     flow: &Flow,
     edge: Edge,
-    carried: Option<usize>,
+    plan: &mut Plan,
+    due: &NumberSet,
     rows: &mut [R],
-    logs: &mut [Vec<(u32, u32)>],
+    gained: &mut NumberSet,
+    workspace: &mut Workspace,
     steps: &mut Steps<L>,
 ) -> Result<(), NoMemory>
     requires flow { IsFlow flow.now }
     requires join { IsJoined (length rows.old) edge }
-    requires carried { IfSome carried (λ n. n ≤ length (log_at logs.old edge.from.0)) }
-    requires count { length logs.old ≡ length rows.old }
+    requires due { due.now.limit ≡ length flow.now.table.now.locations }
+    requires gained { gained.old.limit ≡ length flow.now.table.now.locations }
+    requires room { IsRoom (length flow.now.table.now.elements) workspace.old }
     requires locations { AllLimited R.location_limit (length flow.now.table.now.locations) rows.old }
     requires elements { AllLimited R.element_limit (length flow.now.table.now.elements) rows.old }
-    requires logs { AreLogs flow.now.table.now (pairs_at R.has rows.old) logs.old }
+    requires carried { IsCarried (crossing_of flow.now.sigs.now flow.now.types.now (function_of flow.now.f.now) edge) plan.old (holds due.now) (pairs_at R.has rows.old edge.from.0) (pairs_at R.has rows.old edge.to.0) }
     ensures runs { OnOk result
-        (RunsEdge flow.now.sigs.now flow.now.types.now (function_of flow.now.f.now) edge (log_at logs.old edge.from.0) carried (pairs_at R.has rows.old) (pairs_at R.has rows.new)) }
-    ensures logs { OnOk result (AreLogs flow.now.table.now (pairs_at R.has rows.new) logs.new) }
-    ensures grown { OnOk result (AllGrow logs.old logs.new) }
-    ensures tick { steps.new ≡ steps.old + 1 }
+        (RunsEdge flow.now.sigs.now flow.now.types.now (function_of flow.now.f.now) edge plan.new (holds gained.new) (pairs_at R.has rows.old) (pairs_at R.has rows.new)) }
+    ensures tick { OnOk result (steps.new ≡ steps.old + 1) }
+    ensures few { steps.new ≤ steps.old + 1 }
+    ensures gained { gained.new.limit ≡ gained.old.limit }
+    ensures room { IsRoom (length flow.now.table.now.elements) workspace.new }
     ensures locations { AllLimited R.location_limit (length flow.now.table.now.locations) rows.new }
     ensures elements { AllLimited R.element_limit (length flow.now.table.now.elements) rows.new }
 {
-    let spot = spot_in(flow.spots, edge.from);
-    let log = &logs[row_index(edge.from)];
-    let facts = given_by_new(
-        alloc, flow.f, flow.sigs, flow.types, flow.table, edge, spot, log, carried, steps,
-    )?;
+    let from = row_index(edge.from);
     let to = row_index(edge.to);
-    add_facts(flow.table, &facts, &mut rows[to], &mut logs[to])?;
+    if from < to {
+        let (front, back) = rows.split_at_mut(to);
+        run_row(
+            alloc,
+            flow,
+            edge,
+            plan,
+            due,
+            &front[from],
+            &mut back[0],
+            gained,
+            workspace,
+            steps,
+        )?;
+    } else if to < from {
+        let (front, back) = rows.split_at_mut(from);
+        run_row(
+            alloc,
+            flow,
+            edge,
+            plan,
+            due,
+            &back[0],
+            &mut front[to],
+            gained,
+            workspace,
+            steps,
+        )?;
+    } else {
+        run_around(
+            alloc,
+            flow,
+            edge,
+            plan,
+            due,
+            &mut rows[to],
+            gained,
+            workspace,
+            steps,
+        )?;
+    }
     Ok(())
 }
 
-/// How many pairs the log of a point has.
-pub fn log_len(logs: &[Vec<(u32, u32)>], point: Point) -> usize
-    requires low { 1 ≤ point.0 }
-    requires high { point.0 ≤ length logs.now }
-    ensures { result ≡ length (log_at logs.now point.0) }
+// Runs an edge whose ends are one point: from a copy of its row.
+fn run_around<R: Rows, L: Ledger>(
+    alloc: Global,
+    flow: &Flow,
+    edge: Edge,
+    plan: &mut Plan,
+    due: &NumberSet,
+    row: &mut R,
+    gained: &mut NumberSet,
+    workspace: &mut Workspace,
+    steps: &mut Steps<L>,
+) -> Result<(), NoMemory>
+    requires flow { IsFlow flow.now }
+    requires due { due.now.limit ≡ length flow.now.table.now.locations }
+    requires gained { gained.old.limit ≡ length flow.now.table.now.locations }
+    requires room { IsRoom (length flow.now.table.now.elements) workspace.old }
+    requires locations { R.location_limit row.old ≡ length flow.now.table.now.locations }
+    requires elements { R.element_limit row.old ≡ length flow.now.table.now.elements }
+    requires carried { IsCarried (crossing_of flow.now.sigs.now flow.now.types.now (function_of flow.now.f.now) edge) plan.old (holds due.now) (R.has row.old) (R.has row.old) }
+    ensures runs { OnOk result
+        (RunsRow flow.now.sigs.now flow.now.types.now (function_of flow.now.f.now) edge plan.new (holds gained.new) (R.has row.old) (R.has row.old) (R.has row.new)) }
+    ensures tick { OnOk result (steps.new ≡ steps.old + 1) }
+    ensures few { steps.new ≤ steps.old + 1 }
+    ensures gained { gained.new.limit ≡ gained.old.limit }
+    ensures room { IsRoom (length flow.now.table.now.elements) workspace.new }
+    ensures locations { R.location_limit row.new ≡ R.location_limit row.old }
+    ensures elements { R.element_limit row.new ≡ R.element_limit row.old }
 {
-    logs[row_index(point)].len()
+    let mut copy = R::empty(
+        alloc,
+        flow.table.location_count(),
+        flow.table.element_count(),
+    )?;
+    row.join_into(&mut copy)?;
+    run_row(
+        alloc, flow, edge, plan, due, &copy, row, gained, workspace, steps,
+    )?;
+    Ok(())
 }
 
-// Where the row of a point stands, and its log.
+// Runs an edge from the row of its first point into that of its second.
+fn run_row<R: Rows, L: Ledger>(
+    alloc: Global,
+    flow: &Flow,
+    edge: Edge,
+    plan: &mut Plan,
+    due: &NumberSet,
+    from: &R,
+    into: &mut R,
+    gained: &mut NumberSet,
+    workspace: &mut Workspace,
+    steps: &mut Steps<L>,
+) -> Result<(), NoMemory>
+    requires flow { IsFlow flow.now }
+    requires due { due.now.limit ≡ length flow.now.table.now.locations }
+    requires gained { gained.old.limit ≡ length flow.now.table.now.locations }
+    requires room { IsRoom (length flow.now.table.now.elements) workspace.old }
+    requires from_locations { R.location_limit from.now ≡ length flow.now.table.now.locations }
+    requires from_elements { R.element_limit from.now ≡ length flow.now.table.now.elements }
+    requires locations { R.location_limit into.old ≡ length flow.now.table.now.locations }
+    requires elements { R.element_limit into.old ≡ length flow.now.table.now.elements }
+    requires carried { IsCarried (crossing_of flow.now.sigs.now flow.now.types.now (function_of flow.now.f.now) edge) plan.old (holds due.now) (R.has from.now) (R.has into.old) }
+    ensures runs { OnOk result
+        (RunsRow flow.now.sigs.now flow.now.types.now (function_of flow.now.f.now) edge plan.new (holds gained.new) (R.has from.now) (R.has into.old) (R.has into.new)) }
+    ensures tick { steps.new ≡ steps.old + 1 }
+    ensures gained { gained.new.limit ≡ gained.old.limit }
+    ensures room { IsRoom (length flow.now.table.now.elements) workspace.new }
+    ensures locations { R.location_limit into.new ≡ R.location_limit into.old }
+    ensures elements { R.element_limit into.new ≡ R.element_limit into.old }
+{
+    gained.clear();
+    let context = EdgeContext {
+        f: flow.f,
+        sigs: flow.sigs,
+        types: flow.types,
+        table: flow.table,
+        edge,
+        spot: spot_in(flow.spots, edge.from),
+    };
+    plan.run(alloc, &context, due, from, into, gained, workspace, steps)?;
+    Ok(())
+}
+
+// Where the row of a point stands.
 fn row_index(point: Point) -> usize
     requires { 1 ≤ point.0 }
     ensures { result + 1 ≡ point.0 }

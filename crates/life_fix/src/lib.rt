@@ -1,13 +1,15 @@
 //! The derived facts of a function, as the least fixed point of its edges, and what they make wrong.
 #![tactic(auto)]
 
+mod beginning;
 mod diagnosis;
 mod flow;
+mod leaving;
 mod listing;
-mod log;
 mod program;
 mod solution;
 mod solver;
+mod told;
 mod worklist;
 
 pub use diagnosis::diagnostics;

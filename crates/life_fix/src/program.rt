@@ -18,7 +18,7 @@ use life_base::Steps;
 use life_contract::Signatures;
 use life_core::{CoreFn, CoreProgram, FnId, Names};
 use life_rules::Diag;
-use life_sets::SetRows;
+use life_sets::BitRows;
 use life_types::{NoMemory, TypeTable};
 use std::alloc::Global;
 use std::sync::ledger::Ledger;
@@ -87,6 +87,6 @@ fn function_found<L: Ledger>(
     ensures found { IfOk result (λ all. (d : Diag) → Contains all.items d ↔ IsDiagnosed sigs.now types.now id.0 (function_of f.now) d) }
     ensures ticks { steps.new ≤ steps.old + most_steps types.now (function_of f.now) }
 {
-    let solution = solve::<SetRows, L>(alloc, f, sigs, types, steps)?;
+    let solution = solve::<BitRows, L>(alloc, f, sigs, types, steps)?;
     found(alloc, f, id, sigs, types, &solution)
 }

@@ -1,145 +1,148 @@
-// The worklist: for each edge, how many pairs of the log of its first point it has carried.
-ghost use Rattle.std.specs.Prelude.{◌≡◌, ◌+◌, ◌<◌, ◌≤◌, ℕ, Option, Some, true, false, length, slice_get, IfNone, IfSome, OnOk};
+// The worklist: for each edge, the locations of its first point that gained a pair since it was run.
+ghost use Rattle.std.specs.Prelude.{◌≡◌, ◌+◌, ◌<◌, ◌≤◌, ℕ, false, length, true, IfNone, IfSome, IsTrue, OnOk};
 ghost use Rattle.life_core.specs.Function.{function_of};
-ghost use Rattle.life_core.specs.Linked.{points_of, AllJoin, IsJoined};
-ghost use Rattle.life_core.specs.declared.stmt.Edge.{Edge};
+ghost use Rattle.life_core.specs.Linked.{points_of};
+ghost use Rattle.life_sets.specs.NumberSets.{holds};
+ghost use Rattle.life_plan.specs.Carried.{IsRoom};
 ghost use Rattle.life_fix.specs.Solution.{AllLimited};
-ghost use Rattle.life_fix.specs.Solving.{is_due, left_of, log_at, most_pairs, most_steps, pairs_at, AreLogs, IsFlow, IsPartial, IsSolved};
+ghost use Rattle.life_fix.specs.Solving.{left_of, most_steps, pairs_at, set_at, AreSized, IsFlow, IsPartial, IsSolved};
 
-use crate::flow::{Flow, log_len, run_edge};
+use crate::flow::{Flow, run_edge};
+use crate::leaving::put_back;
 use life_base::Steps;
-use life_core::Edge;
-use life_sets::Rows;
+use life_plan::{Plan, Workspace};
+use life_sets::{NumberSet, Rows};
 use life_types::NoMemory;
 use std::alloc::Global;
 use std::sync::ledger::Ledger;
 
-/// Runs edges that are due until none is. An edge is due that wasn't run, or that hasn't carried all
-/// pairs of its first point. So each pair is carried along each edge once.
+/// Runs edges that are due until none is. An edge is due where a location is due for it: at first each
+/// one, and later those of its first point that gained a pair since it was run.
 pub fn run_all<R: Rows, L: Ledger>(
     alloc: Global,
     flow: &Flow,
     rows: &mut [R],
-    logs: &mut [Vec<(u32, u32)>],
-    carried: &mut [Option<usize>],
+    plans: &mut [Plan],
+    dues: &mut [NumberSet],
     steps: &mut Steps<L>,
 ) -> Result<(), NoMemory>
     requires flow { IsFlow flow.now }
     requires count { length rows.old ≡ points_of (function_of flow.now.f.now) }
-    requires logs { length logs.old ≡ points_of (function_of flow.now.f.now) }
-    requires carried { length carried.old ≡ length flow.now.edges.now }
+    requires plans { length plans.old ≡ length flow.now.edges.now }
+    requires dues { length dues.old ≡ length flow.now.edges.now }
+    requires sized { AreSized (length flow.now.table.now.locations) dues.old }
     requires locations { AllLimited R.location_limit (length flow.now.table.now.locations) rows.old }
     requires elements { AllLimited R.element_limit (length flow.now.table.now.elements) rows.old }
-    requires partial { IsPartial flow.now.sigs.now flow.now.types.now (function_of flow.now.f.now) flow.now.edges.now carried.old (pairs_at R.has rows.old) logs.old }
+    requires partial { IsPartial flow.now.sigs.now flow.now.types.now (function_of flow.now.f.now) flow.now.edges.now plans.old (set_at dues.old) (pairs_at R.has rows.old) }
     ensures solved { OnOk result (IsSolved flow.now.sigs.now flow.now.types.now (function_of flow.now.f.now) (pairs_at R.has rows.new)) }
     ensures ticks { steps.new ≤ steps.old + most_steps flow.now.types.now (function_of flow.now.f.now) }
     ensures locations { OnOk result (AllLimited R.location_limit (length flow.now.table.now.locations) rows.new) }
     ensures elements { OnOk result (AllLimited R.element_limit (length flow.now.table.now.elements) rows.new) }
 {
+    let mut gained = NumberSet::empty(alloc, flow.table.location_count())?;
+    let mut workspace = Workspace::new(alloc, flow.table.element_count())?;
     let mut next = 0;
-    while let Some(k) = next_due(flow.edges, logs, carried, next) {
-        visit(alloc, flow, k, rows, logs, carried, steps)?;
+    while let Some(k) = next_due(dues, next) {
+        visit(
+            alloc,
+            flow,
+            k,
+            rows,
+            plans,
+            dues,
+            &mut gained,
+            &mut workspace,
+            steps,
+        )?;
         next = k;
     }
     Ok(())
 }
 
-// Runs an edge that is due.
+// Runs an edge that is due, and puts what its second point gained back to those that leave it.
 fn visit<R: Rows, L: Ledger>(
     alloc: Global,
     flow: &Flow,
     k: usize,
     rows: &mut [R],
-    logs: &mut [Vec<(u32, u32)>],
-    carried: &mut [Option<usize>],
+    plans: &mut [Plan],
+    dues: &mut [NumberSet],
+    gained: &mut NumberSet,
+    workspace: &mut Workspace,
     steps: &mut Steps<L>,
 ) -> Result<(), NoMemory>
     requires flow { IsFlow flow.now }
     requires count { length rows.old ≡ points_of (function_of flow.now.f.now) }
-    requires logs { length logs.old ≡ points_of (function_of flow.now.f.now) }
-    requires carried { length carried.old ≡ length flow.now.edges.now }
+    requires plans { length plans.old ≡ length flow.now.edges.now }
+    requires dues { length dues.old ≡ length flow.now.edges.now }
     requires k { k < length flow.now.edges.now }
-    requires due { (edge : Edge) (c : Option ℕ) → slice_get flow.now.edges.now k ≡ Some edge → slice_get carried.old k ≡ Some c → is_due c (length (log_at logs.old edge.from.0)) ≡ true }
+    requires due { (l : ℕ) × IsTrue (set_at dues.old k l) }
+    requires sized { AreSized (length flow.now.table.now.locations) dues.old }
+    requires gained { gained.old.limit ≡ length flow.now.table.now.locations }
+    requires room { IsRoom (length flow.now.table.now.elements) workspace.old }
     requires locations { AllLimited R.location_limit (length flow.now.table.now.locations) rows.old }
     requires elements { AllLimited R.element_limit (length flow.now.table.now.elements) rows.old }
-    requires partial { IsPartial flow.now.sigs.now flow.now.types.now (function_of flow.now.f.now) flow.now.edges.now carried.old (pairs_at R.has rows.old) logs.old }
+    requires partial { IsPartial flow.now.sigs.now flow.now.types.now (function_of flow.now.f.now) flow.now.edges.now plans.old (set_at dues.old) (pairs_at R.has rows.old) }
     ensures partial { OnOk result
-        (IsPartial flow.now.sigs.now flow.now.types.now (function_of flow.now.f.now) flow.now.edges.now carried.new (pairs_at R.has rows.new) logs.new) }
-    ensures room { 1 ≤ left_of (most_pairs flow.now.table.now) carried.old }
-    ensures falls { OnOk result (left_of (most_pairs flow.now.table.now) carried.new + 1 ≤ left_of (most_pairs flow.now.table.now) carried.old) }
-    ensures tick { steps.new ≡ steps.old + 1 }
+        (IsPartial flow.now.sigs.now flow.now.types.now (function_of flow.now.f.now) flow.now.edges.now plans.new (set_at dues.new) (pairs_at R.has rows.new)) }
+    ensures left { 1 ≤ left_of flow.now.table.now flow.now.edges.now (set_at dues.old) (pairs_at R.has rows.old) }
+    ensures falls { OnOk result
+        (left_of flow.now.table.now flow.now.edges.now (set_at dues.new) (pairs_at R.has rows.new) + 1 ≤ left_of flow.now.table.now flow.now.edges.now (set_at dues.old) (pairs_at R.has rows.old)) }
+    ensures tick { OnOk result (steps.new ≡ steps.old + 1) }
+    ensures few { steps.new ≤ steps.old + 1 }
+    ensures sized { OnOk result (AreSized (length flow.now.table.now.locations) dues.new) }
+    ensures gained { gained.new.limit ≡ gained.old.limit }
+    ensures room { IsRoom (length flow.now.table.now.elements) workspace.new }
     ensures locations { OnOk result (AllLimited R.location_limit (length flow.now.table.now.locations) rows.new) }
     ensures elements { OnOk result (AllLimited R.element_limit (length flow.now.table.now.elements) rows.new) }
 {
     let edge = flow.edges[k];
-    let pairs = log_len(logs, edge.from);
-    run_edge(alloc, flow, edge, carried[k], rows, logs, steps)?;
-    carried[k] = Some(pairs);
+    run_edge(
+        alloc,
+        flow,
+        edge,
+        &mut plans[k],
+        &dues[k],
+        rows,
+        gained,
+        workspace,
+        steps,
+    )?;
+    put_back(flow.edges, k, edge.to, gained, dues);
     Ok(())
 }
 
 // An edge that is due: the first from this one on, or else the first of all. So the edges are run in
 // sweeps along the function, and none is looked at more than once in a sweep.
-fn next_due(
-    edges: &[Edge],
-    logs: &[Vec<(u32, u32)>],
-    carried: &[Option<usize>],
-    start: usize,
-) -> Option<usize>
-    requires count { length carried.now ≡ length edges.now }
-    requires join { AllJoin (length logs.now) edges.now }
-    ensures within { IfSome result (λ k. k < length edges.now) }
-    ensures some { IfSome result
-        (λ k. (edge : Edge) (c : Option ℕ) → slice_get edges.now k ≡ Some edge → slice_get carried.now k ≡ Some c → is_due c (length (log_at logs.now edge.from.0)) ≡ true) }
-    ensures none { IfNone result
-        ((k : ℕ) (edge : Edge) (c : Option ℕ) → slice_get edges.now k ≡ Some edge → slice_get carried.now k ≡ Some c → is_due c (length (log_at logs.now edge.from.0)) ≡ false) }
+fn next_due(dues: &[NumberSet], start: usize) -> Option<usize>
+    ensures within { IfSome result (λ k. k < length dues.now) }
+    ensures some { IfSome result (λ k. (l : ℕ) × IsTrue (set_at dues.now k l)) }
+    ensures none { IfNone result ((k l : ℕ) → set_at dues.now k l ≡ false) }
 {
-    match due_from(edges, logs, carried, start) {
+    match due_from(dues, start) {
         Some(k) => Some(k),
-        None => due_from(edges, logs, carried, 0),
+        None => due_from(dues, 0),
     }
 }
 
 // The first edge from this one on that is due.
-fn due_from(
-    edges: &[Edge],
-    logs: &[Vec<(u32, u32)>],
-    carried: &[Option<usize>],
-    start: usize,
-) -> Option<usize>
-    requires count { length carried.now ≡ length edges.now }
-    requires join { AllJoin (length logs.now) edges.now }
-    ensures within { IfSome result (λ k. k < length edges.now) }
-    ensures some { IfSome result
-        (λ k. (edge : Edge) (c : Option ℕ) → slice_get edges.now k ≡ Some edge → slice_get carried.now k ≡ Some c → is_due c (length (log_at logs.now edge.from.0)) ≡ true) }
-    ensures none { IfNone result
-        ((k : ℕ) (edge : Edge) (c : Option ℕ) → start ≤ k → slice_get edges.now k ≡ Some edge → slice_get carried.now k ≡ Some c → is_due c (length (log_at logs.now edge.from.0)) ≡ false) }
+fn due_from(dues: &[NumberSet], start: usize) -> Option<usize>
+    ensures within { IfSome result (λ k. k < length dues.now) }
+    ensures some { IfSome result (λ k. (l : ℕ) × IsTrue (set_at dues.now k l)) }
+    ensures none { IfNone result ((k l : ℕ) → start ≤ k → set_at dues.now k l ≡ false) }
 {
-    for k in start..edges.len() {
-        if is_due_at(edges, logs, carried, k) {
+    for k in start..dues.len() {
+        if has_number(&dues[k]) {
             return Some(k);
         }
     }
     None
 }
 
-// Whether the edge at this place is due.
-fn is_due_at(edges: &[Edge], logs: &[Vec<(u32, u32)>], carried: &[Option<usize>], k: usize) -> bool
-    requires k { k < length edges.now }
-    requires count { length carried.now ≡ length edges.now }
-    requires join { AllJoin (length logs.now) edges.now }
-    ensures { (edge : Edge) (c : Option ℕ) → slice_get edges.now k ≡ Some edge → slice_get carried.now k ≡ Some c → is_due c (length (log_at logs.now edge.from.0)) ≡ result }
+// Whether the set has a number.
+fn has_number(set: &NumberSet) -> bool
+    ensures some { result ≡ true → (l : ℕ) × IsTrue (holds set.now l) }
+    ensures none { result ≡ false → (l : ℕ) → holds set.now l ≡ false }
 {
-    is_due(edges[k], logs, carried[k])
-}
-
-// Whether an edge that has carried so much is due.
-fn is_due(edge: Edge, logs: &[Vec<(u32, u32)>], carried: Option<usize>) -> bool
-    requires { IsJoined (length logs.now) edge }
-    ensures { result ≡ is_due carried (length (log_at logs.now edge.from.0)) }
-{
-    match carried {
-        None => true,
-        Some(n) => n < log_len(logs, edge.from),
-    }
+    set.next(0).is_some()
 }

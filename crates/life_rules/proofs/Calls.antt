@@ -5,7 +5,7 @@ use Rattle.std.proofs.lemmas.Bool.{eq-eqb}
 use Rattle.life_types.specs.Types.{Types}
 use Rattle.life_types.specs.declared.place.Place.{Place}
 use Rattle.life_core.specs.Function.{Function}
-use Rattle.life_core.specs.Operands.{Argument, Value, GivenOver, PointerOf, Slot, Location}
+use Rattle.life_core.specs.Operands.{Argument, Value, GivenOver, PointerOf, Slot}
 use Rattle.life_pset.proofs.Numbers.{exact_place}
 use Rattle.life_pset.specs.Elements.{Input, local_place}
 use Rattle.life_pset.specs.Places.{longer, member_place, members_place, owned_step, path, stepped, too_long}
@@ -19,7 +19,6 @@ use Rattle.life_contract.specs.Located.{is_root, is_rooted}
 use Rattle.life_contract.specs.Signatures.{Signature}
 use Rattle.life_rules.proofs.Nothing.{and_first, and_second, any_none, cond_none, flat_map_empty, pairs_empty}
 use Rattle.life_rules.specs.Arguing.{broken_by_two, moved_at, overlapping_at}
-use Rattle.life_rules.specs.Calling.{called_two, killed_by_call}
 use Rattle.life_rules.specs.declared.diag.Diag.{Diag}
 
 -- ---- members have the root of what they are members of
@@ -40,11 +39,11 @@ members_root a (m ∷ ms) = members_root (member_place a m) ms ∙ member_root a
 
 -- ---- an argument's location lies in the argument
 
-or_first : (a b : Bool) → (a || b) ≡ false → a ≡ false
+pub or_first : (a b : Bool) → (a || b) ≡ false → a ≡ false
 or_first true b h = h
 or_first false b h = refl
 
-or_second : (a b : Bool) → (a || b) ≡ false → b ≡ false
+pub or_second : (a b : Bool) → (a || b) ≡ false → b ≡ false
 or_second true b h = absurd (true≢false h)
 or_second false b h = h
 
@@ -73,15 +72,9 @@ no_argument xs i l h = given_among xs (parameter_number i) i l h
 
 -- ---- so nothing comes of it
 
-no_mutating : (types : Types) (sig : Signature) (xs : List Argument) (l : AbsPlace) → is_in_arguments xs l ≡ false → is_mutating_argument types sig xs l ≡ false
+pub no_mutating : (types : Types) (sig : Signature) (xs : List Argument) (l : AbsPlace) → is_in_arguments xs l ≡ false → is_mutating_argument types sig xs l ≡ false
 no_mutating types sig xs l h =
     any_none (λ i. is_mutating types sig i && is_argument_of xs i l) (inputs_of_signature types sig) (λ i. and_second (is_mutating types sig i) (is_argument_of xs i l) (no_argument xs i l h))
-
-pub call_two_none : (types : Types) (place : Place) (g : ℕ) (sig : Option Signature) (xs : List Argument) (target : Option Location) (a b : Fact)
-    → is_in_arguments xs a.location ≡ false → called_two types place g sig xs target a b ≡ []
-call_two_none types place g None xs target a b h = refl
-call_two_none types place g (Some sig) xs target a b h =
-    cond_none (is_mutating_argument types sig xs a.location) (killed_by_call place g target a.element b) (no_mutating types sig xs a.location h)
 
 pub broken_by_two_none : (types : Types) (function : ℕ) (f : Function) (place : Place) (g : ℕ) (sig : Option Signature) (xs : List Argument) (a b : Fact)
     → is_in_arguments xs a.location ≡ false → broken_by_two types function f place g sig xs a b ≡ []

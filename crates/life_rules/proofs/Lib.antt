@@ -1,9 +1,11 @@
 pub mod Calls
 pub mod Giving
-pub mod NewFacts
 pub mod Nothing
+pub mod OneFact
 pub mod OneFunction
 pub mod SetLemmas
 pub mod Spots
+pub mod TwoFacts
 pub mod Unique
+pub mod Untold
 pub mod ValueCalls

@@ -9,7 +9,8 @@ pub mod Keeping
 pub mod Lines
 pub mod Listing
 pub mod Matching
-pub mod NewFacts
 pub mod Returning
+pub mod Staying
 pub mod Telling
 pub mod Texts
+pub mod ToldAt

@@ -1,21 +1,20 @@
 // What a call makes of facts.
 ghost use Rattle.std.specs.List.{flat_map};
 ghost use Rattle.std.specs.Option.{option_copied};
-ghost use Rattle.std.specs.Prelude.{◌≡◌, ◌++◌, map, option_map, OnOk, Some};
+ghost use Rattle.std.specs.Prelude.{◌≡◌, ◌++◌, map, option_map, OnOk};
 ghost use Rattle.life_core.specs.Operands.{argument_of, location_of};
 ghost use Rattle.life_pset.specs.Inputs.{input_seen};
-ghost use Rattle.life_rules.specs.Calling.{called_none, called_one, called_two, fixed_facts, fixed_into, is_in_target, killed_at_call, killed_by_call, passed_element, passed_fact, passed_facts, passed_for, passed_into, result_at};
+ghost use Rattle.life_rules.specs.Calling.{called_none, called_one, fixed_facts, fixed_into, is_in_target, passed_element, passed_fact, passed_facts, passed_for, passed_into, result_at};
 ghost use Rattle.life_rules.specs.Matching.{fact_at};
 
-use crate::matching::{located, points_under};
-use crate::push::push_if;
+use crate::matching::located;
 use life_contract::{
-    Signature, fixed_elements, inputs_of, is_argument_of, is_mutating_argument, promised_behind,
-    result_locations, result_type, steps_place,
+    Signature, fixed_elements, inputs_of, is_argument_of, promised_behind, result_locations,
+    result_type, steps_place,
 };
-use life_core::{Argument, FnId, Location};
-use life_pset::{AbsPlace, Element, Fact, InputPointer, called, is_within};
-use life_types::{NoMemory, Place, TypeTable};
+use life_core::{Argument, Location};
+use life_pset::{AbsPlace, Element, Fact, InputPointer, is_within};
+use life_types::{NoMemory, TypeTable};
 use std::alloc::Global;
 
 // ---- the target
@@ -301,82 +300,4 @@ fn passed_fact(target: AbsPlace, place: AbsPlace, location: AbsPlace, behind: &A
         location: result_at(target, &location),
         element: Element::At(steps_place(place, behind.path())),
     }
-}
-
-// ---- from two facts
-
-/// Adds that a pointer may be invalid, if it points under what a mutating argument points to, and the
-/// call doesn't write it.
-pub fn push_called_two(
-    alloc: Global,
-    types: &TypeTable,
-    place: Place,
-    callee: FnId,
-    sig: Option<&Signature>,
-    arguments: &[Argument],
-    target: &Option<Location>,
-    argument: Fact,
-    victim: Fact,
-    out: &mut Vec<Fact>,
-) -> Result<(), NoMemory>
-    ensures { OnOk result
-        (out.new.items
-        ≡ out.old.items ++ called_two types.now place callee.0 (option_copied sig.entry) (map argument_of arguments.now) (option_map location_of target.now) argument victim) }
-{
-    match sig {
-        None => Ok(()),
-        Some(sig) => push_killed_at_call(
-            alloc, types, place, callee, sig, arguments, target, argument, victim, out,
-        ),
-    }
-}
-
-fn push_killed_at_call(
-    alloc: Global,
-    types: &TypeTable,
-    place: Place,
-    callee: FnId,
-    sig: &Signature,
-    arguments: &[Argument],
-    target: &Option<Location>,
-    argument: Fact,
-    victim: Fact,
-    out: &mut Vec<Fact>,
-) -> Result<(), NoMemory>
-    ensures { OnOk result
-        (out.new.items
-        ≡ out.old.items ++ killed_at_call types.now place callee.0 sig.now (map argument_of arguments.now) (option_map location_of target.now) argument victim) }
-{
-    if is_mutating_argument(alloc, sig, types, arguments, &argument.location)? {
-        push_killed_by_call(place, callee, target, argument.element, victim, out)?;
-    }
-    Ok(())
-}
-
-fn push_killed_by_call(
-    place: Place,
-    callee: FnId,
-    target: &Option<Location>,
-    argument: Element,
-    victim: Fact,
-    out: &mut Vec<Fact>,
-) -> Result<(), NoMemory>
-    ensures { OnOk result
-        (out.new.items ≡ out.old.items ++ killed_by_call place callee.0 (option_map location_of target.now) argument victim) }
-{
-    match argument {
-        Element::At(owner) => {
-            let is_victim = points_under(&owner, &victim.element);
-            push_if(
-                is_victim && !is_in_target(target, &victim.location),
-                Fact {
-                    location: victim.location,
-                    element: Element::Invalid(called(place, callee)),
-                },
-                out,
-            )?;
-        }
-        _ => {}
-    }
-    Ok(())
 }

@@ -1,19 +1,17 @@
-// What an instruction changes by its name, so that pointers under it become invalid, and which facts it
-// drops.
-ghost use Rattle.std.specs.Prelude.{◌≡◌, ◌++◌, if◌then◌else◌, None, OnOk};
+// What an instruction changes by its name, so that pointers under it become invalid, and which elements
+// are gone.
+ghost use Rattle.std.specs.Prelude.{◌≡◌, if◌then◌else◌, None};
 ghost use Rattle.life_types.specs.Trees.{holds_owner};
 ghost use Rattle.life_core.specs.Function.{function_of};
 ghost use Rattle.life_core.specs.Operands.{operand_of};
 ghost use Rattle.life_core.specs.Step.{step_of};
 ghost use Rattle.life_pset.specs.Shapes.{operand_type, tree_if};
-ghost use Rattle.life_rules.specs.Carrying.{after_kill, drops, is_gone, is_killed, is_killed_by, killed_fact, killed_facts, kills, named_kill, one_kill};
+ghost use Rattle.life_rules.specs.Carrying.{after_kill, is_gone, is_killed, is_killed_by, kills, named_kill, one_kill};
 
 use crate::matching::{located, points_among, points_under};
-use crate::push::push_if;
-use crate::writes::writes;
 use life_core::{CoreFn, Instr, Operand};
-use life_pset::{AbsPlace, Cause, Element, Fact, changed, holds_owner_if, moved, operand_type};
-use life_types::{NoMemory, Place, TypeTable};
+use life_pset::{AbsPlace, Cause, Element, changed, holds_owner_if, moved, operand_type};
+use life_types::{Place, TypeTable};
 
 /// A place that is changed by its name, and the cause that pointers under it get.
 #[derive(Clone, Copy, Debug, PartialEq, Eq)]
@@ -115,55 +113,14 @@ pub fn after_kill(kill: Option<Kill>, element: Element) -> Element
     }
 }
 
-/// Adds that a pointer under what an instruction changes by its name is invalid, unless its set is
-/// replaced.
-#[tactic(auto, using(std::proofs::Common::append_assoc))]
-pub fn push_killed(
-    kills: KillPair,
+/// Whether an element doesn't stay: its root ended, or it points under what is changed.
+pub fn is_gone(
+    types: &TypeTable,
+    f: &CoreFn,
+    place: Place,
     instr: &Instr,
-    fact: Fact,
-    out: &mut Vec<Fact>,
-) -> Result<(), NoMemory>
-    ensures { OnOk result (out.new.items ≡ out.old.items ++ killed_facts kills (step_of instr.now) fact) }
-{
-    push_killed_fact(kills.first, instr, fact, out)?;
-    push_killed_fact(kills.second, instr, fact, out)
-}
-
-fn push_killed_fact(
-    kill: Option<Kill>,
-    instr: &Instr,
-    fact: Fact,
-    out: &mut Vec<Fact>,
-) -> Result<(), NoMemory>
-    ensures { OnOk result (out.new.items ≡ out.old.items ++ killed_fact kill (step_of instr.now) fact) }
-{
-    match kill {
-        None => Ok(()),
-        Some(kill) => {
-            let is_victim = points_under(&kill.owner, &fact.element);
-            push_if(
-                is_victim && !writes(instr, &fact.location),
-                Fact {
-                    location: fact.location,
-                    element: Element::Invalid(kill.cause),
-                },
-                out,
-            )
-        }
-    }
-}
-
-/// Whether an instruction at a place drops a fact: one with an element that doesn't stay, and one about
-/// what is written.
-pub fn drops(types: &TypeTable, f: &CoreFn, place: Place, instr: &Instr, fact: Fact) -> bool
-    ensures { result ≡ drops types.now (function_of f.now) place (step_of instr.now) fact }
-{
-    is_gone(types, f, place, instr, &fact.element) || writes(instr, &fact.location)
-}
-
-// Whether an element doesn't stay: its root ended, or it points under what is changed.
-fn is_gone(types: &TypeTable, f: &CoreFn, place: Place, instr: &Instr, element: &Element) -> bool
+    element: &Element,
+) -> bool
     ensures { result ≡ is_gone types.now (function_of f.now) place (step_of instr.now) element.now }
 {
     match instr {

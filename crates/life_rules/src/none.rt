@@ -1,18 +1,21 @@
 // What an instruction makes of no fact.
 ghost use Rattle.std.specs.List.{flat_map};
 ghost use Rattle.std.specs.Option.{option_copied};
-ghost use Rattle.std.specs.Prelude.{◌≡◌, ◌++◌, ◌∷◌, IfOk, OnOk};
+ghost use Rattle.std.specs.Prelude.{◌≡◌, ◌++◌, ◌∷◌, option_map, IfOk, OnOk};
 ghost use Rattle.life_core.specs.Function.{function_of};
+ghost use Rattle.life_core.specs.Node.{spot_seen};
 ghost use Rattle.life_core.specs.Operands.{base_of, operand_of, source_of};
 ghost use Rattle.life_core.specs.Step.{change_of, step_of};
 ghost use Rattle.life_pset.specs.Elements.{local_place, moved};
-ghost use Rattle.life_rules.specs.Carrying.{born, born_facts, born_raw, fact_at, from_none, locations_at, locations_of_local, made_element, named_element, named_in, named_position, named_target, own_type, whole_facts};
+ghost use Rattle.life_rules.specs.Carrying.{born, born_facts, born_raw, fact_at, from_none, locations_at, locations_of_local, made_element, named_element, named_in, named_position, named_target, none_at, own_type, whole_facts};
 
 use crate::calling::push_called_none;
 use crate::matching::{located, part_of};
 use crate::push::{push_at, push_if};
 use life_contract::Signatures;
-use life_core::{Base, Change, CoreFn, Form, Instr, Local, Made, Operand, Source};
+use life_core::{
+    Base, Change, CoreFn, Form, Instr, Local, Made, NodeRef, Operand, Source, SpotRef,
+};
 use life_pset::{
     AbsPlace, Element, Fact, is_variable_place, moved, push_local_locations, steps_type, ty_if,
     uninitialised,
@@ -20,11 +23,37 @@ use life_pset::{
 use life_types::{NoMemory, Place, Ty, TyId, TypeTable};
 use std::alloc::Global;
 
-/// Adds what an instruction at a place makes of no fact: what comes to life has no value yet, null, or
-/// a buffer (ISO/IEC 14882:2017 [dcl.init] leaves a pointer indeterminate), what is moved from says so,
-/// a pointer that is aimed by name points there, and the result of a call is what its function promises
-/// that is no place.
-pub fn push_from_none(
+/// Adds what a point makes of no fact.
+pub fn push_none(
+    alloc: Global,
+    sigs: &Signatures,
+    types: &TypeTable,
+    f: &CoreFn,
+    spot: Option<SpotRef>,
+    out: &mut Vec<Fact>,
+) -> Result<(), NoMemory>
+    ensures { OnOk result
+        (out.new.items ≡ out.old.items ++ none_at sigs.now types.now (function_of f.now) (option_map spot_seen spot.entry)) }
+{
+    match spot {
+        None => {}
+        Some(spot) => match spot.node {
+            NodeRef::Action(instr) => push_from_none(
+                alloc, sigs, types, f, spot.place, instr, out,
+            )?,
+            NodeRef::Question(_) => {}
+            NodeRef::Return => {}
+            NodeRef::Stop => {}
+        },
+    }
+    Ok(())
+}
+
+// Adds what an instruction at a place makes of no fact: what comes to life has no value yet, null, or
+// a buffer (ISO/IEC 14882:2017 [dcl.init] leaves a pointer indeterminate), what is moved from says so,
+// a pointer that is aimed by name points there, and the result of a call is what its function promises
+// that is no place.
+fn push_from_none(
     alloc: Global,
     sigs: &Signatures,
     types: &TypeTable,

@@ -1,32 +1,27 @@
-// What an instruction makes of one fact.
-ghost use Rattle.std.specs.Option.{option_copied};
+// What an instruction makes of one fact, beside what stays of it.
 ghost use Rattle.std.specs.Prelude.{◌≡◌, ◌++◌, OnOk};
 ghost use Rattle.life_core.specs.Function.{function_of};
 ghost use Rattle.life_core.specs.Operands.{base_of, location_of, operand_of, source_of};
 ghost use Rattle.life_core.specs.Step.{change_of, step_of};
-ghost use Rattle.life_pset.specs.Elements.{causes_of_end, end_causes, end_if};
-ghost use Rattle.life_rules.specs.Carrying.{aimed_from, copied_facts, copied_from, copied_location, element_from, ended_element, ended_facts, ended_root, from_one, invalid_facts, kills, makes, moved_facts, position_facts, position_from, reached_from, taken};
+ghost use Rattle.life_rules.specs.Carrying.{aimed_from, copied_facts, copied_from, copied_location, element_from, moved_facts, position_facts, position_from, reached_from, taken};
+ghost use Rattle.life_rules.specs.Staying.{made};
 
 use crate::calling::push_called_one;
-use crate::kill::{Kill, after_kill, drops, kills, push_killed};
-use crate::matching::{
-    given_over, gotten, is_location, is_rooted_among, located, position_in, reached,
-};
-use crate::push::{push_at_if, push_if, push_unless};
+use crate::kill::{Kill, after_kill, kills};
+use crate::matching::{given_over, gotten, is_location, located, position_in, reached};
+use crate::push::{push_at_if, push_if};
 use crate::writes::is_whole;
 use life_contract::Signatures;
-use life_core::{Base, Change, CoreFn, Instr, Local, LocalKind, Location, Operand, Source};
+use life_core::{Base, Change, CoreFn, Instr, Location, Operand, Source};
 use life_pset::{
-    AbsPlace, Cause, Element, Fact, Root, ended, is_pointer, is_unique, is_within, location_type,
-    place_type, rest_of, ty_if,
+    AbsPlace, Fact, is_pointer, is_unique, is_within, location_type, place_type, rest_of, ty_if,
 };
 use life_types::{NoMemory, Place, TypeTable};
 use std::alloc::Global;
 
-/// Adds what an instruction at a place makes of one fact: the fact itself, unless the instruction
-/// drops it, what a kill leaves of it, and what the instruction makes of it.
-#[tactic(auto, using(std::proofs::Common::append_assoc))]
-pub fn push_from_one(
+/// Adds what an instruction at a place makes of a fact where its location is read, beside what stays of
+/// it.
+pub fn push_made_by(
     alloc: Global,
     sigs: &Signatures,
     types: &TypeTable,
@@ -37,29 +32,9 @@ pub fn push_from_one(
     out: &mut Vec<Fact>,
 ) -> Result<(), NoMemory>
     ensures { OnOk result
-        (out.new.items ≡ out.old.items ++ from_one sigs.now types.now (function_of f.now) place (step_of instr.now) fact) }
-{
-    push_unless(drops(types, f, place, instr, fact), fact, out)?;
-    push_killed(kills(types, f, place, instr), instr, fact, out)?;
-    push_made(alloc, sigs, types, f, place, instr, fact, out)
-}
-
-// Adds what an instruction makes of a fact, beside keeping it and what it kills.
-fn push_made(
-    alloc: Global,
-    sigs: &Signatures,
-    types: &TypeTable,
-    f: &CoreFn,
-    place: Place,
-    instr: &Instr,
-    fact: Fact,
-    out: &mut Vec<Fact>,
-) -> Result<(), NoMemory>
-    ensures { OnOk result
-        (out.new.items ≡ out.old.items ++ makes sigs.now types.now (function_of f.now) place (step_of instr.now) fact) }
+        (out.new.items ≡ out.old.items ++ made sigs.now types.now (function_of f.now) place (step_of instr.now) fact) }
 {
     match instr {
-        Instr::End { locals } => push_ended(f, place, locals, fact, out),
         Instr::Copy { to, from } => {
             let kill = kills(types, f, place, instr).first;
             push_copied(types, f, kill, to, from, fact, out)
@@ -90,109 +65,6 @@ fn push_made(
         ),
         _ => Ok(()),
     }
-}
-
-// ---- ends
-
-// Adds that a pointer to what ended is invalid (ISO/IEC 14882:2017 [basic.stc]), unless it ended
-// itself.
-fn push_ended(
-    f: &CoreFn,
-    place: Place,
-    locals: &[u32],
-    fact: Fact,
-    out: &mut Vec<Fact>,
-) -> Result<(), NoMemory>
-    ensures { OnOk result
-        (out.new.items ≡ out.old.items ++ ended_facts (function_of f.now) place locals.now fact) }
-{
-    if is_rooted_among(locals, &fact.location) {
-        return Ok(());
-    }
-    push_ended_element(f, place, locals, fact.location, fact.element, out)
-}
-
-fn push_ended_element(
-    f: &CoreFn,
-    place: Place,
-    locals: &[u32],
-    location: AbsPlace,
-    element: Element,
-    out: &mut Vec<Fact>,
-) -> Result<(), NoMemory>
-    ensures { OnOk result
-        (out.new.items ≡ out.old.items ++ ended_element (function_of f.now) place locals.now location element) }
-{
-    match element {
-        Element::Null => {}
-        Element::Invalid(_) => {}
-        Element::Moved(_) => {}
-        Element::Own => {}
-        Element::Static => {}
-        Element::At(target) => push_ended_root(f, place, locals, location, target.root, out)?,
-    }
-    Ok(())
-}
-
-fn push_ended_root(
-    f: &CoreFn,
-    place: Place,
-    locals: &[u32],
-    location: AbsPlace,
-    root: Root,
-    out: &mut Vec<Fact>,
-) -> Result<(), NoMemory>
-    ensures { OnOk result
-        (out.new.items ≡ out.old.items ++ ended_root (function_of f.now) place locals.now location root) }
-{
-    match root {
-        Root::Local(number) => {
-            if locals.contains(&number) {
-                push_invalid(place, location, number, f.locals.get(number as usize), out)?;
-            }
-        }
-        Root::Input { .. } => {}
-    }
-    Ok(())
-}
-
-// Adds that the location is invalid since the local with this number ended, if that is an object.
-fn push_invalid(
-    place: Place,
-    location: AbsPlace,
-    number: u32,
-    local: Option<&Local>,
-    out: &mut Vec<Fact>,
-) -> Result<(), NoMemory>
-    ensures { OnOk result
-        (out.new.items ≡ out.old.items ++ invalid_facts location (end_causes place number (option_copied local.entry))) }
-{
-    match local {
-        None => {}
-        Some(local) => {
-            push_invalid_object(local.kind, location, ended(place, number, local), out)?;
-        }
-    }
-    Ok(())
-}
-
-fn push_invalid_object(
-    kind: LocalKind,
-    location: AbsPlace,
-    cause: Cause,
-    out: &mut Vec<Fact>,
-) -> Result<(), NoMemory>
-    ensures { OnOk result (out.new.items ≡ out.old.items ++ invalid_facts location (end_if kind cause)) }
-{
-    match kind {
-        LocalKind::Object => out.push(Fact {
-            location,
-            element: Element::Invalid(cause),
-        })?,
-        LocalKind::Register => {}
-        LocalKind::Range => {}
-    }
-    Ok(())
 }
 
 // ---- owners that are changed

@@ -5,13 +5,12 @@ ghost use Rattle.life_core.specs.Function.{function_of};
 ghost use Rattle.life_core.specs.Node.{spot_seen};
 ghost use Rattle.life_core.specs.Operands.{base_of, location_of, operand_of, source_of};
 ghost use Rattle.life_core.specs.Step.{step_of};
-ghost use Rattle.life_rules.specs.Along.{base_tells_first, node_tells_first, source_tells_first, tells_first};
+ghost use Rattle.life_rules.specs.Along.{base_tells_first, is_target_of, node_tells_first, source_tells_first, tells_first};
 ghost use Rattle.life_rules.specs.Diagnosing.{diags_of_two, moved_target, moved_through, owner_of_base, owner_of_source, owners, step_diags_of_two};
 
 use crate::arguing::push_argument_diags_of_two;
 use crate::diag::Diag;
 use crate::matching::{is_location, located};
-use crate::two::is_target_of;
 use crate::wrong::push_moved_use;
 use life_contract::{Signatures, is_in_arguments};
 use life_core::{Base, CoreFn, Instr, Location, NodeRef, Operand, Source, SpotRef};
@@ -235,6 +234,16 @@ fn step_tells_first(instr: &Instr, fact: &Fact) -> bool
         Instr::Change { place, .. } => is_target_of(place, fact),
         Instr::Call { arguments, .. } => is_in_arguments(arguments, &fact.location),
         _ => false,
+    }
+}
+
+// Whether the fact is about the pointer through which an operand names something.
+fn is_target_of(operand: &Operand, fact: &Fact) -> bool
+    ensures { result ≡ is_target_of (operand_of operand.now) fact.now }
+{
+    match operand {
+        Operand::Name(_) => false,
+        Operand::Through { pointer, .. } => is_location(pointer, &fact.location),
     }
 }
 

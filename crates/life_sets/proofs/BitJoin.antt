@@ -15,13 +15,13 @@ guard_or true false r p q h = refl
 guard_or false b r p q h = refl
 
 -- its pairs are those of both
-joined_bits : (m n : ℕ) (from old new : List ℕ) → IsJoined from old new → (l e : ℕ) → contains_bit m n new l e ≡ (contains_bit m n from l e || contains_bit m n old l e)
+pub joined_bits : (m n : ℕ) (from old new : List ℕ) → IsJoined from old new → (l e : ℕ) → contains_bit m n new l e ≡ (contains_bit m n from l e || contains_bit m n old l e)
 joined_bits m n from old new each l e =
     let s = word_of n l e in
     guard_or (nat_lt l m) (nat_lt e n) (bit_of n new l e) (bit_of n from l e) (bit_of n old l e) (ap (λ (z : ℕ). has_bit z (e % 64)) (each s) ∙ has_or (slice_index from s) (slice_index old s) (e % 64))
 
 -- no bit is set that stands for no element
-clean_joined : (n : ℕ) (from old new : List ℕ) → IsClean n from → IsClean n old → IsJoined from old new → IsClean n new
+pub clean_joined : (n : ℕ) (from old new : List ℕ) → IsClean n from → IsClean n old → IsJoined from old new → IsClean n new
 clean_joined n from old new cf co each k b hb h =
     elim (or_cases (has_bit (slice_index from k) b) (has_bit (slice_index old k) b) (sym (has_or (slice_index from k) (slice_index old k) b) ∙ sym (ap (λ (z : ℕ). has_bit z b) (each k)) ∙ h)) [
       | inl f ↦ cf k b hb f
@@ -70,7 +70,7 @@ same_pairs m n from old new each none l e =
     ap (λ (z : ℕ). nat_lt l m && (nat_lt e n && has_bit z (e % 64))) (each s ∙ none s)
 
 -- so the words tell whether the row gained a pair
-gained_iff : (m n : ℕ) (from old new : List ℕ) (r : Bool) → IsFilled m n new → IsClean n new → IsJoined from old new → AreWords from → AreWords old → TellsGain from old r → IsTrue r ↔ HasNew (contains_bit m n old) (contains_bit m n new)
+pub gained_iff : (m n : ℕ) (from old new : List ℕ) (r : Bool) → IsFilled m n new → IsClean n new → IsJoined from old new → AreWords from → AreWords old → TellsGain from old r → IsTrue r ↔ HasNew (contains_bit m n old) (contains_bit m n new)
 gained_iff m n from old new r filled clean each ff fo tells = (
   λ t. let s = tells.0 t in new_pair m n from old new filled clean each s.0 (ff s.0) (fo s.0) s.1,
   λ h.
@@ -79,6 +79,12 @@ gained_iff m n from old new r filled clean each ff fo tells = (
         | inr f ↦ absurd (both_ways (contains_bit m n new h.0 h.1.0) (same_pairs m n from old new each (tells.1 f) h.0 h.1.0 ∙ h.1.1.0) h.1.1.1)
       ],
 )
+
+-- .. also under other names for the words
+pub gained_in : (m n : ℕ) (old old_held new new_held : List ℕ) (r : Bool) → new_held ≡ new → old ≡ old_held → IsTrue r ↔ HasNew (contains_bit m n old) (contains_bit m n new) → IsTrue r ↔ HasNew (contains_bit m n old_held) (contains_bit m n new_held)
+gained_in m n old old_held new new_held r is_new is_old tells =
+    subst (λ (ws : List ℕ). IsTrue r ↔ HasNew (contains_bit m n ws) (contains_bit m n new_held)) is_old
+    (subst (λ (ws : List ℕ). IsTrue r ↔ HasNew (contains_bit m n old) (contains_bit m n ws)) (sym is_new) tells)
 
 -- .. and it has its own pairs, and besides only those of the other
 between_from : (from old new : ℕ → ℕ → Bool) → ((l e : ℕ) → new l e ≡ (from l e || old l e)) → IsBetween from old new

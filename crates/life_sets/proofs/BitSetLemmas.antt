@@ -3,18 +3,22 @@ use Rattle.std.proofs.Common.{◌≡◌, ℕ, ◌+◌, ◌*◌, ◌/◌, ◌%◌
 use Rattle.std.proofs.Math.Nat.{mul_comm}
 use Rattle.std.proofs.lemmas.Bool.{eqb-true, lt-ltb, ltb-true, ne_eqb, cases_eq, or_cases, and_parts, both_ways, false_from_ne_true}
 use Rattle.std.proofs.lemmas.List.{get_or-set_other, get_or-set_same}
-use Rattle.std.proofs.lemmas.Nat.{same_from_place, div-add-mod', mod_below, mul-add-lt}
+use Rattle.std.proofs.lemmas.Nat.{same_from_place, div-add-mod', mod_below, mod-mul-add, mul-add-lt}
 use Rattle.life_sets.specs.BitSets.{words_for, has_bit, word_of, bit_of, contains_bit, IsClean, IsFilled}
 use Rattle.life_sets.proofs.Bits.{has_or, has_pow, has_none}
 
 -- ---- where a bit is
 -- an element's word is one of its location's
-below_width : (n e : ℕ) → e < n → e / 64 < words_for n
+pub below_width : (n e : ℕ) → e < n → e / 64 < words_for n
 below_width n e h = omega (arith, h)
 
 -- .. and one of the set's
 word_below : (m n l e : ℕ) → l < m → e < n → word_of n l e < m * words_for n
 word_below m n l e p q = subst (λ (z : ℕ). word_of n l e < z) (mul_comm (words_for n) m) (mul-add-lt l (words_for n) (e / 64) m p (below_width n e q))
+
+-- a number below what it is divided by
+pub own_number : (w k : ℕ) → k < w → k % w ≡ k
+own_number w k lt = ap (λ (z : ℕ). z % w) (omega arith) ∙ mod-mul-add 0 w k lt
 
 -- the element's part of a word's number
 word_parts : (n l e k : ℕ) → e < n → k ≡ word_of n l e → k % words_for n ≡ e / 64

@@ -1,8 +1,9 @@
 -- The bits of one word, and of two.
-use Rattle.std.proofs.Common.{◌≡◌, ◌≢◌, ℕ, zero, suc, ◌/◌, ◌%◌, ◌^◌, ◌<◌, max, refl, ap, sym, ◌∙◌, inl, inr, true, false, ◌||◌, arith, subst, eq-eqb, nat_eq, bit_or}
-use Rattle.std.specs.Int.{bit_at}
+use Rattle.std.proofs.Common.{◌≡◌, ◌≢◌, ℕ, zero, suc, ◌+◌, ◌-◌, ◌/◌, ◌%◌, ◌^◌, ◌<◌, max, min, refl, ap, sym, ◌∙◌, inl, inr, Bool, true, false, not, ◌&&◌, ◌||◌, arith, subst, eq-eqb, nat_eq, bit_or, bit_and}
+use Rattle.std.specs.Int.{bit_at, bit_not, w64}
 use Rattle.std.proofs.lemmas.Bool.{ne_eqb, cases_eq}
-use Rattle.std.proofs.lemmas.Nat.Bits.{bit_at_or, bit_at-lt, bit_at-pow_same, bit_at-pow_other, bit_at-zero, bit_at-suc, bit_at_lowest}
+use Rattle.std.proofs.lemmas.Nat.{shr-shr}
+use Rattle.std.proofs.lemmas.Nat.Bits.{bit_at_or, bit_at_and, bit_at_not, bit_at-lt, bit_at-pow_same, bit_at-pow_other, bit_at-zero, bit_at-suc, bit_at_lowest}
 use Rattle.life_sets.specs.BitSets.{has_bit}
 
 bits_or : (x y : ℕ) → x < 2 → y < 2 → nat_eq (max x y) 1 ≡ (nat_eq x 1 || nat_eq y 1)
@@ -17,6 +18,34 @@ bits_or (suc zero) (suc (suc y)) p q = absurd (omega (arith, q))
 -- a bit of the bits of two words
 pub has_or : (a b i : ℕ) → has_bit (bit_or a b) i ≡ (has_bit a i || has_bit b i)
 has_or a b i = ap (λ (x : ℕ). nat_eq x 1) (bit_at_or a b i) ∙ bits_or (bit_at a i) (bit_at b i) (bit_at-lt a i) (bit_at-lt b i)
+
+bits_and : (x y : ℕ) → x < 2 → y < 2 → nat_eq (min x y) 1 ≡ (nat_eq x 1 && nat_eq y 1)
+bits_and zero zero p q = refl
+bits_and zero (suc zero) p q = refl
+bits_and (suc zero) zero p q = refl
+bits_and (suc zero) (suc zero) p q = refl
+bits_and (suc (suc x)) y p q = absurd (omega (arith, p))
+bits_and zero (suc (suc y)) p q = absurd (omega (arith, q))
+bits_and (suc zero) (suc (suc y)) p q = absurd (omega (arith, q))
+
+-- a bit of what two words have in common
+pub has_and : (a b i : ℕ) → has_bit (bit_and a b) i ≡ (has_bit a i && has_bit b i)
+has_and a b i = ap (λ (x : ℕ). nat_eq x 1) (bit_at_and a b i) ∙ bits_and (bit_at a i) (bit_at b i) (bit_at-lt a i) (bit_at-lt b i)
+
+other_bit : (x : ℕ) → x < 2 → nat_eq (1 - x) 1 ≡ not (nat_eq x 1)
+other_bit zero p = refl
+other_bit (suc zero) p = refl
+other_bit (suc (suc x)) p = absurd (omega (arith, p))
+
+-- a bit of a word that another's bits were taken from
+pub has_cut : (a b i : ℕ) → b < 2 ^ 64 → i < 64 → has_bit (bit_and a (bit_not w64 b)) i ≡ (has_bit a i && not (has_bit b i))
+has_cut a b i hb hi =
+    has_and a (bit_not w64 b) i
+    ∙ ap (λ (t : Bool). has_bit a i && t) (ap (λ (x : ℕ). nat_eq x 1) (bit_at_not w64 b i hb hi) ∙ other_bit (bit_at b i) (bit_at-lt b i))
+
+-- a bit of a shifted word
+pub has_shifted : (word place i : ℕ) → has_bit (word / 2 ^ place) i ≡ has_bit word (place + i)
+has_shifted word place i = ap (λ (x : ℕ). nat_eq (x % 2) 1) (shr-shr word place i)
 
 -- a power of two has one bit
 pub has_pow : (k i : ℕ) → has_bit (2 ^ k) i ≡ nat_eq i k

@@ -1,6 +1,10 @@
 pub mod BitJoin
 pub mod BitSetLemmas
 pub mod Bits
+pub mod ElementLemmas
 pub mod ListedLemmas
+pub mod LocationWords
 pub mod Members
+pub mod NextLemmas
+pub mod NumberLemmas
 pub mod PairLemmas

@@ -1,4 +1,5 @@
 pub mod BitSets
 pub mod Listed
+pub mod NumberSets
 pub mod PairSets
 pub mod Pairs

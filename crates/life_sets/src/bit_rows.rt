@@ -4,7 +4,10 @@ ghost use Rattle.life_sets.specs.BitSets.{words_for, has_bit, word_of, contains_
 ghost use Rattle.life_sets.specs.Listed.{IsListed};
 ghost use Rattle.life_sets.specs.Pairs.{IsAscending};
 
+use crate::bit_pairs::{set_pair, test_pair, word_of, words_for};
+use crate::number_set::NumberSet;
 use crate::rows::Rows;
+use crate::words::{join_words, join_words_at, words_at};
 use life_types::NoMemory;
 use std::alloc::Global;
 use std::marker::Model;
@@ -96,84 +99,21 @@ impl Rows for BitRows {
         let gained = join_words(&self.words, &mut into.words);
         Ok(gained)
     }
-}
 
-// How many words a location has.
-fn words_for(elements: u32) -> usize
-    ensures { result ≡ words_for elements }
-{
-    (elements as usize).div_ceil(64)
-}
-
-// The word of a pair.
-fn word_of(elements: u32, location: u32, element: u32) -> usize
-    ensures { result ≡ word_of elements location element }
-{
-    location as usize * words_for(elements) + element as usize / 64
-}
-
-// Whether a bit of a word is set.
-fn test_bit(word: u64, place: u32) -> bool
-    requires { place < 64 }
-    ensures { result ≡ has_bit word place }
-{
-    (word >> place) & 1 == 1
-}
-
-// The word with that bit set.
-fn set_bit(word: u64, place: u32) -> u64
-    requires { place < 64 }
-    ensures { result ≡ bit_or word (2 ^ place) }
-{
-    word | (1 << place)
-}
-
-// Whether a pair is in the set.
-fn test_pair(words: &[u64], locations: u32, elements: u32, l: u32, e: u32) -> bool
-    requires { IsFilled locations elements words.now }
-    ensures { result ≡ contains_bit locations elements words.now l e }
-{
-    if l < locations && e < elements {
-        let word = words[word_of(elements, l, e)];
-        test_bit(word, e % 64)
-    } else {
-        false
+    fn read(&self, location: u32, into: &mut NumberSet) {
+        into.set_words(words_at(&self.words, self.locations, self.elements, location))
     }
-}
 
-// Adds a pair, and says whether it is new.
-fn set_pair(words: &mut [u64], locations: u32, elements: u32, l: u32, e: u32) -> bool
-    requires filled { IsFilled locations elements words.old }
-    requires clean { IsClean elements words.old }
-    requires location { l < locations }
-    requires element { e < elements }
-    ensures added { (x y : ℕ) → contains_bit locations elements words.new x y ≡ ((x == l && y == e) || contains_bit locations elements words.old x y) }
-    ensures fresh { result ≡ not (contains_bit locations elements words.old l e) }
-    ensures clean { IsClean elements words.new }
-{
-    let k = word_of(elements, l, e);
-    let word = words[k];
-    let had = test_bit(word, e % 64);
-    words[k] = set_bit(word, e % 64);
-    !had
-}
-
-// Adds the bits of the first, and says whether a word changed.
-fn join_words(from: &[u64], into: &mut [u64]) -> bool
-    requires { length from.now ≡ length into.old }
-    ensures each { IsJoined from.now into.old into.new }
-    ensures tells { TellsGain from.now into.old result }
-    ensures from_words { AreWords from.now }
-    ensures into_words { AreWords into.old }
-{
-    let mut gained = false;
-    for i in 0..into.len() {
-        let word = into[i];
-        let joined = from[i] | word;
-        gained |= joined != word;
-        into[i] = joined;
+    fn join_at(&mut self, location: u32, elements: &NumberSet) -> Result<bool, NoMemory> {
+        let gained = join_words_at(
+            elements.words(),
+            &mut self.words,
+            self.locations,
+            self.elements,
+            location,
+        );
+        Ok(gained)
     }
-    gained
 }
 
 // The pairs in order.

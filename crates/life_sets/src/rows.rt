@@ -1,7 +1,9 @@
 // Rows: the facts at one point, as pairs of numbers.
 ghost use Rattle.std.specs.Prelude.{◌≡◌, ℕ, ◌<◌, ◌||◌, ◌&&◌, ◌==◌, Bool, true, false, not, ◌↔◌, IfOk, OnOk, OnErr, IsTrue, Contains};
+ghost use Rattle.life_sets.specs.NumberSets.{holds, pairs_at};
 ghost use Rattle.life_sets.specs.Pairs.{AllWithin, IsAscending, HasNew, IsBetween};
 
+use crate::number_set::NumberSet;
 use life_types::NoMemory;
 use std::alloc::Global;
 
@@ -54,4 +56,22 @@ pub trait Rows: Sized + Drop {
         ensures between { IsBetween (has self.now) (has into.old) (has into.new) }
         ensures locations { location_limit into.new ≡ location_limit into.old }
         ensures elements { element_limit into.new ≡ element_limit into.old };
+
+    /// Takes the elements that the row has at a location in place of what `into` held.
+    fn read(&self, location: u32, into: &mut NumberSet)
+        requires location { location < location_limit self.now }
+        requires limit { into.old.limit ≡ element_limit self.now }
+        ensures read { (e : ℕ) → holds into.new e ≡ has self.now location e }
+        ensures limit { into.new.limit ≡ into.old.limit };
+
+    /// Adds the elements of a set at a location, and says whether the row gained a pair. After
+    /// `NoMemory` it has its own pairs and some of those.
+    fn join_at(&mut self, location: u32, elements: &NumberSet) -> Result<bool, NoMemory>
+        requires location { location < location_limit self.old }
+        requires limit { elements.now.limit ≡ element_limit self.old }
+        ensures joined { OnOk result ((l e : ℕ) → has self.new l e ≡ (pairs_at location elements.now l e || has self.old l e)) }
+        ensures gained { IfOk result (λ gained. IsTrue gained ↔ HasNew (has self.old) (has self.new)) }
+        ensures between { IsBetween (pairs_at location elements.now) (has self.old) (has self.new) }
+        ensures locations { location_limit self.new ≡ location_limit self.old }
+        ensures elements { element_limit self.new ≡ element_limit self.old };
 }

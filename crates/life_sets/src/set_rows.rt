@@ -1,8 +1,10 @@
 // A row as an ordered set.
-ghost use Rattle.std.specs.Prelude.{◌≡◌, ℕ, ◌<◌, IsTrue, IfOk, OnOk, OnErr, not, ◌↔◌};
+ghost use Rattle.std.specs.Prelude.{◌≡◌, ℕ, ◌<◌, ◌||◌, false, IsTrue, IfOk, OnOk, OnErr, not, ◌↔◌};
+ghost use Rattle.life_sets.specs.NumberSets.{holds, pairs_at};
 ghost use Rattle.life_sets.specs.PairSets.{contains_pair, AddsPair, AddsKeys, IsAmong, IsPairWithin};
-ghost use Rattle.life_sets.specs.Pairs.{IsAscending, HasNew};
+ghost use Rattle.life_sets.specs.Pairs.{IsAscending, HasNew, IsBetween};
 
+use crate::number_set::NumberSet;
 use crate::rows::Rows;
 use life_types::NoMemory;
 use std::alloc::{AllocError, Global};
@@ -38,6 +40,38 @@ fn join_pairs(
     let mut gained = false;
     for pair in from.iter() {
         gained |= insert_pair(into, pair.0, pair.1)?;
+    }
+    Ok(gained)
+}
+
+// Adds the second numbers of the pairs that begin with the location.
+fn read_pairs(pairs: &BTreeSet<(u32, u32)>, location: u32, into: &mut NumberSet)
+    requires { (e : ℕ) → holds into.old e ≡ false }
+    ensures read { (e : ℕ) → e < into.old.limit → holds into.new e ≡ contains_pair pairs.now location e }
+    ensures limit { into.new.limit ≡ into.old.limit }
+{
+    for element in 0..into.limit() {
+        if pairs.contains(&(location, element)) {
+            into.insert(element);
+        }
+    }
+}
+
+// Adds a pair for each number of a set, and says whether one was new.
+fn join_elements(
+    location: u32,
+    elements: &NumberSet,
+    pairs: &mut BTreeSet<(u32, u32)>,
+) -> Result<bool, NoMemory>
+    ensures joined { OnOk result ((l e : ℕ) → contains_pair pairs.new l e ≡ (pairs_at location elements.now l e || contains_pair pairs.old l e)) }
+    ensures gained { IfOk result (λ gained. IsTrue gained ↔ HasNew (contains_pair pairs.old) (contains_pair pairs.new)) }
+    ensures between { IsBetween (pairs_at location elements.now) (contains_pair pairs.old) (contains_pair pairs.new) }
+{
+    let mut gained = false;
+    for element in 0..elements.limit() {
+        if elements.contains(element) {
+            gained |= insert_pair(pairs, location, element)?;
+        }
     }
     Ok(gained)
 }
@@ -82,5 +116,14 @@ impl Rows for SetRows {
     fn join_into(&self, into: &mut Self) -> Result<bool, NoMemory> {
         let gained = join_pairs(&self.pairs, &mut into.pairs)?;
         Ok(gained)
+    }
+
+    fn read(&self, location: u32, into: &mut NumberSet) {
+        into.clear();
+        read_pairs(&self.pairs, location, into)
+    }
+
+    fn join_at(&mut self, location: u32, elements: &NumberSet) -> Result<bool, NoMemory> {
+        join_elements(location, elements, &mut self.pairs)
     }
 }

@@ -1,0 +1,16 @@
+pub mod Adding
+pub mod Changing
+pub mod Crossings
+pub mod Gained
+pub mod Growing
+pub mod Keeping
+pub mod Laws
+pub mod Making
+pub mod Naming
+pub mod Places
+pub mod Running
+pub mod Seeing
+pub mod Settled
+pub mod Sound
+pub mod Starting
+pub mod Tabulating

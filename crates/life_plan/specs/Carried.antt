@@ -1,0 +1,48 @@
+-- How far a plan has been carried.
+use Rattle.std.specs.Prelude.{◌≡◌, ◌<◌, ◌⊎◌, ℕ, Bool, true, false, IsTrue, List, Some, length, nat_le, ◌&&◌, slice_get}
+use Rattle.life_sets.specs.NumberSets.{holds}
+use Rattle.life_plan.specs.Crossing.{Crossing, FromNone}
+use Rattle.life_plan.specs.Numbered.{IsMarked, IsPlan, KeepsFrom, MakesAt, MarksNumber}
+use Rattle.life_plan.specs.declared.marking.Marking.{Marking}
+use Rattle.life_plan.specs.declared.plan.Plan.{Plan}
+use Rattle.life_plan.specs.declared.reading.Reading.{Reading}
+use Rattle.life_plan.specs.declared.workspace.Workspace.{Workspace}
+
+-- what the elements of the set make where the plan reads, as far as they were seen, is in the second set; and all were seen
+pub record AreMade (c : Crossing) (readings : List Reading) (due : ℕ → Bool) (from into : ℕ → ℕ → Bool) : Type 0 where
+  pub made : (k : ℕ) (r : Reading) → slice_get readings k ≡ Some r → (l m : ℕ) → MakesAt c r.location (holds r.seen) l m → IsTrue (into l m)
+  pub seen : (k : ℕ) (r : Reading) → slice_get readings k ≡ Some r → due r.location ≡ false → (e : ℕ) → IsTrue (from r.location e) → IsTrue (holds r.seen e)
+
+-- .. by those that stand below a number, and by those that weren't due
+pub record AreMadeUpTo (c : Crossing) (below : ℕ) (readings : List Reading) (due : ℕ → Bool) (from into : ℕ → ℕ → Bool) : Type 0 where
+  pub made : (k : ℕ) (r : Reading) → slice_get readings k ≡ Some r → (l m : ℕ) → MakesAt c r.location (holds r.seen) l m → IsTrue (into l m)
+  pub seen : (k : ℕ) (r : Reading) → slice_get readings k ≡ Some r → (k < below) ⊎ (due r.location ≡ false) → (e : ℕ) → IsTrue (from r.location e) → IsTrue (holds r.seen e)
+
+-- the targets of the set were seen, and the mask has what those that were seen mark, and nothing that no target of the set marks
+pub record AreSeen (c : Crossing) (m : Marking) (due : ℕ → Bool) (from : ℕ → ℕ → Bool) : Type 0 where
+  pub seen : (q e : ℕ) → due q ≡ false → IsTrue (holds m.targets q) → IsTrue (from q e) → IsTrue (holds m.seen e)
+  pub marked : (d e : ℕ) → IsTrue (holds m.seen d) → MarksNumber c d e → IsTrue (holds m.mask e)
+  pub only : (e : ℕ) → IsTrue (holds m.mask e) → IsMarked c m from e
+
+-- what comes of the first set is in the second, save for what comes of the locations that are due
+pub record IsCarried (c : Crossing) (plan : Plan) (due : ℕ → Bool) (from into : ℕ → ℕ → Bool) : Type 0 where
+  pub means : IsPlan c plan
+  -- a fresh plan hasn't carried what comes of no fact, and has all locations due
+  pub fresh : plan.is_fresh ≡ true → (l : ℕ) → l < length c.table.locations → due l ≡ true
+  pub none : plan.is_fresh ≡ false → (l m : ℕ) → FromNone c l m → IsTrue (into l m)
+  pub targets : AreSeen c plan.marking due from
+  pub kept : (l m : ℕ) → due l ≡ false → KeepsFrom plan.staying plan.marking (length c.table.locations) (length c.table.elements) from l m → IsTrue (into l m)
+  pub made : AreMade c plan.readings.items due from into
+
+-- no location is due
+abbrev pub none_due : ℕ → Bool
+none_due l = false
+
+-- the sets of a workspace are for that many elements
+pub record IsRoom (elements : ℕ) (w : Workspace) : Type 0 where
+  pub before : w.before.limit ≡ elements
+  pub after : w.after.limit ≡ elements
+
+-- of the locations that were due, those from this one on
+abbrev pub due_from : ℕ → (ℕ → Bool) → ℕ → Bool
+due_from start due l = nat_le start l && due l

@@ -1,0 +1,6 @@
+pub mod Carried
+pub mod Crossing
+pub mod Noted
+pub mod Noting
+pub mod Numbered
+pub mod Tabulated

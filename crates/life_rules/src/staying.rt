@@ -1,0 +1,178 @@
+// What an edge makes of a fact, seen from its location: what stays there, what is made, and what targets
+// mark.
+ghost use Rattle.std.specs.Prelude.{◌≡◌, ◌++◌, ◌∷◌, [], false, map, option_map, IfOk, OnOk};
+ghost use Rattle.life_core.specs.Function.{function_of};
+ghost use Rattle.life_core.specs.Node.{spot_seen};
+ghost use Rattle.life_pset.specs.declared.element.Element.{Element};
+ghost use Rattle.life_rules.specs.Staying.{made_at, mark, marks, spot_moves, spot_reads, spot_targets, spot_writes, staying};
+
+use crate::branch::stops_at;
+use crate::marks::{mark, marks, targets};
+use crate::one::push_made_by;
+use crate::push::push_unless;
+use crate::reads::{is_tested, reads};
+use crate::stays::{moves, push_stays};
+use crate::writes::writes;
+use life_contract::Signatures;
+use life_core::{CoreFn, NodeRef, SpotRef};
+use life_pset::{AbsPlace, Element, Fact};
+use life_types::{NoMemory, TypeTable};
+use std::alloc::Global;
+
+/// Whether nothing stays at the location as it was: the point writes it, or tests it for null.
+pub fn is_written_at(spot: Option<SpotRef>, location: &AbsPlace) -> bool
+    ensures { result ≡ spot_writes (option_map spot_seen spot.entry) location.now }
+{
+    match spot {
+        None => false,
+        Some(spot) => match spot.node {
+            NodeRef::Action(instr) => writes(instr, location),
+            NodeRef::Question(test) => is_tested(test, location),
+            NodeRef::Return => false,
+            NodeRef::Stop => false,
+        },
+    }
+}
+
+/// Whether something may be made of the facts of the location, beside what stays of them.
+pub fn is_read_at(spot: Option<SpotRef>, location: &AbsPlace) -> bool
+    ensures { result ≡ spot_reads (option_map spot_seen spot.entry) location.now }
+{
+    match spot {
+        None => false,
+        Some(spot) => match spot.node {
+            NodeRef::Action(instr) => reads(instr, location),
+            NodeRef::Question(test) => is_tested(test, location),
+            NodeRef::Return => false,
+            NodeRef::Stop => false,
+        },
+    }
+}
+
+/// Adds what is made of a fact along a branch, beside what stays of it. Nothing is made where the
+/// location isn't read.
+pub fn push_made(
+    alloc: Global,
+    sigs: &Signatures,
+    types: &TypeTable,
+    f: &CoreFn,
+    branch: Option<bool>,
+    spot: Option<SpotRef>,
+    fact: &Fact,
+    out: &mut Vec<Fact>,
+) -> Result<(), NoMemory>
+    ensures { OnOk result
+        (out.new.items ≡ out.old.items ++ made_at sigs.now types.now (function_of f.now) branch (option_map spot_seen spot.entry) fact.now) }
+{
+    match spot {
+        None => Ok(()),
+        Some(spot) => match spot.node {
+            NodeRef::Action(instr) => push_made_by(
+                alloc, sigs, types, f, spot.place, instr, *fact, out,
+            ),
+            NodeRef::Question(test) => push_unless(stops_at(test, branch, *fact), *fact, out),
+            NodeRef::Return => Ok(()),
+            NodeRef::Stop => Ok(()),
+        },
+    }
+}
+
+/// Adds what an element becomes at each location that isn't written.
+pub fn push_staying(
+    types: &TypeTable,
+    f: &CoreFn,
+    spot: Option<SpotRef>,
+    element: &Element,
+    out: &mut Vec<Element>,
+) -> Result<(), NoMemory>
+    ensures { OnOk result
+        (out.new.items ≡ out.old.items ++ staying types.now (function_of f.now) (option_map spot_seen spot.entry) element.now) }
+{
+    match spot {
+        None => {}
+        Some(spot) => match spot.node {
+            NodeRef::Action(instr) => push_stays(types, f, spot.place, instr, element, out)?,
+            NodeRef::Question(_) => out.push(*element)?,
+            NodeRef::Return => out.push(*element)?,
+            NodeRef::Stop => out.push(*element)?,
+        },
+    }
+    Ok(())
+}
+
+/// Whether an element may stay otherwise than as itself.
+#[tactic(auto, using(crate::proofs::OneFact::still))]
+pub fn moves_elements(types: &TypeTable, f: &CoreFn, spot: Option<SpotRef>) -> bool
+    ensures moves { result ≡ spot_moves types.now (function_of f.now) (option_map spot_seen spot.entry) }
+    ensures still { result ≡ false → (e : Element) → staying types.now (function_of f.now) (option_map spot_seen spot.entry) e ≡ e ∷ [] }
+{
+    spot_moves(types, f, spot)
+}
+
+fn spot_moves(types: &TypeTable, f: &CoreFn, spot: Option<SpotRef>) -> bool
+    ensures { result ≡ spot_moves types.now (function_of f.now) (option_map spot_seen spot.entry) }
+{
+    match spot {
+        None => true,
+        Some(spot) => match spot.node {
+            NodeRef::Action(instr) => moves(types, f, spot.place, instr),
+            NodeRef::Question(_) => false,
+            NodeRef::Return => false,
+            NodeRef::Stop => false,
+        },
+    }
+}
+
+/// Whether the elements of the location are targets: the point changes an owner through a pointer there,
+/// or hands it over to a function that may.
+pub fn is_target_at(
+    alloc: Global,
+    sigs: &Signatures,
+    types: &TypeTable,
+    f: &CoreFn,
+    spot: Option<SpotRef>,
+    location: &AbsPlace,
+) -> Result<bool, NoMemory>
+    ensures { IfOk result
+        (λ answer. answer ≡ spot_targets sigs.now types.now (function_of f.now) (option_map spot_seen spot.entry) location.now) }
+{
+    match spot {
+        None => Ok(false),
+        Some(spot) => match spot.node {
+            NodeRef::Action(instr) => targets(alloc, sigs, types, f, instr, location),
+            NodeRef::Question(_) => Ok(false),
+            NodeRef::Return => Ok(false),
+            NodeRef::Stop => Ok(false),
+        },
+    }
+}
+
+/// Whether a target makes another element invalid, at each location that isn't written.
+pub fn is_marked(spot: Option<SpotRef>, target: &Element, victim: &Element) -> bool
+    ensures { result ≡ marks (option_map spot_seen spot.entry) target.now victim.now }
+{
+    match spot {
+        None => false,
+        Some(spot) => match spot.node {
+            NodeRef::Action(instr) => marks(instr, target, victim),
+            NodeRef::Question(_) => false,
+            NodeRef::Return => false,
+            NodeRef::Stop => false,
+        },
+    }
+}
+
+/// What takes the place of an element that a target makes invalid; None where the point has no targets.
+pub fn mark_at(spot: Option<SpotRef>) -> Option<Element>
+    ensures { result ≡ mark (option_map spot_seen spot.entry) }
+{
+    match spot {
+        None => None,
+        Some(spot) => match spot.node {
+            NodeRef::Action(instr) => mark(spot.place, instr),
+            NodeRef::Question(_) => None,
+            NodeRef::Return => None,
+            NodeRef::Stop => None,
+        },
+    }
+}
