@@ -1,49 +1,31 @@
 -- Branches: two lists of statements behind a condition, and assertions.
-use Rattle.std.proofs.Common.{◌≡◌, ℕ, Bool, true, List, [], ◌∷◌, ◌++◌, length, take, None, Some, refl, sym, ap, ◌∙◌, subst, arith}
-use Rattle.std.proofs.lemmas.Bool.{and_from}
+use Rattle.std.proofs.Common.{◌≡◌, ℕ, Bool, List, [], ◌∷◌, ◌++◌, length, take, None, Some, refl, sym, ap, ◌∙◌, subst}
 use Rattle.life_types.specs.Types.{Types}
 use Rattle.life_types.specs.declared.place.Place.{Place}
 use Rattle.life_core.specs.Function.{Function}
-use Rattle.life_core.specs.Shape.{breaks_inside, is_condition, is_statement, test_straight, tests_straight}
 use Rattle.life_core.specs.Tree.{Tree, Skip, Choice, Stops, trees}
 use Rattle.life_proper.specs.declared.known.Known.{Known}
 use Rattle.life_proper.specs.Checking.{Flow, before_both, flow, joined}
 use Rattle.life_proper.specs.Knowing.{State as Knowing}
-use Rattle.life_proper.specs.Plain.{is_plain_tree}
 use Rattle.life_proper.specs.ResultsKnown.{ReturnsKnown}
 use Rattle.life_proper.proofs.Joining.{joined_end}
-use Rattle.life_well_typed.specs.Visible.{Visible, behind}
+use Rattle.life_well_typed.specs.Visible.{Visible}
 use Rattle.life_writer.specs.Around.{Around, result_local}
 use Rattle.life_writer.specs.Writing.{State, Gives, with_code, write}
-use Rattle.life_elab_laws.proofs.Doing.{Acting, DoesLevel, leaves_falling, leaves_may}
-use Rattle.life_elab_laws.proofs.Exits.{Knows, Leaves, MayKnow, knows_written, leaves_joined}
-use Rattle.life_elab_laws.proofs.Following.{Adds, Follows, adds_coded, adds_then, begins_added, follows_again, follows_coded, follows_grown, follows_named, grows_adds, knows_alive}
-use Rattle.life_elab_laws.proofs.Fronts.{front_length}
+use Rattle.life_elab_laws.proofs.Doing.{Acting, DoesLevel}
+use Rattle.life_elab_laws.proofs.Exits.{Knows, Leaves, MayKnow, knows_written, leaves_falling, leaves_joined, leaves_may, leaves_same}
+use Rattle.life_elab_laws.proofs.Following.{Adds, Follows, adds_coded, adds_then, adds_uncoded, begins_added, follows_coded, follows_grown, follows_named, grows_adds, knows_alive}
 use Rattle.life_elab_laws.proofs.GivingBack.{GivesValue, asks_known, known_may}
 use Rattle.life_elab_laws.proofs.Growing.{Begins}
 use Rattle.life_elab_laws.proofs.OrderedTypes.{order_then}
-use Rattle.life_elab_laws.proofs.Testing.{Asked, AsksAll, Tests}
+use Rattle.life_elab_laws.proofs.Conditions.{Asked, AsksAll, Tests}
+use Rattle.life_elab_laws.proofs.Shaping.{stated_alone, stated_choice, stated_none}
 use Rattle.life_elab_laws.proofs.WrittenLocals.{locals_added}
 
-module _ (types : Types) (fs : List Function) (f : Function) where
-  -- ---- lists of their own
-
-  pub adds_uncoded : (s s' : State) (code : List Tree) → Adds types fs f (with_code code s) s' → Adds types fs f s s'
-  adds_uncoded s s' code g = record { locals = g.locals; table = g.table; variables = g.variables; living = g.living; outside = g.outside; shaped = g.shaped }
-
-  -- what was visible before is visible again, where the same lives
-  pub visible_again : (a : Around) (v u : Visible) (s t : State) → Follows types fs f a v s → Adds types fs f s t → Follows types fs f a u t → t.living ≡ s.living → Follows types fs f a (behind v u) t
-  visible_again a v u s t h adds later level =
-      follows_again types fs f a v s t u.declared h adds.locals adds.table adds.variables level (omega (arith, adds.outside, ap length level, h.outside)) later.count
-      (omega (arith, h.count, later.count, front_length s.variables t.variables adds.variables))
-
-  pub leaves_same : (in_loop : Bool) (living living' outside outside' : List ℕ) (w : Flow) → living ≡ living' → outside ≡ outside' → Leaves types fs f in_loop living outside w → Leaves types fs f in_loop living' outside' w
-  leaves_same in_loop living living' outside outside' w e d h =
-      subst (λ (xs : List ℕ). Leaves types fs f in_loop xs outside' w) e (subst (λ (xs : List ℕ). Leaves types fs f in_loop living xs w) d h)
-
+module _ (types : Types) (texts : ℕ) (fs : List Function) (f : Function) where
   -- ---- behind a condition
 
-  module _ (a : Around) (v : Visible) (in_loop : Bool) (s : State) (w : Gives Tree) (h : Follows types fs f a v s) (test : Tests types fs f s w) where
+  module _ (a : Around) (v : Visible) (in_loop : Bool) (s : State) (w : Gives Tree) (h : Follows types fs f a v s) (test : Tests types texts fs f s w) where
     pub tested_follows : Follows types fs f a v (with_code [] w.state)
     tested_follows = follows_coded types fs f a v w.state [] (follows_grown types fs f a v s w.state test.grown h)
 
@@ -51,13 +33,13 @@ module _ (types : Types) (fs : List Function) (f : Function) where
     same_outside = ap (λ (n : ℕ). take n w.state.living) test.grown.outside ∙ ap (take s.outside) test.grown.living
 
     -- what is known on both ways
-    pub known_behind : Begins types f w.state → (k : List Known) (asked : Asked types fs f s w.given k) → Knows types fs f s.living k → Knows types fs f s.living asked.on × Knows types fs f s.living asked.off
+    pub known_behind : Begins types f w.state → (k : List Known) (asked : Asked types texts fs f s w.given k) → Knows types fs f s.living k → Knows types fs f s.living asked.on × Knows types fs f s.living asked.off
     known_behind b k asked knows =
         let names = follows_named types fs f a v s h (begins_added types fs f s w.state (grows_adds types fs f s w.state test.grown) b) in
         (knows_written types fs f s.living (length s.locals) None k asked.on names knows asked.keeps_on, knows_written types fs f s.living (length s.locals) None k asked.off names knows asked.keeps_off)
 
     -- both branches, the second of which is written behind the first
-    module _ (u x : Visible) (t r : State) (first : DoesLevel types fs f a u in_loop (with_code [] w.state) t) (second : DoesLevel types fs f a x in_loop (with_code [] t) r) where
+    module _ (u x : Visible) (t r : State) (first : DoesLevel types texts fs f a u in_loop (with_code [] w.state) t) (second : DoesLevel types texts fs f a x in_loop (with_code [] t) r) where
       abbrev both : State
       both = write (Choice w.given (trees t.code) (trees r.code)) (with_code w.state.code r)
 
@@ -68,26 +50,26 @@ module _ (types : Types) (fs : List Function) (f : Function) where
       branched_adds =
           adds_coded types fs f s r (w.state.code ++ Choice w.given (trees t.code) (trees r.code) ∷ [])
           (adds_then types fs f s t r
-          (adds_then types fs f s w.state t (grows_adds types fs f s w.state test.grown) (adds_uncoded w.state t [] first.does.adds))
-          (adds_uncoded t r [] second.does.adds))
+          (adds_then types fs f s w.state t (grows_adds types fs f s w.state test.grown) (adds_uncoded types fs f w.state t [] first.does.adds))
+          (adds_uncoded types fs f t r [] second.does.adds))
 
       branched_level : r.living ≡ s.living
       branched_level = second.level ∙ first.level ∙ test.grown.living
 
       module _ (b : Begins types f r) where
         begun : Begins types f t
-        begun = begins_added types fs f t r (adds_uncoded t r [] second.does.adds) b
+        begun = begins_added types fs f t r (adds_uncoded types fs f t r [] second.does.adds) b
 
         tested : Begins types f w.state
-        tested = begins_added types fs f w.state t (adds_uncoded w.state t [] first.does.adds) begun
+        tested = begins_added types fs f w.state t (adds_uncoded types fs f w.state t [] first.does.adds) begun
 
-        asks : AsksAll types fs f s w.given
+        asks : AsksAll types texts fs f s w.given
         asks = test.runs tested
 
-        one : Acting types fs f in_loop (with_code [] w.state) t first.does.code
+        one : Acting types texts fs f in_loop (with_code [] w.state) t first.does.code
         one = first.does.acts begun
 
-        other : Acting types fs f in_loop (with_code [] t) r second.does.code
+        other : Acting types texts fs f in_loop (with_code [] t) r second.does.code
         other = second.does.acts b
 
         outside_second : take t.outside t.living ≡ take s.outside s.living
@@ -95,7 +77,7 @@ module _ (types : Types) (fs : List Function) (f : Function) where
 
         -- .. on each of both ways
         module _ (k : List Known) (knows : Knows types fs f s.living k) where
-          abbrev g : Asked types fs f s w.given k
+          abbrev g : Asked types texts fs f s w.given k
           g = asks.goes k (knows_alive types fs f a v s k knows)
 
           known_on : Knows types fs f w.state.living g.on
@@ -109,8 +91,8 @@ module _ (types : Types) (fs : List Function) (f : Function) where
               let on = one.ways (Some g.on) known_on in
               let off = other.ways (Some g.off) known_off in
               let after = leaves_joined types fs f in_loop r.living (take s.outside s.living) (flow types fs f (trees first.does.code) (Some g.on)) (flow types fs f (trees second.does.code) (Some g.off))
-              (leaves_same in_loop t.living r.living (take w.state.outside w.state.living) (take s.outside s.living) (flow types fs f (trees first.does.code) (Some g.on)) (sym second.level) same_outside on)
-              (leaves_same in_loop r.living r.living (take t.outside t.living) (take s.outside s.living) (flow types fs f (trees second.does.code) (Some g.off)) refl outside_second off) in
+              (leaves_same types fs f in_loop t.living r.living (take w.state.outside w.state.living) (take s.outside s.living) (flow types fs f (trees first.does.code) (Some g.on)) (sym second.level) same_outside on)
+              (leaves_same types fs f in_loop r.living r.living (take t.outside t.living) (take s.outside s.living) (flow types fs f (trees second.does.code) (Some g.off)) refl outside_second off) in
               subst (Leaves types fs f in_loop r.living (take s.outside s.living))
               (sym (joined_end (flow types fs f chosen (Some k))
               ∙ ap (λ (q : Flow). joined (before_both q) (joined (flow types fs f (trees first.does.code) q.on_true) (flow types fs f (trees second.does.code) q.on_false))) g.decides))
@@ -120,23 +102,19 @@ module _ (types : Types) (fs : List Function) (f : Function) where
           returned gives =
               let behind = subst (λ (q : Flow). ReturnsKnown types fs f (result_local a) (trees first.does.code) q.on_true × ReturnsKnown types fs f (result_local a) (trees second.does.code) q.on_false) (sym g.decides)
               (first.does.returns begun gives (Some g.on) known_on, second.does.returns b gives (Some g.off) known_off) in
-              ((asks_known types fs f (result_local a) w.given asks.fine (Some k), behind), tt)
+              ((asks_known types fs f (result_local a) texts w.given asks.fine (Some k), behind), tt)
 
-        branched_acts : Acting types fs f in_loop s both (chosen ∷ [])
+        branched_acts : Acting types texts fs f in_loop s both (chosen ∷ [])
         branched_acts = record {
-          stated = record {
-            statement = and_from _ true (and_from (is_condition w.given) _ asks.fine.condition (and_from (is_statement (trees first.does.code)) (is_statement (trees second.does.code)) one.stated.statement other.stated.statement)) refl;
-            tests = and_from _ true (and_from (test_straight w.given) _ asks.fine.straight (and_from (tests_straight (trees first.does.code)) (tests_straight (trees second.does.code)) one.stated.tests other.stated.tests)) refl;
-            breaks = and_from _ true (and_from (breaks_inside in_loop w.given) _ (asks.fine.breaks in_loop) (and_from (breaks_inside in_loop (trees first.does.code)) (breaks_inside in_loop (trees second.does.code)) one.stated.breaks other.stated.breaks)) refl;
-            plain = and_from _ true (and_from (is_plain_tree types fs f w.given) _ asks.fine.plain (and_from (is_plain_tree types fs f (trees first.does.code)) (is_plain_tree types fs f (trees second.does.code)) one.stated.plain other.stated.plain)) refl;
-          };
+          stated =
+              stated_alone types texts fs f in_loop chosen (stated_choice types texts fs f in_loop w.given (trees first.does.code) (trees second.does.code) asks.fine one.stated other.stated);
           ways = leaves_may types fs f in_loop s.living r.living (take s.outside s.living) (trees (chosen ∷ [])) went;
         }
 
         branched_returns : GivesValue a → (o : Knowing) → MayKnow types fs f s.living o → ReturnsKnown types fs f (result_local a) (trees (chosen ∷ [])) o
         branched_returns gives = known_may types fs f (result_local a) s.living (trees (chosen ∷ [])) (λ k knows. returned k knows gives)
 
-      pub branched_does : DoesLevel types fs f a x in_loop s both
+      pub branched_does : DoesLevel types texts fs f a x in_loop s both
       branched_does = record {
         does = record {
           adds = branched_adds;
@@ -156,18 +134,16 @@ module _ (types : Types) (fs : List Function) (f : Function) where
 
     -- ---- an assertion
 
-    asserted_acts : (keyword : Place) → Begins types f w.state → Acting types fs f in_loop s (write (Choice w.given Skip (Stops keyword)) w.state) (Choice w.given Skip (Stops keyword) ∷ [])
+    asserted_acts : (keyword : Place) → Begins types f w.state → Acting types texts fs f in_loop s (write (Choice w.given Skip (Stops keyword)) w.state) (Choice w.given Skip (Stops keyword) ∷ [])
     asserted_acts keyword b = record {
-      stated = record {
-        statement = and_from _ true (and_from (is_condition w.given) true asks.fine.condition refl) refl;
-        tests = and_from _ true (and_from (test_straight w.given) true asks.fine.straight refl) refl;
-        breaks = and_from _ true (and_from (breaks_inside in_loop w.given) true (asks.fine.breaks in_loop) refl) refl;
-        plain = and_from _ true (and_from (is_plain_tree types fs f w.given) true asks.fine.plain refl) refl;
-      };
+      stated =
+          stated_alone types texts fs f in_loop (Choice w.given Skip (Stops keyword))
+          (stated_choice types texts fs f in_loop w.given Skip (Stops keyword) asks.fine (stated_none types texts fs f in_loop)
+          (record { statement = refl; tests = refl; breaks = refl; plain = refl; formed = refl }));
       ways = leaves_may types fs f in_loop s.living w.state.living (take s.outside s.living) (trees (Choice w.given Skip (Stops keyword) ∷ [])) went;
     }
       where
-        asks : AsksAll types fs f s w.given
+        asks : AsksAll types texts fs f s w.given
         asks = test.runs b
 
         went : (k : List Known) → Knows types fs f s.living k → Leaves types fs f in_loop w.state.living (take s.outside s.living) (flow types fs f (trees (Choice w.given Skip (Stops keyword) ∷ [])) (Some k))
@@ -178,7 +154,7 @@ module _ (types : Types) (fs : List Function) (f : Function) where
             ∙ ap (λ (q : Flow). joined (before_both q) (joined (flow types fs f Skip q.on_true) (flow types fs f (Stops keyword) q.on_false))) g.decides))
             (leaves_falling types fs f in_loop w.state.living (take s.outside s.living) g.on (subst (λ (xs : List ℕ). Knows types fs f xs g.on) (sym test.grown.living) (known_behind b k g knows).0))
 
-    pub asserted_does : (keyword : Place) → DoesLevel types fs f a v in_loop s (write (Choice w.given Skip (Stops keyword)) w.state)
+    pub asserted_does : (keyword : Place) → DoesLevel types texts fs f a v in_loop s (write (Choice w.given Skip (Stops keyword)) w.state)
     asserted_does keyword = record {
       does = record {
         adds = adds_coded types fs f s w.state (w.state.code ++ Choice w.given Skip (Stops keyword) ∷ []) (grows_adds types fs f s w.state test.grown);
@@ -188,7 +164,7 @@ module _ (types : Types) (fs : List Function) (f : Function) where
         code = Choice w.given Skip (Stops keyword) ∷ [];
         written = ap (λ (c : List Tree). c ++ Choice w.given Skip (Stops keyword) ∷ []) test.unwritten;
         acts = λ b. asserted_acts keyword (record { locals = b.locals; table = b.table });
-        returns = λ b gives o k. ((asks_known types fs f (result_local a) w.given (test.runs (record { locals = b.locals; table = b.table })).fine o, (tt, tt)), tt);
+        returns = λ b gives o k. ((asks_known types fs f (result_local a) texts w.given (test.runs (record { locals = b.locals; table = b.table })).fine o, (tt, tt)), tt);
       };
       level = test.grown.living;
     }

@@ -1,5 +1,5 @@
 -- What the core functions of a built program take and give: values.
-use Rattle.std.proofs.Common.{◌≡◌, ◌<◌, ◌≤◌, ◌⊎◌, inl, inr, ℕ, zero, suc, true, List, [], ◌∷◌, ◌++◌, length, map, slice_get, take, Option, Some, None, refl, sym, ap, ◌∙◌, subst, unwrap_or, arith}
+use Rattle.std.proofs.Common.{◌≡◌, ◌<◌, ◌≤◌, ◌⊎◌, inl, inr, ℕ, zero, suc, true, false, List, [], ◌∷◌, ◌++◌, length, map, slice_get, take, Option, Some, None, refl, sym, ap, ◌∙◌, subst, unwrap_or, arith}
 use Rattle.std.proofs.lemmas.Bool.{and_parts, false≢true, or_cases}
 use Rattle.std.proofs.lemmas.Option.{none-some, same_Some}
 use Rattle.life_types.specs.Types.{Types, class, class_at}
@@ -14,6 +14,8 @@ use Rattle.life_typed.specs.declared.typed_program.TypedLocal.{TypedLocal}
 use Rattle.life_core.specs.Function.{Function}
 use Rattle.life_core.specs.Holdings.{AnObject, ANumber, Blank, Holding, given_holdings, held_by, held_if, parameter_sorts, result_if, result_sort, sort_of}
 use Rattle.life_core.specs.declared.program.Local.{Local}
+use Rattle.life_pset.specs.Shapes.{or_void, ty_of}
+use Rattle.life_proper.specs.OperandTypes as operands
 use Rattle.life_proper.specs.WellFormed.{local_type, types_taken}
 use Rattle.life_well_typed.specs.Expressions.{parameter_types, type_of}
 use Rattle.life_writer.specs.Around.{Around}
@@ -49,6 +51,10 @@ result_kept _ held w = absurd (false≢true w)
 no_result : (t : Ty) (held : Holding) → is_void t ≡ true → result_if (Some t) held ≡ Blank
 no_result ty.Void held w = refl
 no_result _ held w = absurd (false≢true w)
+
+void_either : (t : Ty) → is_void t ≡ true → operands.is_void t ≡ true
+void_either ty.Void w = refl
+void_either _ w = absurd (false≢true w)
 
 -- ---- what is built
 
@@ -165,3 +171,16 @@ module _ (p : ProgramForm) (of : FunctionForm) (T types : Types) (fs : List Func
       go : (is_void (type_at p.types of.result) ≡ true) ⊎ (is_value (type_at p.types of.result) ≡ true) → (result_sort types core ≡ Blank) ⊎ (result_sort types core ≡ ANumber)
       go (inl e) = inl (gives_nothing e)
       go (inr e) = inr (gives_number e)
+
+  -- the local of its result has no name
+  pub result_nameless : (l : Local) → slice_get core.locals core.parameters ≡ Some l → operands.is_void (ty_of types core.result) ≡ false → l.name ≡ None
+  result_nameless l at void = go (or_cases (is_void (type_at p.types of.result)) (is_value (type_at p.types of.result)) built.result)
+    where
+      type_is : ty_of types core.result ≡ type_at p.types of.result
+      type_is = ap or_void result_type ∙ sym (type_found p.types of.result t result)
+
+      go : (is_void (type_at p.types of.result) ≡ true) ⊎ (is_value (type_at p.types of.result) ≡ true) → l.name ≡ None
+      go (inl e) = absurd (false≢true (sym void ∙ ap operands.is_void type_is ∙ void_either (type_at p.types of.result) e))
+      go (inr e) =
+          let register = (register_there (around p of) T fits table t result e).0 in
+          ap (λ (x : Local). x.name) (same_Some l register.local (sym at ∙ ap (slice_get core.locals) count ∙ locals (length of.parameters) register.local register.there)) ∙ register.nameless

@@ -16,7 +16,7 @@ use Rattle.life_pset.specs.Shapes as shapes
 use Rattle.life_proper.specs.Knowing.{agreed_all}
 use Rattle.life_proper.specs.Placed.{is_number_of, type_in}
 use Rattle.life_proper.specs.ReadyKnown.{holds_at, is_sort, is_test_ready}
-use Rattle.life_proper.specs.WellFormed.{is_well_formed_step, is_well_formed_test, is_well_formed_tree}
+use Rattle.life_proper.specs.WellFormed.{is_well_formed_step, is_well_formed_test}
 use Rattle.life_proper.specs.declared.known.Known.{Known}
 use Rattle.life_proper.specs.declared.known.Known.TheVariants as known
 use Rattle.life_writer.specs.Conditions.{answer, branched, by_branch, condition_from, joined, negation, non_zero, not_null, tested}
@@ -46,8 +46,7 @@ module _ (types : Types) (texts : ℕ) (fs : List Function) (f : Function) where
     pub keeps_off : Keeps types fs f (length s.locals) None k off
 
   pub record AsksAll (s : State) (t : Tree) : Type 0 where
-    pub fine : IsFineTest types fs f t
-    pub formed : is_well_formed_tree types texts fs f t ≡ true
+    pub fine : IsFineTest types texts fs f t
     pub goes : (k : List Known) → Alive types fs f s k → Asked s t k
 
   pub record Tests (s : State) (w : Gives Tree) : Type 0 where
@@ -93,8 +92,7 @@ module _ (types : Types) (texts : ℕ) (fs : List Function) (f : Function) where
 
       all : Runs types texts fs f (nothing types texts fs f) tt None (with_code [] s) w Q made.code → AsksAll s (Then (trees made.code) (Asks place (test w.given)))
       all r = record {
-        fine = fine_behind types fs f made.code (Asks place (test w.given)) r.fine (fine_asks types fs f place (test w.given));
-        formed = and_from (is_well_formed_tree types texts fs f (trees made.code)) (is_well_formed_test types texts fs f (test w.given)) r.formed (formed w.given r.typed);
+        fine = fine_behind types texts fs f made.code (Asks place (test w.given)) r.fine (fine_asks types texts fs f place (test w.given) (formed w.given r.typed));
         goes = λ k alive. let g = r.goes k (record { sized = alive.sized; living = alive.living }) tt in record {
           on = g.after;
           off = g.after;
@@ -122,8 +120,7 @@ module _ (types : Types) (texts : ℕ) (fs : List Function) (f : Function) where
     registers = t.registers;
     unwritten = t.unwritten;
     runs = λ b. let r = t.runs b in record {
-      fine = fine_negated types fs f (w s).given r.fine;
-      formed = r.formed;
+      fine = fine_negated types texts fs f (w s).given r.fine;
       goes = λ k alive. let g = r.goes k alive in record {
         on = g.off;
         off = g.on;
@@ -180,8 +177,7 @@ module _ (types : Types) (texts : ℕ) (fs : List Function) (f : Function) where
       where
         both : AsksAll s (left s).given → AsksAll (left s).state (right (left s).state).given → AsksAll s (Both (left s).given (right (left s).state).given)
         both r q = record {
-          fine = fine_both types fs f (left s).given (right (left s).state).given r.fine q.fine;
-          formed = and_from (is_well_formed_tree types texts fs f (left s).given) (is_well_formed_tree types texts fs f (right (left s).state).given) r.formed q.formed;
+          fine = fine_both types texts fs f (left s).given (right (left s).state).given r.fine q.fine;
           goes = λ k alive. both_asked k alive (r.goes k alive) q;
         }
 
@@ -195,8 +191,7 @@ module _ (types : Types) (texts : ℕ) (fs : List Function) (f : Function) where
       where
         either : AsksAll s (left s).given → AsksAll (left s).state (right (left s).state).given → AsksAll s (Either (left s).given (right (left s).state).given)
         either r q = record {
-          fine = fine_either types fs f (left s).given (right (left s).state).given r.fine q.fine;
-          formed = and_from (is_well_formed_tree types texts fs f (left s).given) (is_well_formed_tree types texts fs f (right (left s).state).given) r.formed q.formed;
+          fine = fine_either types texts fs f (left s).given (right (left s).state).given r.fine q.fine;
           goes = λ k alive. either_asked k alive (r.goes k alive) q;
         }
 
@@ -205,9 +200,8 @@ module _ (types : Types) (texts : ℕ) (fs : List Function) (f : Function) where
   answered : (place : Place) (n : ℤ) (r : ℕ) (k : List Known) → sort_of types f r ≡ ANumber → Falls types fs f (Acts place (constant n r) ∷ []) k (slice_set k r known.Number)
   answered place n r k e = falls_acts types fs f place (constant n r) k (and_from (is_sort (sort_of types f r) ANumber) true (number_sort (sort_of types f r) e) refl)
 
-  answer_formed : (place : Place) (n : ℤ) (t : Ty) (r : ℕ) → is_number_of types f t r ≡ true → is_well_formed_tree types texts fs f (answer place n r) ≡ true
-  answer_formed place n t r e =
-      and_from (is_well_formed_step types texts fs f (constant n r)) true ((is_constant types texts fs f (nothing types texts fs f) tt t n).formed r e tt) refl
+  answer_formed : (n : ℤ) (t : Ty) (r : ℕ) → is_number_of types f t r ≡ true → is_well_formed_step types texts fs f (constant n r) ≡ true
+  answer_formed n t r e = (is_constant types texts fs f (nothing types texts fs f) tt t n).formed r e tt
 
   pub by_branch_part : (into : Option ℕ) (t : Ty) (place : Place) (condition : State → Gives Tree) (s : State) → is_value t ≡ true → IsIntoOf t s into → IsOpen types fs f s
       → Tests s (condition s) → Makes types texts fs f into s (by_branch into t place condition s) (a_number types texts fs f t)
@@ -223,12 +217,9 @@ module _ (types : Types) (texts : ℕ) (fs : List Function) (f : Function) where
       run : (w : Gives ℕ) → Targets types fs f ANumber into (condition s).state w → IsNameless types fs f ANumber w.given → is_number_of types f t w.given ≡ true → AsksAll s (condition s).given
           → Runs types texts fs f (nothing types texts fs f) tt into s (branched place (condition s).given w.given w.state) (a_number types texts fs f t) (chosen w.given ∷ [])
       run w target is number asks = record {
-        fine = fine_choice types fs f (condition s).given (Acts place (constant (pos 1) w.given) ∷ []) (Acts place (constant (pos 0) w.given) ∷ []) asks.fine
-            (fine_acts types fs f place (constant (pos 1) w.given) refl) (fine_acts types fs f place (constant (pos 0) w.given) refl);
-        formed = and_from (is_well_formed_tree types texts fs f (chosen w.given)) true
-            (and_from (is_well_formed_tree types texts fs f (condition s).given) _ asks.formed
-            (and_from (is_well_formed_tree types texts fs f (answer place (pos 1) w.given)) (is_well_formed_tree types texts fs f (answer place (pos 0) w.given)) (answer_formed place (pos 1) t w.given number) (answer_formed place (pos 0) t w.given number)))
-            refl;
+        fine = fine_choice types texts fs f (condition s).given (Acts place (constant (pos 1) w.given) ∷ []) (Acts place (constant (pos 0) w.given) ∷ []) asks.fine
+            (fine_acts types texts fs f place (constant (pos 1) w.given) refl (answer_formed (pos 1) t w.given number))
+            (fine_acts types texts fs f place (constant (pos 0) w.given) refl (answer_formed (pos 0) t w.given number));
         typed = number;
         goes = λ k alive p. went k alive (asks.goes k alive);
       }

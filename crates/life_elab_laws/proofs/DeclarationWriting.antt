@@ -1,5 +1,5 @@
--- What is written for a declaration is ready.
-use Rattle.std.proofs.Common.{◌≡◌, ◌<◌, ◌⊎◌, inl, inr, ℕ, Bool, true, false, ◌||◌, cond, List, [], ◌∷◌, length, slice_get, slice_set, Option, Some, None, refl, sym, ap, ◌∙◌, subst, unwrap_or, arith, append_assoc}
+-- What is written for a declaration is ready and well formed: the variable lives, and is given what typing lets it be given.
+use Rattle.std.proofs.Common.{◌≡◌, ◌<◌, ◌⊎◌, inl, inr, ℕ, Bool, true, false, ◌||◌, cond, List, [], ◌∷◌, ◌++◌, length, slice_get, slice_set, Option, Some, None, refl, sym, ap, ◌∙◌, subst, unwrap_or, arith, append_assoc}
 use Rattle.std.proofs.lemmas.Bool.{and_from, and_parts, false≢true, or_left, or_right}
 use Rattle.life_types.specs.Types.{Types, class}
 use Rattle.life_types.specs.contracts.ty.TyPartialEq.TheImpl.{ghosts as compared}
@@ -7,22 +7,27 @@ use Rattle.life_types.specs.declared.place.Place.{Place}
 use Rattle.life_types.specs.declared.ty.Ty.{Ty}
 use Rattle.life_types.specs.declared.ty.Ty.TheVariants as ty
 use Rattle.life_types.specs.declared.ty.TyId.{TyId}
-use Rattle.life_built.specs.Built.{is_built_declaration, is_built_declared, is_built_expression, is_built_initial, is_built_variable, needs_no_temporary}
+use Rattle.life_built.specs.Built.{is_built_declaration, is_built_declared, is_built_expression, is_built_initial, is_built_variable, is_pointing, needs_no_temporary}
 use Rattle.life_typed.specs.BaseTypes.{is_value, type_at}
 use Rattle.life_typed.specs.Programs.{FunctionForm}
 use Rattle.life_typed.specs.TypedForm.{Typed, whole as whole_form}
 use Rattle.life_typed.specs.TypedStatement.{DeclarationForm, InitialForm, one, several}
+use Rattle.life_typed.specs.declared.typed_expr.ExprType.{ExprType}
+use Rattle.life_typed.specs.declared.typed_expr.ExprType.TheVariants.{Of}
 use Rattle.life_typed.specs.declared.typed_program.TypedLocal.{TypedLocal}
+use Rattle.life_type_stmt.specs.Declarations.{default_fault}
 use Rattle.life_core.specs.Function.{Function}
 use Rattle.life_core.specs.Operands.{Argument, Place as Aimed, object_named, whole}
 use Rattle.life_core.specs.Holdings.{Holding, AnObject, ANumber, APointer, Blank, held_if, sort_of}
 use Rattle.life_core.specs.Step.{Live, Save}
 use Rattle.life_core.specs.Tree.{Tree, Acts}
 use Rattle.life_core.specs.declared.instr.Form.TheVariants.{Plain}
+use Rattle.life_pset.specs.Shapes.{ty_of}
 use Rattle.life_proper.specs.declared.known.Known.{Known}
 use Rattle.life_proper.specs.declared.known.Known.TheVariants as known
 use Rattle.life_proper.specs.Knowing.{known_as, known_at, same}
 use Rattle.life_proper.specs.ReadyKnown.{holds, is_operand_ready, is_sort, is_step_ready}
+use Rattle.life_proper.specs.WellFormed.{can_live, goes_to, is_source_of, is_well_formed_step}
 use Rattle.life_well_typed.specs.Expressions.{IsExpression, parameter_types}
 use Rattle.life_well_typed.specs.Given.{is_given, is_number}
 use Rattle.life_well_typed.specs.Statements.{IsDeclaration, IsInitialised}
@@ -35,34 +40,34 @@ use Rattle.life_writer.specs.Pointers.{Pointing, At, pointed}
 use Rattle.life_writer.specs.Variables.{kind, variable_local}
 use Rattle.life_writer.specs.Writing.{State, Gives, emit, gives, mapped, with_code}
 use Rattle.life_elab.specs.Declarations.{declared, declared_as, given_by_call, given_initial, given_one, given_value, live, object_given}
-use Rattle.life_elab_laws.proofs.Aiming.{aimed_after, aimed_ready, pointed_plain}
+use Rattle.life_elab_laws.proofs.Aiming.{aimed_after, aimed_ready, pointed_formed, pointed_plain}
+use Rattle.life_elab_laws.proofs.CallParts.{called_formed}
 use Rattle.life_elab_laws.proofs.Calls.{born_plain, born_ready}
 use Rattle.life_elab_laws.proofs.Declaring.{declared_does, its_local, new_below, new_ends, new_sort, with_new}
 use Rattle.life_elab_laws.proofs.Doing.{Does}
 use Rattle.life_elab_laws.proofs.ExpressionKinds.{variable_built}
 use Rattle.life_elab_laws.proofs.ExpressionForms.{IsWhole}
-use Rattle.life_elab_laws.proofs.Expressions.{expression, whole_expression}
+use Rattle.life_elab_laws.proofs.Expressions.{expression, result_later, whole_expression}
 use Rattle.life_elab_laws.proofs.GivenKinds.{given_number, given_pointer}
 use Rattle.life_elab_laws.proofs.Falling.{Falls, falling, falls_acts, falls_append}
 use Rattle.life_elab_laws.proofs.Following.{Follows, follows_grown}
-use Rattle.life_elab_laws.proofs.FormedFits.{given_reference}
-use Rattle.life_elab_laws.proofs.Gifts.{AreNumbersFor, a_number, a_place, a_pointing, arguments}
+use Rattle.life_elab_laws.proofs.FormedFits.{IsBoundTo, given_raw, given_reference}
+use Rattle.life_elab_laws.proofs.Gifts.{IsGivenAs, a_number, a_place, a_pointing, arguments, nothing}
 use Rattle.life_elab_laws.proofs.Growing.{Begins, Grows}
 use Rattle.life_elab_laws.proofs.Held.{number_held, object_held}
 use Rattle.life_elab_laws.proofs.Knowledge.{at_set, beside_set}
-use Rattle.life_elab_laws.proofs.Making.{Always, IsNumber, IsPlace, IsPointing, Makes, nothing_made, seen}
+use Rattle.life_elab_laws.proofs.NewVariables.{bound_given, raw_declared, raw_lives, reference_declared, value_goes, value_lives, value_saved}
+use Rattle.life_elab_laws.proofs.Parts.{Makes, leaf_part, seen_part}
 use Rattle.life_elab_laws.proofs.Setting.{Setting}
 use Rattle.life_elab_laws.proofs.Shaping.{fine_acts, fine_append}
-use Rattle.life_elab_laws.proofs.Sides.{runs_side}
+use Rattle.life_elab_laws.proofs.TypedKinds.{none_some}
+use Rattle.life_elab_laws.proofs.Types.{same_types}
 use Rattle.life_elab_laws.proofs.VariablePlaces.{IsVariableType, a_raw, a_reference, a_value, value_held, variable_type}
 
-abbrev Done : Unit {0} → ℕ → List Known → Type 0
-Done x n k = Unit {0}
-
-module _ (a : Around) (types : Types) (fs : List Function) (f : Function) (setting : Setting a types fs f) (v : Visible) (in_loop : Bool) where
+module _ (a : Around) (types : Types) (texts : ℕ) (fs : List Function) (f : Function) (setting : Setting a types fs f) (v : Visible) (in_loop : Bool) where
   module _ (u : TypedLocal) (s : State) (h : Follows types fs f a v s) (at : slice_get a.function.locals v.declared ≡ Some u) (built : is_built_variable a.program.types u.ty ≡ true) where
     abbrev Born : State → Type 0
-    Born s' = Does types fs f a (with_next v) in_loop s s'
+    Born s' = Does types texts fs f a (with_next v) in_loop s s'
 
     abbrev Whole : Typed → Type 0
     Whole e = IsExpression a.program a.function.locals v.visible (whole_form e)
@@ -70,6 +75,9 @@ module _ (a : Around) (types : Types) (fs : List Function) (f : Function) (setti
     -- where so much has been written
     abbrev New : State → Type 0
     New s' = Begins types f (with_new (variable_local a u) s')
+
+    type_is : (t : Ty) → slice_get a.program.types.types u.ty.0 ≡ Some t → type_of a u.ty ≡ t
+    type_is t is = ap (λ (o : Option Ty). unwrap_or o ty.Void) is
 
     -- ---- what the variable holds
 
@@ -91,11 +99,19 @@ module _ (a : Around) (types : Types) (fs : List Function) (f : Function) (setti
         go (inl e) = or_left (is_sort (sort_of types f x) AnObject) _ (ap (λ (g : Holding). is_sort g AnObject) e)
         go (inr e) = or_right (is_sort (sort_of types f x) AnObject) _ (ap (λ (g : Holding). is_sort g APointer) e)
 
-    live_does : Born (live a u s).state
-    live_does =
-        declared_does types fs f a setting.front v in_loop u s (gives tt s) Done (Acts u.place (Live (length s.locals) Plain) ∷ []) h at built
-        (nothing_made types fs f tt s Always Done (λ b k alive p. tt))
-        (λ b. fine_acts types fs f u.place (Live (length s.locals) Plain) refl)
+    lives : default_fault (type_of a u.ty) ≡ None → New s → can_live types texts fs f (length s.locals) ≡ true
+    lives none b = go (variable_type a.program.types u.ty built)
+      where
+        go : IsVariableType a.program.types u.ty → can_live types texts fs f (length s.locals) ≡ true
+        go (a_value t is w) = value_lives a types texts fs f setting.front u s b (ap is_value (type_is t is) ∙ w)
+        go (a_raw target constant is) = raw_lives a types texts fs f setting.front u s b target constant is
+        go (a_reference target constant is w) = absurd (none_some (sym (subst (λ (t : Ty). default_fault t ≡ None) (type_is (ty.Reference target constant) is) none)))
+
+    live_does : default_fault (type_of a u.ty) ≡ None → Born (live a u s).state
+    live_does none =
+        declared_does types texts fs f a setting.front v in_loop u s (gives tt s) (nothing types texts fs f) (Acts u.place (Live (length s.locals) Plain) ∷ []) h at built
+        (leaf_part types texts fs f tt s (nothing types texts fs f) (λ b. tt) (λ b k alive. tt))
+        (λ b q. fine_acts types texts fs f u.place (Live (length s.locals) Plain) refl (lives none b))
         (λ b k size q blank. falls_acts types fs f u.place (Live (length s.locals) Plain) k (live_ready (length s.locals) k blank (new_ends types fs f a setting.front v u (variable_local a u) (its_local a u) s h at built b)))
 
     -- ---- an object
@@ -112,70 +128,76 @@ module _ (a : Around) (types : Types) (fs : List Function) (f : Function) (setti
         (object_held j x (at_set k x (known_as (sort_of types f x)) lt ∙ ap known_as sort))))
 
     -- a value is computed before it lives
-    valued_does : (t : Ty) → slice_get a.program.types.types u.ty.0 ≡ Some t → is_value t ≡ true → (w : Gives ℕ) → Makes types fs f None s w Always IsNumber
+    valued_does : (t : Ty) → slice_get a.program.types.types u.ty.0 ≡ Some t → is_value t ≡ true → (w : Gives ℕ) → Makes types texts fs f None s w (a_number types texts fs f (type_of a u.ty))
         → Born (emit u.place (Save (object_named (length w.state.locals)) w.given) (emit u.place (Live (length w.state.locals) Plain) (with_new (variable_local a u) w.state)))
     valued_does t is worth w made =
+        let x = length w.state.locals in
+        let lives = Acts u.place (Live x Plain) ∷ [] in
+        let saves = Acts u.place (Save (object_named x) w.given) ∷ [] in
+        let value = ap is_value (type_is t is) ∙ worth in
         subst (λ (c : List Tree). Born (with_code c (with_new (variable_local a u) w.state)))
-        (sym (append_assoc w.state.code (Acts u.place (Live (length w.state.locals) Plain) ∷ []) (Acts u.place (Save (object_named (length w.state.locals)) w.given) ∷ [])))
-        (declared_does types fs f a setting.front v in_loop u s w IsNumber (Acts u.place (Live (length w.state.locals) Plain) ∷ Acts u.place (Save (object_named (length w.state.locals)) w.given) ∷ []) h at built made
-        (λ b.
-        fine_append types fs f (Acts u.place (Live (length w.state.locals) Plain) ∷ []) (Acts u.place (Save (object_named (length w.state.locals)) w.given) ∷ [])
-        (fine_acts types fs f u.place (Live (length w.state.locals) Plain) refl) (fine_acts types fs f u.place (Save (object_named (length w.state.locals)) w.given) refl))
-        (λ b k size q blank. saved (length w.state.locals) w.given k (object_sort t is worth w.state made.grown b) (omega (arith, size, below w.state made.grown b)) blank q.0 q.1))
+        (sym (append_assoc w.state.code lives saves))
+        (declared_does types texts fs f a setting.front v in_loop u s w (a_number types texts fs f (type_of a u.ty)) (lives ++ saves) h at built made
+        (λ b q.
+        fine_append types texts fs f lives saves (fine_acts types texts fs f u.place (Live x Plain) refl (value_lives a types texts fs f setting.front u w.state b value))
+        (fine_acts types texts fs f u.place (Save (object_named x) w.given) refl (value_saved a types texts fs f setting.front u w.state b value w.given q)))
+        (λ b k size q blank. saved x w.given k (object_sort t is worth w.state made.grown b) (omega (arith, size, below w.state made.grown b)) blank q.0 q.1))
 
-    -- a call brings it to life
+    -- a call brings it to life, where it gives its type
     called_does : (t : Ty) → slice_get a.program.types.types u.ty.0 ≡ Some t → is_value t ≡ true → (g : ℕ) (of : FunctionForm) (place : Place) → slice_get a.program.functions g ≡ Some of → is_value (type_at a.program.types of.result) ≡ true
-        → (w : Gives (List Argument)) → Makes types fs f None s w Always (AreNumbersFor (parameter_types (Some of)))
+        → ty_of types of.result ≡ type_of a u.ty → (w : Gives (List Argument)) → Makes types texts fs f None s w (arguments types texts fs f (parameter_types (Some of)))
         → Born (emit place (called g w.given (length w.state.locals)) (with_new (variable_local a u) w.state))
-    called_does t is worth g of place there value w made =
-        declared_does types fs f a setting.front v in_loop u s w (AreNumbersFor (parameter_types (Some of))) (Acts place (called g w.given (length w.state.locals)) ∷ []) h at built made
-        (λ b. fine_acts types fs f place (called g w.given (length w.state.locals)) (born_plain types fs f g w.given a.program.types of (length w.state.locals) (setting.callees g of there) (object_sort t is worth w.state made.grown b)))
-        (λ b k size q blank.
-        falls_acts types fs f place (called g w.given (length w.state.locals)) k
-        (born_ready types fs f g w.given (length w.state.locals) a.program.types of (length w.state.locals) k (setting.callees g of there) value q (object_sort t is worth w.state made.grown b) blank))
+    called_does t is worth g of place there value same w made =
+        let x = length w.state.locals in
+        let callee = setting.callees g of there in
+        declared_does types texts fs f a setting.front v in_loop u s w (arguments types texts fs f (parameter_types (Some of))) (Acts place (called g w.given x) ∷ []) h at built made
+        (λ b q.
+        fine_acts types texts fs f place (called g w.given x) (born_plain types fs f g w.given a.program.types of x callee (object_sort t is worth w.state made.grown b))
+        (called_formed types texts fs f a.program.types g w.given of (Some (whole x)) callee q
+        (ap (λ (r : Ty). goes_to types texts fs f r (Some (whole x))) same ∙ value_goes a types texts fs f setting.front u w.state b (ap is_value (type_is t is) ∙ worth))))
+        (λ b k size q blank. falls_acts types fs f place (called g w.given x) k (born_ready types fs f g w.given x a.program.types of x k callee value q (object_sort t is worth w.state made.grown b) blank))
 
     -- ---- a pointer or a reference
 
-    aimed_does : (t : Ty) → slice_get a.program.types.types u.ty.0 ≡ Some t → held_if (class (Some t)) (kind (class (Some t))) (Some t) ≡ APointer → (place : Place) (w : Gives Pointing) → Makes types fs f None s w Always (IsPointing types f)
+    aimed_does : (t : Ty) → slice_get a.program.types.types u.ty.0 ≡ Some t → held_if (class (Some t)) (kind (class (Some t))) (Some t) ≡ APointer → (place : Place) (from : ExprType) (w : Gives Pointing)
+        → Makes types texts fs f None s w (a_pointing types texts fs f from)
+        → (New w.state → IsGivenAs types texts fs f from w.given → is_well_formed_step types texts fs f (pointed (whole (length w.state.locals)) w.given) ≡ true)
         → Born (emit place (pointed (whole (length w.state.locals)) w.given) (with_new (variable_local a u) w.state))
-    aimed_does t is held place w made =
-        declared_does types fs f a setting.front v in_loop u s w (IsPointing types f) (Acts place (pointed (whole (length w.state.locals)) w.given) ∷ []) h at built made
-        (λ b. fine_acts types fs f place (pointed (whole (length w.state.locals)) w.given) (pointed_plain types 0 fs f (whole (length w.state.locals)) w.given))
+    aimed_does t is held place from w made fits =
+        let x = length w.state.locals in
+        declared_does types texts fs f a setting.front v in_loop u s w (a_pointing types texts fs f from) (Acts place (pointed (whole x) w.given) ∷ []) h at built made
+        (λ b q. fine_acts types texts fs f place (pointed (whole x) w.given) (pointed_plain types texts fs f (whole x) w.given) (fits b q))
         (λ b k size q blank.
-        falls_acts types fs f place (pointed (whole (length w.state.locals)) w.given) k
-        (aimed_ready types 0 fs f (length w.state.locals) (length w.state.locals) w.given k (pointer_sort t is held w.state made.grown b) q)
-        ∙ ap falling (aimed_after types 0 fs f (length w.state.locals) w.given k))
+        falls_acts types fs f place (pointed (whole x) w.given) k (aimed_ready types texts fs f x x w.given k (pointer_sort t is held w.state made.grown b) q)
+        ∙ ap falling (aimed_after types texts fs f x w.given k))
 
     -- ---- any variable that is given one expression
 
     module _ (e : Typed) (b : is_built_expression e ≡ true) (he : Whole e) where
-      whole_is : IsWhole a v.visible types 0 fs f setting (whole_form e)
-      whole_is = whole_expression a v.visible types 0 fs f setting (whole_form e) b he
-
-      type_is : (t : Ty) → slice_get a.program.types.types u.ty.0 ≡ Some t → type_of a u.ty ≡ t
-      type_is t is = ap (λ (o : Option Ty). unwrap_or o ty.Void) is
+      whole_is : IsWhole a v.visible types texts fs f setting (whole_form e)
+      whole_is = whole_expression a v.visible types texts fs f setting (whole_form e) b he
 
       module _ (t : Ty) (is : slice_get a.program.types.types u.ty.0 ≡ Some t) (worth : is_value t ≡ true) (n : is_number e.ty ≡ true) where
         given_value_does : Born (given_value a u e s)
         given_value_does =
-            valued_does t is worth (value a (whole_form e) (type_of a u.ty) None s)
-            (runs_side types 0 fs f None s (value a (whole_form e) (type_of a u.ty) None s) (a_number types 0 fs f (type_of a u.ty)) (whole_is.valued n (type_of a u.ty) (ap is_value (type_is t is) ∙ worth) None s tt h.stands))
+            valued_does t is worth (value a (whole_form e) (type_of a u.ty) None s) (whole_is.valued n (type_of a u.ty) (ap is_value (type_is t is) ∙ worth) None s tt h.stands)
 
-        given_by_call_does : (c : Called) → call_of e.form ≡ Some c → Born (given_by_call a u e.place c s)
-        given_by_call_does c found =
-            let k = (expression a v.visible types 0 fs f setting e.form e b he).calls c found in
-            let w = handed_over a c.arguments (around.parameter_types a c.function) s in
-            called_does t is worth c.function k.of e.place k.there (k.worth n) w (runs_side types 0 fs f None s w (arguments types 0 fs f (parameter_types (Some k.of))) (k.hands s h.stands))
+        given_by_call_does : (c : Called) → call_of e.form ≡ Some c → compared.eq (own_type e.ty) (type_of a u.ty) ≡ true → Born (given_by_call a u e.place c s)
+        given_by_call_does c found same =
+            let k = (expression a v.visible types texts fs f setting e.form e b he).calls c found in
+            called_does t is worth c.function k.of e.place k.there (k.worth n)
+            (result_later a v.visible types texts fs f setting c.function k.of k.there ∙ sym (ap own_type k.own) ∙ same_types (own_type e.ty) (type_of a u.ty) same)
+            (handed_over a c.arguments (around.parameter_types a c.function) s) (k.hands s h.stands)
 
         object_does : (o : Option Called) → call_of e.form ≡ o → Born (object_given a u e o s)
         object_does None found = given_value_does
-        object_does (Some c) found = go (compared.eq (own_type e.ty) (type_of a u.ty))
+        object_does (Some c) found = go (compared.eq (own_type e.ty) (type_of a u.ty)) refl
           where
-            go : (b : Bool) → Born (cond b (given_by_call a u e.place c s) (given_value a u e s))
-            go true = given_by_call_does c found
-            go false = given_value_does
+            go : (b : Bool) → compared.eq (own_type e.ty) (type_of a u.ty) ≡ b → Born (cond b (given_by_call a u e.place c s) (given_value a u e s))
+            go true same = given_by_call_does c found same
+            go false same = given_value_does
 
-      pub value_given : (t : Ty) → is_value t ≡ true → given_one a u e t s ≡ object_given a u e (call_of (whole_form e)) s
+      value_given : (t : Ty) → is_value t ≡ true → given_one a u e t s ≡ object_given a u e (call_of (whole_form e)) s
       value_given ty.Bool w = refl
       value_given ty.Char w = refl
       value_given ty.Int w = refl
@@ -183,41 +205,59 @@ module _ (a : Around) (types : Types) (fs : List Function) (f : Function) (setti
       value_given ty.Size w = refl
       value_given _ w = absurd (false≢true w)
 
-      one_does : needs_no_temporary (type_at a.program.types u.ty) e ≡ true → is_given a.program.types (type_at a.program.types u.ty) e ≡ true → Born (given_one a u e (type_of a u.ty) s)
+      raw_does : (target : TyId) (constant : Bool) → slice_get a.program.types.types u.ty.0 ≡ Some (ty.Raw target constant) → is_given a.program.types (ty.Raw target constant) e ≡ true → Born (given_one a u e (ty.Raw target constant) s)
+      raw_does target constant is given =
+          let r = ty.Raw target constant in
+          let w = pointing a (whole_form e) s in
+          let worth : is_value (type_at a.program.types target) ≡ true = subst (λ (t : Ty). (is_value t || is_pointing a.program.types t) ≡ true) (type_is r is) built in
+          aimed_does r is refl e.place e.ty w (whole_is.points (given_pointer a.program.types r e refl given) s h.stands)
+          (λ b q.
+          pointed_formed types texts fs f (whole (length w.state.locals)) r e.ty w.given refl (raw_declared a types texts fs f setting.front u w.state b target constant is)
+          (given_raw a.program.types types setting.front target constant worth e given) q)
+
+      reference_does : (target : TyId) (constant : Bool) → slice_get a.program.types.types u.ty.0 ≡ Some (ty.Reference target constant) → is_value (type_at a.program.types target) ≡ true → IsBoundTo target constant e.category
+          → Born (given_one a u e (ty.Reference target constant) s)
+      reference_does target constant is worth bound =
+          let r = ty.Reference target constant in
+          let w = operand a (whole_form e) s in
+          aimed_does r is refl e.place (Of r) (mapped (λ o. At (Aimed o)) w)
+          (seen_part types texts fs f (nothing types texts fs f) tt None s w (a_place types texts fs f (type_at a.program.types target) bound.held) (λ o. At (Aimed o)) (a_pointing types texts fs f (Of r))
+          (whole_is.names target bound.held bound.place worth s h.stands)
+          (λ b q. bound_given a types texts fs f setting.front target constant bound.held w.given worth bound.kept q) (λ n k q. q))
+          (λ b q. ap (λ (t : Ty). is_source_of types texts fs f t (Aimed w.given)) (reference_declared a types texts fs f setting.front u w.state b target constant is worth) ∙ q)
+
+      one_does : needs_no_temporary (type_of a u.ty) e ≡ true → is_given a.program.types (type_of a u.ty) e ≡ true → Born (given_one a u e (type_of a u.ty) s)
       one_does temporary given = go (variable_type a.program.types u.ty built)
         where
+          as_given : (t : Ty) → slice_get a.program.types.types u.ty.0 ≡ Some t → is_given a.program.types t e ≡ true
+          as_given t is = subst (λ (x : Ty). is_given a.program.types x e ≡ true) (type_is t is) given
+
+          as_type : (t : Ty) → slice_get a.program.types.types u.ty.0 ≡ Some t → Born (given_one a u e t s) → Born (given_one a u e (type_of a u.ty) s)
+          as_type t is born = subst (λ (x : Ty). Born (given_one a u e x s)) (sym (type_is t is)) born
+
           go : IsVariableType a.program.types u.ty → Born (given_one a u e (type_of a u.ty) s)
-          go (a_value t is w) =
-              subst (λ (x : Ty). Born (given_one a u e x s)) (sym (type_is t is))
-              (subst Born (sym (value_given t w)) (object_does t is w (given_number a.program.types t e w (subst (λ (x : Ty). is_given a.program.types x e ≡ true) (type_is t is) given)) (call_of e.form) refl))
-          go (a_raw target constant is) =
-              subst (λ (x : Ty). Born (given_one a u e x s)) (sym (type_is (ty.Raw target constant) is))
-              (aimed_does (ty.Raw target constant) is refl e.place (pointing a (whole_form e) s)
-              (runs_side types 0 fs f None s (pointing a (whole_form e) s) (a_pointing types 0 fs f e.ty)
-              (whole_is.points (given_pointer a.program.types (ty.Raw target constant) e refl (subst (λ (x : Ty). is_given a.program.types x e ≡ true) (type_is (ty.Raw target constant) is) given)) s h.stands)))
+          go (a_value t is w) = as_type t is (subst Born (sym (value_given t w)) (object_does t is w (given_number a.program.types t e w (as_given t is)) (call_of e.form) refl))
+          go (a_raw target constant is) = as_type (ty.Raw target constant) is (raw_does target constant is (as_given (ty.Raw target constant) is))
           go (a_reference target constant is w) =
               let r = ty.Reference target constant in
-              let bound = given_reference a.program.types target constant e w (subst (λ (x : Ty). needs_no_temporary x e ≡ true) (type_is r is) temporary) (subst (λ (x : Ty). is_given a.program.types x e ≡ true) (type_is r is) given) in
-              let Q = a_place types 0 fs f (type_at a.program.types target) bound.held in
-              subst (λ (x : Ty). Born (given_one a u e x s)) (sym (type_is r is))
-              (aimed_does r is refl e.place (mapped (λ o. At (Aimed o)) (operand a (whole_form e) s))
-              (seen types fs f None s (operand a (whole_form e) s) (λ o. At (Aimed o)) Always IsPlace (IsPointing types f)
-              (runs_side types 0 fs f None s (operand a (whole_form e) s) Q (whole_is.names target bound.held bound.place w s h.stands)) (λ o n k q. q)))
+              as_type r is
+              (reference_does target constant is w
+              (given_reference a.program.types target constant e w (subst (λ (x : Ty). needs_no_temporary x e ≡ true) (type_is r is) temporary) (as_given r is)))
 
     -- ---- any variable
 
-    initial_does : (result : TyId) (initial : Option InitialForm) → is_built_initial (type_at a.program.types u.ty) initial ≡ true → IsInitialised a.program a.function.locals result v.visible (Some u) initial → Born (given_initial a u initial s)
-    initial_does result None b i = live_does
+    initial_does : (result : TyId) (initial : Option InitialForm) → is_built_initial (type_of a u.ty) initial ≡ true → IsInitialised a.program a.function.locals result v.visible (Some u) initial → Born (given_initial a u initial s)
+    initial_does result None b i = live_does i
     initial_does result (Some (one e)) b i =
-        let parts = and_parts (is_built_expression e) (needs_no_temporary (type_at a.program.types u.ty) e) b in one_does e parts.0 i.1 parts.1 i.0
+        let parts = and_parts (is_built_expression e) (needs_no_temporary (type_of a u.ty) e) b in one_does e parts.0 i.1 parts.1 i.0
     initial_does result (Some (several list)) b i = absurd (false≢true b)
 
   pub declaration_does : (result : TyId) (d : DeclarationForm) (s : State) → Follows types fs f a v s → is_built_declaration a.program.types a.function.locals d ≡ true → IsDeclaration a.program a.function.locals result d v
-      → Does types fs f a (with_next v) in_loop s (declared a d s)
+      → Does types texts fs f a (with_next v) in_loop s (declared a d s)
   declaration_does result d s h b here = go (slice_get a.function.locals d.local) refl b here.1
     where
       go : (o : Option TypedLocal) → slice_get a.function.locals d.local ≡ o → is_built_declared a.program.types o d.value ≡ true → IsInitialised a.program a.function.locals result v.visible o d.value
-          → Does types fs f a (with_next v) in_loop s (declared_as a o d.value s)
+          → Does types texts fs f a (with_next v) in_loop s (declared_as a o d.value s)
       go None at b i = absurd i
       go (Some u) at b i =
           initial_does u s h (sym (ap (slice_get a.function.locals) here.0) ∙ at) (variable_built a.program.types a.function.locals d.local u setting.variables at) result d.value b i

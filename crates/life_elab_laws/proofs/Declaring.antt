@@ -23,17 +23,18 @@ use Rattle.life_writer.specs.Around.{Around, result_local}
 use Rattle.life_writer.specs.Variables.{kind, variable, variable_local, with_variable}
 use Rattle.life_writer.specs.Writing.{State, Gives, with_code}
 use Rattle.life_elab_laws.proofs.Among.{Among, among_either, among_left, among_right, ascend_more}
-use Rattle.life_elab_laws.proofs.Doing.{Acting, Does, fine_stated, leaves_falling, leaves_may, stated_append}
-use Rattle.life_elab_laws.proofs.Exits.{Knows, Leaves, knows_written}
+use Rattle.life_elab_laws.proofs.Doing.{Acting, Does}
+use Rattle.life_elab_laws.proofs.Exits.{Knows, Leaves, knows_written, leaves_falling, leaves_may}
 use Rattle.life_elab_laws.proofs.Falling.{Falls, falls_append}
 use Rattle.life_elab_laws.proofs.Following.{Adds, Follows, IsLiving, adds_coded, adds_then, begins_added, follows_below, follows_coded, follows_grown, follows_named, grows_adds, knows_alive, same_variable}
 use Rattle.life_elab_laws.proofs.Fronts.{IsFront, front_append, front_itself, front_then, last_there}
 use Rattle.life_elab_laws.proofs.GivingBack.{fine_known, known_append}
 use Rattle.life_elab_laws.proofs.Growing.{Begins}
 use Rattle.life_elab_laws.proofs.Knowledge.{at_set, beside_set, set_length}
-use Rattle.life_elab_laws.proofs.Making.{Always, Makes}
+use Rattle.life_elab_laws.proofs.Gifts.{Gift, nothing}
+use Rattle.life_elab_laws.proofs.Parts.{Makes, Runs}
 use Rattle.life_elab_laws.proofs.Shaped.{shaped_more, variable_later}
-use Rattle.life_elab_laws.proofs.Shaping.{IsFine}
+use Rattle.life_elab_laws.proofs.Shaping.{IsFine, stated_append}
 use Rattle.life_elab_laws.proofs.VariablePlaces.{IsVariableAt, IsVariableType, a_raw, a_reference, a_value, value_held, variable_type}
 use Rattle.life_elab_laws.proofs.WrittenLocals.{IsLocalOf, locals_added, own_added}
 
@@ -192,19 +193,20 @@ module _ (types : Types) (fs : List Function) (f : Function) (a : Around) (front
         alive y (inr (inl e)) = subst (λ (z : ℕ). known_at (slice_set k (length s.locals) now) z ≡ known_as (sort_of types f z)) e (at_set k (length s.locals) now lt)
         alive y (inr (inr none)) = absurd none
 
-  -- ---- the whole: what computes what it is given, the variable, and what gives it that
+-- ---- the whole: what computes what it is given, the variable, and what gives it that
 
-  module _ {A : Type 0} (v : Visible) (in_loop : Bool) (u : TypedLocal) (s : State) (w : Gives A) (Q : A → ℕ → List Known → Type 0) (code : List Tree)
+module _ (types : Types) (texts : ℕ) (fs : List Function) (f : Function) (a : Around) (front : IsFront a.program.types.types types.types) where
+  module _ {A : Type 0} (v : Visible) (in_loop : Bool) (u : TypedLocal) (s : State) (w : Gives A) (Q : Gift types texts fs f A) (code : List Tree)
       (h : Follows types fs f a v s) (at : slice_get a.function.locals v.declared ≡ Some u) (built : is_built_variable a.program.types u.ty ≡ true)
-      (made : Makes types fs f None s w Always Q)
-      (fine : Begins types f (with_new (variable_local a u) w.state) → IsFine types fs f code)
-      (falls : Begins types f (with_new (variable_local a u) w.state) → (k : List Known) → length k ≡ length f.locals → Q w.given (length w.state.locals) k → known_at k (length w.state.locals) ≡ known.Blank
+      (made : Makes types texts fs f None s w Q)
+      (fine : Begins types f (with_new (variable_local a u) w.state) → Q.typed w.given → IsFine types texts fs f code)
+      (falls : Begins types f (with_new (variable_local a u) w.state) → (k : List Known) → length k ≡ length f.locals → Q.ready w.given (length w.state.locals) k → known_at k (length w.state.locals) ≡ known.Blank
       → Falls types fs f code k (slice_set k (length w.state.locals) (known_as (sort_of types f (length w.state.locals))))) where
     later : Follows types fs f a v w.state
     later = follows_grown types fs f a v s w.state made.grown h
 
     adds : Adds types fs f s (with_new (variable_local a u) w.state)
-    adds = adds_then types fs f s w.state (with_new (variable_local a u) w.state) (grows_adds types fs f s w.state made.grown) (adds_new v u (variable_local a u) (its_local a u) w.state later at built)
+    adds = adds_then types fs f s w.state (with_new (variable_local a u) w.state) (grows_adds types fs f s w.state made.grown) (adds_new types fs f a front v u (variable_local a u) (its_local a u) w.state later at built)
 
     abbrev done : State
     done = with_code (w.state.code ++ code) (with_new (variable_local a u) w.state)
@@ -212,18 +214,21 @@ module _ (types : Types) (fs : List Function) (f : Function) (a : Around) (front
     -- nothing returns there
     no_returns : Begins types f (with_new (variable_local a u) w.state) → (o : Knowing) → ReturnsKnown types fs f (result_local a) (trees (made.code ++ code)) o
     no_returns b o =
-        let first = (made.runs (begins_old v u (variable_local a u) (its_local a u) w.state later at built b)).fine in
-        known_append types fs f (result_local a) made.code code o (fine_known types fs f (result_local a) made.code first o)
-        (fine_known types fs f (result_local a) code (fine b) (flow types fs f (trees made.code) o).next)
+        let first = made.runs (begins_old types fs f a front v u (variable_local a u) (its_local a u) w.state later at built b) tt in
+        known_append types fs f (result_local a) made.code code o (fine_known types fs f (result_local a) texts made.code first.fine o)
+        (fine_known types fs f (result_local a) texts code (fine b first.typed) (flow types fs f (trees made.code) o).next)
 
-    acting : Begins types f (with_new (variable_local a u) w.state) → Acting types fs f in_loop s done (made.code ++ code)
+    acting : Begins types f (with_new (variable_local a u) w.state) → Acting types texts fs f in_loop s done (made.code ++ code)
     acting b = record {
-      stated = stated_append types fs f in_loop made.code code (fine_stated types fs f in_loop made.code (made.runs before).fine) (fine_stated types fs f in_loop code (fine b));
+      stated = stated_append types texts fs f in_loop made.code code (part.fine.stated in_loop) ((fine b part.typed).stated in_loop);
       ways = leaves_may types fs f in_loop s.living (w.state.living ++ length w.state.locals ∷ []) (take s.outside s.living) (trees (made.code ++ code)) went;
     }
       where
         before : Begins types f w.state
-        before = begins_old v u (variable_local a u) (its_local a u) w.state later at built b
+        before = begins_old types fs f a front v u (variable_local a u) (its_local a u) w.state later at built b
+
+        part : Runs types texts fs f (nothing types texts fs f) tt None s w Q made.code
+        part = made.runs before tt
 
         first : Begins types f s
         first = begins_added types fs f s w.state (grows_adds types fs f s w.state made.grown) before
@@ -231,22 +236,22 @@ module _ (types : Types) (fs : List Function) (f : Function) (a : Around) (front
         went : (k : List Known) → Knows types fs f s.living k
             → Leaves types fs f in_loop (w.state.living ++ length w.state.locals ∷ []) (take s.outside s.living) (flow types fs f (trees (made.code ++ code)) (Some k))
         went k knows =
-            let g = (made.runs before).goes k (knows_alive types fs f a v s k knows) tt in
+            let g = part.goes k (knows_alive types fs f a v s k knows) tt in
             let mid : Knows types fs f w.state.living g.after =
             subst (λ (ys : List ℕ). Knows types fs f ys g.after) (sym made.grown.living) (knows_written types fs f s.living (length s.locals) None k g.after (follows_named types fs f a v s h first) knows g.keeps) in
             let after : List Known = slice_set g.after (length w.state.locals) (known_as (sort_of types f (length w.state.locals))) in
             subst (Leaves types fs f in_loop (w.state.living ++ length w.state.locals ∷ []) (take s.outside s.living))
-            (sym (falls_append types fs f made.code code k g.after after g.falls (falls b g.after mid.sized g.gives (blank_new v u (variable_local a u) (its_local a u) w.state later at built b g.after mid))))
-            (leaves_falling types fs f in_loop (w.state.living ++ length w.state.locals ∷ []) (take s.outside s.living) after (knows_new v u (variable_local a u) (its_local a u) w.state later at built b g.after mid))
+            (sym (falls_append types fs f made.code code k g.after after g.falls (falls b g.after mid.sized g.gives (blank_new types fs f a front v u (variable_local a u) (its_local a u) w.state later at built b g.after mid))))
+            (leaves_falling types fs f in_loop (w.state.living ++ length w.state.locals ∷ []) (take s.outside s.living) after (knows_new types fs f a front v u (variable_local a u) (its_local a u) w.state later at built b g.after mid))
 
-    pub declared_does : Does types fs f a (with_next v) in_loop s done
+    pub declared_does : Does types texts fs f a (with_next v) in_loop s done
     declared_does = record {
       adds = adds_coded types fs f s (with_new (variable_local a u) w.state) (w.state.code ++ code) adds;
       locals = λ are.
           own_added types a w.state (variable_local a u) (record { number = v.declared; variable = u; there = at; of = its_local a u })
           (locals_added types a s w.state made.grown.types made.registers are);
       order = made.registers.1;
-      follows = follows_coded types fs f a (with_next v) (with_new (variable_local a u) w.state) (w.state.code ++ code) (follows_new v u (variable_local a u) (its_local a u) w.state later at built);
+      follows = follows_coded types fs f a (with_next v) (with_new (variable_local a u) w.state) (w.state.code ++ code) (follows_new types fs f a front v u (variable_local a u) (its_local a u) w.state later at built);
       code = made.code ++ code;
       written = ap (λ (c : List Tree). c ++ code) made.written ∙ append_assoc s.code made.code code;
       acts = λ b. acting (record { locals = b.locals; table = b.table });

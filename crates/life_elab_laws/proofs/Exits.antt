@@ -5,14 +5,17 @@ use Rattle.life_types.specs.Types.{Types}
 use Rattle.life_types.specs.declared.ty.NameId.{NameId}
 use Rattle.life_core.specs.Function.{Function}
 use Rattle.life_core.specs.Holdings.{sort_of}
+use Rattle.life_core.specs.Tree.{Tree}
 use Rattle.life_core.specs.declared.program.Local.{Local}
 use Rattle.life_proper.specs.declared.known.Known.{Known}
 use Rattle.life_proper.specs.declared.known.Known.TheVariants as known
-use Rattle.life_proper.specs.Checking.{Flow, before_next, joined}
+use Rattle.life_proper.specs.Checking.{Flow, before_next, flow, joined}
 use Rattle.life_proper.specs.Knowing.{State, agreed_all, are_implied, forgotten, is_implied, is_intermediate, known_as, known_at, met, same, is_blank, is_forgotten, is_register}
 use Rattle.life_elab_laws.proofs.Among.{Among}
+use Rattle.life_elab_laws.proofs.Falling.{falling}
 use Rattle.life_elab_laws.proofs.Knowledge.{agreed_length, at_agreed}
 use Rattle.life_elab_laws.proofs.Making.{Keeps}
+use Rattle.life_elab_laws.proofs.Nowhere.{IsNowhere, nowhere_flows}
 
 module _ (types : Types) (fs : List Function) (f : Function) where
   -- these variables live, and no other one does
@@ -94,6 +97,38 @@ module _ (types : Types) (fs : List Function) (f : Function) where
       leaves_joined in_loop later outside (before_next w) v
       (record { fine = a.fine; next = tt; on_break = a.on_break; on_continue = a.on_continue; on_true = a.on_true; on_false = a.on_false })
       b
+
+  pub leaves_same : (in_loop : Bool) (living living' outside outside' : List ℕ) (w : Flow) → living ≡ living' → outside ≡ outside' → Leaves in_loop living outside w → Leaves in_loop living' outside' w
+  leaves_same in_loop living living' outside outside' w e d h =
+      subst (λ (xs : List ℕ). Leaves in_loop xs outside' w) e (subst (λ (xs : List ℕ). Leaves in_loop living xs w) d h)
+
+  -- no way leaves
+  pub none_leaves : (b : Bool) (outside : List ℕ) → MayLeave b outside None
+  none_leaves true outside = tt
+  none_leaves false outside = refl
+
+  leaves_nowhere : (in_loop : Bool) (living outside : List ℕ) (w : Flow) → IsNowhere w → Leaves in_loop living outside w
+  leaves_nowhere in_loop living outside w h = record {
+    fine = h.fine;
+    next = subst (MayKnow living) (sym h.next) tt;
+    on_break = none in_loop w.on_break h.on_break;
+    on_continue = none in_loop w.on_continue h.on_continue;
+    on_true = h.on_true;
+    on_false = h.on_false;
+  }
+    where
+      none : (b : Bool) (o : State) → o ≡ None → MayLeave b outside o
+      none true o e = subst (MayKnow outside) (sym e) tt
+      none false o e = e
+
+  pub leaves_falling : (in_loop : Bool) (living outside : List ℕ) (k : List Known) → Knows living k → Leaves in_loop living outside (falling k)
+  leaves_falling in_loop living outside k h = record { fine = refl; next = h; on_break = none_leaves in_loop outside; on_continue = none_leaves in_loop outside; on_true = refl; on_false = refl }
+
+  -- control that comes or not
+  pub leaves_may : (in_loop : Bool) (before after outside : List ℕ) (t : Tree) → ((k : List Known) → Knows before k → Leaves in_loop after outside (flow types fs f t (Some k)))
+      → (o : State) → MayKnow before o → Leaves in_loop after outside (flow types fs f t o)
+  leaves_may in_loop before after outside t some None h = leaves_nowhere in_loop after outside (flow types fs f t None) (nowhere_flows types fs f t None refl)
+  leaves_may in_loop before after outside t some (Some k) h = some k h
 
   -- ---- loops
 

@@ -9,7 +9,7 @@ use Rattle.life_core.specs.Function.{Function}
 use Rattle.life_core.specs.Tree.{Tree}
 use Rattle.life_core.specs.declared.program.Local.{Local}
 use Rattle.life_proper.specs.declared.known.Known.{Known}
-use Rattle.life_well_typed.specs.Visible.{Visible}
+use Rattle.life_well_typed.specs.Visible.{Visible, behind}
 use Rattle.life_writer.specs.Around.{Around, result_local}
 use Rattle.life_writer.specs.Variables.{variable}
 use Rattle.life_writer.specs.Writing.{State, with_code}
@@ -17,7 +17,7 @@ use Rattle.life_elab_laws.proofs.Among.{Among, Ascend, contains_among}
 use Rattle.life_elab_laws.proofs.Emitting.{IsWanted}
 use Rattle.life_elab_laws.proofs.Ending.{CanEnd}
 use Rattle.life_elab_laws.proofs.Exits.{AreNamed, Knows}
-use Rattle.life_elab_laws.proofs.Fronts.{IsFront, front_itself, front_then}
+use Rattle.life_elab_laws.proofs.Fronts.{IsFront, front_itself, front_length, front_then}
 use Rattle.life_elab_laws.proofs.Growing.{Begins, Grows}
 use Rattle.life_elab_laws.proofs.Making.{Alive}
 use Rattle.life_elab_laws.proofs.Shaped.{AreShaped}
@@ -191,3 +191,13 @@ module _ (types : Types) (fs : List Function) (f : Function) where
 
   pub follows_coded : (a : Around) (v : Visible) (s : State) (code : List Tree) → Follows a v s → Follows a v (with_code code s)
   follows_coded a v s code h = follows_again a v s (with_code code s) v.declared h (front_itself s.locals) (front_itself s.types.types) (front_itself s.variables) refl h.outside h.count (omega arith)
+
+  -- .. and where a list of its own has been written
+  pub adds_uncoded : (s s' : State) (code : List Tree) → Adds (with_code code s) s' → Adds s s'
+  adds_uncoded s s' code g = record { locals = g.locals; table = g.table; variables = g.variables; living = g.living; outside = g.outside; shaped = g.shaped }
+
+  -- what was visible before is visible again, where the same lives
+  pub visible_again : (a : Around) (v u : Visible) (s t : State) → Follows a v s → Adds s t → Follows a u t → t.living ≡ s.living → Follows a (behind v u) t
+  visible_again a v u s t h adds later level =
+      follows_again a v s t u.declared h adds.locals adds.table adds.variables level (omega (arith, adds.outside, ap length level, h.outside)) later.count
+      (omega (arith, h.count, later.count, front_length s.variables t.variables adds.variables))

@@ -1,6 +1,7 @@
--- What is written for a whole function: all is ready on every way, and no way runs past the end.
-use Rattle.std.proofs.Common.{◌≡◌, ◌≤◌, ℕ, Bool, true, false, List, [], ◌∷◌, ◌++◌, length, slice_get, take, Some, None, is_none, refl, sym, ap, ◌∙◌, subst}
+-- What is written for a whole function: all is ready on every way and well formed, and no way runs past the end.
+use Rattle.std.proofs.Common.{◌≡◌, ◌<◌, ◌≤◌, ℕ, Bool, true, false, List, [], ◌∷◌, ◌++◌, length, nat_lt, slice_get, take, Some, None, is_none, refl, sym, ap, ◌∙◌, subst, arith, length-append}
 use Rattle.std.proofs.lemmas.Bool.{and_from, false≢true}
+use Rattle.std.proofs.lemmas.Bool.Decides.{nat_tests}
 use Rattle.life_types.specs.Types.{Types}
 use Rattle.life_types.specs.declared.ty.Ty.{Ty}
 use Rattle.life_built.specs.Built.{is_built_statement}
@@ -13,14 +14,15 @@ use Rattle.life_proper.specs.Checking.{Flow, body_flow, flow, is_checked, is_ove
 use Rattle.life_proper.specs.Knowing.{State as Knowing, entry_known}
 use Rattle.life_proper.specs.Plain.{is_plain_tree}
 use Rattle.life_proper.specs.ResultsKnown.{ReturnsKnown}
+use Rattle.life_proper.specs.WellFormed.{is_well_formed_tree}
 use Rattle.life_well_typed.specs.Functions.{IsBody}
 use Rattle.life_well_typed.specs.Visible.{Visible, after, with_parameters}
 use Rattle.life_writer.specs.Variables.{end_past}
 use Rattle.life_writer.specs.Writing.{State}
 use Rattle.life_typed.specs.Ends.{ends}
 use Rattle.life_elab.specs.Functions.{body, first_state, returned_at_end, written}
-use Rattle.life_elab.specs.Programs.{around}
-use Rattle.life_elab.specs.Statements.{left, statement}
+use Rattle.life_elab.specs.Programs.{around, texts_of}
+use Rattle.life_elab.specs.Statements.{end_line, left, statement}
 use Rattle.life_elab_laws.proofs.Beginning.{entry_knows, first_code, first_follows, register_there}
 use Rattle.life_elab_laws.proofs.Callees.{IsBuiltFunction}
 use Rattle.life_elab_laws.proofs.Doing.{Acting, Does, does_then}
@@ -34,11 +36,21 @@ use Rattle.life_elab_laws.proofs.Setting.{Setting}
 use Rattle.life_elab_laws.proofs.Statements.{statement_does}
 use Rattle.life_elab_laws.proofs.Stopping.{stops, stops_next, stops_right}
 
+-- what endl writes stands behind the texts
+text_there : (p : ProgramForm) (f : FunctionForm) → nat_lt (end_line (around p f)) (length (texts_of p)) ≡ true
+text_there p f = go (length p.texts) (length (texts_of p)) (omega (arith, length-append p.texts ((10 ∷ []) ∷ [])))
+  where
+    go : (m n : ℕ) → m < n → nat_lt m n ≡ true
+    go m n h = grind (arith, nat_tests)
+
 module _ (p : ProgramForm) (form : FunctionForm) (T types : Types) (fs : List Function) (f : Function) (setting : Setting (around p form) types fs f) where
+  abbrev texts : ℕ
+  texts = length (texts_of p)
+
   -- a body behind which no way goes on
   pub record IsFinished (s s' : State) : Type 0 where
     pub behind : Visible
-    pub does : Does types fs f (around p form) behind false s s'
+    pub does : Does types texts fs f (around p form) behind false s s'
     pub stopped : stops (trees s'.code) ≡ true
 
   finished : (it : StmtForm) (s : State) → ends form.body ≡ ends it → IsBody p form it → is_built_statement p.types form.locals it ≡ true → Follows types fs f (around p form) (with_parameters (length form.parameters)) s → HasRegister (around p form) s
@@ -47,16 +59,16 @@ module _ (p : ProgramForm) (form : FunctionForm) (T types : Types) (fs : List Fu
     where
       go : (e : Bool) → ends (block items closing) ≡ e → IsFinished s (returned_at_end e closing (statement (around p form) items s))
       go true e =
-          let inner = statement_does (around p form) types fs f setting items false (with_parameters (length form.parameters)) s b h follows register in
+          let inner = statement_does (around p form) types texts fs f setting (text_there p form) items false (with_parameters (length form.parameters)) s b h follows register in
           record { behind = after items (with_parameters (length form.parameters)); does = inner.does; stopped = inner.last false (λ n. absurd (false≢true n)) e }
       go false e =
           let u = after items (with_parameters (length form.parameters)) in
           let t = statement (around p form) items s in
-          let inner = statement_does (around p form) types fs f setting items false (with_parameters (length form.parameters)) s b h follows register in
-          let last = return_does (around p form) types fs f setting u false t inner.does.follows (λ gives. false≢true (sym e ∙ sym same ∙ gives.1)) closing in
+          let inner = statement_does (around p form) types texts fs f setting (text_there p form) items false (with_parameters (length form.parameters)) s b h follows register in
+          let last = return_does (around p form) types texts fs f setting u false t inner.does.follows (λ gives. false≢true (sym e ∙ sym same ∙ gives.1)) closing in
           record {
             behind = u;
-            does = does_then types fs f (around p form) u u false s t (left 0 closing (Returns closing) t) follows.outside inner.does last.does;
+            does = does_then types texts fs f (around p form) u u false s t (left 0 closing (Returns closing) t) follows.outside inner.does last.does;
             stopped = stops_right (end_past 0 closing t).code (Returns closing ∷ []) refl;
           }
   finished _ s same h b follows register = absurd h
@@ -76,7 +88,7 @@ module _ (p : ProgramForm) (form : FunctionForm) (T types : Types) (fs : List Fu
       body_is : f.body ≡ trees function_finished.does.code
       body_is = whole ∙ ap trees code_is
 
-      acting : Acting types fs f false (first_state (around p form) T) (written (around p form) T) function_finished.does.code
+      acting : Acting types texts fs f false (first_state (around p form) T) (written (around p form) T) function_finished.does.code
       acting = function_finished.does.acts begins
 
       abbrev ways : Flow
@@ -110,6 +122,9 @@ module _ (p : ProgramForm) (form : FunctionForm) (T types : Types) (fs : List Fu
 
       pub function_plain : is_plain_tree types fs f f.body ≡ true
       function_plain = ap (is_plain_tree types fs f) body_is ∙ acting.stated.plain
+
+      pub function_formed : is_well_formed_tree types texts fs f f.body ≡ true
+      function_formed = ap (is_well_formed_tree types texts fs f) body_is ∙ acting.stated.formed
 
       -- where it gives a value back and control doesn't run past its text, each return stands behind that
       pub function_returns : GivesValue (around p form) → ReturnsKnown types fs f f.parameters f.body (Some (entry_known types f))

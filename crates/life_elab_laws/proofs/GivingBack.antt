@@ -1,5 +1,5 @@
 -- Where each return of what is written stands behind a write of the result: parts one after the other, and code without returns.
-use Rattle.std.proofs.Common.{◌≡◌, ℕ, true, ◌&&◌, List, [], ◌∷◌, ◌++◌, Some, None, refl, ap}
+use Rattle.std.proofs.Common.{◌≡◌, ℕ, true, false, ◌&&◌, List, [], ◌∷◌, ◌++◌, Some, None, refl, ap}
 use Rattle.std.proofs.lemmas.Bool.{and_parts, false≢true}
 use Rattle.life_types.specs.Types.{Types}
 use Rattle.life_typed.specs.BaseTypes.{is_value, type_at}
@@ -76,11 +76,11 @@ module _ (types : Types) (fs : List Function) (f : Function) (r : ℕ) where
     test_known (Negated a) h s o = test_known a h s o
     test_known _ h s o = absurd (false≢true h)
 
-  pub fine_known : (c : List Tree) → IsFine types fs f c → (o : State) → Holds (trees c) o
-  fine_known c h o = code_known (trees c) h.statement h.straight h.tests o
+  pub fine_known : (texts : ℕ) (c : List Tree) → IsFine types texts fs f c → (o : State) → Holds (trees c) o
+  fine_known texts c h o = let one = h.stated false in code_known (trees c) one.statement h.straight one.tests o
 
-  pub asks_known : (t : Tree) → IsFineTest types fs f t → (o : State) → Holds t o
-  asks_known t h o = test_known t h.condition h.straight o
+  pub asks_known : (texts : ℕ) (t : Tree) → IsFineTest types texts fs f t → (o : State) → Holds t o
+  asks_known texts t h o = test_known t h.condition h.straight o
 
   -- ---- where no way comes
 

@@ -110,8 +110,7 @@ module _ (types : Types) (texts : ℕ) (fs : List Function) (f : Function) where
     where
       runs : IsNameless types fs f h w.given → (is_well_formed_step types texts fs f (step w.given) ≡ true) × O.typed y → Runs types texts fs f P x into s (gives y (emit place (step w.given) w.state)) O (Acts place (step w.given) ∷ [])
       runs is wf = record {
-        fine = fine_acts types fs f place (step w.given) (plain w.given is.sort);
-        formed = and_from (is_well_formed_step types texts fs f (step w.given)) true wf.0 refl;
+        fine = fine_acts types texts fs f place (step w.given) (plain w.given is.sort) wf.0;
         typed = wf.1;
         goes = λ k alive p. record {
           after = slice_set k w.given (known_as h);
@@ -337,8 +336,7 @@ module _ (types : Types) (texts : ℕ) (fs : List Function) (f : Function) where
     code = Acts place i ∷ [];
     written = refl;
     runs = λ b p. record {
-      fine = fine_acts types fs f place i plain;
-      formed = and_from (is_well_formed_step types texts fs f i) true (formed p) refl;
+      fine = fine_acts types texts fs f place i plain (formed p);
       typed = tt;
       goes = λ k alive p. record {
         after = known_after types f i k;

@@ -5,13 +5,11 @@ use Rattle.std.proofs.lemmas.Option.{same_Some}
 use Rattle.life_types.specs.Types.{Types}
 use Rattle.life_types.specs.declared.ty.NameId.{NameId}
 use Rattle.life_core.specs.Function.{Function}
-use Rattle.life_core.specs.Shape.{breaks_inside, is_condition, is_statement, test_straight, tests_straight}
 use Rattle.life_core.specs.Tree.{Tree, Turns, trees}
 use Rattle.life_core.specs.declared.program.Local.{Local}
 use Rattle.life_proper.specs.declared.known.Known.{Known}
 use Rattle.life_proper.specs.Checking.{Flow, flow, joined, of_body, of_step, of_test}
 use Rattle.life_proper.specs.Knowing.{State as Knowing, are_implied, comes_back, forgotten, is_intermediate, is_register, known_at, met, is_blank, is_forgotten}
-use Rattle.life_proper.specs.Plain.{is_plain_tree}
 use Rattle.life_proper.specs.ResultsKnown.{ReturnsKnown}
 use Rattle.life_proper.proofs.Joining.{joined_end}
 use Rattle.life_well_typed.specs.Visible.{Visible, behind}
@@ -19,18 +17,18 @@ use Rattle.life_writer.specs.Around.{Around, result_local}
 use Rattle.life_writer.specs.Variables.{with_outside}
 use Rattle.life_writer.specs.Writing.{State, Gives, with_code, write}
 use Rattle.life_elab_laws.proofs.Among.{Among, among_or}
-use Rattle.life_elab_laws.proofs.Branching.{adds_uncoded, known_behind, leaves_same, visible_again}
-use Rattle.life_elab_laws.proofs.Doing.{Acting, DoesLevel, leaves_may, none_leaves}
-use Rattle.life_elab_laws.proofs.Exits.{AreNamed, Knows, Leaves, MayKnow, MayLeave, forgotten_implied, leaves_joined, may_met}
+use Rattle.life_elab_laws.proofs.Branching.{known_behind}
+use Rattle.life_elab_laws.proofs.Doing.{Acting, DoesLevel}
+use Rattle.life_elab_laws.proofs.Exits.{AreNamed, Knows, Leaves, MayKnow, MayLeave, forgotten_implied, leaves_joined, leaves_may, leaves_same, may_met, none_leaves}
 use Rattle.life_elab_laws.proofs.Falling.{deciding}
-use Rattle.life_elab_laws.proofs.Following.{Adds, Follows, adds_coded, adds_then, begins_added, follows_again, follows_coded, follows_grown, follows_named, grows_adds, knows_alive, take_itself}
+use Rattle.life_elab_laws.proofs.Following.{Adds, Follows, adds_coded, adds_then, adds_uncoded, begins_added, follows_again, follows_coded, follows_grown, follows_named, grows_adds, knows_alive, take_itself, visible_again}
 use Rattle.life_elab_laws.proofs.Fronts.{front_itself}
 use Rattle.life_elab_laws.proofs.GivingBack.{GivesValue, asks_known, known_may}
 use Rattle.life_elab_laws.proofs.Growing.{Begins}
 use Rattle.life_elab_laws.proofs.OrderedTypes.{order_then}
 use Rattle.life_elab_laws.proofs.Shaped.{AreShaped, IsVariable, shaped_at}
-use Rattle.life_elab_laws.proofs.Testing.{Asked, AsksAll, Tests}
-use Rattle.life_elab_laws.proofs.Shaping.{breaks_anywhere}
+use Rattle.life_elab_laws.proofs.Conditions.{Asked, AsksAll, Tests}
+use Rattle.life_elab_laws.proofs.Shaping.{stated_alone, stated_turns}
 use Rattle.life_elab_laws.proofs.WrittenLocals.{locals_added}
 
 -- ---- at the head nothing is known of intermediate values, and the same of all others
@@ -52,7 +50,7 @@ forgotten_at (u ∷ ls) (x ∷ k) zero l at e = rw here refl
     here = ap (λ (b : Bool). b && (is_register u.kind || is_blank x)) (ap (λ (v : Local). is_none v.name) (same_Some u l at) ∙ e)
 forgotten_at (u ∷ ls) (x ∷ k) (suc y) l at e = forgotten_at ls k y l at e
 
-module _ (types : Types) (fs : List Function) (f : Function) where
+module _ (types : Types) (texts : ℕ) (fs : List Function) (f : Function) where
   knows_forgotten : (living : List ℕ) (k : List Known) → AreNamed types fs f living → Knows types fs f living k → Knows types fs f living (forgotten f.locals k)
   knows_forgotten living k names knows = record {
     sized = forgotten_length f.locals k ∙ knows.sized;
@@ -102,7 +100,7 @@ module _ (types : Types) (fs : List Function) (f : Function) where
 
   -- ---- the whole loop
 
-  module _ (a : Around) (v : Visible) (in_loop : Bool) (s : State) (w : Gives Tree) (h : Follows types fs f a v s) (test : Tests types fs f s w) (shaped : AreShaped types f.locals) where
+  module _ (a : Around) (v : Visible) (in_loop : Bool) (s : State) (w : Gives Tree) (h : Follows types fs f a v s) (test : Tests types texts fs f s w) (shaped : AreShaped types f.locals) where
     -- the body is written where all that lives stays outside of the loop
     abbrev pub inside : State
     inside = with_outside (length w.state.living) (with_code [] w.state)
@@ -116,13 +114,13 @@ module _ (types : Types) (fs : List Function) (f : Function) where
         follows_again types fs f a v w.state inside v.declared later (front_itself w.state.locals) (front_itself w.state.types.types) (front_itself w.state.variables) refl (omega arith) later.count (omega arith)
 
     -- .. and the step where what was visible before the body is again
-    pub step_follows : (u : Visible) (t : State) → DoesLevel types fs f a u true inside t → Follows types fs f a (behind v u) (with_code [] (past t))
+    pub step_follows : (u : Visible) (t : State) → DoesLevel types texts fs f a u true inside t → Follows types fs f a (behind v u) (with_code [] (past t))
     step_follows u t body =
         let again = visible_again types fs f a v u inside t inside_follows body.does.adds body.does.follows body.level in
         follows_again types fs f a (behind v u) t (with_code [] (past t)) u.declared again (front_itself t.locals) (front_itself t.types.types) (front_itself t.variables) refl
         (omega (arith, test.grown.outside, h.outside, ap length body.level, ap length test.grown.living)) again.count (omega arith)
 
-    module _ (u x : Visible) (t r : State) (body : DoesLevel types fs f a u true inside t) (step : DoesLevel types fs f a x false (with_code [] (past t)) r) where
+    module _ (u x : Visible) (t r : State) (body : DoesLevel types texts fs f a u true inside t) (step : DoesLevel types texts fs f a x false (with_code [] (past t)) r) where
       abbrev whole : State
       whole = write (Turns w.given (trees t.code) (trees r.code)) (with_code w.state.code r)
 
@@ -149,16 +147,16 @@ module _ (types : Types) (fs : List Function) (f : Function) where
         tested : Begins types f w.state
         tested = begins_added types fs f w.state (past t) to_body begun
 
-        asks : AsksAll types fs f s w.given
+        asks : AsksAll types texts fs f s w.given
         asks = test.runs tested
 
         begun_inside : Begins types f t
         begun_inside = record { locals = begun.locals; table = begun.table }
 
-        one : Acting types fs f true inside t body.does.code
+        one : Acting types texts fs f true inside t body.does.code
         one = body.does.acts begun_inside
 
-        other : Acting types fs f false (with_code [] (past t)) r step.does.code
+        other : Acting types texts fs f false (with_code [] (past t)) r step.does.code
         other = step.does.acts b
 
         body_living : t.living ≡ s.living
@@ -184,11 +182,11 @@ module _ (types : Types) (fs : List Function) (f : Function) where
           at_head : Knows types fs f s.living head
           at_head = knows_forgotten s.living k names knows
 
-          abbrev g : Asked types fs f s w.given head
+          abbrev g : Asked types texts fs f s w.given head
           g = asks.goes head (knows_alive types fs f a v s head at_head)
 
           both : Knows types fs f s.living g.on × Knows types fs f s.living g.off
-          both = known_behind types fs f a v in_loop s w h test tested head g at_head
+          both = known_behind types texts fs f a v in_loop s w h test tested head g at_head
 
           known_on : Knows types fs f w.state.living g.on
           known_on = subst (λ (xs : List ℕ). Knows types fs f xs g.on) (sym test.grown.living) both.0
@@ -230,23 +228,19 @@ module _ (types : Types) (fs : List Function) (f : Function) where
           returned : GivesValue a → ReturnsKnown types fs f (result_local a) (trees (turns ∷ [])) (Some k)
           returned gives =
               let behind = subst ReturnBehind (sym g.decides) (body.does.returns begun_inside gives (Some g.on) known_on, step.does.returns b gives back known_back) in
-              ((asks_known types fs f (result_local a) w.given asks.fine (Some head), behind), tt)
+              ((asks_known types fs f (result_local a) texts w.given asks.fine (Some head), behind), tt)
 
-        loop_acts : Acting types fs f in_loop s whole (turns ∷ [])
+        loop_acts : Acting types texts fs f in_loop s whole (turns ∷ [])
         loop_acts = record {
-          stated = record {
-            statement = and_from _ true (and_from (is_condition w.given) _ asks.fine.condition (and_from (is_statement (trees body.does.code)) (is_statement (trees step.does.code)) one.stated.statement other.stated.statement)) refl;
-            tests = and_from _ true (and_from (test_straight w.given) _ asks.fine.straight (and_from (tests_straight (trees body.does.code)) (tests_straight (trees step.does.code)) one.stated.tests other.stated.tests)) refl;
-            breaks = and_from _ true (and_from (breaks_inside in_loop w.given) _ (asks.fine.breaks in_loop) (and_from (breaks_inside true (trees body.does.code)) (breaks_inside in_loop (trees step.does.code)) one.stated.breaks (breaks_anywhere in_loop (trees step.does.code) other.stated.breaks))) refl;
-            plain = and_from _ true (and_from (is_plain_tree types fs f w.given) _ asks.fine.plain (and_from (is_plain_tree types fs f (trees body.does.code)) (is_plain_tree types fs f (trees step.does.code)) one.stated.plain other.stated.plain)) refl;
-          };
+          stated =
+              stated_alone types texts fs f in_loop turns (stated_turns types texts fs f in_loop w.given (trees body.does.code) (trees step.does.code) asks.fine one.stated other.stated);
           ways = leaves_may types fs f in_loop s.living r.living (take s.outside s.living) (trees (turns ∷ [])) went;
         }
 
         loop_returns : GivesValue a → (o : Knowing) → MayKnow types fs f s.living o → ReturnsKnown types fs f (result_local a) (trees (turns ∷ [])) o
         loop_returns gives = known_may types fs f (result_local a) s.living (trees (turns ∷ [])) (λ k knows. returned k knows gives)
 
-      pub loop_does : DoesLevel types fs f a x in_loop s whole
+      pub loop_does : DoesLevel types texts fs f a x in_loop s whole
       loop_does = record {
         does = record {
           adds =

@@ -7,7 +7,6 @@ use Rattle.life_core.specs.Tree.{Tree}
 use Rattle.life_proper.specs.declared.known.Known.{Known}
 use Rattle.life_writer.specs.Writing.{Gives, State, gives, mapped}
 use Rattle.life_elab_laws.proofs.Falling.{Falls, falls_append}
-use Rattle.life_elab_laws.proofs.Forming.{Formed, formed_append}
 use Rattle.life_elab_laws.proofs.Gifts.{Gift, both, nothing}
 use Rattle.life_elab_laws.proofs.Growing.{Begins, Grows, begins_before, grows_none, grows_then}
 use Rattle.life_elab_laws.proofs.Making.{Alive, IsOpen, Keeps, alive_later, keeps_all, keeps_then}
@@ -25,8 +24,7 @@ module _ (types : Types) (texts : ℕ) (fs : List Function) (f : Function) where
     pub gives : Q.ready w.given (length w.state.locals) after
 
   pub record Runs {A B : Type 0} (P : Gift types texts fs f A) (x : A) (into : Option ℕ) (s : State) (w : Gives B) (Q : Gift types texts fs f B) (code : List Tree) : Type 0 where
-    pub fine : IsFine types fs f code
-    pub formed : Formed types texts fs f code
+    pub fine : IsFine types texts fs f code
     pub typed : Q.typed w.given
     pub goes : (k : List Known) → Alive types fs f s k → P.ready x (length s.locals) k → Goes into s w Q code k
 
@@ -53,8 +51,7 @@ module _ (types : Types) (texts : ℕ) (fs : List Function) (f : Function) where
     code = [];
     written = sym (append-nil s.code);
     runs = λ b p. record {
-      fine = fine_none types fs f;
-      formed = refl;
+      fine = fine_none types texts fs f;
       typed = typed b p;
       goes = λ k alive q. record { after = k; falls = refl; keeps = keeps_all types fs f (length s.locals) into k; gives = ready b k alive q };
     };
@@ -74,7 +71,6 @@ module _ (types : Types) (texts : ℕ) (fs : List Function) (f : Function) where
     written = part.written;
     runs = λ b p. let r = part.runs b (typed p) in record {
       fine = r.fine;
-      formed = r.formed;
       typed = r.typed;
       goes = λ k alive q. let g = r.goes k alive (ready (length s.locals) k q) in record { after = g.after; falls = g.falls; keeps = g.keeps; gives = g.gives };
     };
@@ -90,7 +86,6 @@ module _ (types : Types) (texts : ℕ) (fs : List Function) (f : Function) where
     written = part.written;
     runs = λ b p. let r = part.runs b p in record {
       fine = r.fine;
-      formed = r.formed;
       typed = typed b r.typed;
       goes = λ k alive q. let h = r.goes k alive q in record { after = h.after; falls = h.falls; keeps = h.keeps; gives = ready (length w.state.locals) h.after h.gives };
     };
@@ -112,8 +107,7 @@ module _ (types : Types) (texts : ℕ) (fs : List Function) (f : Function) where
       code = first.code ++ second.code;
       written = second.written ∙ ap (λ (c : List Tree). c ++ second.code) first.written ∙ append_assoc s.code first.code second.code;
       runs = λ b p. let q = first.runs (before b) p in let r = second.runs b q.typed in record {
-        fine = fine_append types fs f first.code second.code q.fine r.fine;
-        formed = formed_append types texts fs f first.code second.code q.formed r.formed;
+        fine = fine_append types texts fs f first.code second.code q.fine r.fine;
         typed = r.typed;
         goes = λ k alive given. let g = q.goes k alive given in let h = next k alive g r in record {
           after = h.after;
@@ -135,7 +129,6 @@ module _ (types : Types) (texts : ℕ) (fs : List Function) (f : Function) where
       written = second.written;
       runs = λ b p. let r = second.runs b p in record {
         fine = r.fine;
-        formed = r.formed;
         typed = (p, r.typed);
         goes = λ k alive q. let g = r.goes k alive q in record {
           after = g.after;

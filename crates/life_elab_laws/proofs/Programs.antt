@@ -1,5 +1,5 @@
 -- The core program of a well typed program that is built: each of its functions is checked, among all of them, and has short places.
-use Rattle.std.proofs.Common.{◌≡◌, ◌<◌, ◌⊎◌, ℕ, zero, suc, true, List, [], ◌∷◌, ◌++◌, length, map, slice_get, take, Some, option_map, refl, sym, ap, ◌∙◌, subst, arith, append_assoc, append-nil}
+use Rattle.std.proofs.Common.{◌≡◌, ◌<◌, ◌⊎◌, ℕ, zero, suc, true, false, List, [], ◌∷◌, ◌++◌, length, map, slice_get, take, None, Some, option_map, refl, sym, ap, ◌∙◌, subst, arith, append_assoc, append-nil}
 use Rattle.std.proofs.lemmas.Bool.{and_from, and_parts}
 use Rattle.std.proofs.lemmas.Option.{none-some, same_Some, slice_get-map}
 use Rattle.std.specs.List.{list_all}
@@ -11,25 +11,29 @@ use Rattle.life_typed.specs.BaseTypes.{is_value, type_at}
 use Rattle.life_typed.specs.Programs.{FunctionForm, ProgramForm}
 use Rattle.life_core.specs.Function.{Function}
 use Rattle.life_core.specs.Holdings.{ANumber, Blank, result_sort}
+use Rattle.life_core.specs.declared.program.Local.{Local}
 use Rattle.life_proper.specs.Checking.{are_checked, checked, is_checked}
 use Rattle.life_proper.specs.Knowing.{entry_known}
 use Rattle.life_proper.specs.ProperPrograms.{has_own_breaks, have_own_breaks}
 use Rattle.life_proper.specs.Plain.{are_plain, is_plain, is_plain_tree}
+use Rattle.life_proper.specs.OperandTypes.{is_void}
 use Rattle.life_proper.specs.ResultsKnown.{ReturnsKnown}
+use Rattle.life_proper.specs.WellFormed.{is_well_formed_tree}
 use Rattle.life_pset.specs.Elements.{AreShort, elements_of}
+use Rattle.life_pset.specs.Shapes.{ty_of}
 use Rattle.life_well_typed.specs.Functions.{AreWellTyped, IsWellTyped, IsWellTypedFunction}
 use Rattle.life_elab.specs.Bounds.{HaveShortPlaces}
 use Rattle.life_elab.specs.Functions.{first_state, function_from, written}
-use Rattle.life_elab.specs.Programs.{Functions, all_functions, around, core_program, functions, with_function}
+use Rattle.life_elab.specs.Programs.{Functions, all_functions, around, core_program, functions, texts_of, with_function}
 use Rattle.life_well_typed.specs.Names.{HasNames, is_function_named}
 use Rattle.life_well_typed.specs.Results.{HasResults, HaveResults}
 use Rattle.life_elab_laws.proofs.Beginning.{first_locals, first_shaped, first_types}
-use Rattle.life_elab_laws.proofs.Callees.{IsBuiltFunction, built_parts, callee_from, gives_from, gives_number, takes_values, type_found, values_at}
+use Rattle.life_elab_laws.proofs.Callees.{IsBuiltFunction, built_parts, callee_from, gives_from, gives_number, result_nameless, takes_values, type_found, values_at}
 use Rattle.life_elab_laws.proofs.Calls.{IsCallee}
 use Rattle.life_elab_laws.proofs.ExpressionKinds.{function_built}
 use Rattle.life_elab_laws.proofs.FormedLocals.{HasFormedHead, all_at, head_formed}
 use Rattle.life_elab_laws.proofs.Fronts.{IsFront, front_itself, front_then}
-use Rattle.life_elab_laws.proofs.FunctionWriting.{function_breaks, function_checked, function_finished, function_plain, function_returns}
+use Rattle.life_elab_laws.proofs.FunctionWriting.{function_breaks, function_checked, function_finished, function_formed, function_plain, function_returns}
 use Rattle.life_elab_laws.proofs.GivingBack.{GivesValue}
 use Rattle.life_elab_laws.proofs.Growing.{Begins}
 use Rattle.life_elab_laws.proofs.OrderedTypes.{KeepsOrder, order_none, order_then}
@@ -110,8 +114,8 @@ module _ (p : ProgramForm) (typed : IsWellTyped p) (built : are_built_functions 
 
   setting_of : (types : Types) (fs : List Function) (f : FunctionForm) (core : Function) (n : ℕ) → slice_get p.functions n ≡ Some f → IsFront p.types.types types.types
       → ((g : ℕ) (of : FunctionForm) → slice_get p.functions g ≡ Some of → IsCallee p.types types fs g of) → (result_sort types core ≡ Blank) ⊎ (result_sort types core ≡ ANumber) → AreShaped types core.locals
-      → Setting (around p f) types fs core
-  setting_of types fs f core n at front callees gives shaped = record {
+      → ((l : Local) → slice_get core.locals core.parameters ≡ Some l → is_void (ty_of types core.result) ≡ false → l.name ≡ None) → Setting (around p f) types fs core
+  setting_of types fs f core n at front callees gives shaped nameless = record {
     front = front;
     variables = (parts n f at).variables;
     functions = built;
@@ -121,6 +125,7 @@ module _ (p : ProgramForm) (typed : IsWellTyped p) (built : are_built_functions 
     results = λ g of there. result_at p.types p.functions g of results there;
     gives = gives;
     shaped = shaped;
+    nameless = nameless;
   }
 
   -- ---- what is written grows: shown with functions that only begin
@@ -144,6 +149,7 @@ module _ (p : ProgramForm) (typed : IsWellTyped p) (built : are_built_functions 
       setting_of p.types (map begun p.functions) f (begun f) n at (front_itself p.types.types) begun_callee
       (gives_from p f p.types p.types (map begun p.functions) (begun f) fits (parts n f at) t.0 t.1 (front_itself p.types.types) (front_itself p.types.types) refl refl (front_itself (first_state (around p f) p.types).locals))
       (first_shaped (around p f) p.types fits (front_itself p.types.types) (parts n f at).variables)
+      (result_nameless p f p.types p.types (map begun p.functions) (begun f) fits (parts n f at) t.0 t.1 (front_itself p.types.types) (front_itself p.types.types) refl refl (front_itself (first_state (around p f) p.types).locals))
 
   pub grows : (n : ℕ) (f : FunctionForm) → slice_get p.functions n ≡ Some f → (T : Types) → IsFront p.types.types T.types → FunctionGrows p f T
   grows n f at T table =
@@ -197,6 +203,11 @@ module _ (p : ProgramForm) (typed : IsWellTyped p) (built : are_built_functions 
         let t = result_at p.types p.functions n f results at in
         callee_from p f w.before whole.types whole.functions core (typed_at p p.functions n f typed at).parameters (parts n f at) t.0 t.1 w.table later count same locals n is
 
+    written_nameless : (l : Local) → slice_get core.locals core.parameters ≡ Some l → is_void (ty_of whole.types core.result) ≡ false → l.name ≡ None
+    written_nameless =
+        let t = result_at p.types p.functions n f results at in
+        result_nameless p f w.before whole.types whole.functions core (typed_at p p.functions n f typed at).parameters (parts n f at) t.0 t.1 w.table later count same locals
+
     written_gives : (result_sort whole.types core ≡ Blank) ⊎ (result_sort whole.types core ≡ ANumber)
     written_gives =
         let t = result_at p.types p.functions n f results at in
@@ -224,7 +235,7 @@ module _ (p : ProgramForm) (typed : IsWellTyped p) (built : are_built_functions 
 
   pub written_setting : (n : ℕ) (f : FunctionForm) (at : slice_get p.functions n ≡ Some f) (core : Function) → IsWritten p whole.types f core → Setting (around p f) whole.types whole.functions core
   written_setting n f at core w =
-      setting_of whole.types whole.functions f core n at (front n f at core w) callee (written_gives n f at core w) (shaped n f at core w)
+      setting_of whole.types whole.functions f core n at (front n f at core w) callee (written_gives n f at core w) (shaped n f at core w) (written_nameless n f at core w)
 
   pub one_checked : (n : ℕ) (f : FunctionForm) → slice_get p.functions n ≡ Some f → (core : Function) → IsWritten p whole.types f core → is_checked whole.types whole.functions core ≡ true
   one_checked n f at core w =
@@ -253,6 +264,14 @@ module _ (p : ProgramForm) (typed : IsWellTyped p) (built : are_built_functions 
       let t = result_at p.types p.functions n f results at in
       let is = typed_at p p.functions n f typed at in
       function_plain p f w.before whole.types whole.functions core (written_setting n f at core w) is.parameters (parts n f at) is.body t.0 t.1 w.table
+      (written_begins n f at core w) (count n f at core w) (locals n f at core w) (ap (λ (c : Function). c.body) w.is)
+
+  pub one_formed : (n : ℕ) (f : FunctionForm) → slice_get p.functions n ≡ Some f → (core : Function) → IsWritten p whole.types f core
+      → is_well_formed_tree whole.types (length (texts_of p)) whole.functions core core.body ≡ true
+  one_formed n f at core w =
+      let t = result_at p.types p.functions n f results at in
+      let is = typed_at p p.functions n f typed at in
+      function_formed p f w.before whole.types whole.functions core (written_setting n f at core w) is.parameters (parts n f at) is.body t.0 t.1 w.table
       (written_begins n f at core w) (count n f at core w) (locals n f at core w) (ap (λ (c : Function). c.body) w.is)
 
   one_short : (n : ℕ) (f : FunctionForm) → slice_get p.functions n ≡ Some f → (core : Function) → IsWritten p whole.types f core → AreShort (elements_of whole.types core)

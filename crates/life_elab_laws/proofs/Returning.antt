@@ -27,9 +27,9 @@ use Rattle.life_writer.specs.Expressions.{value}
 use Rattle.life_writer.specs.Writing.{State, Gives, with_code, write}
 use Rattle.life_elab.specs.Statements.{left, result_given}
 use Rattle.life_elab_laws.proofs.Among.{Among, among_drop, reverse_among}
-use Rattle.life_elab_laws.proofs.Doing.{Acting, Does, DoesLevel, acts_then, made_acts, made_knows, none_leaves}
+use Rattle.life_elab_laws.proofs.Doing.{Acting, Does, DoesLevel, acts_then, made_acts, made_knows}
 use Rattle.life_elab_laws.proofs.Ending.{blank_beside}
-use Rattle.life_elab_laws.proofs.Exits.{Leaves, MayKnow, MayLeave}
+use Rattle.life_elab_laws.proofs.Exits.{Leaves, MayKnow, MayLeave, none_leaves}
 use Rattle.life_elab_laws.proofs.ExpressionForms.{IsWhole}
 use Rattle.life_elab_laws.proofs.Expressions.{whole_expression}
 use Rattle.life_elab_laws.proofs.GivenKinds.{given_number}
@@ -37,11 +37,10 @@ use Rattle.life_elab_laws.proofs.GivingBack.{GivesValue, fine_known, known_appen
 use Rattle.life_elab_laws.proofs.Growing.{Begins}
 use Rattle.life_elab_laws.proofs.Following.{Follows, HasRegister, IsLiving, adds_coded, follows_coded, follows_grown, grows_adds, knows_alive}
 use Rattle.life_elab_laws.proofs.Gifts.{a_number}
-use Rattle.life_elab_laws.proofs.Leaving.{IsEnded, ended, left_acts, left_does, left_level, past_ready}
-use Rattle.life_elab_laws.proofs.Making.{Always, IsNumber, Makes}
+use Rattle.life_elab_laws.proofs.Leaving.{IsEnded, ended, left_acts, left_does, left_level, past_fine, past_ready}
 use Rattle.life_elab_laws.proofs.Nowhere.{nowhere_flows}
+use Rattle.life_elab_laws.proofs.Parts.{Makes}
 use Rattle.life_elab_laws.proofs.Setting.{Setting}
-use Rattle.life_elab_laws.proofs.Sides.{runs_side}
 use Rattle.life_elab_laws.proofs.WrittenLocals.{locals_added}
 
 pub not_void : (t : Ty) → (is_void t || is_value t) ≡ true → typing.is_void t ≡ false → is_value t ≡ true
@@ -53,7 +52,7 @@ not_void ty.Long b e = refl
 not_void ty.Size b e = refl
 not_void _ b e = absurd (false≢true b)
 
-module _ (a : Around) (types : Types) (fs : List Function) (f : Function) (setting : Setting a types fs f) (v : Visible) (in_loop : Bool) where
+module _ (a : Around) (types : Types) (texts : ℕ) (fs : List Function) (f : Function) (setting : Setting a types fs f) (v : Visible) (in_loop : Bool) where
   result_ready : (k : List Known) → is_result_ready k f.parameters (known_as (result_sort types f)) ≡ true
   result_ready k = go setting.gives
     where
@@ -73,9 +72,9 @@ module _ (a : Around) (types : Types) (fs : List Function) (f : Function) (setti
   }
 
   module _ (s : State) (h : Follows types fs f a v s) where
-    pub break_does : in_loop ≡ true → (keyword : Place) → DoesLevel types fs f a v in_loop s (left s.outside keyword Breaks s)
+    pub break_does : in_loop ≡ true → (keyword : Place) → DoesLevel types texts fs f a v in_loop s (left s.outside keyword Breaks s)
     break_does e keyword = record {
-      does = left_does types fs f a v in_loop s h s.outside keyword Breaks (record { statement = refl; tests = refl; breaks = and_from in_loop true e refl; plain = refl })
+      does = left_does types texts fs f a setting v in_loop s h s.outside keyword Breaks (record { statement = refl; tests = refl; breaks = e; plain = refl; formed = refl })
           (λ k knows. record {
             fine = refl;
             next = tt;
@@ -85,12 +84,12 @@ module _ (a : Around) (types : Types) (fs : List Function) (f : Function) (setti
             on_false = refl;
           })
           (λ gives o. (tt, tt));
-      level = left_level types fs f s s.outside keyword Breaks;
+      level = left_level types texts fs f s s.outside keyword Breaks;
     }
 
-    pub continue_does : in_loop ≡ true → (keyword : Place) → DoesLevel types fs f a v in_loop s (left s.outside keyword Continues s)
+    pub continue_does : in_loop ≡ true → (keyword : Place) → DoesLevel types texts fs f a v in_loop s (left s.outside keyword Continues s)
     continue_does e keyword = record {
-      does = left_does types fs f a v in_loop s h s.outside keyword Continues (record { statement = refl; tests = refl; breaks = and_from in_loop true e refl; plain = refl })
+      does = left_does types texts fs f a setting v in_loop s h s.outside keyword Continues (record { statement = refl; tests = refl; breaks = e; plain = refl; formed = refl })
           (λ k knows. record {
             fine = refl;
             next = tt;
@@ -100,14 +99,14 @@ module _ (a : Around) (types : Types) (fs : List Function) (f : Function) (setti
             on_false = refl;
           })
           (λ gives o. (tt, tt));
-      level = left_level types fs f s s.outside keyword Continues;
+      level = left_level types texts fs f s s.outside keyword Continues;
     }
 
     -- control returns where no value has to be given back
-    pub return_does : (GivesValue a → ⊥) → (keyword : Place) → DoesLevel types fs f a v in_loop s (left 0 keyword (Returns keyword) s)
+    pub return_does : (GivesValue a → ⊥) → (keyword : Place) → DoesLevel types texts fs f a v in_loop s (left 0 keyword (Returns keyword) s)
     return_does never keyword = record {
-      does = left_does types fs f a v in_loop s h 0 keyword (Returns keyword) (record { statement = refl; tests = refl; breaks = refl; plain = refl }) (λ k knows. return_leaves s keyword k) (λ gives o. absurd (never gives));
-      level = left_level types fs f s 0 keyword (Returns keyword);
+      does = left_does types texts fs f a setting v in_loop s h 0 keyword (Returns keyword) (record { statement = refl; tests = refl; breaks = refl; plain = refl; formed = refl }) (λ k knows. return_leaves s keyword k) (λ gives o. absurd (never gives));
+      level = left_level types texts fs f s 0 keyword (Returns keyword);
     }
 
     -- .. and behind the value that is given back
@@ -121,11 +120,11 @@ module _ (a : Around) (types : Types) (fs : List Function) (f : Function) (setti
       worth : is_value t ≡ true
       worth = not_void t setting.result r.0
 
-      whole_is : IsWhole a v.visible types 0 fs f setting (whole_form e)
-      whole_is = whole_expression a v.visible types 0 fs f setting (whole_form e) b_e r.2
+      whole_is : IsWhole a v.visible types texts fs f setting (whole_form e)
+      whole_is = whole_expression a v.visible types texts fs f setting (whole_form e) b_e r.2
 
-      made : Makes types fs f (Some (result_local a)) s w Always IsNumber
-      made = runs_side types 0 fs f (Some (result_local a)) s w (a_number types 0 fs f t) (whole_is.valued (given_number a.program.types t e worth r.1) t worth (Some (result_local a)) s (register worth) h.stands)
+      made : Makes types texts fs f (Some (result_local a)) s w (a_number types texts fs f t)
+      made = whole_is.valued (given_number a.program.types t e worth r.1) t worth (Some (result_local a)) s (register worth) h.stands
 
       later : Follows types fs f a v w.state
       later = follows_grown types fs f a v s w.state made.grown h
@@ -146,7 +145,7 @@ module _ (a : Around) (types : Types) (fs : List Function) (f : Function) (setti
               clash : Some name ≡ None → ⊥
               clash e = cc
 
-      module _ (d : IsEnded types fs f ending keyword w.state) where
+      module _ (d : IsEnded types texts fs f ending keyword w.state) where
         abbrev back : List Tree
         back = d.code ++ Returns keyword ∷ []
 
@@ -159,15 +158,15 @@ module _ (a : Around) (types : Types) (fs : List Function) (f : Function) (setti
             nowhere_number (result_local a) (flow types fs f (trees d.code) (flow types fs f (trees made.code) None).next).next
             (nowhere_flows types fs f (trees d.code) (flow types fs f (trees made.code) None).next (nowhere_flows types fs f (trees made.code) None refl).next).next
         known_there b (Some k) known =
-            let g = (made.runs b).goes k (knows_alive types fs f a v s k known) tt in
-            let mid = made_knows types fs f a v in_loop (Some (result_local a)) s w IsNumber h made b k known g in
+            let g = (made.runs b tt).goes k (knows_alive types fs f a v s k known) tt in
+            let mid = made_knows types texts fs f a v in_loop (Some (result_local a)) s w (a_number types texts fs f t) h made b k known g in
             subst (λ (q : Flow). IsKnownNumber (result_local a) (flow types fs f (trees d.code) q.next).next) (sym g.falls)
-            (subst (λ (q : Flow). IsKnownNumber (result_local a) q.next) (sym (d.falls g.after (past_ready types fs f a v w.state later b 0 g.after mid)))
+            (subst (λ (q : Flow). IsKnownNumber (result_local a) q.next) (sym (d.falls g.after (past_ready types texts fs f a setting v w.state later b 0 g.after mid)))
             (blank_beside ending g.after (result_local a) not_ending
             ∙ ap (known_at g.after) (sym (whole_is.lands (given_number a.program.types t e worth r.1) t (result_local a) s))
             ∙ g.gives.1))
 
-        returned_from : Does types fs f a v in_loop s behind
+        returned_from : Does types texts fs f a v in_loop s behind
         returned_from = record {
           adds = adds_coded types fs f s w.state ((w.state.code ++ d.code) ++ Returns keyword ∷ []) (grows_adds types fs f s w.state made.grown);
           locals = locals_added types a s w.state made.grown.types made.registers;
@@ -181,23 +180,23 @@ module _ (a : Around) (types : Types) (fs : List Function) (f : Function) (setti
           acts = λ b. acting (record { locals = b.locals; table = b.table });
           returns = λ b gives o known.
               let between : Knowing = (flow types fs f (trees made.code) o).next in
-              known_append types fs f (result_local a) made.code back o (fine_known types fs f (result_local a) made.code (made.runs (record { locals = b.locals; table = b.table })).fine o)
-              (known_append types fs f (result_local a) d.code (Returns keyword ∷ []) between (fine_known types fs f (result_local a) d.code d.fine between)
+              known_append types fs f (result_local a) made.code back o (fine_known types fs f (result_local a) texts made.code (made.runs (record { locals = b.locals; table = b.table }) tt).fine o)
+              (known_append types fs f (result_local a) d.code (Returns keyword ∷ []) between (fine_known types fs f (result_local a) texts d.code (past_fine types texts fs f a setting v w.state later (record { locals = b.locals; table = b.table }) 0 keyword d) between)
               (known_there (record { locals = b.locals; table = b.table }) o known, tt));
         }
           where
-            acting : Begins types f w.state → Acting types fs f in_loop s behind (made.code ++ back)
+            acting : Begins types f w.state → Acting types texts fs f in_loop s behind (made.code ++ back)
             acting b =
-                acts_then types fs f in_loop s w.state behind made.code back h.outside (grows_adds types fs f s w.state made.grown)
-                (made_acts types fs f a v in_loop (Some (result_local a)) s w IsNumber h made b)
-                (left_acts types fs f a v in_loop w.state later 0 keyword (Returns keyword) (record { statement = refl; tests = refl; breaks = refl; plain = refl }) (λ k knows. return_leaves w.state keyword k) d b)
+                acts_then types texts fs f in_loop s w.state behind made.code back h.outside (grows_adds types fs f s w.state made.grown)
+                (made_acts types texts fs f a v in_loop (Some (result_local a)) s w (a_number types texts fs f t) h made b)
+                (left_acts types texts fs f a setting v in_loop w.state later 0 keyword (Returns keyword) (record { statement = refl; tests = refl; breaks = refl; plain = refl; formed = refl }) (λ k knows. return_leaves w.state keyword k) d b)
 
-      pub value_returned : DoesLevel types fs f a v in_loop s (left 0 keyword (Returns keyword) w.state)
+      pub value_returned : DoesLevel types texts fs f a v in_loop s (left 0 keyword (Returns keyword) w.state)
       value_returned =
-          let d = ended types fs f ending keyword w.state in
+          let d = ended types texts fs f ending keyword w.state in
           record {
-            does = subst (λ (q : State). Does types fs f a v in_loop s (write (Returns keyword) q)) (sym d.written) (returned_from d);
-            level = left_level types fs f w.state 0 keyword (Returns keyword) ∙ made.grown.living;
+            does = subst (λ (q : State). Does types texts fs f a v in_loop s (write (Returns keyword) q)) (sym d.written) (returned_from d);
+            level = left_level types texts fs f w.state 0 keyword (Returns keyword) ∙ made.grown.living;
           }
 
     no_value : (x : Ty) → typing.is_void x ≡ true → is_value x ≡ false
@@ -205,6 +204,6 @@ module _ (a : Around) (types : Types) (fs : List Function) (f : Function) (setti
     no_value _ e = absurd (false≢true e)
 
     pub returned_does : HasRegister a s → (keyword : Place) (given : Option Typed) → is_built_if_any given ≡ true → IsReturned a.program a.function.locals a.function.result v.visible given
-        → DoesLevel types fs f a v in_loop s (left 0 keyword (Returns keyword) (result_given a given s))
+        → DoesLevel types texts fs f a v in_loop s (left 0 keyword (Returns keyword) (result_given a given s))
     returned_does register keyword None b r = return_does (λ gives. false≢true (sym (no_value (type_at a.program.types a.function.result) r) ∙ gives.0)) keyword
     returned_does register keyword (Some e) b r = value_returned register e keyword b r

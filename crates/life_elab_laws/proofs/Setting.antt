@@ -1,5 +1,5 @@
 -- Where a function is written: in a program that is built, whose core functions take and give what they should.
-use Rattle.std.proofs.Common.{◌≡◌, ◌⊎◌, ℕ, true, List, Some, slice_get}
+use Rattle.std.proofs.Common.{◌≡◌, ◌⊎◌, ℕ, true, false, List, None, Some, slice_get}
 use Rattle.life_types.specs.Types.{Types}
 use Rattle.life_types.specs.declared.ty.Ty.{Ty}
 use Rattle.life_types.specs.declared.ty.TyId.{TyId}
@@ -8,6 +8,9 @@ use Rattle.life_typed.specs.BaseTypes.{is_value, type_at}
 use Rattle.life_typed.specs.Programs.{FunctionForm}
 use Rattle.life_core.specs.Function.{Function}
 use Rattle.life_core.specs.Holdings.{ANumber, Blank, result_sort}
+use Rattle.life_core.specs.declared.program.Local.{Local}
+use Rattle.life_pset.specs.Shapes.{ty_of}
+use Rattle.life_proper.specs.OperandTypes.{is_void}
 use Rattle.life_well_typed.specs.Expressions.{parameter_types}
 use Rattle.life_writer.specs.Around.{Around}
 use Rattle.life_elab_laws.proofs.Calls.{IsCallee}
@@ -26,3 +29,5 @@ pub record Setting (a : Around) (types : Types) (fs : List Function) (f : Functi
   -- the function itself gives a value back, or nothing; its locals without names are registers, and the others variables
   pub gives : (result_sort types f ≡ Blank) ⊎ (result_sort types f ≡ ANumber)
   pub shaped : AreShaped types f.locals
+  -- .. and that of the result has none
+  pub nameless : (l : Local) → slice_get f.locals f.parameters ≡ Some l → is_void (ty_of types f.result) ≡ false → l.name ≡ None

@@ -1,6 +1,6 @@
--- The shape of what is written: statements and conditions where they belong, straight before tests, with no break or continue outside of a loop, and
--- plain.
-use Rattle.std.proofs.Common.{◌≡◌, Bool, true, false, ◌&&◌, List, [], ◌∷◌, ◌++◌, refl, sym, ◌∙◌}
+-- The shape of what is written: statements and conditions where they belong, straight before tests, with no break or continue outside of a loop,
+-- plain, and well formed.
+use Rattle.std.proofs.Common.{◌≡◌, ℕ, Bool, true, false, ◌&&◌, List, [], ◌∷◌, ◌++◌, refl, sym, ◌∙◌}
 use Rattle.std.proofs.lemmas.Bool.{and_from, and_parts, false≢true}
 use Rattle.life_types.specs.Types.{Types}
 use Rattle.life_types.specs.declared.place.Place.{Place}
@@ -10,6 +10,7 @@ use Rattle.life_core.specs.Shape.{breaks_inside, is_condition, is_statement, is_
 use Rattle.life_core.specs.Step.{Step, Test}
 use Rattle.life_core.specs.Tree.{Tree, Skip, Then, Acts, Asks, Both, Either, Negated, Choice, Turns, Breaks, Continues, Returns, Stops, trees}
 use Rattle.life_proper.specs.Plain.{is_plain_tree}
+use Rattle.life_proper.specs.WellFormed.{is_well_formed_step, is_well_formed_test, is_well_formed_tree}
 
 -- a test that holds of two parts where it holds of both
 module _ (P : Tree → Bool) (skip : P Skip ≡ true) (both : (a b : Tree) → P (Then a b) ≡ (P a && P b)) where
@@ -49,54 +50,32 @@ breaks_anywhere in_loop Continues h = absurd (false≢true h)
 breaks_anywhere in_loop (Returns place) h = refl
 breaks_anywhere in_loop (Stops place) h = refl
 
-module _ (types : Types) (fs : List Function) (f : Function) where
-  -- code of an expression
-  pub record IsFine (code : List Tree) : Type 0 where
-    pub statement : is_statement (trees code) ≡ true
-    pub straight : is_straight (trees code) ≡ true
-    pub tests : tests_straight (trees code) ≡ true
-    pub breaks : (in_loop : Bool) → breaks_inside in_loop (trees code) ≡ true
-    pub plain : is_plain_tree types fs f (trees code) ≡ true
+module _ (types : Types) (texts : ℕ) (fs : List Function) (f : Function) where
+  abbrev is_plain : Tree → Bool
+  is_plain t = is_plain_tree types fs f t
 
-  pub fine_none : IsFine []
-  fine_none = record { statement = refl; straight = refl; tests = refl; breaks = λ in_loop. refl; plain = refl }
+  abbrev is_formed : Tree → Bool
+  is_formed t = is_well_formed_tree types texts fs f t
 
-  pub fine_append : (c d : List Tree) → IsFine c → IsFine d → IsFine (c ++ d)
-  fine_append c d first second = record {
-    statement = all_append is_statement refl (λ a b. refl) c d first.statement second.statement;
-    straight = all_append is_straight refl (λ a b. refl) c d first.straight second.straight;
-    tests = all_append tests_straight refl (λ a b. refl) c d first.tests second.tests;
-    breaks = λ in_loop. all_append (breaks_inside in_loop) refl (λ a b. refl) c d (first.breaks in_loop) (second.breaks in_loop);
-    plain = all_append (is_plain_tree types fs f) refl (λ a b. refl) c d first.plain second.plain;
-  }
+  -- ---- conditions
 
-  pub fine_acts : (place : Place) (i : Step) → is_by_value types fs f i ≡ true → IsFine (Acts place i ∷ [])
-  fine_acts place i e = record { statement = refl; straight = refl; tests = refl; breaks = λ in_loop. refl; plain = and_from (is_by_value types fs f i) true e refl }
-
-  -- .. of a condition
   pub record IsFineTest (t : Tree) : Type 0 where
     pub condition : is_condition t ≡ true
     pub straight : test_straight t ≡ true
     pub breaks : (in_loop : Bool) → breaks_inside in_loop t ≡ true
     pub plain : is_plain_tree types fs f t ≡ true
+    pub formed : is_well_formed_tree types texts fs f t ≡ true
 
-  pub fine_asks : (place : Place) (t : Test) → IsFineTest (Asks place t)
-  fine_asks place t = record { condition = refl; straight = refl; breaks = λ in_loop. refl; plain = refl }
-
-  pub fine_behind : (c : List Tree) (t : Tree) → IsFine c → IsFineTest t → IsFineTest (Then (trees c) t)
-  fine_behind c t first second = record {
-    condition = and_from (is_statement (trees c)) (is_condition t) first.statement second.condition;
-    straight = and_from (is_straight (trees c)) (tests_straight (trees c) && test_straight t) first.straight (and_from (tests_straight (trees c)) (test_straight t) first.tests second.straight);
-    breaks = λ in_loop. and_from (breaks_inside in_loop (trees c)) (breaks_inside in_loop t) (first.breaks in_loop) (second.breaks in_loop);
-    plain = and_from (is_plain_tree types fs f (trees c)) (is_plain_tree types fs f t) first.plain second.plain;
-  }
+  pub fine_asks : (place : Place) (t : Test) → is_well_formed_test types texts fs f t ≡ true → IsFineTest (Asks place t)
+  fine_asks place t e = record { condition = refl; straight = refl; breaks = λ in_loop. refl; plain = refl; formed = e }
 
   pub fine_both : (a b : Tree) → IsFineTest a → IsFineTest b → IsFineTest (Both a b)
   fine_both a b first second = record {
     condition = and_from (is_condition a) (is_condition b) first.condition second.condition;
     straight = and_from (test_straight a) (test_straight b) first.straight second.straight;
     breaks = λ in_loop. and_from (breaks_inside in_loop a) (breaks_inside in_loop b) (first.breaks in_loop) (second.breaks in_loop);
-    plain = and_from (is_plain_tree types fs f a) (is_plain_tree types fs f b) first.plain second.plain;
+    plain = and_from (is_plain a) (is_plain b) first.plain second.plain;
+    formed = and_from (is_formed a) (is_formed b) first.formed second.formed;
   }
 
   pub fine_either : (a b : Tree) → IsFineTest a → IsFineTest b → IsFineTest (Either a b)
@@ -104,18 +83,96 @@ module _ (types : Types) (fs : List Function) (f : Function) where
     condition = and_from (is_condition a) (is_condition b) first.condition second.condition;
     straight = and_from (test_straight a) (test_straight b) first.straight second.straight;
     breaks = λ in_loop. and_from (breaks_inside in_loop a) (breaks_inside in_loop b) (first.breaks in_loop) (second.breaks in_loop);
-    plain = and_from (is_plain_tree types fs f a) (is_plain_tree types fs f b) first.plain second.plain;
+    plain = and_from (is_plain a) (is_plain b) first.plain second.plain;
+    formed = and_from (is_formed a) (is_formed b) first.formed second.formed;
   }
 
   pub fine_negated : (a : Tree) → IsFineTest a → IsFineTest (Negated a)
-  fine_negated a h = record { condition = h.condition; straight = h.straight; breaks = h.breaks; plain = h.plain }
+  fine_negated a h = record { condition = h.condition; straight = h.straight; breaks = h.breaks; plain = h.plain; formed = h.formed }
+
+  -- ---- statements, in a loop or outside
+
+  pub record IsStated (in_loop : Bool) (t : Tree) : Type 0 where
+    pub statement : is_statement t ≡ true
+    pub tests : tests_straight t ≡ true
+    pub breaks : breaks_inside in_loop t ≡ true
+    pub plain : is_plain_tree types fs f t ≡ true
+    pub formed : is_well_formed_tree types texts fs f t ≡ true
+
+  pub stated_none : (in_loop : Bool) → IsStated in_loop Skip
+  stated_none in_loop = record { statement = refl; tests = refl; breaks = refl; plain = refl; formed = refl }
+
+  pub stated_alone : (in_loop : Bool) (t : Tree) → IsStated in_loop t → IsStated in_loop (trees (t ∷ []))
+  stated_alone in_loop t h = record {
+    statement = and_from (is_statement t) true h.statement refl;
+    tests = and_from (tests_straight t) true h.tests refl;
+    breaks = and_from (breaks_inside in_loop t) true h.breaks refl;
+    plain = and_from (is_plain t) true h.plain refl;
+    formed = and_from (is_formed t) true h.formed refl;
+  }
+
+  pub stated_append : (in_loop : Bool) (c d : List Tree) → IsStated in_loop (trees c) → IsStated in_loop (trees d) → IsStated in_loop (trees (c ++ d))
+  stated_append in_loop c d first second = record {
+    statement = all_append is_statement refl (λ a b. refl) c d first.statement second.statement;
+    tests = all_append tests_straight refl (λ a b. refl) c d first.tests second.tests;
+    breaks = all_append (breaks_inside in_loop) refl (λ a b. refl) c d first.breaks second.breaks;
+    plain = all_append (is_plain_tree types fs f) refl (λ a b. refl) c d first.plain second.plain;
+    formed = all_append (is_well_formed_tree types texts fs f) refl (λ a b. refl) c d first.formed second.formed;
+  }
+
+  pub stated_choice : (in_loop : Bool) (t a b : Tree) → IsFineTest t → IsStated in_loop a → IsStated in_loop b → IsStated in_loop (Choice t a b)
+  stated_choice in_loop t a b test first second = record {
+    statement = and_from (is_condition t) _ test.condition (and_from (is_statement a) (is_statement b) first.statement second.statement);
+    tests = and_from (test_straight t) _ test.straight (and_from (tests_straight a) (tests_straight b) first.tests second.tests);
+    breaks = and_from (breaks_inside in_loop t) _ (test.breaks in_loop) (and_from (breaks_inside in_loop a) (breaks_inside in_loop b) first.breaks second.breaks);
+    plain = and_from (is_plain t) _ test.plain (and_from (is_plain a) (is_plain b) first.plain second.plain);
+    formed = and_from (is_formed t) _ test.formed (and_from (is_formed a) (is_formed b) first.formed second.formed);
+  }
+
+  pub stated_turns : (in_loop : Bool) (t body step : Tree) → IsFineTest t → IsStated true body → IsStated false step → IsStated in_loop (Turns t body step)
+  stated_turns in_loop t body step test first second = record {
+    statement = and_from (is_condition t) _ test.condition (and_from (is_statement body) (is_statement step) first.statement second.statement);
+    tests = and_from (test_straight t) _ test.straight (and_from (tests_straight body) (tests_straight step) first.tests second.tests);
+    breaks = and_from (breaks_inside in_loop t) _ (test.breaks in_loop)
+        (and_from (breaks_inside true body) (breaks_inside in_loop step) first.breaks (breaks_anywhere in_loop step second.breaks));
+    plain = and_from (is_plain t) _ test.plain (and_from (is_plain body) (is_plain step) first.plain second.plain);
+    formed = and_from (is_formed t) _ test.formed (and_from (is_formed body) (is_formed step) first.formed second.formed);
+  }
+
+  -- ---- code of an expression
+
+  pub record IsFine (code : List Tree) : Type 0 where
+    pub straight : is_straight (trees code) ≡ true
+    pub stated : (in_loop : Bool) → IsStated in_loop (trees code)
+
+  pub fine_none : IsFine []
+  fine_none = record { straight = refl; stated = stated_none }
+
+  pub fine_append : (c d : List Tree) → IsFine c → IsFine d → IsFine (c ++ d)
+  fine_append c d first second = record {
+    straight = all_append is_straight refl (λ a b. refl) c d first.straight second.straight;
+    stated = λ in_loop. stated_append in_loop c d (first.stated in_loop) (second.stated in_loop);
+  }
+
+  pub fine_acts : (place : Place) (i : Step) → is_by_value types fs f i ≡ true → is_well_formed_step types texts fs f i ≡ true → IsFine (Acts place i ∷ [])
+  fine_acts place i e g = record {
+    straight = refl;
+    stated = λ in_loop. stated_alone in_loop (Acts place i) (record { statement = refl; tests = refl; breaks = refl; plain = e; formed = g });
+  }
 
   -- a branch whose branches are straight
   pub fine_choice : (t : Tree) (a b : List Tree) → IsFineTest t → IsFine a → IsFine b → IsFine (Choice t (trees a) (trees b) ∷ [])
   fine_choice t a b test first second = record {
-    statement = and_from _ true (and_from (is_condition t) _ test.condition (and_from (is_statement (trees a)) (is_statement (trees b)) first.statement second.statement)) refl;
     straight = and_from _ true (and_from (is_straight (trees a)) (is_straight (trees b)) first.straight second.straight) refl;
-    tests = and_from _ true (and_from (test_straight t) _ test.straight (and_from (tests_straight (trees a)) (tests_straight (trees b)) first.tests second.tests)) refl;
-    breaks = λ in_loop. and_from _ true (and_from (breaks_inside in_loop t) _ (test.breaks in_loop) (and_from (breaks_inside in_loop (trees a)) (breaks_inside in_loop (trees b)) (first.breaks in_loop) (second.breaks in_loop))) refl;
-    plain = and_from _ true (and_from (is_plain_tree types fs f t) _ test.plain (and_from (is_plain_tree types fs f (trees a)) (is_plain_tree types fs f (trees b)) first.plain second.plain)) refl;
+    stated = λ in_loop. stated_alone in_loop (Choice t (trees a) (trees b)) (stated_choice in_loop t (trees a) (trees b) test (first.stated in_loop) (second.stated in_loop));
+  }
+
+  -- .. and a condition behind code
+  pub fine_behind : (c : List Tree) (t : Tree) → IsFine c → IsFineTest t → IsFineTest (Then (trees c) t)
+  fine_behind c t first second = let one = first.stated false in record {
+    condition = and_from (is_statement (trees c)) (is_condition t) one.statement second.condition;
+    straight = and_from (is_straight (trees c)) (tests_straight (trees c) && test_straight t) first.straight (and_from (tests_straight (trees c)) (test_straight t) one.tests second.straight);
+    breaks = λ in_loop. and_from (breaks_inside in_loop (trees c)) (breaks_inside in_loop t) (first.stated in_loop).breaks (second.breaks in_loop);
+    plain = and_from (is_plain (trees c)) (is_plain t) one.plain second.plain;
+    formed = and_from (is_formed (trees c)) (is_formed t) one.formed second.formed;
   }

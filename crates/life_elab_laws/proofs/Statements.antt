@@ -1,6 +1,6 @@
--- What is written for a well typed statement is ready: by recursion over statements.
+-- What is written for a well typed statement is ready and well formed: by recursion over statements.
 use Rattle.std.specs.Prelude.{pos}
-use Rattle.std.proofs.Common.{◌≡◌, Bool, true, false, ◌&&◌, List, [], ◌∷◌, drop, length, reverse, Option, Some, None, refl}
+use Rattle.std.proofs.Common.{◌≡◌, ℕ, Bool, true, false, ◌&&◌, List, [], ◌∷◌, drop, length, nat_lt, reverse, Option, Some, None, refl}
 use Rattle.std.proofs.lemmas.Bool.{and_from, and_parts, false≢true, or_left}
 use Rattle.life_types.specs.Types.{Types}
 use Rattle.life_types.specs.declared.place.Place.{Place}
@@ -21,51 +21,49 @@ use Rattle.life_elab.specs.Declarations.{declared}
 use Rattle.life_typed.specs.Ends.{all_end, ends, last_ends}
 use Rattle.life_elab.specs.LastTokens.{last_token}
 use Rattle.life_elab.specs.Simples.{simple_if}
-use Rattle.life_elab.specs.Statements.{branches_of, condition_or_true, looped, result_given, started, statement}
-use Rattle.life_elab_laws.proofs.Branching.{asserted_does, branched_does, tested_follows, visible_again}
-use Rattle.life_elab_laws.proofs.Conditions.{non_zero_part}
+use Rattle.life_elab.specs.Statements.{branches_of, condition_or_true, end_line, looped, result_given, started, statement}
+use Rattle.life_elab_laws.proofs.Branching.{asserted_does, branched_does, tested_follows}
+use Rattle.life_elab_laws.proofs.Conditions.{Tests, non_zero_part}
 use Rattle.life_elab_laws.proofs.DeclarationWriting.{declaration_does}
 use Rattle.life_elab_laws.proofs.Doing.{Does, DoesLevel, does_nothing, does_then}
 use Rattle.life_elab_laws.proofs.Expressions.{whole_expression}
-use Rattle.life_elab_laws.proofs.Following.{Follows, HasRegister, follows_coded, register_later}
+use Rattle.life_elab_laws.proofs.Following.{Follows, HasRegister, follows_coded, register_later, visible_again}
 use Rattle.life_elab_laws.proofs.Instructions.{constant_part}
 use Rattle.life_elab_laws.proofs.Leaving.{block_does, block_level}
 use Rattle.life_elab_laws.proofs.Looping.{inside, inside_follows, loop_does, past, step_follows}
 use Rattle.life_elab_laws.proofs.Returning.{break_does, continue_does, returned_does}
 use Rattle.life_elab_laws.proofs.Setting.{Setting}
-use Rattle.life_elab_laws.proofs.Sides.{test_side}
 use Rattle.life_elab_laws.proofs.SimpleStatements.{items_do, simple_does}
 use Rattle.life_elab_laws.proofs.Stopping.{still_stops, stops, stops_end, stops_right}
-use Rattle.life_elab_laws.proofs.Testing.{Tests}
 
-module _ (a : Around) (types : Types) (fs : List Function) (f : Function) (setting : Setting a types fs f) where
+module _ (a : Around) (types : Types) (texts : ℕ) (fs : List Function) (f : Function) (setting : Setting a types fs f) (lines : nat_lt (end_line a) texts ≡ true) where
   abbrev IsTyped : StmtForm → Bool → Visible → Type 0
   IsTyped form in_loop v = IsStatement a.program a.function.locals a.function.result form in_loop v
 
   -- behind it, what is visible is what is declared there, and a statement that declares nothing leaves what lives; control doesn't run
   -- past it where its text ends so
   pub record IsDone (form : StmtForm) (in_loop : Bool) (v : Visible) (s : State) : Type 0 where
-    pub does : Does types fs f a (after form v) in_loop s (statement a form s)
+    pub does : Does types texts fs f a (after form v) in_loop s (statement a form s)
     pub level : is_one form ≡ true → (statement a form s).living ≡ s.living
     pub over : ends form ≡ true → stops (trees (statement a form s).code) ≡ true
     pub last : (before : Bool) → (before ≡ true → stops (trees s.code) ≡ true) → last_ends form before ≡ true → stops (trees (statement a form s).code) ≡ true
 
   -- .. and past branches
   pub record DoesOver (x : Visible) (in_loop over : Bool) (s s' : State) : Type 0 where
-    pub does : DoesLevel types fs f a x in_loop s s'
+    pub does : DoesLevel types texts fs f a x in_loop s s'
     pub stopped : over ≡ true → stops (trees s'.code) ≡ true
 
-  pub level_of : (form : StmtForm) (in_loop : Bool) (v : Visible) (s : State) → IsDone form in_loop v s → is_one form ≡ true → DoesLevel types fs f a (after form v) in_loop s (statement a form s)
+  pub level_of : (form : StmtForm) (in_loop : Bool) (v : Visible) (s : State) → IsDone form in_loop v s → is_one form ≡ true → DoesLevel types texts fs f a (after form v) in_loop s (statement a form s)
   level_of form in_loop v s h one = record { does = h.does; level = h.level one }
 
   -- a single statement
-  done_alone : (form : StmtForm) (in_loop : Bool) (v : Visible) (s : State) → DoesLevel types fs f a (after form v) in_loop s (statement a form s)
+  done_alone : (form : StmtForm) (in_loop : Bool) (v : Visible) (s : State) → DoesLevel types texts fs f a (after form v) in_loop s (statement a form s)
       → (ends form ≡ true → stops (trees (statement a form s).code) ≡ true) → ((before : Bool) → last_ends form before ≡ true → before ≡ true) → IsDone form in_loop v s
   done_alone form in_loop v s h over alone = record {
     does = h.does;
     level = λ one. h.level;
     over = over;
-    last = λ before p e. still_stops types fs f a (after form v) in_loop s (statement a form s) h.does (p (alone before e));
+    last = λ before p e. still_stops types texts fs f a (after form v) in_loop s (statement a form s) h.does (p (alone before e));
   }
 
   runs_on : {X : Type 0} → false ≡ true → X
@@ -73,37 +71,36 @@ module _ (a : Around) (types : Types) (fs : List Function) (f : Function) (setti
 
   -- ---- the parts of loops
 
-  pub decided : (v : Visible) (e : Typed) (s : State) → is_built_expression e ≡ true → Decides a.program a.function.locals a.function.result v.visible e → Follows types fs f a v s → Tests types fs f s (condition a (whole_form e) s)
-  decided v e s b h follows = test_side types 0 fs f s (condition a (whole_form e) s) ((whole_expression a v.visible types 0 fs f setting (whole_form e) b h.1).conditions h.0 s follows.stands)
+  pub decided : (v : Visible) (e : Typed) (s : State) → is_built_expression e ≡ true → Decides a.program a.function.locals a.function.result v.visible e → Follows types fs f a v s → Tests types texts fs f s (condition a (whole_form e) s)
+  decided v e s b h follows = (whole_expression a v.visible types texts fs f setting (whole_form e) b h.1).conditions h.0 s follows.stands
 
   pub decided_or_true : (v : Visible) (keyword : Place) (e : Option Typed) (s : State) → is_built_if_any e ≡ true → DecidesIfAny a.program a.function.locals a.function.result v.visible e → Follows types fs f a v s
-      → Tests types fs f s (condition_or_true a keyword e s)
+      → Tests types texts fs f s (condition_or_true a keyword e s)
   decided_or_true v keyword None s b h follows =
-      test_side types 0 fs f s (condition_or_true a keyword None s)
-      (non_zero_part types 0 fs f keyword ty.Bool (computed None ty.Bool keyword (constant (pos 1))) s (constant_part types 0 fs f None ty.Bool keyword (pos 1) (with_code [] s) refl tt))
+      non_zero_part types texts fs f keyword ty.Bool (computed None ty.Bool keyword (constant (pos 1))) s (constant_part types texts fs f None ty.Bool keyword (pos 1) (with_code [] s) refl tt)
   decided_or_true v keyword (Some e) s b h follows = decided v e s b h follows
 
-  pub stepped : (v : Visible) (it : Option SimpleForm) (s : State) → is_built_step it ≡ true → IsSimpleIfAny a.program a.function.locals a.function.result v.visible it → Follows types fs f a v s → DoesLevel types fs f a v false s (simple_if a it s)
-  stepped v None s b h follows = record { does = does_nothing types fs f a v false s follows; level = refl }
-  stepped v (Some it) s b h follows = simple_does a types fs f setting v false it s b h follows
+  pub stepped : (v : Visible) (it : Option SimpleForm) (s : State) → is_built_step it ≡ true → IsSimpleIfAny a.program a.function.locals a.function.result v.visible it → Follows types fs f a v s → DoesLevel types texts fs f a v false s (simple_if a it s)
+  stepped v None s b h follows = record { does = does_nothing types texts fs f a v false s follows; level = refl }
+  stepped v (Some it) s b h follows = simple_does a types texts fs f setting v false it s b h follows
 
   pub begun : (v : Visible) (in_loop : Bool) (start : Option ForStartForm) (s : State) → is_built_start a.program.types a.function.locals start ≡ true → IsStart a.program a.function.locals a.function.result start v → Follows types fs f a v s
-      → Does types fs f a (after_start start v) in_loop s (started a start s)
-  begun v in_loop None s b h follows = does_nothing types fs f a v in_loop s follows
-  begun v in_loop (Some (declared_first d)) s b h follows = declaration_does a types fs f setting v in_loop a.function.result d s follows b h
-  begun v in_loop (Some (done_first it)) s b h follows = (simple_does a types fs f setting v in_loop it s b h follows).does
+      → Does types texts fs f a (after_start start v) in_loop s (started a start s)
+  begun v in_loop None s b h follows = does_nothing types texts fs f a v in_loop s follows
+  begun v in_loop (Some (declared_first d)) s b h follows = declaration_does a types texts fs f setting v in_loop a.function.result d s follows b h
+  begun v in_loop (Some (done_first it)) s b h follows = (simple_does a types texts fs f setting v in_loop it s b h follows).does
 
   -- a loop whose body and step are done
-  pub loop_done : (v u : Visible) (in_loop : Bool) (test : State → Gives Tree) (body step : State → State) (s : State) → Follows types fs f a v s → HasRegister a s → (h : Tests types fs f s (test s))
-      → ((s : State) → Follows types fs f a v s → HasRegister a s → DoesLevel types fs f a u true s (body s)) → ((s : State) → Follows types fs f a (behind v u) s → DoesLevel types fs f a (behind v u) false s (step s))
-      → DoesLevel types fs f a (behind v u) in_loop s (looped test body step s)
+  pub loop_done : (v u : Visible) (in_loop : Bool) (test : State → Gives Tree) (body step : State → State) (s : State) → Follows types fs f a v s → HasRegister a s → (h : Tests types texts fs f s (test s))
+      → ((s : State) → Follows types fs f a v s → HasRegister a s → DoesLevel types texts fs f a u true s (body s)) → ((s : State) → Follows types fs f a (behind v u) s → DoesLevel types texts fs f a (behind v u) false s (step s))
+      → DoesLevel types texts fs f a (behind v u) in_loop s (looped test body step s)
   loop_done v u in_loop test body step s follows register h inner last =
       let w = test s in
-      let head = inside types fs f a v in_loop s w follows h setting.shaped in
-      let first = inner head (inside_follows types fs f a v in_loop s w follows h setting.shaped) (register_later a s head h.grown.locals h.grown.types register) in
-      let foot : State = with_code [] (past types fs f a v in_loop s w follows h setting.shaped (body head)) in
-      loop_does types fs f a v in_loop s w follows h setting.shaped u (behind v u) (body head) (step foot) first
-      (last foot (step_follows types fs f a v in_loop s w follows h setting.shaped u (body head) first))
+      let head = inside types texts fs f a v in_loop s w follows h setting.shaped in
+      let first = inner head (inside_follows types texts fs f a v in_loop s w follows h setting.shaped) (register_later a s head h.grown.locals h.grown.types register) in
+      let foot : State = with_code [] (past types texts fs f a v in_loop s w follows h setting.shaped (body head)) in
+      loop_does types texts fs f a v in_loop s w follows h setting.shaped u (behind v u) (body head) (step foot) first
+      (last foot (step_follows types texts fs f a v in_loop s w follows h setting.shaped u (body head) first))
 
   -- ---- any statement
 
@@ -114,15 +111,15 @@ module _ (a : Around) (types : Types) (fs : List Function) (f : Function) (setti
         let t = statement a items s in
         done_alone (block items closing) in_loop v s
         (record {
-          does = block_does types fs f a v (after items v) in_loop s t follows inner.does closing;
-          level = block_level types fs f a v (after items v) in_loop s t follows inner.does closing;
+          does = block_does types texts fs f a setting v (after items v) in_loop s t follows inner.does closing;
+          level = block_level types texts fs f a setting v (after items v) in_loop s t follows inner.does closing;
         })
         (λ e. stops_end (reverse (drop (length s.living) t.living)) closing t (inner.last false (λ n. runs_on n) e))
         (λ before e. e)
     statement_does (empty place) in_loop v s b h follows register =
-        done_alone (empty place) in_loop v s (record { does = does_nothing types fs f a v in_loop s follows; level = refl }) (λ e. runs_on e) (λ before e. e)
+        done_alone (empty place) in_loop v s (record { does = does_nothing types texts fs f a v in_loop s follows; level = refl }) (λ e. runs_on e) (λ before e. e)
     statement_does (sentence it semicolon) in_loop v s b h follows register =
-        done_alone (sentence it semicolon) in_loop v s (simple_does a types fs f setting v in_loop it s b h follows) (λ e. runs_on e) (λ before e. e)
+        done_alone (sentence it semicolon) in_loop v s (simple_does a types texts fs f setting v in_loop it s b h follows) (λ e. runs_on e) (λ before e. e)
     statement_does (branching branches last) in_loop v s b h follows register =
         let parts = and_parts (is_built_statement a.program.types a.function.locals branches) (is_built_statement a.program.types a.function.locals last) b in
         let all = branches_do branches in_loop v s parts.0 h.0 follows register (statement a last) (after last (after branches v)) (ends last)
@@ -135,7 +132,7 @@ module _ (a : Around) (types : Types) (fs : List Function) (f : Function) (setti
         done_alone (while_loop keyword decides closing body) in_loop v s
         (loop_done v (after body v) in_loop (condition a (whole_form decides)) (statement a body) (λ t. t) s follows register (decided v decides s parts.0 h.0 follows)
         (λ t later there. level_of body true v t (statement_does body true v t parts.1 h.2 later there) h.1)
-        (λ t later. record { does = does_nothing types fs f a (behind v (after body v)) false t later; level = refl }))
+        (λ t later. record { does = does_nothing types texts fs f a (behind v (after body v)) false t later; level = refl }))
         (λ e. runs_on e)
         (λ before e. e)
     statement_does (for_loop keyword start first decides second stepping closing body) in_loop v s b h follows register =
@@ -151,47 +148,47 @@ module _ (a : Around) (types : Types) (fs : List Function) (f : Function) (setti
         (λ t later there. level_of body true v1 t (statement_does body true v1 t three.1 h.4 later there) h.3)
         (λ t later. stepped (behind v1 (after body v1)) stepping t three.0 h.2 later) in
         let s2 = looped (condition_or_true a keyword decides) (statement a body) (simple_if a stepping) s1 in
-        let all = does_then types fs f a v1 (behind v1 (after body v1)) in_loop s s1 s2 follows.outside begins turns.does in
+        let all = does_then types texts fs f a v1 (behind v1 (after body v1)) in_loop s s1 s2 follows.outside begins turns.does in
         done_alone (for_loop keyword start first decides second stepping closing body) in_loop v s
         (record {
-          does = block_does types fs f a v (behind v1 (after body v1)) in_loop s s2 follows all (last_token body closing);
-          level = block_level types fs f a v (behind v1 (after body v1)) in_loop s s2 follows all (last_token body closing);
+          does = block_does types texts fs f a setting v (behind v1 (after body v1)) in_loop s s2 follows all (last_token body closing);
+          level = block_level types texts fs f a setting v (behind v1 (after body v1)) in_loop s s2 follows all (last_token body closing);
         })
         (λ e. runs_on e)
         (λ before e. e)
     statement_does (range_loop keyword x name colon range closing body) in_loop v s b h follows register = absurd (false≢true b)
     statement_does (loop_break keyword semicolon) in_loop v s b h follows register =
-        done_alone (loop_break keyword semicolon) in_loop v s (break_does a types fs f setting v in_loop s follows h keyword) (λ e. runs_on e) (λ before e. e)
+        done_alone (loop_break keyword semicolon) in_loop v s (break_does a types texts fs f setting v in_loop s follows h keyword) (λ e. runs_on e) (λ before e. e)
     statement_does (loop_continue keyword semicolon) in_loop v s b h follows register =
-        done_alone (loop_continue keyword semicolon) in_loop v s (continue_does a types fs f setting v in_loop s follows h keyword) (λ e. runs_on e) (λ before e. e)
+        done_alone (loop_continue keyword semicolon) in_loop v s (continue_does a types texts fs f setting v in_loop s follows h keyword) (λ e. runs_on e) (λ before e. e)
     statement_does (returned keyword value semicolon) in_loop v s b h follows register =
         let t = result_given a value s in
-        done_alone (returned keyword value semicolon) in_loop v s (returned_does a types fs f setting v in_loop s follows register keyword value b h)
+        done_alone (returned keyword value semicolon) in_loop v s (returned_does a types texts fs f setting v in_loop s follows register keyword value b h)
         (λ e. stops_right (end_past 0 keyword t).code (Returns keyword ∷ []) refl)
         (λ before e. e)
     statement_does (print items semicolon) in_loop v s b h follows register =
-        done_alone (print items semicolon) in_loop v s (items_do a types fs f setting v in_loop items s b h follows) (λ e. runs_on e) (λ before e. e)
+        done_alone (print items semicolon) in_loop v s (items_do a types texts fs f setting v in_loop lines items s b h follows) (λ e. runs_on e) (λ before e. e)
     statement_does (assertion keyword decides closing semicolon) in_loop v s b h follows register =
         done_alone (assertion keyword decides closing semicolon) in_loop v s
-        (asserted_does types fs f a v in_loop s (condition a (whole_form decides) s) follows (decided v decides s b h follows) keyword) (λ e. runs_on e) (λ before e. e)
+        (asserted_does types texts fs f a v in_loop s (condition a (whole_form decides) s) follows (decided v decides s b h follows) keyword) (λ e. runs_on e) (λ before e. e)
     statement_does (branch keyword decides closing body) in_loop v s b h follows register = absurd h
     statement_does (declaration d semicolon) in_loop v s b h follows register =
-        let does = declaration_does a types fs f setting v in_loop a.function.result d s follows b h in
+        let does = declaration_does a types texts fs f setting v in_loop a.function.result d s follows b h in
         record {
           does = does;
           level = λ one. runs_on one;
           over = λ e. runs_on e;
-          last = λ before p e. still_stops types fs f a (with_next v) in_loop s (declared a d s) does (p e);
+          last = λ before p e. still_stops types texts fs f a (with_next v) in_loop s (declared a d s) does (p e);
         }
     statement_does no_more in_loop v s b h follows register =
-        record { does = does_nothing types fs f a v in_loop s follows; level = λ one. refl; over = λ e. runs_on e; last = λ before p e. p e }
+        record { does = does_nothing types texts fs f a v in_loop s follows; level = λ one. refl; over = λ e. runs_on e; last = λ before p e. p e }
     statement_does (chain first others) in_loop v s b h follows register =
         let parts = and_parts (is_built_statement a.program.types a.function.locals first) (is_built_statement a.program.types a.function.locals others) b in
         let t = statement a first s in
         let one = statement_does first in_loop v s parts.0 h.0 follows register in
         let two = statement_does others in_loop (after first v) t parts.1 h.1 one.does.follows (register_later a s t one.does.adds.locals one.does.adds.table register) in
         record {
-          does = does_then types fs f a (after first v) (after others (after first v)) in_loop s t (statement a others t) follows.outside one.does two.does;
+          does = does_then types texts fs f a (after first v) (after others (after first v)) in_loop s t (statement a others t) follows.outside one.does two.does;
           level = λ e. runs_on e;
           over = λ e. runs_on e;
           last = λ before p e. two.last (ends first) one.over e;
@@ -206,7 +203,7 @@ module _ (a : Around) (types : Types) (fs : List Function) (f : Function) (setti
         let inner = and_parts (is_built_expression decides) (is_built_statement a.program.types a.function.locals body) parts.0 in
         let w = condition a (whole_form decides) s in
         let test = decided v decides s inner.0 h.0 follows in
-        let ready = tested_follows types fs f a v in_loop s w follows test in
+        let ready = tested_follows types texts fs f a v in_loop s w follows test in
         let there = register_later a s (with_code [] w.state) test.grown.locals test.grown.types register in
         let one = statement_does body in_loop v (with_code [] w.state) inner.1 h.2 ready there in
         let first = level_of body in_loop v (with_code [] w.state) one h.1 in
@@ -216,7 +213,7 @@ module _ (a : Around) (types : Types) (fs : List Function) (f : Function) (setti
         let rest = branches_do others in_loop u (with_code [] t) parts.1 h.3 again (register_later a (with_code [] w.state) (with_code [] t) first.does.adds.locals first.does.adds.table there) last x over end in
         let r = branches_of a others last (with_code [] t) in
         record {
-          does = branched_does types fs f a v in_loop s w follows test (after body v) x t r first rest.does;
+          does = branched_does types texts fs f a v in_loop s w follows test (after body v) x t r first rest.does;
           stopped = λ e.
               let all = and_parts (ends body && all_end others) over e in
               let both = and_parts (ends body) (all_end others) all.0 in

@@ -36,11 +36,11 @@ pub stops_end : (xs : List ℕ) (place : Place) (s : State) → stops (trees s.c
 stops_end [] place s h = h
 stops_end (x ∷ xs) place s h = stops_left s.code _ h
 
-module _ (types : Types) (fs : List Function) (f : Function) where
-  -- what is written behind such code
-  pub still_stops : (a : Around) (v : Visible) (in_loop : Bool) (s s' : State) → Does types fs f a v in_loop s s' → stops (trees s.code) ≡ true → stops (trees s'.code) ≡ true
-  still_stops a v in_loop s s' does h = subst (λ (c : List Tree). stops (trees c) ≡ true) (sym does.written) (stops_left s.code does.code h)
+-- what is written behind such code
+pub still_stops : (types : Types) (texts : ℕ) (fs : List Function) (f : Function) (a : Around) (v : Visible) (in_loop : Bool) (s s' : State) → Does types texts fs f a v in_loop s s' → stops (trees s.code) ≡ true → stops (trees s'.code) ≡ true
+still_stops types texts fs f a v in_loop s s' does h = subst (λ (c : List Tree). stops (trees c) ≡ true) (sym does.written) (stops_left s.code does.code h)
 
+module _ (types : Types) (fs : List Function) (f : Function) where
   -- ---- no way comes to its end
 
   condition_next : (t : Tree) → is_condition t ≡ true → (o : Knowing) → (flow types fs f t o).next ≡ None

@@ -1,8 +1,7 @@
 -- The core program of a well typed program that is built is well formed, and leaves alone what is given over.
-use Rattle.std.proofs.Common.{◌≡◌, ◌<◌, ◌⊎◌, inl, inr, ℕ, zero, suc, true, List, [], ◌∷◌, length, nat_le, nat_lt, slice_get, Some, refl, sym, ap, ◌∙◌, subst, arith, length-append}
+use Rattle.std.proofs.Common.{◌≡◌, ◌⊎◌, inl, inr, ℕ, zero, suc, true, List, [], ◌∷◌, length, nat_le, slice_get, Some, refl, sym, ◌∙◌, subst}
 use Rattle.std.specs.List.{list_all}
 use Rattle.std.proofs.lemmas.Bool.{and_from, and_parts}
-use Rattle.std.proofs.lemmas.Bool.Decides.{nat_tests}
 use Rattle.life_types.specs.Trees.{IsOrdered}
 use Rattle.life_types.specs.Types.{Types}
 use Rattle.life_types.specs.declared.ty.TyId.{TyId}
@@ -18,22 +17,13 @@ use Rattle.life_well_typed.specs.Names.{HasNames}
 use Rattle.life_well_typed.specs.Results.{HasResults}
 use Rattle.life_elab.specs.Functions.{written}
 use Rattle.life_elab.specs.Programs.{around, core_program, texts_of}
-use Rattle.life_elab.specs.Statements.{end_line}
 use Rattle.life_elab_laws.proofs.ExpressionKinds.{variable_built}
 use Rattle.life_elab_laws.proofs.FlatLocals.{IsLocalType, flat_locals, variable_typed}
-use Rattle.life_elab_laws.proofs.FormedFunctions.{function_formed}
 use Rattle.life_elab_laws.proofs.GivenNothing.{gives_nothing, keeps_all}
 use Rattle.life_elab_laws.proofs.ProgramNames.{no_members, own_names}
-use Rattle.life_elab_laws.proofs.Programs.{AreWritten, IsWritten, count, each_written, front, functions_built, grows, locals, one_head, parts, result_at, same, typed_at, whole, whole_order, written_begins, written_setting}
+use Rattle.life_elab_laws.proofs.Programs.{AreWritten, IsWritten, each_written, front, functions_built, grows, one_formed as formed_body, one_head, parts, whole, whole_order}
 use Rattle.life_elab_laws.proofs.Shaped.{variable_later}
 use Rattle.life_elab_laws.proofs.WrittenLocals.{IsIntermediate, IsOwn, fits_later}
-
--- what endl writes stands behind the texts
-text_there : (p : ProgramForm) (f : FunctionForm) → nat_lt (end_line (around p f)) (length (texts_of p)) ≡ true
-text_there p f = go (length p.texts) (length (texts_of p)) (omega (arith, length-append p.texts ((10 ∷ []) ∷ [])))
-  where
-    go : (m n : ℕ) → m < n → nat_lt m n ≡ true
-    go m n h = grind (arith, nat_tests)
 
 module _ (p : ProgramForm) (typed : IsWellTyped p) (built : are_built_functions p.types p.functions ≡ true) (results : HasResults p) where
   abbrev functions : List Function
@@ -63,12 +53,7 @@ module _ (p : ProgramForm) (typed : IsWellTyped p) (built : are_built_functions 
             (subst (λ (id : TyId). is_built_variable p.types id ≡ true) (sym is.of.typed) (variable_built p.types f.locals is.number is.variable (parts p typed built results n f at).variables is.there)))
 
     body_formed : is_well_formed_tree types texts functions core core.body ≡ true
-    body_formed =
-        let t = result_at p.types p.functions n f results at in
-        let is = typed_at p p.functions n f typed at in
-        function_formed p f w.before types texts functions core (written_setting p typed built results n f at core w) (text_there p f)
-        is.parameters (parts p typed built results n f at) is.body t.0 t.1 w.table (written_begins p typed built results n f at core w)
-        (count p typed built results n f at core w) (same p typed built results n f at core w) (locals p typed built results n f at core w) (ap (λ (c : Function). c.body) w.is)
+    body_formed = formed_body p typed built results n f at core w
 
     one_formed : HasNames p → is_well_formed_function types names texts functions core ≡ true
     one_formed named =

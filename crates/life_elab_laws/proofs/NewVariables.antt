@@ -1,0 +1,89 @@
+-- The variable that is declared next: its kind and its type in the finished function, so it can live, and what it is given fits it.
+use Rattle.std.proofs.Common.{◌≡◌, ℕ, Bool, true, false, not, List, length, slice_get, Option, Some, refl, sym, ap, ◌∙◌}
+use Rattle.std.proofs.lemmas.Bool.{and_from, or_left, or_right}
+use Rattle.life_types.specs.Types.{Types, class}
+use Rattle.life_types.specs.declared.ty.Ty.{Ty}
+use Rattle.life_types.specs.declared.ty.Ty.TheVariants as ty
+use Rattle.life_types.specs.declared.ty.TyId.{TyId}
+use Rattle.life_typed.specs.BaseTypes.{is_value, type_at}
+use Rattle.life_typed.specs.declared.typed_expr.ExprType.TheVariants.{Of}
+use Rattle.life_typed.specs.declared.typed_program.TypedLocal.{TypedLocal}
+use Rattle.life_core.specs.Function.{Function}
+use Rattle.life_core.specs.Operands.{Operand, Place as Aimed, object_named, whole}
+use Rattle.life_core.specs.Step.{Save}
+use Rattle.life_core.specs.declared.program.LocalKind.TheVariants.{Object}
+use Rattle.life_pset.specs.Shapes as shapes
+use Rattle.life_proper.specs.OperandTypes.{is_reference, keeps_const, same}
+use Rattle.life_proper.specs.OperandTypes as operands
+use Rattle.life_proper.specs.Placed.{is_const_place, is_number_of, object_at, register_at, type_in}
+use Rattle.life_proper.specs.Placed as placed
+use Rattle.life_proper.specs.WellFormed.{can_live, goes_to, is_well_formed_step}
+use Rattle.life_writer.specs.Around.{Around}
+use Rattle.life_writer.specs.Pointers.{At}
+use Rattle.life_writer.specs.Variables.{kind, variable_local}
+use Rattle.life_writer.specs.Writing.{State}
+use Rattle.life_elab_laws.proofs.Aiming.{keeps_further}
+use Rattle.life_elab_laws.proofs.CallParts.{goes_object}
+use Rattle.life_elab_laws.proofs.Declaring.{with_new}
+use Rattle.life_elab_laws.proofs.FormedVariables.{object_place, reference_there, type_found, type_later, value_kind}
+use Rattle.life_elab_laws.proofs.Fronts.{IsFront, front_itself, last_there}
+use Rattle.life_elab_laws.proofs.Gifts.{IsGivenAs, IsPlaceOf}
+use Rattle.life_elab_laws.proofs.Growing.{Begins}
+use Rattle.life_elab_laws.proofs.OperandsThere.{object_there, register_there, type_there, value_either, value_no_reference, value_same}
+
+module _ (a : Around) (types : Types) (texts : ℕ) (fs : List Function) (f : Function) (front : IsFront a.program.types.types types.types) where
+  -- what a reference is bound to fits it
+  pub bound_given : (target : TyId) (constant held : Bool) (o : Operand) → is_value (type_at a.program.types target) ≡ true → keeps_const constant held ≡ true
+      → IsPlaceOf types texts fs f (type_at a.program.types target) held o → IsGivenAs types texts fs f (Of (ty.Reference target constant)) (At (Aimed o))
+  bound_given target constant held o worth kept place =
+      let later = type_later a.program.types types front target worth in
+      and_from (same (shapes.ty_of types target) (placed.type_of types f o)) (keeps_const constant (is_const_place types f o))
+      (ap (same (shapes.ty_of types target)) (place.typed ∙ sym later) ∙ value_same (shapes.ty_of types target) (ap operands.is_value later ∙ value_either (type_at a.program.types target) worth))
+      (keeps_further constant held (is_const_place types f o) kept place.held)
+
+  module _ (v : TypedLocal) (s : State) (b : Begins types f (with_new (variable_local a v) s)) where
+    there : slice_get f.locals (length s.locals) ≡ Some (variable_local a v)
+    there = b.locals (length s.locals) (variable_local a v) (last_there s.locals (variable_local a v))
+
+    -- of a value type
+    module _ (worth : is_value (type_at a.program.types v.ty) ≡ true) where
+      is_object : (variable_local a v).kind ≡ Object
+      is_object = ap (λ (o : Option Ty). kind (class o)) (type_found a.program.types a.program.types (front_itself a.program.types.types) v.ty worth) ∙ value_kind (type_at a.program.types v.ty) worth
+
+      object_declared : object_at types f (length s.locals) ≡ true
+      object_declared = object_there types f (length s.locals) (variable_local a v) there is_object
+
+      type_declared : placed.type_at types f (length s.locals) ≡ type_at a.program.types v.ty
+      type_declared =
+          type_there types f (length s.locals) (variable_local a v) (type_at a.program.types v.ty) there (type_found a.program.types types front v.ty worth)
+          (value_no_reference (type_at a.program.types v.ty) (value_either (type_at a.program.types v.ty) worth))
+
+      pub value_lives : can_live types texts fs f (length s.locals) ≡ true
+      value_lives = or_left (object_at types f (length s.locals)) _ object_declared
+
+      pub value_saved : (r : ℕ) → is_number_of types f (type_at a.program.types v.ty) r ≡ true → is_well_formed_step types texts fs f (Save (object_named (length s.locals)) r) ≡ true
+      value_saved r h =
+          and_from (is_number_of types f (placed.type_of types f (object_named (length s.locals))) r) true
+          (ap (λ (t : Ty). is_number_of types f t r) (object_place types texts fs f (length s.locals) (type_at a.program.types v.ty) false object_declared type_declared).typed ∙ h) refl
+
+      -- a call brings it to life
+      pub value_goes : goes_to types texts fs f (type_at a.program.types v.ty) (Some (whole (length s.locals))) ≡ true
+      value_goes = goes_object types texts fs f (type_at a.program.types v.ty) (length s.locals) worth type_declared object_declared
+
+    -- of a raw pointer type
+    module _ (target : TyId) (constant : Bool) (found : slice_get a.program.types.types v.ty.0 ≡ Some (ty.Raw target constant)) where
+      pub raw_declared : type_in types f (whole (length s.locals)) ≡ ty.Raw target constant
+      raw_declared = type_there types f (length s.locals) (variable_local a v) (ty.Raw target constant) there (front v.ty.0 (ty.Raw target constant) found) refl
+
+      pub raw_lives : can_live types texts fs f (length s.locals) ≡ true
+      raw_lives =
+          or_right (object_at types f (length s.locals)) _
+          (and_from (register_at types f (length s.locals)) _ (register_there types f (length s.locals) (variable_local a v) there (ap (λ (o : Option Ty). kind (class o)) found))
+          (and_from (shapes.is_pointer (placed.type_at types f (length s.locals))) (not (is_reference (placed.type_at types f (length s.locals)))) (ap shapes.is_pointer raw_declared) (ap (λ (t : Ty). not (is_reference t)) raw_declared)))
+
+    -- of a reference type
+    module _ (target : TyId) (constant : Bool) (found : slice_get a.program.types.types v.ty.0 ≡ Some (ty.Reference target constant)) (worth : is_value (type_at a.program.types target) ≡ true) where
+      pub reference_declared : type_in types f (whole (length s.locals)) ≡ ty.Reference target constant
+      reference_declared =
+          reference_there types f (length s.locals) (variable_local a v) target constant there (front v.ty.0 (ty.Reference target constant) found)
+          (ap is_value (type_later a.program.types types front target worth) ∙ worth)
