@@ -8,15 +8,14 @@ use Rattle.life_built.specs.Built.{is_built_statement}
 use Rattle.life_typed.specs.Programs.{FunctionForm, ProgramForm}
 use Rattle.life_typed.specs.TypedStatement.{StmtForm, block}
 use Rattle.life_core.specs.Function.{Function}
-use Rattle.life_core.specs.Shape.{breaks_inside, is_statement, tests_straight}
+use Rattle.life_core.specs.Shape.{is_statement, tests_straight}
 use Rattle.life_core.specs.Tree.{Tree, Returns, trees}
 use Rattle.life_proper.specs.Checking.{Flow, body_flow, flow, is_checked, is_over}
 use Rattle.life_proper.specs.Knowing.{State as Knowing, entry_known}
-use Rattle.life_proper.specs.Plain.{is_plain_tree}
 use Rattle.life_proper.specs.ResultsKnown.{ReturnsKnown}
-use Rattle.life_proper.specs.WellFormed.{is_well_formed_tree}
 use Rattle.life_well_typed.specs.Functions.{IsBody}
 use Rattle.life_well_typed.specs.Visible.{Visible, after, with_parameters}
+use Rattle.life_writer.specs.Around.{Around}
 use Rattle.life_writer.specs.Variables.{end_past}
 use Rattle.life_writer.specs.Writing.{State}
 use Rattle.life_typed.specs.Ends.{ends}
@@ -33,8 +32,16 @@ use Rattle.life_elab_laws.proofs.GivingBack.{GivesValue}
 use Rattle.life_elab_laws.proofs.Growing.{Begins}
 use Rattle.life_elab_laws.proofs.Returning.{return_does}
 use Rattle.life_elab_laws.proofs.Setting.{Setting}
+use Rattle.life_elab_laws.proofs.Shaping.{IsStated}
 use Rattle.life_elab_laws.proofs.Statements.{statement_does}
 use Rattle.life_elab_laws.proofs.Stopping.{stops, stops_next, stops_right}
+
+-- what is asked of the body of a function
+pub record IsProperBody (a : Around) (types : Types) (texts : ℕ) (fs : List Function) (f : Function) : Type 0 where
+  pub checked : is_checked types fs f ≡ true
+  pub stated : IsStated types texts fs f false f.body
+  -- where it gives a value back and control doesn't run past its text, each return stands behind that
+  pub returns : GivesValue a → ReturnsKnown types fs f f.parameters f.body (Some (entry_known types f))
 
 -- what endl writes stands behind the texts
 text_there : (p : ProgramForm) (f : FunctionForm) → nat_lt (end_line (around p f)) (length (texts_of p)) ≡ true
@@ -111,24 +118,18 @@ module _ (p : ProgramForm) (form : FunctionForm) (T types : Types) (fs : List Fu
           (and_from (is_none ways.on_continue) _ (none ways.on_continue leaves.on_continue)
           (and_from (is_none ways.on_true) (is_none ways.on_false) (none ways.on_true leaves.on_true) (none ways.on_false leaves.on_false)))))
 
-      pub function_checked : is_checked types fs f ≡ true
-      function_checked =
-          and_from (is_statement f.body) _ (ap is_statement body_is ∙ acting.stated.statement)
-          (and_from (tests_straight f.body) (is_over (body_flow types fs f)) (ap tests_straight body_is ∙ acting.stated.tests)
-          (ap (λ (t : Tree). is_over (flow types fs f t (Some (entry_known types f)))) body_is ∙ over))
+      stated : IsStated types texts fs f false f.body
+      stated = subst (IsStated types texts fs f false) (sym body_is) acting.stated
 
-      pub function_breaks : breaks_inside false f.body ≡ true
-      function_breaks = ap (breaks_inside false) body_is ∙ acting.stated.breaks
-
-      pub function_plain : is_plain_tree types fs f f.body ≡ true
-      function_plain = ap (is_plain_tree types fs f) body_is ∙ acting.stated.plain
-
-      pub function_formed : is_well_formed_tree types texts fs f f.body ≡ true
-      function_formed = ap (is_well_formed_tree types texts fs f) body_is ∙ acting.stated.formed
-
-      -- where it gives a value back and control doesn't run past its text, each return stands behind that
-      pub function_returns : GivesValue (around p form) → ReturnsKnown types fs f f.parameters f.body (Some (entry_known types f))
-      function_returns gives =
-          subst (λ (r : ℕ). ReturnsKnown types fs f r f.body (Some (entry_known types f))) (sym count)
-          (subst (λ (t : Tree). ReturnsKnown types fs f (length form.parameters) t (Some (entry_known types f))) (sym body_is)
-          (function_finished.does.returns begins gives (Some (entry_known types f)) (entry_knows (around p form) T fits table types fs f setting.front built.variables count locals)))
+      pub function_proper : IsProperBody (around p form) types texts fs f
+      function_proper = record {
+        checked =
+            and_from (is_statement f.body) _ stated.statement
+            (and_from (tests_straight f.body) (is_over (body_flow types fs f)) stated.tests
+            (ap (λ (t : Tree). is_over (flow types fs f t (Some (entry_known types f)))) body_is ∙ over));
+        stated = stated;
+        returns = λ gives.
+            subst (λ (r : ℕ). ReturnsKnown types fs f r f.body (Some (entry_known types f))) (sym count)
+            (subst (λ (t : Tree). ReturnsKnown types fs f (length form.parameters) t (Some (entry_known types f))) (sym body_is)
+            (function_finished.does.returns begins gives (Some (entry_known types f)) (entry_knows (around p form) T fits table types fs f setting.front built.variables count locals)));
+      }

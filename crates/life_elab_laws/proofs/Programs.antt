@@ -1,5 +1,5 @@
 -- The core program of a well typed program that is built: each of its functions is checked, among all of them, and has short places.
-use Rattle.std.proofs.Common.{◌≡◌, ◌<◌, ◌⊎◌, ℕ, zero, suc, true, false, List, [], ◌∷◌, ◌++◌, length, map, slice_get, take, None, Some, option_map, refl, sym, ap, ◌∙◌, subst, arith, append_assoc, append-nil}
+use Rattle.std.proofs.Common.{◌≡◌, ◌<◌, ◌⊎◌, ℕ, zero, suc, Bool, true, false, ◌&&◌, List, [], ◌∷◌, ◌++◌, length, map, slice_get, take, None, Some, option_map, refl, sym, ap, ◌∙◌, subst, arith, append_assoc, append-nil}
 use Rattle.std.proofs.lemmas.Bool.{and_from, and_parts}
 use Rattle.std.proofs.lemmas.Option.{none-some, same_Some, slice_get-map}
 use Rattle.std.specs.List.{list_all}
@@ -13,12 +13,9 @@ use Rattle.life_core.specs.Function.{Function}
 use Rattle.life_core.specs.Holdings.{ANumber, Blank, result_sort}
 use Rattle.life_core.specs.declared.program.Local.{Local}
 use Rattle.life_proper.specs.Checking.{are_checked, checked, is_checked}
-use Rattle.life_proper.specs.Knowing.{entry_known}
 use Rattle.life_proper.specs.ProperPrograms.{has_own_breaks, have_own_breaks}
 use Rattle.life_proper.specs.Plain.{are_plain, is_plain, is_plain_tree}
 use Rattle.life_proper.specs.OperandTypes.{is_void}
-use Rattle.life_proper.specs.ResultsKnown.{ReturnsKnown}
-use Rattle.life_proper.specs.WellFormed.{is_well_formed_tree}
 use Rattle.life_pset.specs.Elements.{AreShort, elements_of}
 use Rattle.life_pset.specs.Shapes.{ty_of}
 use Rattle.life_well_typed.specs.Functions.{AreWellTyped, IsWellTyped, IsWellTypedFunction}
@@ -33,8 +30,7 @@ use Rattle.life_elab_laws.proofs.Calls.{IsCallee}
 use Rattle.life_elab_laws.proofs.ExpressionKinds.{function_built}
 use Rattle.life_elab_laws.proofs.FormedLocals.{HasFormedHead, all_at, head_formed}
 use Rattle.life_elab_laws.proofs.Fronts.{IsFront, front_itself, front_then}
-use Rattle.life_elab_laws.proofs.FunctionWriting.{function_breaks, function_checked, function_finished, function_formed, function_plain, function_returns}
-use Rattle.life_elab_laws.proofs.GivingBack.{GivesValue}
+use Rattle.life_elab_laws.proofs.FunctionWriting.{IsProperBody, function_finished, function_proper}
 use Rattle.life_elab_laws.proofs.Growing.{Begins}
 use Rattle.life_elab_laws.proofs.OrderedTypes.{KeepsOrder, order_none, order_then}
 use Rattle.life_elab_laws.proofs.Setting.{Setting}
@@ -237,41 +233,11 @@ module _ (p : ProgramForm) (typed : IsWellTyped p) (built : are_built_functions 
   written_setting n f at core w =
       setting_of whole.types whole.functions f core n at (front n f at core w) callee (written_gives n f at core w) (shaped n f at core w) (written_nameless n f at core w)
 
-  pub one_checked : (n : ℕ) (f : FunctionForm) → slice_get p.functions n ≡ Some f → (core : Function) → IsWritten p whole.types f core → is_checked whole.types whole.functions core ≡ true
-  one_checked n f at core w =
+  pub one_body : (n : ℕ) (f : FunctionForm) → slice_get p.functions n ≡ Some f → (core : Function) → IsWritten p whole.types f core → IsProperBody (around p f) whole.types (length (texts_of p)) whole.functions core
+  one_body n f at core w =
       let t = result_at p.types p.functions n f results at in
       let is = typed_at p p.functions n f typed at in
-      function_checked p f w.before whole.types whole.functions core (written_setting n f at core w) is.parameters (parts n f at) is.body t.0 t.1 w.table
-      (written_begins n f at core w) (count n f at core w) (locals n f at core w) (ap (λ (c : Function). c.body) w.is)
-
-  pub one_returns : (n : ℕ) (f : FunctionForm) → slice_get p.functions n ≡ Some f → (core : Function) → IsWritten p whole.types f core → GivesValue (around p f)
-      → ReturnsKnown whole.types whole.functions core core.parameters core.body (Some (entry_known whole.types core))
-  one_returns n f at core w =
-      let t = result_at p.types p.functions n f results at in
-      let is = typed_at p p.functions n f typed at in
-      function_returns p f w.before whole.types whole.functions core (written_setting n f at core w) is.parameters (parts n f at) is.body t.0 t.1 w.table
-      (written_begins n f at core w) (count n f at core w) (locals n f at core w) (ap (λ (c : Function). c.body) w.is)
-
-  one_breaks : (n : ℕ) (f : FunctionForm) → slice_get p.functions n ≡ Some f → (core : Function) → IsWritten p whole.types f core → has_own_breaks core ≡ true
-  one_breaks n f at core w =
-      let t = result_at p.types p.functions n f results at in
-      let is = typed_at p p.functions n f typed at in
-      function_breaks p f w.before whole.types whole.functions core (written_setting n f at core w) is.parameters (parts n f at) is.body t.0 t.1 w.table
-      (written_begins n f at core w) (count n f at core w) (locals n f at core w) (ap (λ (c : Function). c.body) w.is)
-
-  one_plain : (n : ℕ) (f : FunctionForm) → slice_get p.functions n ≡ Some f → (core : Function) → IsWritten p whole.types f core → is_plain_tree whole.types whole.functions core core.body ≡ true
-  one_plain n f at core w =
-      let t = result_at p.types p.functions n f results at in
-      let is = typed_at p p.functions n f typed at in
-      function_plain p f w.before whole.types whole.functions core (written_setting n f at core w) is.parameters (parts n f at) is.body t.0 t.1 w.table
-      (written_begins n f at core w) (count n f at core w) (locals n f at core w) (ap (λ (c : Function). c.body) w.is)
-
-  pub one_formed : (n : ℕ) (f : FunctionForm) → slice_get p.functions n ≡ Some f → (core : Function) → IsWritten p whole.types f core
-      → is_well_formed_tree whole.types (length (texts_of p)) whole.functions core core.body ≡ true
-  one_formed n f at core w =
-      let t = result_at p.types p.functions n f results at in
-      let is = typed_at p p.functions n f typed at in
-      function_formed p f w.before whole.types whole.functions core (written_setting n f at core w) is.parameters (parts n f at) is.body t.0 t.1 w.table
+      function_proper p f w.before whole.types whole.functions core (written_setting n f at core w) is.parameters (parts n f at) is.body t.0 t.1 w.table
       (written_begins n f at core w) (count n f at core w) (locals n f at core w) (ap (λ (c : Function). c.body) w.is)
 
   one_short : (n : ℕ) (f : FunctionForm) → slice_get p.functions n ≡ Some f → (core : Function) → IsWritten p whole.types f core → AreShort (elements_of whole.types core)
@@ -290,57 +256,40 @@ module _ (p : ProgramForm) (typed : IsWellTyped p) (built : are_built_functions 
       (head_formed p f w.before whole.types (length p.names) (typed_at p p.functions n f typed at).parameters (parts n f at) t.0 t.1 w.table (front n f at core w) g.locals w.later g.own
       (all_at (is_function_named (length p.names)) p.functions n f names.named at))
 
-  all_checked : (fs : List FunctionForm) (cores : List Function) → ((n : ℕ) (f : FunctionForm) → slice_get fs n ≡ Some f → (core : Function) → IsWritten p whole.types f core → is_checked whole.types whole.functions core ≡ true)
-      → AreWritten p whole.types fs cores → are_checked whole.types whole.functions cores ≡ true
-  all_checked [] [] each h = refl
-  all_checked (f ∷ fs) (core ∷ cores) each h =
-      and_from (is_checked whole.types whole.functions core) (are_checked whole.types whole.functions cores) (each zero f refl core h.0) (all_checked fs cores (λ n. each (suc n)) h.1)
-  all_checked _ _ each h = absurd h
+  -- ---- what is so of each function is so of all
 
-  all_plain : (fs : List FunctionForm) (cores : List Function) → ((n : ℕ) (f : FunctionForm) → slice_get fs n ≡ Some f → (core : Function) → IsWritten p whole.types f core → is_plain_tree whole.types whole.functions core core.body ≡ true)
-      → AreWritten p whole.types fs cores → are_plain whole.types whole.functions cores ≡ true
-  all_plain [] [] each h = refl
-  all_plain (f ∷ fs) (core ∷ cores) each h =
-      and_from (is_plain_tree whole.types whole.functions core core.body) (are_plain whole.types whole.functions cores) (each zero f refl core h.0) (all_plain fs cores (λ n. each (suc n)) h.1)
-  all_plain _ _ each h = absurd h
+  abbrev pub OfEach : (Function → Type 0) → Type 0
+  OfEach One = (n : ℕ) (f : FunctionForm) → slice_get p.functions n ≡ Some f → (core : Function) → IsWritten p whole.types f core → One core
 
-  all_breaks : (fs : List FunctionForm) (cores : List Function) → ((n : ℕ) (f : FunctionForm) → slice_get fs n ≡ Some f → (core : Function) → IsWritten p whole.types f core → has_own_breaks core ≡ true)
-      → AreWritten p whole.types fs cores → list_all has_own_breaks cores ≡ true
-  all_breaks [] [] each h = refl
-  all_breaks (f ∷ fs) (core ∷ cores) each h = and_from (has_own_breaks core) (list_all has_own_breaks cores) (each zero f refl core h.0) (all_breaks fs cores (λ n. each (suc n)) h.1)
-  all_breaks _ _ each h = absurd h
+  pub of_all : (One : Function → Type 0) (All : List Function → Type 0) → All [] → ((core : Function) (cores : List Function) → One core → All cores → All (core ∷ cores)) → OfEach One → All whole.functions
+  of_all One All none more each = go p.functions whole.functions each each_written
+    where
+      go : (fs : List FunctionForm) (cores : List Function) → ((n : ℕ) (f : FunctionForm) → slice_get fs n ≡ Some f → (core : Function) → IsWritten p whole.types f core → One core) → AreWritten p whole.types fs cores → All cores
+      go [] [] each h = none
+      go (f ∷ fs) (core ∷ cores) each h = more core cores (each zero f refl core h.0) (go fs cores (λ n. each (suc n)) h.1)
+      go _ _ each h = absurd h
 
-  all_short : (fs : List FunctionForm) (cores : List Function) → ((n : ℕ) (f : FunctionForm) → slice_get fs n ≡ Some f → (core : Function) → IsWritten p whole.types f core → AreShort (elements_of whole.types core))
-      → AreWritten p whole.types fs cores → HaveShortPlaces whole.types cores
-  all_short [] [] each h = tt
-  all_short (f ∷ fs) (core ∷ cores) each h = (each zero f refl core h.0, all_short fs cores (λ n. each (suc n)) h.1)
-  all_short _ _ each h = absurd h
+  pub passed_by_all : (test : Function → Bool) (all : List Function → Bool) → all [] ≡ true → ((core : Function) (cores : List Function) → all (core ∷ cores) ≡ (test core && all cores)) → OfEach (λ core. test core ≡ true)
+      → all whole.functions ≡ true
+  passed_by_all test all none more each =
+      of_all (λ core. test core ≡ true) (λ cores. all cores ≡ true) none (λ core cores one others. more core cores ∙ and_from (test core) (all cores) one others) each
 
   pub program_checked : checked (core_program p) ≡ true
-  program_checked = all_checked p.functions whole.functions one_checked each_written
+  program_checked = passed_by_all (is_checked whole.types whole.functions) (are_checked whole.types whole.functions) refl (λ core cores. refl) (λ n f at core w. (one_body n f at core w).checked)
 
   pub program_plain : is_plain (core_program p) ≡ true
-  program_plain = all_plain p.functions whole.functions one_plain each_written
+  program_plain = passed_by_all (λ core. is_plain_tree whole.types whole.functions core core.body) (are_plain whole.types whole.functions) refl (λ core cores. refl) (λ n f at core w. (one_body n f at core w).stated.plain)
 
   pub program_breaks : have_own_breaks (core_program p) ≡ true
-  program_breaks = all_breaks p.functions whole.functions one_breaks each_written
+  program_breaks = passed_by_all has_own_breaks (list_all has_own_breaks) refl (λ core cores. refl) (λ n f at core w. (one_body n f at core w).stated.breaks)
 
   pub program_short : HaveShortPlaces whole.types whole.functions
-  program_short = all_short p.functions whole.functions one_short each_written
+  program_short = of_all (λ core. AreShort (elements_of whole.types core)) (HaveShortPlaces whole.types) tt (λ core cores one others. (one, others)) one_short
 
 -- ---- of what is built
 
 pub functions_built : (p : ProgramForm) → is_built p ≡ true → are_built_functions p.types p.functions ≡ true
 functions_built p b = (and_parts (has_no_structs p.structs) (are_built_functions p.types p.functions) (and_parts (has_built_types p.types) _ b).1).1
-
-pub translation_checked : (p : ProgramForm) → IsWellTyped p → HasResults p → is_built p ≡ true → checked (core_program p) ≡ true
-translation_checked p typed results b = program_checked p typed (functions_built p b) results
-
-pub translation_plain : (p : ProgramForm) → IsWellTyped p → HasResults p → is_built p ≡ true → is_plain (core_program p) ≡ true
-translation_plain p typed results b = program_plain p typed (functions_built p b) results
-
-pub translation_breaks : (p : ProgramForm) → IsWellTyped p → HasResults p → is_built p ≡ true → have_own_breaks (core_program p) ≡ true
-translation_breaks p typed results b = program_breaks p typed (functions_built p b) results
 
 pub translation_short : (p : ProgramForm) → IsWellTyped p → HasResults p → is_built p ≡ true → HaveShortPlaces (core_program p).types (core_program p).functions
 translation_short p typed results b = program_short p typed (functions_built p b) results

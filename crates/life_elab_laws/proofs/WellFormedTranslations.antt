@@ -1,5 +1,5 @@
 -- The core program of a well typed program that is built is well formed, and leaves alone what is given over.
-use Rattle.std.proofs.Common.{◌≡◌, ◌⊎◌, inl, inr, ℕ, zero, suc, true, List, [], ◌∷◌, length, nat_le, slice_get, Some, refl, sym, ◌∙◌, subst}
+use Rattle.std.proofs.Common.{◌≡◌, ◌⊎◌, inl, inr, ℕ, true, List, [], length, nat_le, slice_get, Some, refl, sym, ◌∙◌, subst}
 use Rattle.std.specs.List.{list_all}
 use Rattle.std.proofs.lemmas.Bool.{and_from, and_parts}
 use Rattle.life_types.specs.Trees.{IsOrdered}
@@ -21,7 +21,7 @@ use Rattle.life_elab_laws.proofs.ExpressionKinds.{variable_built}
 use Rattle.life_elab_laws.proofs.FlatLocals.{IsLocalType, flat_locals, variable_typed}
 use Rattle.life_elab_laws.proofs.GivenNothing.{gives_nothing, keeps_all}
 use Rattle.life_elab_laws.proofs.ProgramNames.{no_members, own_names}
-use Rattle.life_elab_laws.proofs.Programs.{AreWritten, IsWritten, each_written, front, functions_built, grows, one_formed as formed_body, one_head, parts, whole, whole_order}
+use Rattle.life_elab_laws.proofs.Programs.{IsWritten, each_written, front, functions_built, grows, one_body, one_head, parts, passed_by_all, whole, whole_order}
 use Rattle.life_elab_laws.proofs.Shaped.{variable_later}
 use Rattle.life_elab_laws.proofs.WrittenLocals.{IsIntermediate, IsOwn, fits_later}
 
@@ -53,7 +53,7 @@ module _ (p : ProgramForm) (typed : IsWellTyped p) (built : are_built_functions 
             (subst (λ (id : TyId). is_built_variable p.types id ≡ true) (sym is.of.typed) (variable_built p.types f.locals is.number is.variable (parts p typed built results n f at).variables is.there)))
 
     body_formed : is_well_formed_tree types texts functions core core.body ≡ true
-    body_formed = formed_body p typed built results n f at core w
+    body_formed = (one_body p typed built results n f at core w).stated.formed
 
     one_formed : HasNames p → is_well_formed_function types names texts functions core ≡ true
     one_formed named =
@@ -69,22 +69,8 @@ module _ (p : ProgramForm) (typed : IsWellTyped p) (built : are_built_functions 
 
   -- ---- all of them
 
-  all_formed : (fs : List FunctionForm) (cores : List Function) → ((n : ℕ) (f : FunctionForm) → slice_get fs n ≡ Some f → (core : Function) → IsWritten p types f core → is_well_formed_function types names texts functions core ≡ true)
-      → AreWritten p types fs cores → list_all (is_well_formed_function types names texts functions) cores ≡ true
-  all_formed [] [] each h = refl
-  all_formed (f ∷ fs) (core ∷ cores) each h =
-      and_from (is_well_formed_function types names texts functions core) (list_all (is_well_formed_function types names texts functions) cores) (each zero f refl core h.0) (all_formed fs cores (λ n. each (suc n)) h.1)
-  all_formed _ _ each h = absurd h
-
-  all_keep : (fs : List FunctionForm) (cores : List Function) → ((n : ℕ) (f : FunctionForm) → slice_get fs n ≡ Some f → (core : Function) → IsWritten p types f core → all_keep_given types core ≡ true)
-      → AreWritten p types fs cores → list_all (all_keep_given types) cores ≡ true
-  all_keep [] [] each h = refl
-  all_keep (f ∷ fs) (core ∷ cores) each h =
-      and_from (all_keep_given types core) (list_all (all_keep_given types) cores) (each zero f refl core h.0) (all_keep fs cores (λ n. each (suc n)) h.1)
-  all_keep _ _ each h = absurd h
-
   program_keeps : keeps_all_given (core_program p) ≡ true
-  program_keeps = all_keep p.functions functions one_keeps (each_written p typed built results)
+  program_keeps = passed_by_all p typed built results (all_keep_given types) (list_all (all_keep_given types)) refl (λ core cores. refl) one_keeps
 
   program_formed : HasNames p → IsOrdered p.types → p.types.structs ≡ [] → has_no_structs p.structs ≡ true → IsWellFormedProgram (core_program p)
   program_formed named ordered structs none =
@@ -93,7 +79,9 @@ module _ (p : ProgramForm) (typed : IsWellTyped p) (built : are_built_functions 
         table = order.ordered ordered;
         members = no_members names types.structs p.structs (order.structs ∙ structs) none;
         own_names = own_names p types p.functions functions (each_written p typed built results) ∙ named.own;
-        functions = all_formed p.functions functions (λ n f at core w. one_formed n f at core w named) (each_written p typed built results);
+        functions =
+            passed_by_all p typed built results (is_well_formed_function types names texts functions) (list_all (is_well_formed_function types names texts functions)) refl (λ core cores. refl)
+            (λ n f at core w. one_formed n f at core w named);
       }
 
 pub program_well_formed : (p : ProgramForm) → IsWellTyped p → HasResults p → HasNames p → IsOrdered p.types → p.types.structs ≡ [] → is_built p ≡ true → IsWellFormedProgram (core_program p)

@@ -22,7 +22,7 @@ use Rattle.life_well_typed.specs.Mains.{HasIntMain, HaveIntMains}
 use Rattle.life_well_typed.specs.Results.{HasResults}
 use Rattle.life_elab.specs.Programs.{around, core_program}
 use Rattle.life_elab_laws.proofs.GivingBack.{GivesValue}
-use Rattle.life_elab_laws.proofs.Programs.{AreWritten, IsWritten, each_written, functions_built, one_checked, one_returns, parts, typed_at, whole, written_number, written_result}
+use Rattle.life_elab_laws.proofs.Programs.{IsWritten, functions_built, of_all, one_body, parts, typed_at, whole, written_number, written_result}
 use Rattle.life_elab_laws.proofs.TypedKinds.{none_some}
 
 -- ---- what must be written is a value, and control doesn't run past the end
@@ -65,19 +65,14 @@ module _ (p : ProgramForm) (typed : IsWellTyped p) (built : are_built_functions 
     one_result : HasResultWritten p.names (whole p typed built results).types core
     one_result must = λ q hs l way here is.
         let g = gives must in
+        let body = one_body p typed built results n f at core w in
         subst (λ (h : Holding). Holds hs core.parameters h) (sym (written_number p typed built results n f at core w g.0))
-        (results_found (whole p typed built results).types (whole p typed built results).functions core (one_checked p typed built results n f at core w) core.parameters
-        (one_returns p typed built results n f at core w g) q hs l way here is)
-
-  -- .. and all of them
-  all_results : (fs : List FunctionForm) (cores : List Function)
-      → ((n : ℕ) (f : FunctionForm) → slice_get fs n ≡ Some f → (core : Function) → IsWritten p (whole p typed built results).types f core → HasResultWritten p.names (whole p typed built results).types core)
-      → AreWritten p (whole p typed built results).types fs cores → HaveResultsWritten p.names (whole p typed built results).types cores
-  all_results [] [] each h = tt
-  all_results (f ∷ fs) (core ∷ cores) each h = (each zero f refl core h.0, all_results fs cores (λ n. each (suc n)) h.1)
-  all_results _ _ each h = absurd h
+        (results_found (whole p typed built results).types (whole p typed built results).functions core body.checked core.parameters
+        (body.returns g) q hs l way here is)
 
 pub program_writes_results : (p : ProgramForm) → IsWellTyped p → HasResults p → HasIntMain p → is_built p ≡ true → WritesResults (core_program p)
 program_writes_results p typed results mains b =
     let built = functions_built p b in
-    all_results p typed built results mains p.functions (whole p typed built results).functions (one_result p typed built results mains) (each_written p typed built results)
+    let names = p.names in
+    let types = (whole p typed built results).types in
+    of_all p typed built results (HasResultWritten names types) (HaveResultsWritten names types) tt (λ core cores one others. (one, others)) (one_result p typed built results mains)
