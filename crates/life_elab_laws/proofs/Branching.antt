@@ -14,7 +14,7 @@ use Rattle.life_writer.specs.Around.{Around, result_local}
 use Rattle.life_writer.specs.Writing.{State, Gives, with_code, write}
 use Rattle.life_elab_laws.proofs.Doing.{Acting, DoesLevel}
 use Rattle.life_elab_laws.proofs.Exits.{Knows, Leaves, MayKnow, knows_written, leaves_falling, leaves_joined, leaves_may, leaves_same}
-use Rattle.life_elab_laws.proofs.Following.{Adds, Follows, adds_coded, adds_then, adds_uncoded, begins_added, follows_coded, follows_grown, follows_named, grows_adds, knows_alive}
+use Rattle.life_elab_laws.proofs.Following.{Adds, Follows, adds_then, begins_added, follows_grown, follows_named, grows_adds, knows_alive}
 use Rattle.life_elab_laws.proofs.GivingBack.{GivesValue, asks_known, known_may}
 use Rattle.life_elab_laws.proofs.Growing.{Begins}
 use Rattle.life_elab_laws.proofs.OrderedTypes.{order_then}
@@ -27,7 +27,7 @@ module _ (types : Types) (texts : ℕ) (fs : List Function) (f : Function) where
 
   module _ (a : Around) (v : Visible) (in_loop : Bool) (s : State) (w : Gives Tree) (h : Follows types fs f a v s) (test : Tests types texts fs f s w) where
     pub tested_follows : Follows types fs f a v (with_code [] w.state)
-    tested_follows = follows_coded types fs f a v w.state [] (follows_grown types fs f a v s w.state test.grown h)
+    tested_follows = follows_grown types fs f a v s w.state test.grown h
 
     pub same_outside : take w.state.outside w.state.living ≡ take s.outside s.living
     same_outside = ap (λ (n : ℕ). take n w.state.living) test.grown.outside ∙ ap (take s.outside) test.grown.living
@@ -48,20 +48,19 @@ module _ (types : Types) (texts : ℕ) (fs : List Function) (f : Function) where
 
       branched_adds : Adds types fs f s both
       branched_adds =
-          adds_coded types fs f s r (w.state.code ++ Choice w.given (trees t.code) (trees r.code) ∷ [])
-          (adds_then types fs f s t r
-          (adds_then types fs f s w.state t (grows_adds types fs f s w.state test.grown) (adds_uncoded types fs f w.state t [] first.does.adds))
-          (adds_uncoded types fs f t r [] second.does.adds))
+          adds_then types fs f s t r
+          (adds_then types fs f s w.state t (grows_adds types fs f s w.state test.grown) first.does.adds)
+          second.does.adds
 
       branched_level : r.living ≡ s.living
       branched_level = second.level ∙ first.level ∙ test.grown.living
 
       module _ (b : Begins types f r) where
         begun : Begins types f t
-        begun = begins_added types fs f t r (adds_uncoded types fs f t r [] second.does.adds) b
+        begun = begins_added types fs f t r second.does.adds b
 
         tested : Begins types f w.state
-        tested = begins_added types fs f w.state t (adds_uncoded types fs f w.state t [] first.does.adds) begun
+        tested = begins_added types fs f w.state t first.does.adds begun
 
         asks : AsksAll types texts fs f s w.given
         asks = test.runs tested
@@ -120,14 +119,14 @@ module _ (types : Types) (texts : ℕ) (fs : List Function) (f : Function) where
           adds = branched_adds;
           locals = λ are. second.does.locals (first.does.locals (locals_added types a s w.state test.grown.types test.registers are));
           order = order_then s.types w.state.types r.types test.registers.1 (order_then w.state.types t.types r.types first.does.order second.does.order);
-          follows = follows_coded types fs f a x r (w.state.code ++ Choice w.given (trees t.code) (trees r.code) ∷ []) second.does.follows;
+          follows = second.does.follows;
           code = chosen ∷ [];
           written =
               ap (λ (c : List Tree). c ++ Choice w.given (trees t.code) (trees r.code) ∷ []) test.unwritten
               ∙ ap (λ (c : List Tree). s.code ++ Choice w.given (trees c) (trees r.code) ∷ []) first.does.written
               ∙ ap (λ (c : List Tree). s.code ++ Choice w.given (trees first.does.code) (trees c) ∷ []) second.does.written;
-          acts = λ b. branched_acts (record { locals = b.locals; table = b.table });
-          returns = λ b gives o k. branched_returns (record { locals = b.locals; table = b.table }) gives o k;
+          acts = branched_acts;
+          returns = branched_returns;
         };
         level = branched_level;
       }
@@ -157,14 +156,14 @@ module _ (types : Types) (texts : ℕ) (fs : List Function) (f : Function) where
     pub asserted_does : (keyword : Place) → DoesLevel types texts fs f a v in_loop s (write (Choice w.given Skip (Stops keyword)) w.state)
     asserted_does keyword = record {
       does = record {
-        adds = adds_coded types fs f s w.state (w.state.code ++ Choice w.given Skip (Stops keyword) ∷ []) (grows_adds types fs f s w.state test.grown);
+        adds = grows_adds types fs f s w.state test.grown;
         locals = locals_added types a s w.state test.grown.types test.registers;
         order = test.registers.1;
-        follows = follows_coded types fs f a v w.state (w.state.code ++ Choice w.given Skip (Stops keyword) ∷ []) (follows_grown types fs f a v s w.state test.grown h);
+        follows = follows_grown types fs f a v s w.state test.grown h;
         code = Choice w.given Skip (Stops keyword) ∷ [];
         written = ap (λ (c : List Tree). c ++ Choice w.given Skip (Stops keyword) ∷ []) test.unwritten;
-        acts = λ b. asserted_acts keyword (record { locals = b.locals; table = b.table });
-        returns = λ b gives o k. ((asks_known types fs f (result_local a) texts w.given (test.runs (record { locals = b.locals; table = b.table })).fine o, (tt, tt)), tt);
+        acts = asserted_acts keyword;
+        returns = λ b gives o k. ((asks_known types fs f (result_local a) texts w.given (test.runs b).fine o, (tt, tt)), tt);
       };
       level = test.grown.living;
     }

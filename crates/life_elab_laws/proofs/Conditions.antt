@@ -73,18 +73,10 @@ module _ (types : Types) (texts : ℕ) (fs : List Function) (f : Function) where
   pub tested_part : {A : Type 0} (place : Place) (test : A → Test) (value : State → Gives A) (s : State) (Q : Gift types texts fs f A) → ((x : A) (n : ℕ) (k : List Known) → Q.ready x n k → is_test_ready k (test x) ≡ true)
       → ((x : A) → Q.typed x → is_well_formed_test types texts fs f (test x) ≡ true) → Makes types texts fs f None (with_code [] s) (value (with_code [] s)) Q → Tests s (tested place (λ s. mapped test (value s)) s)
   tested_part {A = A} place test value s Q ready formed made = record {
-    grown = record {
-      locals = made.grown.locals;
-      types = made.grown.types;
-      count = made.grown.count;
-      variables = made.grown.variables;
-      living = made.grown.living;
-      outside = made.grown.outside;
-      shaped = made.grown.shaped;
-    };
+    grown = made.grown;
     registers = made.registers;
     unwritten = refl;
-    runs = λ b. subst (λ (c : List Tree). AsksAll s (Then (trees c) (Asks place (test w.given)))) (sym made.written) (all (made.runs (record { locals = b.locals; table = b.table }) tt));
+    runs = λ b. subst (λ (c : List Tree). AsksAll s (Then (trees c) (Asks place (test w.given)))) (sym made.written) (all (made.runs b tt));
   }
     where
       w : Gives A
@@ -93,12 +85,12 @@ module _ (types : Types) (texts : ℕ) (fs : List Function) (f : Function) where
       all : Runs types texts fs f (nothing types texts fs f) tt None (with_code [] s) w Q made.code → AsksAll s (Then (trees made.code) (Asks place (test w.given)))
       all r = record {
         fine = fine_behind types texts fs f made.code (Asks place (test w.given)) r.fine (fine_asks types texts fs f place (test w.given) (formed w.given r.typed));
-        goes = λ k alive. let g = r.goes k (record { sized = alive.sized; living = alive.living }) tt in record {
+        goes = λ k alive. let g = r.goes k alive tt in record {
           on = g.after;
           off = g.after;
           decides = decides_behind types fs f made.code (Asks place (test w.given)) k g.after g.after g.after g.falls (decides_asks types fs f place (test w.given) g.after (ready w.given (length w.state.locals) g.after g.gives));
-          keeps_on = record { sized = g.keeps.sized; below = g.keeps.below; named = g.keeps.named };
-          keeps_off = record { sized = g.keeps.sized; below = g.keeps.below; named = g.keeps.named };
+          keeps_on = g.keeps;
+          keeps_off = g.keeps;
         };
       }
 
@@ -252,21 +244,11 @@ module _ (types : Types) (texts : ℕ) (fs : List Function) (f : Function) where
 
       made : (w : Gives ℕ) → Targets types fs f ANumber into (condition s).state w → (Begins types f w.state → is_number_of types f t w.given ≡ true) → Makes types texts fs f into s (branched place (condition s).given w.given w.state) (a_number types texts fs f t)
       made w target number = record {
-        grown = record {
-          locals = (grows_then s (condition s).state w.state test.grown target.grown).locals;
-          types = (grows_then s (condition s).state w.state test.grown target.grown).types;
-          count = (grows_then s (condition s).state w.state test.grown target.grown).count;
-          variables = (grows_then s (condition s).state w.state test.grown target.grown).variables;
-          living = (grows_then s (condition s).state w.state test.grown target.grown).living;
-          outside = (grows_then s (condition s).state w.state test.grown target.grown).outside;
-          shaped = (grows_then s (condition s).state w.state test.grown target.grown).shaped;
-        };
+        grown = grows_then s (condition s).state w.state test.grown target.grown;
         registers = registers_then types s (condition s).state w.state target.grown.types test.registers target.registers;
         code = chosen w.given ∷ [];
         written = ap (λ (c : List Tree). c ++ chosen w.given ∷ []) (target.unwritten ∙ test.unwritten);
-        runs = λ b p.
-            let here : Begins types f w.state = record { locals = b.locals; table = b.table } in
-            run w target (target.there here) (number here) (test.runs (begins_before types f (condition s).state w.state target.grown here));
+        runs = λ b p. run w target (target.there b) (number b) (test.runs (begins_before types f (condition s).state w.state target.grown b));
       }
 
   -- ---- any condition

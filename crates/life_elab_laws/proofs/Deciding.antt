@@ -25,7 +25,7 @@ use Rattle.life_elab_laws.proofs.ExpressionTypes.{null_stands, null_type}
 use Rattle.life_elab_laws.proofs.Gifts.{a_pointer}
 use Rattle.life_elab_laws.proofs.Parts.{Makes}
 use Rattle.life_elab_laws.proofs.TypedKinds.{AreEquated, IsCombined, IsOperand, as_numbers, computed_numbers, equated_kinds, joined_kinds, none_some, null_left, null_right, some_same}
-use Rattle.life_elab_laws.proofs.VariablePlaces.{Stands, stands_apart, stands_later}
+use Rattle.life_elab_laws.proofs.VariablePlaces.{Stands, stands_later}
 
 module _ (a : Around) (visible : List ℕ) (types : Types) (texts : ℕ) (fs : List Function) (f : Function) where
   abbrev Whole : Form → Type 0
@@ -70,17 +70,14 @@ module _ (a : Around) (visible : List ℕ) (types : Types) (texts : ℕ) (fs : L
       number_null : (t : ExprType) → t ≡ NullPointer → is_number t ≡ true → ⊥
       number_null t is n = false≢true (sym (ap is_number is) ∙ n)
 
-      apart : Standing (with_code [] s)
-      apart = stands_apart types fs f a visible s stands
-
       right_pointer : AreEquated (typed_in left).ty (typed_in right).ty → (typed_in left).ty ≡ NullPointer → Raw s (pointer a right)
       right_pointer (as_numbers x y) is = absurd (number_null (typed_in left).ty is x)
       right_pointer (null_right u at raw other) is = absurd (of_null (typed_in left).ty u is at)
-      right_pointer (null_left u at other raw) is = (u, raw, from_right u other raw (with_code [] s) apart)
+      right_pointer (null_left u at other raw) is = (u, raw, from_right u other raw (with_code [] s) stands)
 
       left_pointer : AreEquated (typed_in left).ty (typed_in right).ty → (typed_in right).ty ≡ NullPointer → Raw s (pointer a left)
       left_pointer (as_numbers x y) is = absurd (number_null (typed_in right).ty is y)
-      left_pointer (null_right u at raw other) is = (u, raw, from_left u at raw (with_code [] s) apart)
+      left_pointer (null_right u at raw other) is = (u, raw, from_left u at raw (with_code [] s) stands)
       left_pointer (null_left u at other raw) is = absurd (of_null (typed_in right).ty u is other)
 
       go : (b c : Bool) → stands_for_null left ≡ b → stands_for_null right ≡ c

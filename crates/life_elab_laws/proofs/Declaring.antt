@@ -26,7 +26,7 @@ use Rattle.life_elab_laws.proofs.Among.{Among, among_either, among_left, among_r
 use Rattle.life_elab_laws.proofs.Doing.{Acting, Does}
 use Rattle.life_elab_laws.proofs.Exits.{Knows, Leaves, knows_written, leaves_falling, leaves_may}
 use Rattle.life_elab_laws.proofs.Falling.{Falls, falls_append}
-use Rattle.life_elab_laws.proofs.Following.{Adds, Follows, IsLiving, adds_coded, adds_then, begins_added, follows_below, follows_coded, follows_grown, follows_named, grows_adds, knows_alive, same_variable}
+use Rattle.life_elab_laws.proofs.Following.{Adds, Follows, IsLiving, adds_then, begins_added, follows_below, follows_grown, follows_named, grows_adds, knows_alive, same_variable}
 use Rattle.life_elab_laws.proofs.Fronts.{IsFront, front_append, front_itself, front_then, last_there}
 use Rattle.life_elab_laws.proofs.GivingBack.{fine_known, known_append}
 use Rattle.life_elab_laws.proofs.Growing.{Begins}
@@ -246,14 +246,14 @@ module _ (types : Types) (texts : ℕ) (fs : List Function) (f : Function) (a : 
 
     pub declared_does : Does types texts fs f a (with_next v) in_loop s done
     declared_does = record {
-      adds = adds_coded types fs f s (with_new (variable_local a u) w.state) (w.state.code ++ code) adds;
+      adds = adds;
       locals = λ are.
           own_added types a w.state (variable_local a u) (record { number = v.declared; variable = u; there = at; of = its_local a u })
           (locals_added types a s w.state made.grown.types made.registers are);
       order = made.registers.1;
-      follows = follows_coded types fs f a (with_next v) (with_new (variable_local a u) w.state) (w.state.code ++ code) (follows_new types fs f a front v u (variable_local a u) (its_local a u) w.state later at built);
+      follows = follows_new types fs f a front v u (variable_local a u) (its_local a u) w.state later at built;
       code = made.code ++ code;
       written = ap (λ (c : List Tree). c ++ code) made.written ∙ append_assoc s.code made.code code;
-      acts = λ b. acting (record { locals = b.locals; table = b.table });
-      returns = λ b gives o k. no_returns (record { locals = b.locals; table = b.table }) o;
+      acts = acting;
+      returns = λ b gives o k. no_returns b o;
     }

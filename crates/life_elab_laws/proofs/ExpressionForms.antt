@@ -39,7 +39,7 @@ use Rattle.life_elab_laws.proofs.Instructions.{IsIntoOf, as_type_part, located_p
 use Rattle.life_elab_laws.proofs.Parts.{Makes, then_part}
 use Rattle.life_elab_laws.proofs.Setting.{Setting}
 use Rattle.life_elab_laws.proofs.TypedKinds.{IsKind, a_number as is_number_kind, kind_same, none_some, value_place}
-use Rattle.life_elab_laws.proofs.VariablePlaces.{Stands, stands_apart}
+use Rattle.life_elab_laws.proofs.VariablePlaces.{Stands}
 use Rattle.life_elab_laws.proofs.WrittenLocals.{fits_below, fits_later, fits_register}
 
 module _ (a : Around) (visible : List ℕ) (types : Types) (texts : ℕ) (fs : List Function) (f : Function) (setting : Setting a types fs f) where
@@ -156,15 +156,14 @@ module _ (a : Around) (visible : List ℕ) (types : Types) (texts : ℕ) (fs : L
     points = is.points;
     pointers = λ u at raw s stands. pointer_part (pointing a form) t u place s at raw (fits u at raw) stands (is.points (ap is_pointer at ∙ raw) s stands);
     conditions = λ h s stands.
-        let apart = stands_apart types fs f a visible s stands in
         condition_part types texts fs f (decision a form place) (own_type t) place (pointer a (typed place t c form)) (values.read_or_made (own_type t) place c (operand a form) (made a form place (own_type t)) None) s
         (λ w at. is.decides place w at s stands)
-        (λ none raw. let at = raw_is t raw in pointer_part (pointing a form) t (own_type t) place (with_code [] s) at raw (fits (own_type t) at raw) apart (is.points (ap is_pointer at ∙ raw) (with_code [] s) apart))
+        (λ none raw. let at = raw_is t raw in pointer_part (pointing a form) t (own_type t) place (with_code [] s) at raw (fits (own_type t) at raw) stands (is.points (ap is_pointer at ∙ raw) (with_code [] s) stands))
         (λ none raw.
         let n = condition_number a.program.types e is.kind.kind h raw in
-        value_from None (own_type t) place c (operand a form) (made a form place (own_type t)) None (with_code [] s) (own_value t n) tt apart (λ w at. absurd (none_some at))
-        (λ un at. is.computes at n place none None (with_code [] s) tt apart)
-        (λ id constant at. named n id constant at (with_code [] s) apart));
+        value_from None (own_type t) place c (operand a form) (made a form place (own_type t)) None (with_code [] s) (own_value t n) tt stands (λ w at. absurd (none_some at))
+        (λ un at. is.computes at n place none None (with_code [] s) tt stands)
+        (λ id constant at. named n id constant at (with_code [] s) stands));
     decides = λ at w eq s stands. is.decides place w eq s stands;
     calls = is.calls;
   }

@@ -6,29 +6,31 @@ use Rattle.life_types.specs.declared.ty.NameId.{NameId}
 use Rattle.life_typed.specs.BaseTypes.{is_value, type_at}
 use Rattle.life_typed.specs.declared.typed_program.TypedLocal.{TypedLocal}
 use Rattle.life_core.specs.Function.{Function}
-use Rattle.life_core.specs.Tree.{Tree}
 use Rattle.life_core.specs.declared.program.Local.{Local}
 use Rattle.life_proper.specs.declared.known.Known.{Known}
 use Rattle.life_well_typed.specs.Visible.{Visible, behind}
 use Rattle.life_writer.specs.Around.{Around, result_local}
 use Rattle.life_writer.specs.Variables.{variable}
-use Rattle.life_writer.specs.Writing.{State, with_code}
+use Rattle.life_writer.specs.Writing.{State}
 use Rattle.life_elab_laws.proofs.Among.{Among, Ascend, contains_among}
 use Rattle.life_elab_laws.proofs.Emitting.{IsWanted}
 use Rattle.life_elab_laws.proofs.Ending.{CanEnd}
 use Rattle.life_elab_laws.proofs.Exits.{AreNamed, Knows}
 use Rattle.life_elab_laws.proofs.Fronts.{IsFront, front_itself, front_length, front_then}
-use Rattle.life_elab_laws.proofs.Growing.{Begins, Grows}
+use Rattle.life_elab_laws.proofs.Growing.{Begins, Grows, bare}
 use Rattle.life_elab_laws.proofs.Making.{Alive}
 use Rattle.life_elab_laws.proofs.Shaped.{AreShaped}
 use Rattle.life_elab_laws.proofs.VariablePlaces.{IsVariableAt, Stands}
 
 -- the local of a living variable: it has a name
-pub record IsLiving (s : State) (y : ℕ) : Type 0 where
+pub record IsLivingBare (s : State) (y : ℕ) : Type 0 where
   pub local : Local
   pub there : slice_get s.locals y ≡ Some local
   pub name : NameId
   pub named : local.name ≡ Some name
+
+abbrev pub IsLiving : State → ℕ → Type 0
+IsLiving s y = IsLivingBare (bare s) y
 
 -- the register of the result is there, of its type, where the function gives a value back
 abbrev pub HasRegister : Around → State → Type 0
@@ -49,7 +51,7 @@ register_later a s s' locals table h worth = let is = (h worth).0 in (
 )
 
 module _ (types : Types) (fs : List Function) (f : Function) where
-  pub record Follows (a : Around) (v : Visible) (s : State) : Type 0 where
+  pub record FollowsBare (a : Around) (v : Visible) (s : State) : Type 0 where
     pub count : length s.variables ≡ v.declared
     pub visible : (x : ℕ) → Contains v.visible x → x < v.declared
     pub stands : Stands types fs f a v.visible s
@@ -57,6 +59,9 @@ module _ (types : Types) (fs : List Function) (f : Function) where
     pub outside : s.outside ≤ length s.living
     pub living : (y : ℕ) → Among y s.living → IsLiving s y
     pub sorts : Begins types f s → CanEnd types fs f s.living
+
+  abbrev pub Follows : Around → Visible → State → Type 0
+  Follows a v s = FollowsBare a v (bare s)
 
   -- between statements all that is asked of expressions is there
   pub knows_alive : (a : Around) (v : Visible) (s : State) (k : List Known) → Knows types fs f s.living k → Alive types fs f s k
@@ -70,13 +75,16 @@ module _ (types : Types) (fs : List Function) (f : Function) where
 
   -- ---- statements add to what has been written
 
-  pub record Adds (s s' : State) : Type 0 where
+  pub record AddsBare (s s' : State) : Type 0 where
     pub locals : IsFront s.locals s'.locals
     pub table : IsFront s.types.types s'.types.types
     pub variables : IsFront s.variables s'.variables
     pub living : take (length s.living) s'.living ≡ s.living
     pub outside : s'.outside ≡ s.outside
     pub shaped : AreShaped types s.locals → AreShaped types s'.locals
+
+  abbrev pub Adds : State → State → Type 0
+  Adds s s' = AddsBare (bare s) (bare s')
 
   pub take_itself : (xs : List ℕ) → take (length xs) xs ≡ xs
   take_itself [] = refl
@@ -127,10 +135,6 @@ module _ (types : Types) (fs : List Function) (f : Function) where
     outside = g.outside;
     shaped = g.shaped types;
   }
-
-  -- .. whatever list is being written
-  pub adds_coded : (s s' : State) (code : List Tree) → Adds s s' → Adds s (with_code code s')
-  adds_coded s s' code g = record { locals = g.locals; table = g.table; variables = g.variables; living = g.living; outside = g.outside; shaped = g.shaped }
 
   pub begins_added : (s s' : State) → Adds s s' → Begins types f s' → Begins types f s
   begins_added s s' g b = record {
@@ -188,13 +192,6 @@ module _ (types : Types) (fs : List Function) (f : Function) where
 
   pub follows_grown : (a : Around) (v : Visible) (s s' : State) → Grows s s' → Follows a v s → Follows a v s'
   follows_grown a v s s' g h = follows_again a v s s' v.declared h g.locals g.types (subst (IsFront s.variables) (sym g.variables) (front_itself s.variables)) g.living (omega (arith, g.outside, ap length g.living, h.outside)) (ap length g.variables ∙ h.count) (omega arith)
-
-  pub follows_coded : (a : Around) (v : Visible) (s : State) (code : List Tree) → Follows a v s → Follows a v (with_code code s)
-  follows_coded a v s code h = follows_again a v s (with_code code s) v.declared h (front_itself s.locals) (front_itself s.types.types) (front_itself s.variables) refl h.outside h.count (omega arith)
-
-  -- .. and where a list of its own has been written
-  pub adds_uncoded : (s s' : State) (code : List Tree) → Adds (with_code code s) s' → Adds s s'
-  adds_uncoded s s' code g = record { locals = g.locals; table = g.table; variables = g.variables; living = g.living; outside = g.outside; shaped = g.shaped }
 
   -- what was visible before is visible again, where the same lives
   pub visible_again : (a : Around) (v u : Visible) (s t : State) → Follows a v s → Adds s t → Follows a u t → t.living ≡ s.living → Follows a (behind v u) t

@@ -1,5 +1,5 @@
 -- How what has been written grows, and what the finished function has of it.
-use Rattle.std.proofs.Common.{◌≡◌, ◌<◌, ◌≤◌, ℕ, [], ◌∷◌, length, slice_get, Option, Some, None, refl, ap, ◌∙◌, arith, length-append, true≢false}
+use Rattle.std.proofs.Common.{◌≡◌, ◌<◌, ◌≤◌, ℕ, List, [], ◌∷◌, length, slice_get, Option, Some, None, refl, ap, ◌∙◌, arith, length-append, true≢false}
 use Rattle.life_types.specs.Types.{Types, class}
 use Rattle.life_types.specs.declared.place.Place.{Place}
 use Rattle.life_types.specs.declared.ty.Ty.{Ty}
@@ -8,13 +8,17 @@ use Rattle.life_core.specs.Holdings.{held_by, held_if, sort_of}
 use Rattle.life_core.specs.declared.program.Local.{Local}
 use Rattle.life_core.specs.declared.program.LocalKind.TheVariants.{Register}
 use Rattle.life_writer.specs.Registers.{nameless, new_register, type_number, typed_with}
-use Rattle.life_writer.specs.Writing.{State}
+use Rattle.life_writer.specs.Writing.{State, with_code}
 use Rattle.life_elab_laws.proofs.Fronts.{IsFront, front_append, front_itself, front_then, last_there}
 use Rattle.life_elab_laws.proofs.Shaped.{AreShaped, shaped_more}
 use Rattle.life_elab_laws.proofs.Types.{type_added, types_before}
 
+-- without the list of statements that is being written: what is told of the rest holds whatever list that is
+abbrev pub bare : State → State
+bare s = with_code [] s
+
 -- locals and types are added behind those that there are; the variables stay
-pub record Grows (s s' : State) : Type 0 where
+pub record GrowsBare (s s' : State) : Type 0 where
   pub locals : IsFront s.locals s'.locals
   pub types : IsFront s.types.types s'.types.types
   pub count : length s.locals ≤ length s'.locals
@@ -22,6 +26,9 @@ pub record Grows (s s' : State) : Type 0 where
   pub living : s'.living ≡ s.living
   pub outside : s'.outside ≡ s.outside
   pub shaped : (types : Types) → AreShaped types s.locals → AreShaped types s'.locals
+
+abbrev pub Grows : State → State → Type 0
+Grows s s' = GrowsBare (bare s) (bare s')
 
 pub grows_none : (s : State) → Grows s s
 grows_none s = record {
@@ -48,9 +55,12 @@ grows_then s t u g h = record {
 -- ---- the finished function
 
 -- what has been written so far is what the finished function and the finished table begin with
-pub record Begins (types : Types) (f : Function) (s : State) : Type 0 where
-  pub locals : IsFront s.locals f.locals
-  pub table : IsFront s.types.types types.types
+pub record BeginsWith (types : Types) (f : Function) (written : List Local) (found : List Ty) : Type 0 where
+  pub locals : IsFront written f.locals
+  pub table : IsFront found types.types
+
+abbrev pub Begins : Types → Function → State → Type 0
+Begins types f s = BeginsWith types f s.locals s.types.types
 
 pub begins_before : (types : Types) (f : Function) (s s' : State) → Grows s s' → Begins types f s' → Begins types f s
 begins_before types f s s' g b = record {

@@ -35,9 +35,9 @@ use Rattle.life_writer.specs.Values as values
 use Rattle.life_writer.specs.Writing.{Gives, State, emit, gives}
 use Rattle.life_elab_laws.proofs.Emitting.{IsInto, IsNameless, IsWanted, Targets, keeps_set, new_targeted, targeted}
 use Rattle.life_elab_laws.proofs.Falling.{falling, falls_acts}
-use Rattle.life_elab_laws.proofs.Fronts.{front_itself, last_there}
+use Rattle.life_elab_laws.proofs.Fronts.{last_there}
 use Rattle.life_elab_laws.proofs.Gifts.{Gift, IsAt, IsGivenTo, a_number, a_place, a_pointer, a_pointing, both, nothing}
-use Rattle.life_elab_laws.proofs.Growing.{Begins, Grows, added}
+use Rattle.life_elab_laws.proofs.Growing.{Begins, Grows, added, grows_none}
 use Rattle.life_elab_laws.proofs.Held.{number_held, number_sort, place_ready}
 use Rattle.life_elab_laws.proofs.Knowledge.{at_set}
 use Rattle.life_elab_laws.proofs.Making.{IsOpen, IsPointing, Keeps}
@@ -93,19 +93,11 @@ module _ (types : Types) (texts : ℕ) (fs : List Function) (f : Function) where
       → ((k : List Known) → w.given < length w.state.locals → known_at k w.given ≡ known_as h → sort_of types f w.given ≡ h → O.ready y (length w.state.locals) k)
       → Part types texts fs f P x into s (gives y (emit place (step w.given) w.state)) O
   emit_part P x into s w h place step y O t typed ready after plain given = record {
-    grown = record {
-      locals = t.grown.locals;
-      types = t.grown.types;
-      count = t.grown.count;
-      variables = t.grown.variables;
-      living = t.grown.living;
-      outside = t.grown.outside;
-      shaped = t.grown.shaped;
-    };
+    grown = t.grown;
     registers = t.registers;
     code = Acts place (step w.given) ∷ [];
     written = ap (λ c. c ++ Acts place (step w.given) ∷ []) t.unwritten;
-    runs = λ b p. let here : Begins types f w.state = record { locals = b.locals; table = b.table } in runs (t.there here) (typed here p);
+    runs = λ b p. runs (t.there b) (typed b p);
   }
     where
       runs : IsNameless types fs f h w.given → (is_well_formed_step types texts fs f (step w.given) ≡ true) × O.typed y → Runs types texts fs f P x into s (gives y (emit place (step w.given) w.state)) O (Acts place (step w.given) ∷ [])
@@ -323,15 +315,7 @@ module _ (types : Types) (texts : ℕ) (fs : List Function) (f : Function) where
       → ((n m : ℕ) (k : List Known) → P.ready x n k → Keeps types fs f m None k (known_after types f i k)) → is_by_value types fs f i ≡ true
       → Part types texts fs f P x None s (gives tt (emit place i s)) (nothing types texts fs f)
   acted_part P x place i s formed ready after plain = record {
-    grown = record {
-      locals = front_itself s.locals;
-      types = front_itself s.types.types;
-      count = omega arith;
-      variables = refl;
-      living = refl;
-      outside = refl;
-      shaped = λ types h. h;
-    };
+    grown = grows_none s;
     registers = registers_none types s;
     code = Acts place i ∷ [];
     written = refl;

@@ -24,7 +24,7 @@ use Rattle.life_elab_laws.proofs.Doing.{Acting, Does}
 use Rattle.life_elab_laws.proofs.Ending.{end_knows, end_ready}
 use Rattle.life_elab_laws.proofs.Exits.{Knows, Leaves, MayKnow, leaves_falling, leaves_may, leaves_then}
 use Rattle.life_elab_laws.proofs.Falling.{Falls, falling, falls_acts, flow_append}
-use Rattle.life_elab_laws.proofs.Following.{Follows, adds_coded, adds_none, follows_again, follows_coded, take_itself}
+use Rattle.life_elab_laws.proofs.Following.{Follows, adds_none, follows_again, take_itself}
 use Rattle.life_elab_laws.proofs.FormedEnds.{all_end, variable_ends}
 use Rattle.life_elab_laws.proofs.Fronts.{front_length}
 use Rattle.life_elab_laws.proofs.GivingBack.{GivesValue, fine_known, known_append}
@@ -128,11 +128,10 @@ module _ (types : Types) (texts : ℕ) (fs : List Function) (f : Function) where
           (omega (arith, h.count, inner.follows.count, front_length s.variables t.variables inner.adds.variables));
       code = inner.code ++ e.code;
       written = ap (λ (c : List Tree). c ++ e.code) inner.written ∙ append_assoc s.code inner.code e.code;
-      acts = λ b. ended_acts e (record { locals = b.locals; table = b.table });
+      acts = ended_acts e;
       returns = λ b gives o k.
-          let last : Begins types f t = record { locals = b.locals; table = b.table } in
-          known_append types fs f (result_local a) inner.code e.code o (inner.returns last gives o k)
-          (fine_known types fs f (result_local a) texts e.code (past_fine a setting u t inner.follows last (length s.living) place e) (flow types fs f (trees inner.code) o).next);
+          known_append types fs f (result_local a) inner.code e.code o (inner.returns b gives o k)
+          (fine_known types fs f (result_local a) texts e.code (past_fine a setting u t inner.follows b (length s.living) place e) (flow types fs f (trees inner.code) o).next);
     }
 
     pub block_does : Does types texts fs f a (behind v u) in_loop s (end_since place (length s.living) t)
@@ -164,17 +163,16 @@ module _ (types : Types) (texts : ℕ) (fs : List Function) (f : Function) where
     left_from : (GivesValue a → (o : Knowing) → ReturnsKnown types fs f (result_local a) (trees (t ∷ [])) o) → (e : IsEnded (reverse (drop n s.living)) place s)
         → Does types texts fs f a v in_loop s (write t (with_code (s.code ++ e.code) s))
     left_from back e = record {
-      adds = adds_coded types fs f s s ((s.code ++ e.code) ++ t ∷ []) (adds_none types fs f s);
+      adds = adds_none types fs f s;
       locals = λ are. are;
       order = order_none s.types;
-      follows = follows_coded types fs f a v s ((s.code ++ e.code) ++ t ∷ []) h;
+      follows = h;
       code = e.code ++ t ∷ [];
       written = append_assoc s.code e.code (t ∷ []);
-      acts = λ b. left_acts e (record { locals = b.locals; table = b.table });
+      acts = left_acts e;
       returns = λ b gives o k.
           let ends : Knowing = (flow types fs f (trees e.code) o).next in
-          let fine = past_fine a setting v s h (record { locals = b.locals; table = b.table }) n place e in
-          known_append types fs f (result_local a) e.code (t ∷ []) o (fine_known types fs f (result_local a) texts e.code fine o) (back gives ends);
+          known_append types fs f (result_local a) e.code (t ∷ []) o (fine_known types fs f (result_local a) texts e.code (past_fine a setting v s h b n place e) o) (back gives ends);
     }
 
     pub left_does : (GivesValue a → (o : Knowing) → ReturnsKnown types fs f (result_local a) (trees (t ∷ [])) o) → Does types texts fs f a v in_loop s (left n place t s)

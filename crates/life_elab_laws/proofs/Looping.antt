@@ -21,7 +21,7 @@ use Rattle.life_elab_laws.proofs.Branching.{known_behind}
 use Rattle.life_elab_laws.proofs.Doing.{Acting, DoesLevel}
 use Rattle.life_elab_laws.proofs.Exits.{AreNamed, Knows, Leaves, MayKnow, MayLeave, forgotten_implied, leaves_joined, leaves_may, leaves_same, may_met, none_leaves}
 use Rattle.life_elab_laws.proofs.Falling.{deciding}
-use Rattle.life_elab_laws.proofs.Following.{Adds, Follows, adds_coded, adds_then, adds_uncoded, begins_added, follows_again, follows_coded, follows_grown, follows_named, grows_adds, knows_alive, take_itself, visible_again}
+use Rattle.life_elab_laws.proofs.Following.{Adds, Follows, adds_then, begins_added, follows_again, follows_grown, follows_named, grows_adds, knows_alive, take_itself, visible_again}
 use Rattle.life_elab_laws.proofs.Fronts.{front_itself}
 use Rattle.life_elab_laws.proofs.GivingBack.{GivesValue, asks_known, known_may}
 use Rattle.life_elab_laws.proofs.Growing.{Begins}
@@ -137,12 +137,9 @@ module _ (types : Types) (texts : ℕ) (fs : List Function) (f : Function) where
         shaped = body.does.adds.shaped;
       }
 
-      to_step : Adds types fs f (past t) r
-      to_step = adds_uncoded types fs f (past t) r [] step.does.adds
-
       module _ (b : Begins types f r) where
         begun : Begins types f (past t)
-        begun = begins_added types fs f (past t) r to_step b
+        begun = begins_added types fs f (past t) r step.does.adds b
 
         tested : Begins types f w.state
         tested = begins_added types fs f w.state (past t) to_body begun
@@ -150,11 +147,8 @@ module _ (types : Types) (texts : ℕ) (fs : List Function) (f : Function) where
         asks : AsksAll types texts fs f s w.given
         asks = test.runs tested
 
-        begun_inside : Begins types f t
-        begun_inside = record { locals = begun.locals; table = begun.table }
-
         one : Acting types texts fs f true inside t body.does.code
-        one = body.does.acts begun_inside
+        one = body.does.acts begun
 
         other : Acting types texts fs f false (with_code [] (past t)) r step.does.code
         other = step.does.acts b
@@ -227,7 +221,7 @@ module _ (types : Types) (texts : ℕ) (fs : List Function) (f : Function) where
 
           returned : GivesValue a → ReturnsKnown types fs f (result_local a) (trees (turns ∷ [])) (Some k)
           returned gives =
-              let behind = subst ReturnBehind (sym g.decides) (body.does.returns begun_inside gives (Some g.on) known_on, step.does.returns b gives back known_back) in
+              let behind = subst ReturnBehind (sym g.decides) (body.does.returns begun gives (Some g.on) known_on, step.does.returns b gives back known_back) in
               ((asks_known types fs f (result_local a) texts w.given asks.fine (Some head), behind), tt)
 
         loop_acts : Acting types texts fs f in_loop s whole (turns ∷ [])
@@ -243,19 +237,17 @@ module _ (types : Types) (texts : ℕ) (fs : List Function) (f : Function) where
       pub loop_does : DoesLevel types texts fs f a x in_loop s whole
       loop_does = record {
         does = record {
-          adds =
-              adds_coded types fs f s r (w.state.code ++ Turns w.given (trees t.code) (trees r.code) ∷ [])
-              (adds_then types fs f s (past t) r (adds_then types fs f s w.state (past t) (grows_adds types fs f s w.state test.grown) to_body) to_step);
+          adds = adds_then types fs f s (past t) r (adds_then types fs f s w.state (past t) (grows_adds types fs f s w.state test.grown) to_body) step.does.adds;
           locals = λ are. step.does.locals (body.does.locals (locals_added types a s w.state test.grown.types test.registers are));
           order = order_then s.types w.state.types r.types test.registers.1 (order_then w.state.types t.types r.types body.does.order step.does.order);
-          follows = follows_coded types fs f a x r (w.state.code ++ Turns w.given (trees t.code) (trees r.code) ∷ []) step.does.follows;
+          follows = step.does.follows;
           code = turns ∷ [];
           written =
               ap (λ (c : List Tree). c ++ Turns w.given (trees t.code) (trees r.code) ∷ []) test.unwritten
               ∙ ap (λ (c : List Tree). s.code ++ Turns w.given (trees c) (trees r.code) ∷ []) body.does.written
               ∙ ap (λ (c : List Tree). s.code ++ Turns w.given (trees body.does.code) (trees c) ∷ []) step.does.written;
-          acts = λ b. loop_acts (record { locals = b.locals; table = b.table });
-          returns = λ b gives o k. loop_returns (record { locals = b.locals; table = b.table }) gives o k;
+          acts = loop_acts;
+          returns = loop_returns;
         };
         level = step.level ∙ body.level ∙ test.grown.living;
       }

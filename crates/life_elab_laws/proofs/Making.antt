@@ -11,7 +11,7 @@ use Rattle.life_proper.specs.declared.known.Known.TheVariants as known
 use Rattle.life_proper.specs.Knowing.{known_as, known_at}
 use Rattle.life_writer.specs.Pointers.{Pointing, At, As}
 use Rattle.life_writer.specs.Writing.{State}
-use Rattle.life_elab_laws.proofs.Growing.{Grows}
+use Rattle.life_elab_laws.proofs.Growing.{Grows, bare}
 
 -- ---- what a part gives
 
@@ -66,9 +66,12 @@ module _ (types : Types) (fs : List Function) (f : Function) where
   -- ---- where a part begins
 
   -- the living variables are there, in a table of the right size
-  pub record Alive (s : State) (k : List Known) : Type 0 where
+  pub record AliveBare (s : State) (k : List Known) : Type 0 where
     pub sized : length k ≡ length f.locals
     pub living : (y : ℕ) → Contains s.living y → known_at k y ≡ known_as (sort_of types f y)
+
+  abbrev pub Alive : State → List Known → Type 0
+  Alive s k = AliveBare (bare s) k
 
   abbrev pub IsOpen : State → Type 0
   IsOpen s = (y : ℕ) → Contains s.living y → y < length s.locals

@@ -35,7 +35,7 @@ use Rattle.life_elab_laws.proofs.Expressions.{whole_expression}
 use Rattle.life_elab_laws.proofs.GivenKinds.{given_number}
 use Rattle.life_elab_laws.proofs.GivingBack.{GivesValue, fine_known, known_append, nowhere_number}
 use Rattle.life_elab_laws.proofs.Growing.{Begins}
-use Rattle.life_elab_laws.proofs.Following.{Follows, HasRegister, IsLiving, adds_coded, follows_coded, follows_grown, grows_adds, knows_alive}
+use Rattle.life_elab_laws.proofs.Following.{Follows, HasRegister, IsLiving, follows_grown, grows_adds, knows_alive}
 use Rattle.life_elab_laws.proofs.Gifts.{a_number}
 use Rattle.life_elab_laws.proofs.Leaving.{IsEnded, ended, left_acts, left_does, left_level, past_fine, past_ready}
 use Rattle.life_elab_laws.proofs.Nowhere.{nowhere_flows}
@@ -168,21 +168,21 @@ module _ (a : Around) (types : Types) (texts : ℕ) (fs : List Function) (f : Fu
 
         returned_from : Does types texts fs f a v in_loop s behind
         returned_from = record {
-          adds = adds_coded types fs f s w.state ((w.state.code ++ d.code) ++ Returns keyword ∷ []) (grows_adds types fs f s w.state made.grown);
+          adds = grows_adds types fs f s w.state made.grown;
           locals = locals_added types a s w.state made.grown.types made.registers;
           order = made.registers.1;
-          follows = follows_coded types fs f a v w.state ((w.state.code ++ d.code) ++ Returns keyword ∷ []) later;
+          follows = later;
           code = made.code ++ back;
           written =
               ap (λ (c : List Tree). (c ++ d.code) ++ Returns keyword ∷ []) made.written
               ∙ append_assoc (s.code ++ made.code) d.code (Returns keyword ∷ [])
               ∙ append_assoc s.code made.code back;
-          acts = λ b. acting (record { locals = b.locals; table = b.table });
+          acts = acting;
           returns = λ b gives o known.
               let between : Knowing = (flow types fs f (trees made.code) o).next in
-              known_append types fs f (result_local a) made.code back o (fine_known types fs f (result_local a) texts made.code (made.runs (record { locals = b.locals; table = b.table }) tt).fine o)
-              (known_append types fs f (result_local a) d.code (Returns keyword ∷ []) between (fine_known types fs f (result_local a) texts d.code (past_fine types texts fs f a setting v w.state later (record { locals = b.locals; table = b.table }) 0 keyword d) between)
-              (known_there (record { locals = b.locals; table = b.table }) o known, tt));
+              known_append types fs f (result_local a) made.code back o (fine_known types fs f (result_local a) texts made.code (made.runs b tt).fine o)
+              (known_append types fs f (result_local a) d.code (Returns keyword ∷ []) between (fine_known types fs f (result_local a) texts d.code (past_fine types texts fs f a setting v w.state later b 0 keyword d) between)
+              (known_there b o known, tt));
         }
           where
             acting : Begins types f w.state → Acting types texts fs f in_loop s behind (made.code ++ back)

@@ -27,7 +27,7 @@ use Rattle.life_elab_laws.proofs.Conditions.{Tests, non_zero_part}
 use Rattle.life_elab_laws.proofs.DeclarationWriting.{declaration_does}
 use Rattle.life_elab_laws.proofs.Doing.{Does, DoesLevel, does_nothing, does_then}
 use Rattle.life_elab_laws.proofs.Expressions.{whole_expression}
-use Rattle.life_elab_laws.proofs.Following.{Follows, HasRegister, follows_coded, register_later, visible_again}
+use Rattle.life_elab_laws.proofs.Following.{Follows, HasRegister, register_later, visible_again}
 use Rattle.life_elab_laws.proofs.Instructions.{constant_part}
 use Rattle.life_elab_laws.proofs.Leaving.{block_does, block_level}
 use Rattle.life_elab_laws.proofs.Looping.{inside, inside_follows, loop_does, past, step_follows}
@@ -209,7 +209,7 @@ module _ (a : Around) (types : Types) (texts : ℕ) (fs : List Function) (f : Fu
         let first = level_of body in_loop v (with_code [] w.state) one h.1 in
         let t = statement a body (with_code [] w.state) in
         let u = behind v (after body v) in
-        let again = follows_coded types fs f a u t [] (visible_again types fs f a v (after body v) (with_code [] w.state) t ready first.does.adds first.does.follows first.level) in
+        let again = visible_again types fs f a v (after body v) (with_code [] w.state) t ready first.does.adds first.does.follows first.level in
         let rest = branches_do others in_loop u (with_code [] t) parts.1 h.3 again (register_later a (with_code [] w.state) (with_code [] t) first.does.adds.locals first.does.adds.table there) last x over end in
         let r = branches_of a others last (with_code [] t) in
         record {

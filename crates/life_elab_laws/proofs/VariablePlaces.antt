@@ -1,5 +1,5 @@
 -- Where the visible variables of a function lie while it is written.
-use Rattle.std.proofs.Common.{◌≡◌, ◌<◌, ℕ, Bool, true, ◌||◌, List, [], Contains, length, slice_get, Option, Some, None, refl, sym, ap, ◌∙◌, subst, unwrap_or, arith}
+use Rattle.std.proofs.Common.{◌≡◌, ◌<◌, ℕ, Bool, true, ◌||◌, List, Contains, length, slice_get, Option, Some, None, refl, sym, ap, ◌∙◌, subst, unwrap_or, arith}
 use Rattle.std.proofs.lemmas.Bool.{false≢true}
 use Rattle.std.proofs.lemmas.Option.{slice_get_within}
 use Rattle.life_types.specs.Types.{Types, class, class_at}
@@ -22,9 +22,9 @@ use Rattle.life_proper.specs.declared.known.Known.{Known}
 use Rattle.life_proper.specs.Knowing.{known_as}
 use Rattle.life_writer.specs.Around.{Around}
 use Rattle.life_writer.specs.Variables.{kind, place_of, place_of_kind, variable, variable_place}
-use Rattle.life_writer.specs.Writing.{State, with_code}
+use Rattle.life_writer.specs.Writing.{State}
 use Rattle.life_elab_laws.proofs.Fronts.{IsFront, front_then}
-use Rattle.life_elab_laws.proofs.Growing.{Begins, Grows}
+use Rattle.life_elab_laws.proofs.Growing.{Begins, Grows, bare}
 use Rattle.life_elab_laws.proofs.Making.{Alive, IsOpen, IsPlace, IsPointer, a_target, an_object}
 
 -- ---- what a variable is
@@ -51,12 +51,15 @@ variable_type types id b = go (slice_get types.types id.0) refl b
 
 -- ---- where it lies
 
-pub record IsVariableAt (a : Around) (s : State) (x : ℕ) (v : TypedLocal) : Type 0 where
+pub record IsVariableAtBare (a : Around) (s : State) (x : ℕ) (v : TypedLocal) : Type 0 where
   pub local : Local
   pub there : slice_get s.locals (variable s x) ≡ Some local
   pub typed : local.ty ≡ v.ty
   pub kind : local.kind ≡ kind (class_at a.program.types v.ty)
   pub lives : Contains s.living (variable s x)
+
+abbrev pub IsVariableAt : Around → State → ℕ → TypedLocal → Type 0
+IsVariableAt a s x v = IsVariableAtBare a (bare s) x v
 
 value_class : (t : Ty) → is_value t ≡ true → kind (class (Some t)) ≡ Object
 value_class ty.Bool e = refl
@@ -76,10 +79,13 @@ value_held _ e = absurd (false≢true e)
 
 module _ (types : Types) (fs : List Function) (f : Function) where
   -- the table has the program's types, and the visible variables are there
-  pub record Stands (a : Around) (visible : List ℕ) (s : State) : Type 0 where
+  pub record StandsBare (a : Around) (visible : List ℕ) (s : State) : Type 0 where
     pub table : IsFront a.program.types.types s.types.types
     pub opened : IsOpen types fs f s
     pub seen : (x : ℕ) (v : TypedLocal) → Contains visible x → slice_get a.function.locals x ≡ Some v → IsVariableAt a s x v
+
+  abbrev pub Stands : Around → List ℕ → State → Type 0
+  Stands a visible s = StandsBare a visible (bare s)
 
   pub stands_later : (a : Around) (visible : List ℕ) (s s' : State) → Grows s s' → Stands a visible s → Stands a visible s'
   stands_later a visible s s' g h = record {
@@ -99,13 +105,6 @@ module _ (types : Types) (fs : List Function) (f : Function) where
         where
           same : variable s' x ≡ variable s x
           same = ap (λ (vs : List ℕ). unwrap_or (slice_get vs x) 0) g.variables
-
-  pub stands_apart : (a : Around) (visible : List ℕ) (s : State) → Stands a visible s → Stands a visible (with_code [] s)
-  stands_apart a visible s h = record {
-    table = h.table;
-    opened = h.opened;
-    seen = λ x v c at. let there = h.seen x v c at in record { local = there.local; there = there.there; typed = there.typed; kind = there.kind; lives = there.lives };
-  }
 
   -- ---- what it holds
 
