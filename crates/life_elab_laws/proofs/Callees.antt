@@ -18,6 +18,7 @@ use Rattle.life_pset.specs.Shapes.{or_void, ty_of}
 use Rattle.life_proper.specs.OperandTypes as operands
 use Rattle.life_proper.specs.WellFormed.{local_type, types_taken}
 use Rattle.life_well_typed.specs.Expressions.{parameter_types, type_of}
+use Rattle.life_well_typed.specs.Functions.{IsWellTypedFunction}
 use Rattle.life_writer.specs.Around.{Around}
 use Rattle.life_writer.specs.Variables.{kind}
 use Rattle.life_elab.specs.Functions.{first_state, parameter_local}
@@ -117,56 +118,70 @@ value_taken a (p ∷ ps) (u ∷ us) (suc y) few b lt =
 
 -- ---- what its core function takes and gives, where it begins as it is written
 
-module _ (p : ProgramForm) (of : FunctionForm) (T types : Types) (fs : List Function) (core : Function)
-    (fits : length of.parameters ≤ length of.locals) (built : IsBuiltFunction p.types of) (t : Ty) (result : slice_get p.types.types of.result.0 ≡ Some t)
-    (table : IsFront p.types.types T.types) (later : IsFront T.types types.types)
-    (count : core.parameters ≡ length of.parameters) (same : core.result ≡ of.result) (locals : IsFront (first_state (around p of) T).locals core.locals) where
+-- a function of a well typed program that is built
+pub record IsFunctionOf (p : ProgramForm) (f : FunctionForm) : Type 0 where
+  pub typed : IsWellTypedFunction p f
+  pub built : IsBuiltFunction p.types f
+  pub ty : Ty
+  pub result : slice_get p.types.types f.result.0 ≡ Some ty
+
+-- .. whose core function begins as it is written
+pub record IsBegun (p : ProgramForm) (f : FunctionForm) (T types : Types) (core : Function) : Type 0 where
+  pub table : IsFront p.types.types T.types
+  pub later : IsFront T.types types.types
+  pub count : core.parameters ≡ length f.parameters
+  pub same : core.result ≡ f.result
+  pub locals : IsFront (first_state (around p f) T).locals core.locals
+
+module _ (p : ProgramForm) (of : FunctionForm) (T types : Types) (fs : List Function) (core : Function) (is : IsFunctionOf p of) (begun : IsBegun p of T types core) where
   front : IsFront p.types.types types.types
-  front = front_then p.types.types T.types types.types table later
+  front = front_then p.types.types T.types types.types begun.table begun.later
+
+  -- its locals begin with the parameters
+  cut : (rest : List Local) × (core.locals ≡ parameter_locals (around p of) of.parameters of.locals ++ rest)
+  cut =
+      front_cut (parameter_locals (around p of) of.parameters of.locals) core.locals
+      (front_then (parameter_locals (around p of) of.parameters of.locals) (first_state (around p of) T).locals core.locals (parameters_front (around p of) T is.typed.parameters begun.table) begun.locals)
 
   takes_objects : parameter_sorts types core ≡ objects (parameter_types (Some of))
   takes_objects =
-      let cut = front_cut (parameter_locals (around p of) of.parameters of.locals) core.locals
-      (front_then (parameter_locals (around p of) of.parameters of.locals) (first_state (around p of) T).locals core.locals (parameters_front (around p of) T fits table) locals) in
-      ap (λ (n : ℕ). take n (given_holdings types n core.locals)) count
+      ap (λ (n : ℕ). take n (given_holdings types n core.locals)) begun.count
       ∙ ap (λ (ls : List Local). take (length of.parameters) (given_holdings types (length of.parameters) ls)) cut.1
-      ∙ objects_taken (around p of) types front of.parameters of.locals cut.0 fits built.parameters
+      ∙ objects_taken (around p of) types front of.parameters of.locals cut.0 is.typed.parameters is.built.parameters
 
   takes_types : types_taken core ≡ parameter_types (Some of)
   takes_types =
-      let cut = front_cut (parameter_locals (around p of) of.parameters of.locals) core.locals
-      (front_then (parameter_locals (around p of) of.parameters of.locals) (first_state (around p of) T).locals core.locals (parameters_front (around p of) T fits table) locals) in
-      ap (λ (n : ℕ). map local_type (take n core.locals)) count
+      ap (λ (n : ℕ). map local_type (take n core.locals)) begun.count
       ∙ ap (λ (ls : List Local). map local_type (take (length of.parameters) ls)) cut.1
-      ∙ types_cut (around p of) of.parameters of.locals cut.0 fits
+      ∙ types_cut (around p of) of.parameters of.locals cut.0 is.typed.parameters
 
   pub takes_values : (y : ℕ) (l : Local) → slice_get core.locals y ≡ Some l → y < core.parameters → is_value (type_at types l.ty) ≡ true
   takes_values y l at lt =
-      let taken = value_taken (around p of) of.parameters of.locals y fits built.parameters (omega (arith, lt, count)) in
-      let there : slice_get core.locals y ≡ Some taken.0 = locals y taken.0 (parameters_front (around p of) T fits table y taken.0 taken.1) in
+      let taken = value_taken (around p of) of.parameters of.locals y is.typed.parameters is.built.parameters (omega (arith, lt, begun.count)) in
+      let there : slice_get core.locals y ≡ Some taken.0 = begun.locals y taken.0 (parameters_front (around p of) T is.typed.parameters begun.table y taken.0 taken.1) in
       value_later p.types types front l.ty (subst (λ (u : Local). is_value (type_at p.types u.ty) ≡ true) (same_Some taken.0 l (sym there ∙ at)) taken.2)
 
-  result_type : slice_get types.types core.result.0 ≡ Some t
-  result_type = ap (λ (id : TyId). slice_get types.types id.0) same ∙ front of.result.0 t result
+  result_type : slice_get types.types core.result.0 ≡ Some is.ty
+  result_type = ap (λ (id : TyId). slice_get types.types id.0) begun.same ∙ front of.result.0 is.ty is.result
 
   pub gives_nothing : is_void (type_at p.types of.result) ≡ true → result_sort types core ≡ Blank
   gives_nothing w =
       ap (λ (o : Option Ty). result_if o (sort_of types core core.parameters)) result_type
-      ∙ no_result t (sort_of types core core.parameters) (subst (λ (x : Ty). is_void x ≡ true) (type_found p.types of.result t result) w)
+      ∙ no_result is.ty (sort_of types core core.parameters) (subst (λ (x : Ty). is_void x ≡ true) (type_found p.types of.result is.ty is.result) w)
 
   pub gives_number : is_value (type_at p.types of.result) ≡ true → result_sort types core ≡ ANumber
   gives_number w =
       ap (λ (o : Option Ty). result_if o (sort_of types core core.parameters)) result_type
-      ∙ result_kept t (sort_of types core core.parameters) (subst (λ (x : Ty). is_value x ≡ true) (type_found p.types of.result t result) w)
-      ∙ ap (sort_of types core) count
-      ∙ wanted_sort types fs core (first_state (around p of) T) (length of.parameters) (register_there (around p of) T fits table t result w).0
-      (record { locals = locals; table = subst (λ (x : Types). IsFront x.types types.types) (sym (first_types (around p of) T fits table)) later })
+      ∙ result_kept is.ty (sort_of types core core.parameters) (subst (λ (x : Ty). is_value x ≡ true) (type_found p.types of.result is.ty is.result) w)
+      ∙ ap (sort_of types core) begun.count
+      ∙ wanted_sort types fs core (first_state (around p of) T) (length of.parameters) (register_there (around p of) T is.typed.parameters begun.table is.ty is.result w).0
+      (record { locals = begun.locals; table = subst (λ (x : Types). IsFront x.types types.types) (sym (first_types (around p of) T is.typed.parameters begun.table)) begun.later })
 
   pub callee_from : (g : ℕ) → slice_get fs g ≡ Some core → IsCallee p.types types fs g of
-  callee_from g there = record { core = core; there = there; takes = takes_objects; void = gives_nothing; number = gives_number; typed = takes_types; gives = same }
+  callee_from g there = record { core = core; there = there; takes = takes_objects; void = gives_nothing; number = gives_number; typed = takes_types; gives = begun.same }
 
   pub gives_from : (result_sort types core ≡ Blank) ⊎ (result_sort types core ≡ ANumber)
-  gives_from = go (or_cases (is_void (type_at p.types of.result)) (is_value (type_at p.types of.result)) built.result)
+  gives_from = go (or_cases (is_void (type_at p.types of.result)) (is_value (type_at p.types of.result)) is.built.result)
     where
       go : (is_void (type_at p.types of.result) ≡ true) ⊎ (is_value (type_at p.types of.result) ≡ true) → (result_sort types core ≡ Blank) ⊎ (result_sort types core ≡ ANumber)
       go (inl e) = inl (gives_nothing e)
@@ -174,13 +189,13 @@ module _ (p : ProgramForm) (of : FunctionForm) (T types : Types) (fs : List Func
 
   -- the local of its result has no name
   pub result_nameless : (l : Local) → slice_get core.locals core.parameters ≡ Some l → operands.is_void (ty_of types core.result) ≡ false → l.name ≡ None
-  result_nameless l at void = go (or_cases (is_void (type_at p.types of.result)) (is_value (type_at p.types of.result)) built.result)
+  result_nameless l at void = go (or_cases (is_void (type_at p.types of.result)) (is_value (type_at p.types of.result)) is.built.result)
     where
       type_is : ty_of types core.result ≡ type_at p.types of.result
-      type_is = ap or_void result_type ∙ sym (type_found p.types of.result t result)
+      type_is = ap or_void result_type ∙ sym (type_found p.types of.result is.ty is.result)
 
       go : (is_void (type_at p.types of.result) ≡ true) ⊎ (is_value (type_at p.types of.result) ≡ true) → l.name ≡ None
       go (inl e) = absurd (false≢true (sym void ∙ ap operands.is_void type_is ∙ void_either (type_at p.types of.result) e))
       go (inr e) =
-          let register = (register_there (around p of) T fits table t result e).0 in
-          ap (λ (x : Local). x.name) (same_Some l register.local (sym at ∙ ap (slice_get core.locals) count ∙ locals (length of.parameters) register.local register.there)) ∙ register.nameless
+          let register = (register_there (around p of) T is.typed.parameters begun.table is.ty is.result e).0 in
+          ap (λ (x : Local). x.name) (same_Some l register.local (sym at ∙ ap (slice_get core.locals) begun.count ∙ begun.locals (length of.parameters) register.local register.there)) ∙ register.nameless

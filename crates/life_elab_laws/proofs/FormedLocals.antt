@@ -1,5 +1,5 @@
 -- The locals of a core function that is translated are well formed, and so is what stands beside its body: its name, its result and its promise.
-use Rattle.std.proofs.Common.{◌≡◌, ◌<◌, ◌+◌, ◌≤◌, ◌⊎◌, inl, inr, ℕ, zero, suc, Bool, true, false, ◌&&◌, ◌||◌, not, List, [], ◌∷◌, length, nat_eq, nat_le, nat_lt, slice_get, Option, Some, None, is_some, refl, sym, ap, ◌∙◌, subst, unwrap_or, arith, true≢false}
+use Rattle.std.proofs.Common.{◌≡◌, ◌<◌, ◌+◌, ◌≤◌, ◌⊎◌, inl, inr, ℕ, zero, suc, Bool, true, false, ◌&&◌, ◌||◌, not, List, [], ◌∷◌, length, nat_eq, nat_le, nat_lt, slice_get, Option, Some, None, is_some, refl, sym, ap, ◌∙◌, subst, unwrap_or, arith}
 use Rattle.std.specs.List.{list_all}
 use Rattle.std.proofs.lemmas.Bool.{and_from, and_parts, false≢true, le-leb, or_cases}
 use Rattle.std.proofs.lemmas.Bool.Decides.{nat_tests}
@@ -29,7 +29,7 @@ use Rattle.life_writer.specs.Variables.{kind}
 use Rattle.life_elab.specs.Functions.{first_state, function_from, parameter_local, promise_of, written}
 use Rattle.life_elab.specs.Programs.{around}
 use Rattle.life_elab_laws.proofs.Beginning.{given, given_count, parameter_locals, parameters_front, result_first, result_grows}
-use Rattle.life_elab_laws.proofs.Callees.{IsBuiltFunction, type_found}
+use Rattle.life_elab_laws.proofs.Callees.{IsFunctionOf, type_found}
 use Rattle.life_elab_laws.proofs.ExpressionKinds.{variable_built}
 use Rattle.life_elab_laws.proofs.Fronts.{IsFront, front_length}
 use Rattle.life_elab_laws.proofs.OperandsThere.{type_either}
@@ -162,14 +162,13 @@ parameter_named a (p ∷ ps) (u ∷ us) (suc y) few lt = parameter_named a ps us
 
 -- ---- a function
 
--- all that is asked of it beside its body, and that its result has no name
+-- all that is asked of it beside its body
 pub record HasFormedHead (types : Types) (names : ℕ) (f : Function) : Type 0 where
   pub name : is_name names f.name ≡ true
   pub count : nat_le f.parameters (length f.locals) ≡ true
   pub promise : names_parameters f.parameters f.promise ≡ true
   pub result : is_result_of types f.result (slice_get types.types f.result.0) (slice_get f.locals f.parameters) ≡ true
   pub locals : are_well_formed_locals types names f.parameters 0 f.locals ≡ true
-  pub nameless : (l : Local) → slice_get f.locals f.parameters ≡ Some l → is_void (ty_of types f.result) ≡ false → l.name ≡ None
 
 default_names : (n : ℕ) (promise : PromiseForm) → is_default promise ≡ true → names_parameters n (promise_of promise) ≡ true
 default_names n default d = refl
@@ -189,13 +188,8 @@ result_worth : (types : Types) (id : TyId) (o : Option Local) (t : Ty) → is_va
 result_worth types id o ty.Void v h = refl
 result_worth types id o _ v h = h
 
-void_both : (t : Ty) → is_nothing t ≡ true → is_void t ≡ true
-void_both ty.Void v = refl
-void_both _ v = absurd (false≢true v)
-
 -- as it is written, in a finished table that begins with the one behind it
-module _ (p : ProgramForm) (of : FunctionForm) (T types : Types) (names : ℕ) (fits : length of.parameters ≤ length of.locals) (built : IsBuiltFunction p.types of)
-    (t : Ty) (result : slice_get p.types.types of.result.0 ≡ Some t) (table : IsFront p.types.types T.types) (front : IsFront p.types.types types.types)
+module _ (p : ProgramForm) (of : FunctionForm) (T types : Types) (names : ℕ) (made : IsFunctionOf p of) (table : IsFront p.types.types T.types) (front : IsFront p.types.types types.types)
     (grown : IsFront (first_state (around p of) T).locals (written (around p of) T).locals) (later : IsFront (written (around p of) T).types.types types.types)
     (own : AreWrittenLocals p.types (around p of) (written (around p of) T)) (named : is_function_named names of ≡ true) where
   abbrev core : Function
@@ -207,8 +201,8 @@ module _ (p : ProgramForm) (of : FunctionForm) (T types : Types) (names : ℕ) (
       go : (b : Bool) → nat_lt x core.parameters ≡ b → (not b || is_some l.name) ≡ true
       go false is = refl
       go true is =
-          let found = parameter_named (around p of) of.parameters of.locals x fits (lt_of x core.parameters is) in
-          let there : slice_get core.locals x ≡ Some found.0 = grown x found.0 (parameters_front (around p of) T fits table x found.0 found.1) in
+          let found = parameter_named (around p of) of.parameters of.locals x made.typed.parameters (lt_of x core.parameters is) in
+          let there : slice_get core.locals x ≡ Some found.0 = grown x found.0 (parameters_front (around p of) T made.typed.parameters table x found.0 found.1) in
           ap (λ (l : Local). is_some l.name) (same_Some l found.0 (sym at ∙ there)) ∙ found.2
 
   intermediate_formed : (x : ℕ) (l : Local) → slice_get core.locals x ≡ Some l → IsIntermediate p.types (written (around p of) T).types l → is_well_formed_local types names core.parameters x l ≡ true
@@ -219,7 +213,7 @@ module _ (p : ProgramForm) (of : FunctionForm) (T types : Types) (names : ℕ) (
 
   own_formed : (x : ℕ) (l : Local) → slice_get core.locals x ≡ Some l → IsOwn (around p of) l → is_well_formed_local types names core.parameters x l ≡ true
   own_formed x l at is =
-      let found = variable_found p.types is.variable.ty (variable_built p.types of.locals is.number is.variable built.variables is.there) in
+      let found = variable_found p.types is.variable.ty (variable_built p.types of.locals is.number is.variable made.built.variables is.there) in
       let kept : l.kind ≡ kind (class (Some found.0)) = is.of.kind ∙ ap (λ (o : Option Ty). kind (class o)) found.1 in
       let known = (and_parts (nat_lt of.name.0 names) (list_all (is_local_named names) of.locals) named).1 in
       local_formed types names core.parameters x l found.0 (ap (λ (id : TyId). slice_get types.types id.0) is.of.typed ∙ front is.variable.ty.0 found.0 found.1)
@@ -238,47 +232,39 @@ module _ (p : ProgramForm) (of : FunctionForm) (T types : Types) (names : ℕ) (
 
   -- ---- the result
 
-  result_type : slice_get types.types core.result.0 ≡ Some t
-  result_type = front of.result.0 t result
+  result_type : slice_get types.types core.result.0 ≡ Some made.ty
+  result_type = front of.result.0 made.ty made.result
 
-  result_there : is_value t ≡ true → slice_get core.locals core.parameters ≡ Some (nameless of.place of.result)
+  result_there : is_value made.ty ≡ true → slice_get core.locals core.parameters ≡ Some (nameless of.place of.result)
   result_there v =
       grown core.parameters (nameless of.place of.result)
-      (result_first (around p of) T fits table (ap is_value (type_found p.types of.result t result) ∙ v))
+      (result_first (around p of) T made.typed.parameters table (ap is_value (type_found p.types of.result made.ty made.result) ∙ v))
 
-  result_cases : (is_nothing t ≡ true) ⊎ (is_value t ≡ true)
-  result_cases = or_cases (is_nothing t) (is_value t) (subst (λ (u : Ty). (is_nothing u || is_value u) ≡ true) (type_found p.types of.result t result) built.result)
+  result_cases : (is_nothing made.ty ≡ true) ⊎ (is_value made.ty ≡ true)
+  result_cases = or_cases (is_nothing made.ty) (is_value made.ty) (subst (λ (u : Ty). (is_nothing u || is_value u) ≡ true) (type_found p.types of.result made.ty made.result) made.built.result)
 
   result_formed : is_result_of types core.result (slice_get types.types core.result.0) (slice_get core.locals core.parameters) ≡ true
   result_formed = ap (λ (o : Option Ty). is_result_of types core.result o (slice_get core.locals core.parameters)) result_type ∙ go result_cases
     where
-      go : (is_nothing t ≡ true) ⊎ (is_value t ≡ true) → is_result_of types core.result (Some t) (slice_get core.locals core.parameters) ≡ true
-      go (inl v) = result_void types core.result (slice_get core.locals core.parameters) t v
+      go : (is_nothing made.ty ≡ true) ⊎ (is_value made.ty ≡ true) → is_result_of types core.result (Some made.ty) (slice_get core.locals core.parameters) ≡ true
+      go (inl v) = result_void types core.result (slice_get core.locals core.parameters) made.ty v
       go (inr v) =
-          result_worth types core.result (slice_get core.locals core.parameters) t v
+          result_worth types core.result (slice_get core.locals core.parameters) made.ty v
           (ap (is_result_local types core.result) (result_there v) ∙ and_from (nat_eq of.result.0 of.result.0) true (itself of.result.0) refl)
-
-  no_name : (l : Local) → slice_get core.locals core.parameters ≡ Some l → is_void (ty_of types core.result) ≡ false → l.name ≡ None
-  no_name l at some = go result_cases
-    where
-      go : (is_nothing t ≡ true) ⊎ (is_value t ≡ true) → l.name ≡ None
-      go (inl v) = absurd (true≢false (sym (ap (λ (o : Option Ty). is_void (or_void o)) result_type ∙ void_both t v) ∙ some))
-      go (inr v) = ap (λ (u : Local). u.name) (same_Some l (nameless of.place of.result) (sym at ∙ result_there v))
 
   -- ---- the whole
 
   enough : core.parameters ≤ length core.locals
   enough =
-      let fewer = (result_grows (around p of) (type_at p.types of.result) (given (around p of) T fits table)).count in
+      let fewer = (result_grows (around p of) (type_at p.types of.result) (given (around p of) T made.typed.parameters table)).count in
       let more = front_length (first_state (around p of) T).locals core.locals grown in
-      omega (arith, given_count (around p of) T fits table, fewer, more)
+      omega (arith, given_count (around p of) T made.typed.parameters table, fewer, more)
 
   pub head_formed : HasFormedHead types names core
   head_formed = record {
     name = (and_parts (nat_lt of.name.0 names) (list_all (is_local_named names) of.locals) named).0;
     count = le-leb core.parameters (length core.locals) enough;
-    promise = default_names core.parameters of.promise built.promise;
+    promise = default_names core.parameters of.promise made.built.promise;
     result = result_formed;
     locals = locals_formed;
-    nameless = no_name;
   }

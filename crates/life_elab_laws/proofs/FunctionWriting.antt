@@ -1,9 +1,8 @@
 -- What is written for a whole function: all is ready on every way and well formed, and no way runs past the end.
-use Rattle.std.proofs.Common.{◌≡◌, ◌<◌, ◌≤◌, ℕ, Bool, true, false, List, [], ◌∷◌, ◌++◌, length, nat_lt, slice_get, take, Some, None, is_none, refl, sym, ap, ◌∙◌, subst, arith, length-append}
+use Rattle.std.proofs.Common.{◌≡◌, ◌<◌, ℕ, Bool, true, false, List, [], ◌∷◌, ◌++◌, length, nat_lt, take, Some, None, is_none, refl, sym, ap, ◌∙◌, subst, arith, length-append}
 use Rattle.std.proofs.lemmas.Bool.{and_from, false≢true}
 use Rattle.std.proofs.lemmas.Bool.Decides.{nat_tests}
 use Rattle.life_types.specs.Types.{Types}
-use Rattle.life_types.specs.declared.ty.Ty.{Ty}
 use Rattle.life_built.specs.Built.{is_built_statement}
 use Rattle.life_typed.specs.Programs.{FunctionForm, ProgramForm}
 use Rattle.life_typed.specs.TypedStatement.{StmtForm, block}
@@ -23,7 +22,7 @@ use Rattle.life_elab.specs.Functions.{body, first_state, returned_at_end, writte
 use Rattle.life_elab.specs.Programs.{around, texts_of}
 use Rattle.life_elab.specs.Statements.{end_line, left, statement}
 use Rattle.life_elab_laws.proofs.Beginning.{entry_knows, first_code, first_follows, register_there}
-use Rattle.life_elab_laws.proofs.Callees.{IsBuiltFunction}
+use Rattle.life_elab_laws.proofs.Callees.{IsBegun, IsFunctionOf}
 use Rattle.life_elab_laws.proofs.Doing.{Acting, Does, does_then}
 use Rattle.life_elab_laws.proofs.Exits.{Leaves}
 use Rattle.life_elab_laws.proofs.Following.{Follows, HasRegister}
@@ -80,17 +79,17 @@ module _ (p : ProgramForm) (form : FunctionForm) (T types : Types) (fs : List Fu
           }
   finished _ s same h b follows register = absurd h
 
-  module _ (fits : length form.parameters ≤ length form.locals) (built : IsBuiltFunction p.types form) (typed : IsBody p form form.body) (t : Ty) (result : slice_get p.types.types form.result.0 ≡ Some t) (table : IsFront p.types.types T.types) where
+  module _ (is : IsFunctionOf p form) (table : IsFront p.types.types T.types) where
     pub function_finished : IsFinished (first_state (around p form) T) (written (around p form) T)
     function_finished =
-        finished form.body (first_state (around p form) T) refl typed built.body (first_follows (around p form) T fits table types fs f setting.front built.variables) (register_there (around p form) T fits table t result)
+        finished form.body (first_state (around p form) T) refl is.typed.body is.built.body
+        (first_follows (around p form) T is.typed.parameters table types fs f setting.front is.built.variables) (register_there (around p form) T is.typed.parameters table is.ty is.result)
 
     -- ---- in the finished function
 
-    module _ (begins : Begins types f (written (around p form) T)) (count : f.parameters ≡ length form.parameters) (locals : IsFront (first_state (around p form) T).locals f.locals)
-        (whole : f.body ≡ trees (written (around p form) T).code) where
+    module _ (begun : IsBegun p form T types f) (begins : Begins types f (written (around p form) T)) (whole : f.body ≡ trees (written (around p form) T).code) where
       code_is : (written (around p form) T).code ≡ function_finished.does.code
-      code_is = function_finished.does.written ∙ ap (λ (c : List Tree). c ++ function_finished.does.code) (first_code (around p form) T fits table)
+      code_is = function_finished.does.written ∙ ap (λ (c : List Tree). c ++ function_finished.does.code) (first_code (around p form) T is.typed.parameters table)
 
       body_is : f.body ≡ trees function_finished.does.code
       body_is = whole ∙ ap trees code_is
@@ -102,7 +101,7 @@ module _ (p : ProgramForm) (form : FunctionForm) (T types : Types) (fs : List Fu
       ways = flow types fs f (trees function_finished.does.code) (Some (entry_known types f))
 
       leaves : Leaves types fs f false (written (around p form) T).living (take (first_state (around p form) T).outside (first_state (around p form) T).living) ways
-      leaves = acting.ways (Some (entry_known types f)) (entry_knows (around p form) T fits table types fs f setting.front built.variables count locals)
+      leaves = acting.ways (Some (entry_known types f)) (entry_knows (around p form) T is.typed.parameters table types fs f setting.front is.built.variables begun.count begun.locals)
 
       ended : ways.next ≡ None
       ended = stops_next types fs f (trees function_finished.does.code) acting.stated.statement (ap (λ (c : List Tree). stops (trees c)) (sym code_is) ∙ function_finished.stopped) (Some (entry_known types f))
@@ -129,7 +128,7 @@ module _ (p : ProgramForm) (form : FunctionForm) (T types : Types) (fs : List Fu
             (ap (λ (t : Tree). is_over (flow types fs f t (Some (entry_known types f)))) body_is ∙ over));
         stated = stated;
         returns = λ gives.
-            subst (λ (r : ℕ). ReturnsKnown types fs f r f.body (Some (entry_known types f))) (sym count)
+            subst (λ (r : ℕ). ReturnsKnown types fs f r f.body (Some (entry_known types f))) (sym begun.count)
             (subst (λ (t : Tree). ReturnsKnown types fs f (length form.parameters) t (Some (entry_known types f))) (sym body_is)
-            (function_finished.does.returns begins gives (Some (entry_known types f)) (entry_knows (around p form) T fits table types fs f setting.front built.variables count locals)));
+            (function_finished.does.returns begins gives (Some (entry_known types f)) (entry_knows (around p form) T is.typed.parameters table types fs f setting.front is.built.variables begun.count begun.locals)));
       }

@@ -1,5 +1,5 @@
 -- The core program of a well typed program that is built: each of its functions is checked, among all of them, and has short places.
-use Rattle.std.proofs.Common.{◌≡◌, ◌<◌, ◌⊎◌, ℕ, zero, suc, Bool, true, false, ◌&&◌, List, [], ◌∷◌, ◌++◌, length, map, slice_get, take, None, Some, option_map, refl, sym, ap, ◌∙◌, subst, arith, append_assoc, append-nil}
+use Rattle.std.proofs.Common.{◌≡◌, ◌<◌, ℕ, zero, suc, Bool, true, ◌&&◌, List, [], ◌∷◌, ◌++◌, length, map, slice_get, take, Some, option_map, refl, sym, ap, ◌∙◌, subst, arith, append_assoc, append-nil}
 use Rattle.std.proofs.lemmas.Bool.{and_from, and_parts}
 use Rattle.std.proofs.lemmas.Option.{none-some, same_Some, slice_get-map}
 use Rattle.std.specs.List.{list_all}
@@ -10,14 +10,11 @@ use Rattle.life_built.specs.Built.{are_built_functions, has_built_types, has_no_
 use Rattle.life_typed.specs.BaseTypes.{is_value, type_at}
 use Rattle.life_typed.specs.Programs.{FunctionForm, ProgramForm}
 use Rattle.life_core.specs.Function.{Function}
-use Rattle.life_core.specs.Holdings.{ANumber, Blank, result_sort}
-use Rattle.life_core.specs.declared.program.Local.{Local}
+use Rattle.life_core.specs.Holdings.{ANumber, result_sort}
 use Rattle.life_proper.specs.Checking.{are_checked, checked, is_checked}
 use Rattle.life_proper.specs.ProperPrograms.{has_own_breaks, have_own_breaks}
 use Rattle.life_proper.specs.Plain.{are_plain, is_plain, is_plain_tree}
-use Rattle.life_proper.specs.OperandTypes.{is_void}
 use Rattle.life_pset.specs.Elements.{AreShort, elements_of}
-use Rattle.life_pset.specs.Shapes.{ty_of}
 use Rattle.life_well_typed.specs.Functions.{AreWellTyped, IsWellTyped, IsWellTypedFunction}
 use Rattle.life_elab.specs.Bounds.{HaveShortPlaces}
 use Rattle.life_elab.specs.Functions.{first_state, function_from, written}
@@ -25,7 +22,7 @@ use Rattle.life_elab.specs.Programs.{Functions, all_functions, around, core_prog
 use Rattle.life_well_typed.specs.Names.{HasNames, is_function_named}
 use Rattle.life_well_typed.specs.Results.{HasResults, HaveResults}
 use Rattle.life_elab_laws.proofs.Beginning.{first_locals, first_shaped, first_types}
-use Rattle.life_elab_laws.proofs.Callees.{IsBuiltFunction, built_parts, callee_from, gives_from, gives_number, result_nameless, takes_values, type_found, values_at}
+use Rattle.life_elab_laws.proofs.Callees.{IsBegun, IsFunctionOf, built_parts, callee_from, gives_from, gives_number, result_nameless, takes_values, type_found, values_at}
 use Rattle.life_elab_laws.proofs.Calls.{IsCallee}
 use Rattle.life_elab_laws.proofs.ExpressionKinds.{function_built}
 use Rattle.life_elab_laws.proofs.FormedLocals.{HasFormedHead, all_at, head_formed}
@@ -105,23 +102,24 @@ all_written p (f ∷ fs) w grows table =
     }
 
 module _ (p : ProgramForm) (typed : IsWellTyped p) (built : are_built_functions p.types p.functions ≡ true) (results : HasResults p) where
-  pub parts : (n : ℕ) (f : FunctionForm) → slice_get p.functions n ≡ Some f → IsBuiltFunction p.types f
-  parts n f at = built_parts p.types f (function_built p.types p.functions n f built at)
+  pub of_program : (n : ℕ) (f : FunctionForm) → slice_get p.functions n ≡ Some f → IsFunctionOf p f
+  of_program n f at =
+      let t = result_at p.types p.functions n f results at in
+      record { typed = typed_at p p.functions n f typed at; built = built_parts p.types f (function_built p.types p.functions n f built at); ty = t.0; result = t.1 }
 
-  setting_of : (types : Types) (fs : List Function) (f : FunctionForm) (core : Function) (n : ℕ) → slice_get p.functions n ≡ Some f → IsFront p.types.types types.types
-      → ((g : ℕ) (of : FunctionForm) → slice_get p.functions g ≡ Some of → IsCallee p.types types fs g of) → (result_sort types core ≡ Blank) ⊎ (result_sort types core ≡ ANumber) → AreShaped types core.locals
-      → ((l : Local) → slice_get core.locals core.parameters ≡ Some l → is_void (ty_of types core.result) ≡ false → l.name ≡ None) → Setting (around p f) types fs core
-  setting_of types fs f core n at front callees gives shaped nameless = record {
-    front = front;
-    variables = (parts n f at).variables;
+  setting_of : (T types : Types) (fs : List Function) (f : FunctionForm) (core : Function) (n : ℕ) → slice_get p.functions n ≡ Some f → IsBegun p f T types core
+      → ((g : ℕ) (of : FunctionForm) → slice_get p.functions g ≡ Some of → IsCallee p.types types fs g of) → AreShaped types core.locals → Setting (around p f) types fs core
+  setting_of T types fs f core n at begun callees shaped = let is = of_program n f at in record {
+    front = front_then p.types.types T.types types.types begun.table begun.later;
+    variables = is.built.variables;
     functions = built;
-    result = (parts n f at).result;
-    taken = λ g of there m id is. values_at p.types (take (length of.parameters) of.locals) (parts g of there).parameters m id is;
+    result = is.built.result;
+    taken = λ g of there m id at. values_at p.types (take (length of.parameters) of.locals) (of_program g of there).built.parameters m id at;
     callees = callees;
     results = λ g of there. result_at p.types p.functions g of results there;
-    gives = gives;
+    gives = gives_from p f T types fs core is begun;
     shaped = shaped;
-    nameless = nameless;
+    nameless = result_nameless p f T types fs core is begun;
   }
 
   -- ---- what is written grows: shown with functions that only begin
@@ -132,32 +130,28 @@ module _ (p : ProgramForm) (typed : IsWellTyped p) (built : are_built_functions 
   begun_there : (n : ℕ) (f : FunctionForm) → slice_get p.functions n ≡ Some f → slice_get (map begun p.functions) n ≡ Some (begun f)
   begun_there n f at = slice_get-map begun p.functions n ∙ ap (option_map begun) at
 
+  begun_so : (f : FunctionForm) → IsBegun p f p.types p.types (begun f)
+  begun_so f = record { table = front_itself p.types.types; later = front_itself p.types.types; count = refl; same = refl; locals = front_itself (first_state (around p f) p.types).locals }
+
   begun_callee : (g : ℕ) (of : FunctionForm) → slice_get p.functions g ≡ Some of → IsCallee p.types p.types (map begun p.functions) g of
-  begun_callee g of at =
-      let t = result_at p.types p.functions g of results at in
-      callee_from p of p.types p.types (map begun p.functions) (begun of) (typed_at p p.functions g of typed at).parameters (parts g of at) t.0 t.1 (front_itself p.types.types) (front_itself p.types.types) refl refl
-      (front_itself (first_state (around p of) p.types).locals) g (begun_there g of at)
+  begun_callee g of at = callee_from p of p.types p.types (map begun p.functions) (begun of) (of_program g of at) (begun_so of) g (begun_there g of at)
 
   begun_setting : (n : ℕ) (f : FunctionForm) → slice_get p.functions n ≡ Some f → Setting (around p f) p.types (map begun p.functions) (begun f)
   begun_setting n f at =
-      let t = result_at p.types p.functions n f results at in
-      let fits = (typed_at p p.functions n f typed at).parameters in
-      setting_of p.types (map begun p.functions) f (begun f) n at (front_itself p.types.types) begun_callee
-      (gives_from p f p.types p.types (map begun p.functions) (begun f) fits (parts n f at) t.0 t.1 (front_itself p.types.types) (front_itself p.types.types) refl refl (front_itself (first_state (around p f) p.types).locals))
-      (first_shaped (around p f) p.types fits (front_itself p.types.types) (parts n f at).variables)
-      (result_nameless p f p.types p.types (map begun p.functions) (begun f) fits (parts n f at) t.0 t.1 (front_itself p.types.types) (front_itself p.types.types) refl refl (front_itself (first_state (around p f) p.types).locals))
+      let is = of_program n f at in
+      setting_of p.types p.types (map begun p.functions) f (begun f) n at (begun_so f) begun_callee (first_shaped (around p f) p.types is.typed.parameters (front_itself p.types.types) is.built.variables)
 
   pub grows : (n : ℕ) (f : FunctionForm) → slice_get p.functions n ≡ Some f → (T : Types) → IsFront p.types.types T.types → FunctionGrows p f T
   grows n f at T table =
-      let t = result_at p.types p.functions n f results at in
-      let is = typed_at p p.functions n f typed at in
-      let done = function_finished p f T p.types (map begun p.functions) (begun f) (begun_setting n f at) is.parameters (parts n f at) is.body t.0 t.1 table in
+      let is = of_program n f at in
+      let first = first_types (around p f) T is.typed.parameters table in
+      let done = function_finished p f T p.types (map begun p.functions) (begun f) (begun_setting n f at) is table in
       record {
         locals = done.does.adds.locals;
-        table = subst (λ (x : Types). IsFront x.types (written (around p f) T).types.types) (first_types (around p f) T is.parameters table) done.does.adds.table;
-        shaped = done.does.adds.shaped (first_shaped (around p f) T is.parameters table (parts n f at).variables);
-        own = done.does.locals (first_locals (around p f) T is.parameters table p.types t.0 t.1 (parts n f at).result);
-        order = subst (λ (x : Types). KeepsOrder x (written (around p f) T).types) (first_types (around p f) T is.parameters table) done.does.order;
+        table = subst (λ (x : Types). IsFront x.types (written (around p f) T).types.types) first done.does.adds.table;
+        shaped = done.does.adds.shaped (first_shaped (around p f) T is.typed.parameters table is.built.variables);
+        own = done.does.locals (first_locals (around p f) T is.typed.parameters table p.types is.ty is.result is.built.result);
+        order = subst (λ (x : Types). KeepsOrder x (written (around p f) T).types) first done.does.order;
       }
 
   -- ---- the finished program
@@ -176,49 +170,29 @@ module _ (p : ProgramForm) (typed : IsWellTyped p) (built : are_built_functions 
   each_written = subst (AreWritten p whole.types p.functions) (sym all.listed) (all.each whole.types (front_itself whole.types.types))
 
   module _ (n : ℕ) (f : FunctionForm) (at : slice_get p.functions n ≡ Some f) (core : Function) (w : IsWritten p whole.types f core) where
-    pub later : IsFront w.before.types whole.types.types
-    later = front_then w.before.types (written (around p f) w.before).types.types whole.types.types (grows n f at w.before w.table).table w.later
+    pub as_begun : IsBegun p f w.before whole.types core
+    as_begun = let g = grows n f at w.before w.table in record {
+      table = w.table;
+      later = front_then w.before.types (written (around p f) w.before).types.types whole.types.types g.table w.later;
+      count = ap (λ (c : Function). c.parameters) w.is;
+      same = ap (λ (c : Function). c.result) w.is;
+      locals = subst (λ (c : Function). IsFront (first_state (around p f) w.before).locals c.locals) (sym w.is) g.locals;
+    }
 
     pub front : IsFront p.types.types whole.types.types
-    front = front_then p.types.types w.before.types whole.types.types w.table later
+    front = front_then p.types.types w.before.types whole.types.types w.table as_begun.later
 
-    pub shaped : AreShaped whole.types core.locals
+    shaped : AreShaped whole.types core.locals
     shaped = shaped_later p.types whole.types front core.locals (subst (λ (c : Function). AreShaped p.types c.locals) (sym w.is) (grows n f at w.before w.table).shaped)
 
-    pub count : core.parameters ≡ length f.parameters
-    count = ap (λ (c : Function). c.parameters) w.is
-
-    pub same : core.result ≡ f.result
-    same = ap (λ (c : Function). c.result) w.is
-
-    pub locals : IsFront (first_state (around p f) w.before).locals core.locals
-    locals = subst (λ (c : Function). IsFront (first_state (around p f) w.before).locals c.locals) (sym w.is) (grows n f at w.before w.table).locals
-
-    written_callee : slice_get whole.functions n ≡ Some core → IsCallee p.types whole.types whole.functions n f
-    written_callee is =
-        let t = result_at p.types p.functions n f results at in
-        callee_from p f w.before whole.types whole.functions core (typed_at p p.functions n f typed at).parameters (parts n f at) t.0 t.1 w.table later count same locals n is
-
-    written_nameless : (l : Local) → slice_get core.locals core.parameters ≡ Some l → is_void (ty_of whole.types core.result) ≡ false → l.name ≡ None
-    written_nameless =
-        let t = result_at p.types p.functions n f results at in
-        result_nameless p f w.before whole.types whole.functions core (typed_at p p.functions n f typed at).parameters (parts n f at) t.0 t.1 w.table later count same locals
-
-    written_gives : (result_sort whole.types core ≡ Blank) ⊎ (result_sort whole.types core ≡ ANumber)
-    written_gives =
-        let t = result_at p.types p.functions n f results at in
-        gives_from p f w.before whole.types whole.functions core (typed_at p p.functions n f typed at).parameters (parts n f at) t.0 t.1 w.table later count same locals
-
     pub written_number : is_value (type_at p.types f.result) ≡ true → result_sort whole.types core ≡ ANumber
-    written_number =
-        let t = result_at p.types p.functions n f results at in
-        gives_number p f w.before whole.types whole.functions core (typed_at p p.functions n f typed at).parameters (parts n f at) t.0 t.1 w.table later count same locals
+    written_number = gives_number p f w.before whole.types whole.functions core (of_program n f at) as_begun
 
     -- the type of what it gives back
     pub written_result : slice_get whole.types.types core.result.0 ≡ Some (type_at p.types f.result)
     written_result =
-        let t = result_at p.types p.functions n f results at in
-        ap (λ (id : TyId). slice_get whole.types.types id.0) same ∙ front f.result.0 t.0 t.1 ∙ ap Some (sym (type_found p.types f.result t.0 t.1))
+        let is = of_program n f at in
+        ap (λ (id : TyId). slice_get whole.types.types id.0) as_begun.same ∙ front f.result.0 is.ty is.result ∙ ap Some (sym (type_found p.types f.result is.ty is.result))
 
     pub written_begins : Begins whole.types core (written (around p f) w.before)
     written_begins = record {
@@ -226,35 +200,31 @@ module _ (p : ProgramForm) (typed : IsWellTyped p) (built : are_built_functions 
       table = w.later;
     }
 
-  pub callee : (g : ℕ) (of : FunctionForm) → slice_get p.functions g ≡ Some of → IsCallee p.types whole.types whole.functions g of
-  callee g of at = let found = written_at p whole.types p.functions whole.functions g of each_written at in written_callee g of at found.0 found.2 found.1
+  callee : (g : ℕ) (of : FunctionForm) → slice_get p.functions g ≡ Some of → IsCallee p.types whole.types whole.functions g of
+  callee g of at =
+      let found = written_at p whole.types p.functions whole.functions g of each_written at in
+      callee_from p of found.2.before whole.types whole.functions found.0 (of_program g of at) (as_begun g of at found.0 found.2) g found.1
 
-  pub written_setting : (n : ℕ) (f : FunctionForm) (at : slice_get p.functions n ≡ Some f) (core : Function) → IsWritten p whole.types f core → Setting (around p f) whole.types whole.functions core
-  written_setting n f at core w =
-      setting_of whole.types whole.functions f core n at (front n f at core w) callee (written_gives n f at core w) (shaped n f at core w) (written_nameless n f at core w)
+  -- ---- one function
 
-  pub one_body : (n : ℕ) (f : FunctionForm) → slice_get p.functions n ≡ Some f → (core : Function) → IsWritten p whole.types f core → IsProperBody (around p f) whole.types (length (texts_of p)) whole.functions core
-  one_body n f at core w =
-      let t = result_at p.types p.functions n f results at in
-      let is = typed_at p p.functions n f typed at in
-      function_proper p f w.before whole.types whole.functions core (written_setting n f at core w) is.parameters (parts n f at) is.body t.0 t.1 w.table
-      (written_begins n f at core w) (count n f at core w) (locals n f at core w) (ap (λ (c : Function). c.body) w.is)
+  module _ (n : ℕ) (f : FunctionForm) (at : slice_get p.functions n ≡ Some f) (core : Function) (w : IsWritten p whole.types f core) where
+    is : IsFunctionOf p f
+    is = of_program n f at
 
-  one_short : (n : ℕ) (f : FunctionForm) → slice_get p.functions n ≡ Some f → (core : Function) → IsWritten p whole.types f core → AreShort (elements_of whole.types core)
-  one_short n f at core w =
-      let t = result_at p.types p.functions n f results at in
-      short_function whole.types core (shaped n f at core w)
-      (takes_values p f w.before whole.types whole.functions core (typed_at p p.functions n f typed at).parameters (parts n f at) t.0 t.1 w.table
-      (later n f at core w) (count n f at core w) (same n f at core w) (locals n f at core w))
+    pub one_body : IsProperBody (around p f) whole.types (length (texts_of p)) whole.functions core
+    one_body =
+        let setting = setting_of w.before whole.types whole.functions f core n at (as_begun n f at core w) callee (shaped n f at core w) in
+        function_proper p f w.before whole.types whole.functions core setting is w.table (as_begun n f at core w) (written_begins n f at core w) (ap (λ (c : Function). c.body) w.is)
 
-  -- the locals are well formed, and what else stands beside the body
-  pub one_head : HasNames p → (n : ℕ) (f : FunctionForm) → slice_get p.functions n ≡ Some f → (core : Function) → IsWritten p whole.types f core → HasFormedHead whole.types (length p.names) core
-  one_head names n f at core w =
-      let t = result_at p.types p.functions n f results at in
-      let g = grows n f at w.before w.table in
-      subst (HasFormedHead whole.types (length p.names)) (sym w.is)
-      (head_formed p f w.before whole.types (length p.names) (typed_at p p.functions n f typed at).parameters (parts n f at) t.0 t.1 w.table (front n f at core w) g.locals w.later g.own
-      (all_at (is_function_named (length p.names)) p.functions n f names.named at))
+    one_short : AreShort (elements_of whole.types core)
+    one_short = short_function whole.types core (shaped n f at core w) (takes_values p f w.before whole.types whole.functions core is (as_begun n f at core w))
+
+    -- the locals are well formed, and what else stands beside the body
+    pub one_head : HasNames p → HasFormedHead whole.types (length p.names) core
+    one_head names =
+        let g = grows n f at w.before w.table in
+        subst (HasFormedHead whole.types (length p.names)) (sym w.is)
+        (head_formed p f w.before whole.types (length p.names) is w.table (front n f at core w) g.locals w.later g.own (all_at (is_function_named (length p.names)) p.functions n f names.named at))
 
   -- ---- what is so of each function is so of all
 

@@ -21,7 +21,7 @@ use Rattle.life_elab_laws.proofs.ExpressionKinds.{variable_built}
 use Rattle.life_elab_laws.proofs.FlatLocals.{IsLocalType, flat_locals, variable_typed}
 use Rattle.life_elab_laws.proofs.GivenNothing.{gives_nothing, keeps_all}
 use Rattle.life_elab_laws.proofs.ProgramNames.{no_members, own_names}
-use Rattle.life_elab_laws.proofs.Programs.{IsWritten, each_written, front, functions_built, grows, one_body, one_head, parts, passed_by_all, whole, whole_order}
+use Rattle.life_elab_laws.proofs.Programs.{IsWritten, each_written, front, functions_built, grows, of_program, one_body, one_head, passed_by_all, whole, whole_order}
 use Rattle.life_elab_laws.proofs.Shaped.{variable_later}
 use Rattle.life_elab_laws.proofs.WrittenLocals.{IsIntermediate, IsOwn, fits_later}
 
@@ -50,14 +50,14 @@ module _ (p : ProgramForm) (typed : IsWellTyped p) (built : are_built_functions 
         go (inr is) =
             variable_typed types l
             (variable_later p.types types (front p typed built results n f at core w) l.ty
-            (subst (λ (id : TyId). is_built_variable p.types id ≡ true) (sym is.of.typed) (variable_built p.types f.locals is.number is.variable (parts p typed built results n f at).variables is.there)))
+            (subst (λ (id : TyId). is_built_variable p.types id ≡ true) (sym is.of.typed) (variable_built p.types f.locals is.number is.variable (of_program p typed built results n f at).built.variables is.there)))
 
     body_formed : is_well_formed_tree types texts functions core core.body ≡ true
     body_formed = (one_body p typed built results n f at core w).stated.formed
 
     one_formed : HasNames p → is_well_formed_function types names texts functions core ≡ true
     one_formed named =
-        let head = one_head p typed built results named n f at core w in
+        let head = one_head p typed built results n f at core w named in
         and_from (is_name names core.name) _ head.name
         (and_from (nat_le core.parameters (length core.locals)) _ head.count
         (and_from (names_parameters core.parameters core.promise) _ head.promise

@@ -22,7 +22,7 @@ use Rattle.life_well_typed.specs.Mains.{HasIntMain, HaveIntMains}
 use Rattle.life_well_typed.specs.Results.{HasResults}
 use Rattle.life_elab.specs.Programs.{around, core_program}
 use Rattle.life_elab_laws.proofs.GivingBack.{GivesValue}
-use Rattle.life_elab_laws.proofs.Programs.{IsWritten, functions_built, of_all, one_body, parts, typed_at, whole, written_number, written_result}
+use Rattle.life_elab_laws.proofs.Programs.{IsWritten, functions_built, of_all, of_program, one_body, whole, written_number, written_result}
 use Rattle.life_elab_laws.proofs.TypedKinds.{none_some}
 
 -- ---- what must be written is a value, and control doesn't run past the end
@@ -57,7 +57,8 @@ module _ (p : ProgramForm) (typed : IsWellTyped p) (built : are_built_functions 
   module _ (n : ℕ) (f : FunctionForm) (at : slice_get p.functions n ≡ Some f) (core : Function) (w : IsWritten p (whole p typed built results).types f core) where
     gives : writes_result p.names (whole p typed built results).types core ≡ true → GivesValue (around p f)
     gives must =
-        needs (is_main p.names f.name) (type_at p.types f.result) (ends f.body) (parts p typed built results n f at).result (int_at p p.functions n f mains at) (typed_at p p.functions n f typed at).ending
+        let of = of_program p typed built results n f at in
+        needs (is_main p.names f.name) (type_at p.types f.result) (ends f.body) of.built.result (int_at p p.functions n f mains at) of.typed.ending
         (ap (λ (x : NameId). is_written_by (is_main p.names x) (Some (type_at p.types f.result))) (sym (ap (λ (c : Function). c.name) w.is))
         ∙ ap (is_written_by (is_main p.names core.name)) (sym (written_result p typed built results n f at core w))
         ∙ must)
