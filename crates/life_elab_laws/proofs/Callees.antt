@@ -28,7 +28,7 @@ use Rattle.life_elab_laws.proofs.Calls.{IsCallee, objects}
 use Rattle.life_elab_laws.proofs.Emitting.{wanted_sort}
 use Rattle.life_elab_laws.proofs.Fronts.{IsFront, front_cut, front_then}
 use Rattle.life_elab_laws.proofs.Shaped.{value_later}
-use Rattle.life_elab_laws.proofs.VariablePlaces.{value_held}
+use Rattle.life_elab_laws.proofs.Types.{value_held}
 
 -- what stands in a table is the type there
 pub type_found : (types : Types) (id : TyId) (t : Ty) → slice_get types.types id.0 ≡ Some t → type_at types id ≡ t

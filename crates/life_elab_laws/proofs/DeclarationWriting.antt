@@ -1,6 +1,6 @@
 -- What is written for a declaration is ready and well formed: the variable lives, and is given what typing lets it be given.
-use Rattle.std.proofs.Common.{◌≡◌, ◌<◌, ◌⊎◌, inl, inr, ℕ, Bool, true, false, ◌||◌, cond, List, [], ◌∷◌, ◌++◌, length, slice_get, slice_set, Option, Some, None, refl, sym, ap, ◌∙◌, subst, unwrap_or, arith, append_assoc}
-use Rattle.std.proofs.lemmas.Bool.{and_from, and_parts, false≢true, or_left, or_right}
+use Rattle.std.proofs.Common.{◌≡◌, ◌<◌, ◌⊎◌, inl, ℕ, Bool, true, false, ◌||◌, cond, List, [], ◌∷◌, ◌++◌, length, slice_get, slice_set, Option, Some, None, refl, sym, ap, ◌∙◌, subst, unwrap_or, arith, append_assoc}
+use Rattle.std.proofs.lemmas.Bool.{and_from, and_parts, false≢true}
 use Rattle.life_types.specs.Types.{Types, class}
 use Rattle.life_types.specs.contracts.ty.TyPartialEq.TheImpl.{ghosts as compared}
 use Rattle.life_types.specs.declared.place.Place.{Place}
@@ -18,7 +18,7 @@ use Rattle.life_typed.specs.declared.typed_program.TypedLocal.{TypedLocal}
 use Rattle.life_type_stmt.specs.Declarations.{default_fault}
 use Rattle.life_core.specs.Function.{Function}
 use Rattle.life_core.specs.Operands.{Argument, Place as Aimed, object_named, whole}
-use Rattle.life_core.specs.Holdings.{Holding, AnObject, ANumber, APointer, Blank, held_if, sort_of}
+use Rattle.life_core.specs.Holdings.{AnObject, ANumber, APointer, Blank, held_if, sort_of}
 use Rattle.life_core.specs.Step.{Live, Save}
 use Rattle.life_core.specs.Tree.{Tree, Acts}
 use Rattle.life_core.specs.declared.instr.Form.TheVariants.{Plain}
@@ -61,8 +61,8 @@ use Rattle.life_elab_laws.proofs.Parts.{Makes, leaf_part, seen_part}
 use Rattle.life_elab_laws.proofs.Setting.{Setting}
 use Rattle.life_elab_laws.proofs.Shaping.{fine_acts, fine_append}
 use Rattle.life_elab_laws.proofs.TypedKinds.{none_some}
-use Rattle.life_elab_laws.proofs.Types.{same_types}
-use Rattle.life_elab_laws.proofs.VariablePlaces.{IsVariableType, a_raw, a_reference, a_value, value_held, variable_type}
+use Rattle.life_elab_laws.proofs.Types.{object_or_pointer, same_types, value_held}
+use Rattle.life_elab_laws.proofs.VariablePlaces.{IsVariableType, a_raw, a_reference, a_value, variable_type}
 
 module _ (a : Around) (types : Types) (texts : ℕ) (fs : List Function) (f : Function) (setting : Setting a types fs f) (v : Visible) (in_loop : Bool) where
   module _ (u : TypedLocal) (s : State) (h : Follows types fs f a v s) (at : slice_get a.function.locals v.declared ≡ Some u) (built : is_built_variable a.program.types u.ty ≡ true) where
@@ -93,11 +93,8 @@ module _ (a : Around) (types : Types) (texts : ℕ) (fs : List Function) (f : Fu
     -- ---- it comes to life
 
     live_ready : (x : ℕ) (k : List Known) → known_at k x ≡ known.Blank → (sort_of types f x ≡ AnObject) ⊎ (sort_of types f x ≡ APointer) → is_step_ready types fs f k (Live x Plain) ≡ true
-    live_ready x k blank sort = and_from (holds k x Blank) (is_sort (sort_of types f x) AnObject || is_sort (sort_of types f x) APointer) (ap (λ (b : Known). same b known.Blank) blank) (go sort)
-      where
-        go : (sort_of types f x ≡ AnObject) ⊎ (sort_of types f x ≡ APointer) → (is_sort (sort_of types f x) AnObject || is_sort (sort_of types f x) APointer) ≡ true
-        go (inl e) = or_left (is_sort (sort_of types f x) AnObject) _ (ap (λ (g : Holding). is_sort g AnObject) e)
-        go (inr e) = or_right (is_sort (sort_of types f x) AnObject) _ (ap (λ (g : Holding). is_sort g APointer) e)
+    live_ready x k blank sort =
+        and_from (holds k x Blank) (is_sort (sort_of types f x) AnObject || is_sort (sort_of types f x) APointer) (ap (λ (b : Known). same b known.Blank) blank) (object_or_pointer (sort_of types f x) sort)
 
     lives : default_fault (type_of a u.ty) ≡ None → New s → can_live types texts fs f (length s.locals) ≡ true
     lives none b = go (variable_type a.program.types u.ty built)
@@ -246,18 +243,18 @@ module _ (a : Around) (types : Types) (texts : ℕ) (fs : List Function) (f : Fu
 
     -- ---- any variable
 
-    initial_does : (result : TyId) (initial : Option InitialForm) → is_built_initial (type_of a u.ty) initial ≡ true → IsInitialised a.program a.function.locals result v.visible (Some u) initial → Born (given_initial a u initial s)
-    initial_does result None b i = live_does i
-    initial_does result (Some (one e)) b i =
+    initial_does : (initial : Option InitialForm) → is_built_initial (type_of a u.ty) initial ≡ true → IsInitialised a.program a.function.locals a.function.result v.visible (Some u) initial → Born (given_initial a u initial s)
+    initial_does None b i = live_does i
+    initial_does (Some (one e)) b i =
         let parts = and_parts (is_built_expression e) (needs_no_temporary (type_of a u.ty) e) b in one_does e parts.0 i.1 parts.1 i.0
-    initial_does result (Some (several list)) b i = absurd (false≢true b)
+    initial_does (Some (several list)) b i = absurd (false≢true b)
 
-  pub declaration_does : (result : TyId) (d : DeclarationForm) (s : State) → Follows types fs f a v s → is_built_declaration a.program.types a.function.locals d ≡ true → IsDeclaration a.program a.function.locals result d v
+  pub declaration_does : (d : DeclarationForm) (s : State) → Follows types fs f a v s → is_built_declaration a.program.types a.function.locals d ≡ true → IsDeclaration a.program a.function.locals a.function.result d v
       → Does types texts fs f a (with_next v) in_loop s (declared a d s)
-  declaration_does result d s h b here = go (slice_get a.function.locals d.local) refl b here.1
+  declaration_does d s h b here = go (slice_get a.function.locals d.local) refl b here.1
     where
-      go : (o : Option TypedLocal) → slice_get a.function.locals d.local ≡ o → is_built_declared a.program.types o d.value ≡ true → IsInitialised a.program a.function.locals result v.visible o d.value
+      go : (o : Option TypedLocal) → slice_get a.function.locals d.local ≡ o → is_built_declared a.program.types o d.value ≡ true → IsInitialised a.program a.function.locals a.function.result v.visible o d.value
           → Does types texts fs f a (with_next v) in_loop s (declared_as a o d.value s)
       go None at b i = absurd i
       go (Some u) at b i =
-          initial_does u s h (sym (ap (slice_get a.function.locals) here.0) ∙ at) (variable_built a.program.types a.function.locals d.local u setting.variables at) result d.value b i
+          initial_does u s h (sym (ap (slice_get a.function.locals) here.0) ∙ at) (variable_built a.program.types a.function.locals d.local u setting.variables at) d.value b i

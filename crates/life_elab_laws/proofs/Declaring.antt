@@ -35,7 +35,8 @@ use Rattle.life_elab_laws.proofs.Gifts.{Gift, nothing}
 use Rattle.life_elab_laws.proofs.Parts.{Makes, Runs}
 use Rattle.life_elab_laws.proofs.Shaped.{shaped_more, variable_later}
 use Rattle.life_elab_laws.proofs.Shaping.{IsFine, stated_append}
-use Rattle.life_elab_laws.proofs.VariablePlaces.{IsVariableAt, IsVariableType, a_raw, a_reference, a_value, value_held, variable_type}
+use Rattle.life_elab_laws.proofs.Types.{value_held}
+use Rattle.life_elab_laws.proofs.VariablePlaces.{IsVariableAt, IsVariableType, a_raw, a_reference, a_value, variable_type}
 use Rattle.life_elab_laws.proofs.WrittenLocals.{IsLocalOf, locals_added, own_added}
 
 take_before : (xs ys : List ℕ) → take (length xs) (xs ++ ys) ≡ xs

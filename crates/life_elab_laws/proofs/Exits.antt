@@ -1,5 +1,5 @@
 -- What is known between statements: each living variable is there, and no other one is.
-use Rattle.std.proofs.Common.{◌≡◌, ℕ, zero, suc, Bool, true, false, ◌&&◌, ◌||◌, is_none, List, [], ◌∷◌, length, slice_get, Option, Some, None, refl, sym, ap, ◌∙◌, subst, arith}
+use Rattle.std.proofs.Common.{◌≡◌, ℕ, zero, suc, Bool, true, false, ◌&&◌, ◌||◌, is_none, List, [], ◌∷◌, length, slice_get, Option, Some, None, refl, sym, ◌∙◌, subst, arith}
 use Rattle.std.proofs.lemmas.Bool.{and_from}
 use Rattle.life_types.specs.Types.{Types}
 use Rattle.life_types.specs.declared.ty.NameId.{NameId}
@@ -15,7 +15,7 @@ use Rattle.life_elab_laws.proofs.Among.{Among}
 use Rattle.life_elab_laws.proofs.Falling.{falling}
 use Rattle.life_elab_laws.proofs.Knowledge.{agreed_length, at_agreed}
 use Rattle.life_elab_laws.proofs.Making.{Keeps}
-use Rattle.life_elab_laws.proofs.Nowhere.{IsNowhere, nowhere_flows}
+use Rattle.life_elab_laws.proofs.Nowhere.{IsNowhere, none_met, nowhere_flows}
 
 module _ (types : Types) (fs : List Function) (f : Function) where
   -- these variables live, and no other one does
@@ -74,12 +74,9 @@ module _ (types : Types) (fs : List Function) (f : Function) where
     pub on_true : w.on_true ≡ None
     pub on_false : w.on_false ≡ None
 
-  met_none : (s t : State) → s ≡ None → t ≡ None → met s t ≡ None
-  met_none s t a b = ap (λ (u : State). met u t) a ∙ b
-
   may_leave_met : (in_loop : Bool) (outside : List ℕ) (s t : State) → MayLeave in_loop outside s → MayLeave in_loop outside t → MayLeave in_loop outside (met s t)
   may_leave_met true outside s t a b = may_met outside s t a b
-  may_leave_met false outside s t a b = met_none s t a b
+  may_leave_met false outside s t a b = none_met s t a b
 
   pub leaves_joined : (in_loop : Bool) (living outside : List ℕ) (w v : Flow) → Leaves in_loop living outside w → Leaves in_loop living outside v → Leaves in_loop living outside (joined w v)
   leaves_joined in_loop living outside w v a b = record {
@@ -87,8 +84,8 @@ module _ (types : Types) (fs : List Function) (f : Function) where
     next = may_met living w.next v.next a.next b.next;
     on_break = may_leave_met in_loop outside w.on_break v.on_break a.on_break b.on_break;
     on_continue = may_leave_met in_loop outside w.on_continue v.on_continue a.on_continue b.on_continue;
-    on_true = met_none w.on_true v.on_true a.on_true b.on_true;
-    on_false = met_none w.on_false v.on_false a.on_false b.on_false;
+    on_true = none_met w.on_true v.on_true a.on_true b.on_true;
+    on_false = none_met w.on_false v.on_false a.on_false b.on_false;
   }
 
   -- one before another one, which begins with what it leaves

@@ -1,5 +1,5 @@
 -- Each well typed expression that is built is of one of these kinds.
-use Rattle.std.proofs.Common.{◌≡◌, ℕ, zero, suc, Bool, true, false, cond, List, [], ◌∷◌, Option, Some, None, Ok, slice_get, refl, sym, ap, ◌∙◌, subst, true≢false}
+use Rattle.std.proofs.Common.{◌≡◌, ℕ, Bool, true, false, cond, List, Option, Some, None, Ok, slice_get, refl, sym, ap, ◌∙◌, subst, true≢false}
 use Rattle.std.proofs.lemmas.Bool.{and_parts, false≢true}
 use Rattle.life_types.specs.Types.{Types}
 use Rattle.life_types.specs.declared.ty.Ty.{Ty}
@@ -20,31 +20,16 @@ use Rattle.life_typed.specs.declared.typed_program.TypedLocal.{TypedLocal}
 use Rattle.life_type_expr.specs.Operands.{dereferenced_to, inverted, negated_to, number_type, place_of, pointed_to, value}
 use Rattle.life_well_typed.specs.Expressions.{HasResult, IsAddress, IsVariable}
 use Rattle.life_well_typed.specs.Given.{is_number}
+use Rattle.life_elab_laws.proofs.Fronts.{passed_at}
 use Rattle.life_elab_laws.proofs.TypedKinds.{HasKind, IsKind, a_null, a_number, a_pointer, err_ok, kind_of_result, kind_of_variable, no_value, ok_same, promoted_value, value_place}
 
 -- ---- what is built
 
 pub variable_built : (types : Types) (vs : List TypedLocal) (x : ℕ) (v : TypedLocal) → are_built_variables types vs ≡ true → slice_get vs x ≡ Some v → is_built_variable types v.ty ≡ true
-variable_built types [] x v b at = absurd (clash at)
-  where
-    clash : None ≡ Some v → ⊥
-    clash e = cc
-variable_built types (u ∷ us) zero v b at = subst (λ (w : TypedLocal). is_built_variable types w.ty ≡ true) (same at) (and_parts (is_built_variable types u.ty) (are_built_variables types us) b).0
-  where
-    same : Some u ≡ Some v → u ≡ v
-    same e = cc
-variable_built types (u ∷ us) (suc x) v b at = variable_built types us x v (and_parts (is_built_variable types u.ty) (are_built_variables types us) b).1 at
+variable_built types vs x v = passed_at (λ (u : TypedLocal). is_built_variable types u.ty) (are_built_variables types) (λ u us. refl) vs x v
 
 pub function_built : (types : Types) (fs : List FunctionForm) (g : ℕ) (f : FunctionForm) → are_built_functions types fs ≡ true → slice_get fs g ≡ Some f → is_built_function types f ≡ true
-function_built types [] g f b at = absurd (clash at)
-  where
-    clash : None ≡ Some f → ⊥
-    clash e = cc
-function_built types (h ∷ hs) zero f b at = subst (λ (w : FunctionForm). is_built_function types w ≡ true) (same at) (and_parts (is_built_function types h) (are_built_functions types hs) b).0
-  where
-    same : Some h ≡ Some f → h ≡ f
-    same e = cc
-function_built types (h ∷ hs) (suc g) f b at = function_built types hs g f (and_parts (is_built_function types h) (are_built_functions types hs) b).1 at
+function_built types fs g f = passed_at (is_built_function types) (are_built_functions types) (λ h hs. refl) fs g f
 
 pub result_built : (types : Types) (f : FunctionForm) → is_built_function types f ≡ true → is_built_result types f.result ≡ true
 result_built types f b = (and_parts (is_built_result types f.result) _ b).0

@@ -1,6 +1,6 @@
 -- What has been written of a function and what is visible, between statements.
 use Rattle.std.proofs.Common.{◌≡◌, ◌<◌, ◌≤◌, ℕ, zero, suc, true, List, [], ◌∷◌, Contains, length, slice_get, take, Option, Some, None, refl, sym, ap, ◌∙◌, subst, unwrap_or, arith}
-use Rattle.std.proofs.lemmas.Option.{slice_get_within}
+use Rattle.std.proofs.lemmas.Option.{none-some, slice_get_within}
 use Rattle.life_types.specs.Types.{Types}
 use Rattle.life_types.specs.declared.ty.NameId.{NameId}
 use Rattle.life_typed.specs.BaseTypes.{is_value, type_at}
@@ -153,10 +153,7 @@ module _ (types : Types) (fs : List Function) (f : Function) where
         where
           never : (xs : List ℕ) (n : ℕ) → n < length xs → slice_get xs n ≡ None → ⊥
           never [] n lt e = omega (arith, lt)
-          never (z ∷ zs) zero lt e = clash e
-            where
-              clash : Some z ≡ None → ⊥
-              clash e = cc
+          never (z ∷ zs) zero lt e = none-some z (sym e)
           never (z ∷ zs) (suc n) lt e = never zs n (omega (arith, lt)) e
 
   pub follows_again : (a : Around) (v : Visible) (s s' : State) (n : ℕ) → Follows a v s → IsFront s.locals s'.locals → IsFront s.types.types s'.types.types → IsFront s.variables s'.variables → s'.living ≡ s.living → s'.outside ≤ length s'.living

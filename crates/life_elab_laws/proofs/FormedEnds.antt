@@ -4,20 +4,24 @@ use Rattle.std.specs.List.{list_all}
 use Rattle.std.proofs.lemmas.Bool.{and_from, false≢true, or_left, or_right}
 use Rattle.std.proofs.lemmas.Bool.Decides.{nat_tests}
 use Rattle.life_types.specs.Types.{Types, class, is_slot_target, is_slot_type}
+use Rattle.life_types.specs.declared.ty.Class.{Class}
+use Rattle.life_types.specs.declared.ty.Class.TheVariants.{Value}
 use Rattle.life_types.specs.declared.ty.NameId.{NameId}
 use Rattle.life_types.specs.declared.ty.Ty.{Ty}
 use Rattle.life_types.specs.declared.ty.Ty.TheVariants as ty
 use Rattle.life_types.specs.declared.ty.TyId.{TyId}
 use Rattle.life_typed.specs.BaseTypes.{is_value, type_at}
 use Rattle.life_core.specs.Function.{Function}
-use Rattle.life_core.specs.Holdings.{Holding, ANumber, AnObject, APointer, Blank, held_by, held_if, sort_of}
+use Rattle.life_core.specs.Holdings.{Holding, AnObject, APointer, held_by, held_if, sort_of}
 use Rattle.life_core.specs.declared.program.Local.{Local}
 use Rattle.life_core.specs.declared.program.LocalKind.{LocalKind}
 use Rattle.life_core.specs.declared.program.LocalKind.TheVariants.{Object, Register, Range}
 use Rattle.life_pset.specs.Shapes as shapes
 use Rattle.life_proper.specs.Knowing.{is_register}
+use Rattle.life_proper.specs.ReadyKnown.{is_sort}
 use Rattle.life_elab_laws.proofs.Among.{Among}
 use Rattle.life_elab_laws.proofs.Shaped.{AreShaped, shaped_at}
+use Rattle.life_elab_laws.proofs.Types.{object_or_pointer, value_class}
 use Rattle.life_elab_laws.proofs.VariablePlaces.{IsVariableType, a_raw, a_reference, a_value, variable_type}
 use Rattle.life_proper.specs.OperandTypes.{is_void}
 use Rattle.life_proper.specs.Placed.{is_slot_local, object_at, result_at, slot_at}
@@ -49,46 +53,15 @@ reference_no_slot types target false v = ap is_slot_target (type_found types typ
 
 -- ---- kinds
 
+-- a value that is an object or a pointer is an object
 value_object : (t : Ty) (k : LocalKind) → is_value t ≡ true → (held_if (class (Some t)) k (Some t) ≡ AnObject) ⊎ (held_if (class (Some t)) k (Some t) ≡ APointer) → k ≡ Object
-value_object t Object v h = refl
-value_object t Register v h = go t v h
+value_object t k v h =
+    go k (ap (λ (c : Class). is_sort (held_if c k (Some t)) AnObject || is_sort (held_if c k (Some t)) APointer) (sym (value_class t v)) ∙ object_or_pointer (held_if (class (Some t)) k (Some t)) h)
   where
-    number : (ANumber ≡ AnObject) ⊎ (ANumber ≡ APointer) → Register ≡ Object
-    number (inl e) = absurd (clash e)
-      where
-        clash : ANumber ≡ AnObject → ⊥
-        clash e = cc
-    number (inr e) = absurd (clash e)
-      where
-        clash : ANumber ≡ APointer → ⊥
-        clash e = cc
-
-    go : (t : Ty) → is_value t ≡ true → (held_if (class (Some t)) Register (Some t) ≡ AnObject) ⊎ (held_if (class (Some t)) Register (Some t) ≡ APointer) → Register ≡ Object
-    go ty.Bool v h = number h
-    go ty.Char v h = number h
-    go ty.Int v h = number h
-    go ty.Long v h = number h
-    go ty.Size v h = number h
-    go _ v h = absurd (false≢true v)
-value_object t Range v h = go t v h
-  where
-    blank : (Blank ≡ AnObject) ⊎ (Blank ≡ APointer) → Range ≡ Object
-    blank (inl e) = absurd (clash e)
-      where
-        clash : Blank ≡ AnObject → ⊥
-        clash e = cc
-    blank (inr e) = absurd (clash e)
-      where
-        clash : Blank ≡ APointer → ⊥
-        clash e = cc
-
-    go : (t : Ty) → is_value t ≡ true → (held_if (class (Some t)) Range (Some t) ≡ AnObject) ⊎ (held_if (class (Some t)) Range (Some t) ≡ APointer) → Range ≡ Object
-    go ty.Bool v h = blank h
-    go ty.Char v h = blank h
-    go ty.Int v h = blank h
-    go ty.Long v h = blank h
-    go ty.Size v h = blank h
-    go _ v h = absurd (false≢true v)
+    go : (k : LocalKind) → (is_sort (held_if Value k (Some t)) AnObject || is_sort (held_if Value k (Some t)) APointer) ≡ true → k ≡ Object
+    go Object e = refl
+    go Register e = absurd (false≢true e)
+    go Range e = absurd (false≢true e)
 
 module _ (types : Types) (texts : ℕ) (fs : List Function) (f : Function) (shaped : AreShaped types f.locals)
     (nameless : (l : Local) → slice_get f.locals f.parameters ≡ Some l → is_void (shapes.ty_of types f.result) ≡ false → l.name ≡ None) where

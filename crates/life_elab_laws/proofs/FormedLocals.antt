@@ -3,7 +3,7 @@ use Rattle.std.proofs.Common.{◌≡◌, ◌<◌, ◌+◌, ◌≤◌, ◌⊎◌,
 use Rattle.std.specs.List.{list_all}
 use Rattle.std.proofs.lemmas.Bool.{and_from, and_parts, false≢true, le-leb, or_cases}
 use Rattle.std.proofs.lemmas.Bool.Decides.{nat_tests}
-use Rattle.std.proofs.lemmas.Option.{none-some, same_Some}
+use Rattle.std.proofs.lemmas.Option.{same_Some}
 use Rattle.life_types.specs.Trees.{is_plain, tree_at, tree_of, tree_within}
 use Rattle.life_types.specs.Types.{Types, class}
 use Rattle.life_types.specs.declared.ty.NameId.{NameId}
@@ -31,7 +31,7 @@ use Rattle.life_elab.specs.Programs.{around}
 use Rattle.life_elab_laws.proofs.Beginning.{given, given_count, parameter_locals, parameters_front, result_first, result_grows}
 use Rattle.life_elab_laws.proofs.Callees.{IsFunctionOf, type_found}
 use Rattle.life_elab_laws.proofs.ExpressionKinds.{variable_built}
-use Rattle.life_elab_laws.proofs.Fronts.{IsFront, front_length}
+use Rattle.life_elab_laws.proofs.Fronts.{IsFront, front_length, passed_at}
 use Rattle.life_elab_laws.proofs.OperandsThere.{type_either}
 use Rattle.life_elab_laws.proofs.WrittenLocals.{AreWrittenLocals, IsIntermediate, IsOwn, fits_later, fits_register}
 
@@ -148,11 +148,6 @@ module _ (types : Types) where
 
 -- ---- names
 
-pub all_at : {X : Type 0} (test : X → Bool) (xs : List X) (n : ℕ) (x : X) → list_all test xs ≡ true → slice_get xs n ≡ Some x → test x ≡ true
-all_at test [] n x h at = absurd (none-some x at)
-all_at test (z ∷ xs) zero x h at = ap test (sym (same_Some z x at)) ∙ (and_parts (test z) (list_all test xs) h).0
-all_at test (z ∷ xs) (suc n) x h at = all_at test xs n x (and_parts (test z) (list_all test xs) h).1 at
-
 -- each parameter has one
 parameter_named : (a : Around) (ps : List ParameterPromise) (us : List TypedLocal) (y : ℕ) → length ps ≤ length us → y < length ps → (l : Local) × (slice_get (parameter_locals a ps us) y ≡ Some l) × (is_some l.name ≡ true)
 parameter_named a [] us y few lt = absurd (omega (arith, lt))
@@ -220,7 +215,7 @@ module _ (p : ProgramForm) (of : FunctionForm) (T types : Types) (names : ℕ) (
       (fits_later p.types types front found.0 (variable_fits p.types found.0 found.2))
       (ap (λ (k : LocalKind). fits_kind k found.0) kept ∙ variable_kept p.types found.0 found.2)
       (ap (λ (k : LocalKind). is_named_as k found.0 l.name) kept ∙ ap (is_named_as (kind (class (Some found.0))) found.0) is.of.named ∙ variable_named p.types found.0 is.variable.name found.2)
-      (ap (is_name_if names) is.of.named ∙ all_at (is_local_named names) of.locals is.number is.variable known is.there)
+      (ap (is_name_if names) is.of.named ∙ passed_at (is_local_named names) (list_all (is_local_named names)) (λ u us. refl) of.locals is.number is.variable known is.there)
       (has_name x l at)
 
   locals_formed : are_well_formed_locals types names core.parameters 0 core.locals ≡ true

@@ -1,7 +1,7 @@
 -- Variables as places and as pointers: their types in the finished function, and const where the text has it.
 use Rattle.std.proofs.Common.{◌≡◌, ℕ, Bool, true, false, not, if◌then◌else◌, List, [], nat_lt, slice_get, Option, Some, None, refl, sym, ap, ◌∙◌, subst, unwrap_or}
 use Rattle.std.proofs.lemmas.Bool.{false≢true}
-use Rattle.life_types.specs.Types.{Types, class}
+use Rattle.life_types.specs.Types.{Types}
 use Rattle.life_types.specs.declared.ty.Ty.{Ty}
 use Rattle.life_types.specs.declared.ty.Ty.TheVariants as ty
 use Rattle.life_types.specs.declared.ty.TyId.{TyId}
@@ -15,16 +15,16 @@ use Rattle.life_type_expr.specs.Operands.{place_of as place_typed, variable_of}
 use Rattle.life_core.specs.Function.{Function}
 use Rattle.life_core.specs.Operands.{Location, Through, behind, object_named, whole}
 use Rattle.life_core.specs.declared.program.Local.{Local}
-use Rattle.life_core.specs.declared.program.LocalKind.{LocalKind}
 use Rattle.life_core.specs.declared.program.LocalKind.TheVariants.{Object, Register}
 use Rattle.life_pset.specs.Shapes.{is_constant, or_void, referred, shape_if, shape_of, target_of, ty_if, ty_of, unslotted}
 use Rattle.life_writer.specs.Around.{Around}
-use Rattle.life_writer.specs.Variables.{kind, place_of, place_of_kind, variable, variable_place}
+use Rattle.life_writer.specs.Variables.{variable, variable_place}
 use Rattle.life_writer.specs.Writing.{State}
 use Rattle.life_elab_laws.proofs.Fronts.{IsFront}
 use Rattle.life_elab_laws.proofs.Growing.{Begins}
 use Rattle.life_elab_laws.proofs.TypedKinds.{place_same}
-use Rattle.life_elab_laws.proofs.VariablePlaces.{IsVariableAt, IsVariableType, a_raw, a_reference, a_value, variable_type}
+use Rattle.life_elab_laws.proofs.Types.{value_kind}
+use Rattle.life_elab_laws.proofs.VariablePlaces.{IsVariableAt, IsVariableType, a_raw, a_reference, a_value, kind_is, place_is, variable_type}
 use Rattle.life_proper.specs.OperandTypes.{is_void, keeps_const, pointee}
 use Rattle.life_proper.specs.Placed as placed
 use Rattle.life_elab_laws.proofs.Gifts.{IsPlaceOf}
@@ -57,14 +57,6 @@ type_found few more front id v = go (slice_get few.types id.0) refl v
 
 pub type_later : (few more : Types) → IsFront few.types more.types → (id : TyId) → is_value (type_at few id) ≡ true → ty_of more id ≡ type_at few id
 type_later few more front id v = ap or_void (type_found few more front id v)
-
-pub value_kind : (t : Ty) → is_value t ≡ true → kind (class (Some t)) ≡ Object
-value_kind ty.Bool e = refl
-value_kind ty.Char e = refl
-value_kind ty.Int e = refl
-value_kind ty.Long e = refl
-value_kind ty.Size e = refl
-value_kind _ e = absurd (false≢true e)
 
 value_no_void : (t : Ty) → is_value t ≡ true → not (is_void t) ≡ true
 value_no_void ty.Void e = absurd (false≢true e)
@@ -118,12 +110,6 @@ module _ (types : Types) (texts : ℕ) (fs : List Function) (f : Function) where
     typed_as : (t : Ty) → slice_get a.program.types.types v.ty.0 ≡ Some t → slice_get types.types h.local.ty.0 ≡ Some t
     typed_as t at = ap (λ (i : TyId). slice_get types.types i.0) h.typed ∙ front v.ty.0 t at
 
-    kind_as : (t : Ty) → slice_get a.program.types.types v.ty.0 ≡ Some t → h.local.kind ≡ kind (class (Some t))
-    kind_as t at = h.kind ∙ ap (λ (o : Option Ty). kind (class o)) at
-
-    place_as : (k : LocalKind) → h.local.kind ≡ k → variable_place s x ≡ place_of_kind k (variable s x)
-    place_as k e = ap (λ (o : Option Local). place_of o (variable s x)) h.there ∙ ap (λ (c : LocalKind). place_of_kind c (variable s x)) e
-
     -- a variable that is named where a value is, is a place of that type
     pub variable_formed : (e : Typed) (form : Form) → is_built_variable a.program.types v.ty ≡ true → e ≡ variable_of (type_at a.program.types v.ty) a.program.types v.ty v.constant e.place form
         → (id : TyId) (constant : Bool) → e.category ≡ category.Place id constant → is_value (type_at a.program.types id) ≡ true
@@ -141,8 +127,8 @@ module _ (types : Types) (texts : ℕ) (fs : List Function) (f : Function) where
         object t found w is =
             let one : v.ty ≡ id = place_same v.ty id v.constant constant (own v.ty v.constant is) in
             let here : type_at a.program.types id ≡ t = ap (type_at a.program.types) (sym one) ∙ ap (λ (o : Option Ty). unwrap_or o ty.Void) found in
-            subst (IsPlaceOf types texts fs f (type_at a.program.types id) constant) (sym (place_as Object (kind_as t found ∙ value_kind t w)))
-            (object_place (variable s x) (type_at a.program.types id) constant (object_there types f (variable s x) h.local there (kind_as t found ∙ value_kind t w))
+            subst (IsPlaceOf types texts fs f (type_at a.program.types id) constant) (sym (place_is types fs f a front s b x v h Object (kind_is types fs f a front s b x v h t found ∙ value_kind t w)))
+            (object_place (variable s x) (type_at a.program.types id) constant (object_there types f (variable s x) h.local there (kind_is types fs f a front s b x v h t found ∙ value_kind t w))
             (type_there types f (variable s x) h.local t there (typed_as t found) (value_no_reference t (value_either t w)) ∙ sym here))
 
         go : IsVariableType a.program.types v.ty → IsPlaceOf types texts fs f (type_at a.program.types id) constant (variable_place s x)
@@ -160,7 +146,7 @@ module _ (types : Types) (texts : ℕ) (fs : List Function) (f : Function) where
             let same = own target c (named (ty.Reference target c) found) in
             let later : ty_of types target ≡ type_at a.program.types target = type_later a.program.types types front target w in
             let here : ty_of types target ≡ type_at a.program.types id = later ∙ ap (type_at a.program.types) (place_same target id c constant same) in
-            subst (IsPlaceOf types texts fs f (type_at a.program.types id) constant) (sym (place_as Register (kind_as (ty.Reference target c) found)))
+            subst (IsPlaceOf types texts fs f (type_at a.program.types id) constant) (sym (place_is types fs f a front s b x v h Register (kind_is types fs f a front s b x v h (ty.Reference target c) found)))
             (subst (λ (d : Bool). IsPlaceOf types texts fs f (type_at a.program.types id) d (behind (variable s x))) (const_same target id c constant same)
             (behind_place (whole (variable s x)) (ty.Reference target c) target c (type_at a.program.types id)
             (reference_there types f (variable s x) h.local target c there (typed_as (ty.Reference target c) found) (ap is_value later ∙ w)) refl refl refl here value))

@@ -1,6 +1,16 @@
--- Lists that begin with another one, number by number.
-use Rattle.std.proofs.Common.{◌≡◌, ◌≤◌, ℕ, zero, suc, List, [], ◌∷◌, ◌++◌, length, slice_get, Some, refl, ap, ◌∙◌, arith}
+-- Lists, number by number: what holds of all holds of one, and lists that begin with another one.
+use Rattle.std.proofs.Common.{◌≡◌, ◌≤◌, ℕ, zero, suc, Bool, true, ◌&&◌, List, [], ◌∷◌, ◌++◌, length, slice_get, Some, refl, sym, ap, ◌∙◌, subst, arith}
+use Rattle.std.proofs.lemmas.Bool.{and_parts}
 use Rattle.std.proofs.lemmas.Option.{none-some, same_Some}
+
+-- what holds of all holds of one
+pub each_at : {X : Type 0} (One : X → Type 0) (All : List X → Type 0) → ((x : X) (xs : List X) → All (x ∷ xs) → One x × All xs) → (xs : List X) (n : ℕ) (x : X) → All xs → slice_get xs n ≡ Some x → One x
+each_at One All parts [] n x h at = absurd (none-some x at)
+each_at One All parts (z ∷ xs) zero x h at = subst One (same_Some z x at) (parts z xs h).0
+each_at One All parts (z ∷ xs) (suc n) x h at = each_at One All parts xs n x (parts z xs h).1 at
+
+pub passed_at : {X : Type 0} (test : X → Bool) (all : List X → Bool) → ((x : X) (xs : List X) → all (x ∷ xs) ≡ (test x && all xs)) → (xs : List X) (n : ℕ) (x : X) → all xs ≡ true → slice_get xs n ≡ Some x → test x ≡ true
+passed_at test all both = each_at (λ x. test x ≡ true) (λ xs. all xs ≡ true) (λ x xs h. and_parts (test x) (all xs) (sym (both x xs) ∙ h))
 
 -- what the first has at a number, the second has there too
 abbrev pub IsFront : {X : Type 0} → List X → List X → Type 0

@@ -1,6 +1,7 @@
 -- Where each return of what is written stands behind a write of the result: parts one after the other, and code without returns.
-use Rattle.std.proofs.Common.{◌≡◌, ℕ, true, false, ◌&&◌, List, [], ◌∷◌, ◌++◌, Some, None, refl, ap}
+use Rattle.std.proofs.Common.{◌≡◌, ℕ, true, false, ◌&&◌, List, [], ◌∷◌, ◌++◌, Some, None, refl, sym, ap}
 use Rattle.std.proofs.lemmas.Bool.{and_parts, false≢true}
+use Rattle.std.proofs.lemmas.Option.{none-some}
 use Rattle.life_types.specs.Types.{Types}
 use Rattle.life_typed.specs.BaseTypes.{is_value, type_at}
 use Rattle.life_typed.specs.Ends.{ends}
@@ -22,10 +23,7 @@ GivesValue a = (is_value (type_at a.program.types a.function.result) ≡ true) �
 
 pub nowhere_number : (r : ℕ) (o : State) → o ≡ None → IsKnownNumber r o
 nowhere_number r None e = tt
-nowhere_number r (Some k) e = absurd (clash e)
-  where
-    clash : Some k ≡ None → ⊥
-    clash e = cc
+nowhere_number r (Some k) e = absurd (none-some k (sym e))
 
 module _ (types : Types) (fs : List Function) (f : Function) (r : ℕ) where
   abbrev Holds : Tree → State → Type 0

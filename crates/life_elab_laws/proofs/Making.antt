@@ -1,4 +1,4 @@
--- What a part of an expression writes: from knowledge in which all visible variables are there, to knowledge in which what it gives is.
+-- What a part of an expression gives where so much is known, where it begins, and what of that it keeps.
 use Rattle.std.proofs.Common.{◌≡◌, ◌<◌, ◌≤◌, ℕ, List, Contains, length, slice_get, Option, Some, None, refl, ◌∙◌, subst, arith}
 use Rattle.life_types.specs.Types.{Types}
 use Rattle.life_types.specs.declared.ty.NameId.{NameId}

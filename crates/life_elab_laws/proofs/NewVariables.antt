@@ -25,11 +25,12 @@ use Rattle.life_writer.specs.Writing.{State}
 use Rattle.life_elab_laws.proofs.Aiming.{keeps_further}
 use Rattle.life_elab_laws.proofs.CallParts.{goes_object}
 use Rattle.life_elab_laws.proofs.Declaring.{with_new}
-use Rattle.life_elab_laws.proofs.FormedVariables.{object_place, reference_there, type_found, type_later, value_kind}
+use Rattle.life_elab_laws.proofs.FormedVariables.{object_place, reference_there, type_found, type_later}
 use Rattle.life_elab_laws.proofs.Fronts.{IsFront, front_itself, last_there}
 use Rattle.life_elab_laws.proofs.Gifts.{IsGivenAs, IsPlaceOf}
 use Rattle.life_elab_laws.proofs.Growing.{Begins}
 use Rattle.life_elab_laws.proofs.OperandsThere.{object_there, register_there, type_there, value_either, value_no_reference, value_same}
+use Rattle.life_elab_laws.proofs.Types.{value_kind}
 
 module _ (a : Around) (types : Types) (texts : ℕ) (fs : List Function) (f : Function) (front : IsFront a.program.types.types types.types) where
   -- what a reference is bound to fits it

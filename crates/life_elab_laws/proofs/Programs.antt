@@ -25,8 +25,8 @@ use Rattle.life_elab_laws.proofs.Beginning.{first_locals, first_shaped, first_ty
 use Rattle.life_elab_laws.proofs.Callees.{IsBegun, IsFunctionOf, built_parts, callee_from, gives_from, gives_number, result_nameless, takes_values, type_found, values_at}
 use Rattle.life_elab_laws.proofs.Calls.{IsCallee}
 use Rattle.life_elab_laws.proofs.ExpressionKinds.{function_built}
-use Rattle.life_elab_laws.proofs.FormedLocals.{HasFormedHead, all_at, head_formed}
-use Rattle.life_elab_laws.proofs.Fronts.{IsFront, front_itself, front_then}
+use Rattle.life_elab_laws.proofs.FormedLocals.{HasFormedHead, head_formed}
+use Rattle.life_elab_laws.proofs.Fronts.{IsFront, each_at, front_itself, front_then, passed_at}
 use Rattle.life_elab_laws.proofs.FunctionWriting.{IsProperBody, function_finished, function_proper}
 use Rattle.life_elab_laws.proofs.Growing.{Begins}
 use Rattle.life_elab_laws.proofs.OrderedTypes.{KeepsOrder, order_none, order_then}
@@ -37,20 +37,13 @@ use Rattle.life_elab_laws.proofs.WrittenLocals.{AreWrittenLocals}
 
 -- ---- one function among others
 
-pub typed_at : (p : ProgramForm) (fs : List FunctionForm) (n : ℕ) (f : FunctionForm) → AreWellTyped p fs → slice_get fs n ≡ Some f → IsWellTypedFunction p f
-typed_at p [] n f h at = absurd (none-some f at)
-typed_at p (x ∷ fs) zero f h at = subst (IsWellTypedFunction p) (same_Some x f at) h.0
-typed_at p (x ∷ fs) (suc n) f h at = typed_at p fs n f h.1 at
-
 there : {X : Type 0} (xs : List X) (n : ℕ) → n < length xs → (x : X) × (slice_get xs n ≡ Some x)
 there [] n lt = absurd (omega (arith, lt))
 there (x ∷ xs) zero lt = (x, refl)
 there (x ∷ xs) (suc n) lt = there xs n (omega (arith, lt))
 
-pub result_at : (types : Types) (fs : List FunctionForm) (n : ℕ) (f : FunctionForm) → HaveResults types fs → slice_get fs n ≡ Some f → (t : Ty) × (slice_get types.types f.result.0 ≡ Some t)
-result_at types [] n f h at = absurd (none-some f at)
-result_at types (x ∷ fs) zero f h at = subst (λ (y : FunctionForm). (t : Ty) × (slice_get types.types y.result.0 ≡ Some t)) (same_Some x f at) (there types.types x.result.0 h.0)
-result_at types (x ∷ fs) (suc n) f h at = result_at types fs n f h.1 at
+result_at : (types : Types) (fs : List FunctionForm) (n : ℕ) (f : FunctionForm) → HaveResults types fs → slice_get fs n ≡ Some f → (t : Ty) × (slice_get types.types f.result.0 ≡ Some t)
+result_at types fs n f h at = there types.types f.result.0 (each_at (λ (g : FunctionForm). g.result.0 < length types.types) (HaveResults types) (λ g gs h. h) fs n f h at)
 
 -- what is written for a function, whatever the table has by then, adds to what stands there where its body begins
 pub record FunctionGrows (p : ProgramForm) (f : FunctionForm) (T : Types) : Type 0 where
@@ -105,7 +98,7 @@ module _ (p : ProgramForm) (typed : IsWellTyped p) (built : are_built_functions 
   pub of_program : (n : ℕ) (f : FunctionForm) → slice_get p.functions n ≡ Some f → IsFunctionOf p f
   of_program n f at =
       let t = result_at p.types p.functions n f results at in
-      record { typed = typed_at p p.functions n f typed at; built = built_parts p.types f (function_built p.types p.functions n f built at); ty = t.0; result = t.1 }
+      record { typed = each_at (IsWellTypedFunction p) (AreWellTyped p) (λ g gs h. h) p.functions n f typed at; built = built_parts p.types f (function_built p.types p.functions n f built at); ty = t.0; result = t.1 }
 
   setting_of : (T types : Types) (fs : List Function) (f : FunctionForm) (core : Function) (n : ℕ) → slice_get p.functions n ≡ Some f → IsBegun p f T types core
       → ((g : ℕ) (of : FunctionForm) → slice_get p.functions g ≡ Some of → IsCallee p.types types fs g of) → AreShaped types core.locals → Setting (around p f) types fs core
@@ -224,7 +217,8 @@ module _ (p : ProgramForm) (typed : IsWellTyped p) (built : are_built_functions 
     one_head names =
         let g = grows n f at w.before w.table in
         subst (HasFormedHead whole.types (length p.names)) (sym w.is)
-        (head_formed p f w.before whole.types (length p.names) is w.table (front n f at core w) g.locals w.later g.own (all_at (is_function_named (length p.names)) p.functions n f names.named at))
+        (head_formed p f w.before whole.types (length p.names) is w.table (front n f at core w) g.locals w.later g.own
+        (passed_at (is_function_named (length p.names)) (list_all (is_function_named (length p.names))) (λ g gs. refl) p.functions n f names.named at))
 
   -- ---- what is so of each function is so of all
 

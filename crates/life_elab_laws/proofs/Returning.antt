@@ -1,7 +1,7 @@
 -- break, continue and return.
 use Rattle.std.proofs.Common.{◌≡◌, ◌⊎◌, inl, inr, Bool, true, false, ◌||◌, ℕ, List, [], ◌∷◌, ◌++◌, drop, reverse, take, Option, Some, None, refl, sym, ap, ◌∙◌, subst, append_assoc}
 use Rattle.std.proofs.lemmas.Bool.{and_from, false≢true}
-use Rattle.std.proofs.lemmas.Option.{same_Some}
+use Rattle.std.proofs.lemmas.Option.{none-some, same_Some}
 use Rattle.life_types.specs.Types.{Types}
 use Rattle.life_types.specs.declared.place.Place.{Place}
 use Rattle.life_types.specs.declared.ty.NameId.{NameId}
@@ -140,10 +140,7 @@ module _ (a : Around) (types : Types) (texts : ℕ) (fs : List Function) (f : Fu
           is = later.living (result_local a) (among_drop 0 w.state.living (result_local a) (reverse_among (drop 0 w.state.living) (result_local a) m))
 
           named : (l u : Local) (name : NameId) → l ≡ u → l.name ≡ Some name → u.name ≡ None → ⊥
-          named l u name same e n = clash (sym e ∙ ap (λ (x : Local). x.name) same ∙ n)
-            where
-              clash : Some name ≡ None → ⊥
-              clash e = cc
+          named l u name same e n = none-some name (sym n ∙ ap (λ (x : Local). x.name) (sym same) ∙ e)
 
       module _ (d : IsEnded types texts fs f ending keyword w.state) where
         abbrev back : List Tree

@@ -1,7 +1,6 @@
 -- The locals of a function: one without a name is a register, and one with a name has the type of a variable that is built.
-use Rattle.std.proofs.Common.{◌≡◌, ℕ, zero, suc, true, false, ◌||◌, List, [], ◌∷◌, ◌++◌, slice_get, Option, Some, None, refl, ap, ◌∙◌, subst, unwrap_or}
+use Rattle.std.proofs.Common.{◌≡◌, ℕ, true, false, ◌||◌, List, [], ◌∷◌, ◌++◌, slice_get, Option, Some, None, refl, ap, ◌∙◌, unwrap_or}
 use Rattle.std.proofs.lemmas.Bool.{false≢true}
-use Rattle.std.proofs.lemmas.Option.{none-some, same_Some}
 use Rattle.life_types.specs.Types.{Types}
 use Rattle.life_types.specs.declared.ty.NameId.{NameId}
 use Rattle.life_types.specs.declared.ty.Ty.{Ty}
@@ -11,7 +10,7 @@ use Rattle.life_built.specs.Built.{is_built_variable, is_pointing}
 use Rattle.life_typed.specs.BaseTypes.{is_value, type_at}
 use Rattle.life_core.specs.declared.program.Local.{Local}
 use Rattle.life_proper.specs.Knowing.{is_intermediate}
-use Rattle.life_elab_laws.proofs.Fronts.{IsFront}
+use Rattle.life_elab_laws.proofs.Fronts.{IsFront, each_at}
 
 -- ---- the type of a variable that is built is one in a table with more types too
 
@@ -56,9 +55,7 @@ module _ (types : Types) where
   shaped_more (z ∷ ls) l h one = (h.0, shaped_more ls l h.1 one)
 
   pub shaped_at : (ls : List Local) (y : ℕ) (l : Local) → AreShaped types ls → slice_get ls y ≡ Some l → IsShaped types l
-  shaped_at [] y l h at = absurd (none-some l at)
-  shaped_at (z ∷ ls) zero l h at = subst (IsShaped types) (same_Some z l at) h.0
-  shaped_at (z ∷ ls) (suc y) l h at = shaped_at ls y l h.1 at
+  shaped_at = each_at (IsShaped types) (AreShaped types) (λ l ls h. h)
 
   -- .. in a table with more types too
   pub shaped_later : (more : Types) → IsFront types.types more.types → (ls : List Local) → AreShaped types ls → AreShaped more ls

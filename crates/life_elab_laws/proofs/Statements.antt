@@ -87,7 +87,7 @@ module _ (a : Around) (types : Types) (texts : ℕ) (fs : List Function) (f : Fu
   pub begun : (v : Visible) (in_loop : Bool) (start : Option ForStartForm) (s : State) → is_built_start a.program.types a.function.locals start ≡ true → IsStart a.program a.function.locals a.function.result start v → Follows types fs f a v s
       → Does types texts fs f a (after_start start v) in_loop s (started a start s)
   begun v in_loop None s b h follows = does_nothing types texts fs f a v in_loop s follows
-  begun v in_loop (Some (declared_first d)) s b h follows = declaration_does a types texts fs f setting v in_loop a.function.result d s follows b h
+  begun v in_loop (Some (declared_first d)) s b h follows = declaration_does a types texts fs f setting v in_loop d s follows b h
   begun v in_loop (Some (done_first it)) s b h follows = (simple_does a types texts fs f setting v in_loop it s b h follows).does
 
   -- a loop whose body and step are done
@@ -173,7 +173,7 @@ module _ (a : Around) (types : Types) (texts : ℕ) (fs : List Function) (f : Fu
         (asserted_does types texts fs f a v in_loop s (condition a (whole_form decides) s) follows (decided v decides s b h follows) keyword) (λ e. runs_on e) (λ before e. e)
     statement_does (branch keyword decides closing body) in_loop v s b h follows register = absurd h
     statement_does (declaration d semicolon) in_loop v s b h follows register =
-        let does = declaration_does a types texts fs f setting v in_loop a.function.result d s follows b h in
+        let does = declaration_does a types texts fs f setting v in_loop d s follows b h in
         record {
           does = does;
           level = λ one. runs_on one;

@@ -14,7 +14,7 @@ use Rattle.life_typed.specs.declared.typed_program.TypedLocal.{TypedLocal}
 use Rattle.life_type_expr.specs.Operands.{variable_of}
 use Rattle.life_core.specs.Function.{Function}
 use Rattle.life_core.specs.Operands.{whole}
-use Rattle.life_core.specs.Holdings.{AnObject, held_by, held_if, sort_of}
+use Rattle.life_core.specs.Holdings.{held_by, held_if, sort_of}
 use Rattle.life_core.specs.declared.program.Local.{Local}
 use Rattle.life_core.specs.declared.program.LocalKind.{LocalKind}
 use Rattle.life_core.specs.declared.program.LocalKind.TheVariants.{Object, Register}
@@ -26,6 +26,7 @@ use Rattle.life_writer.specs.Writing.{State}
 use Rattle.life_elab_laws.proofs.Fronts.{IsFront, front_then}
 use Rattle.life_elab_laws.proofs.Growing.{Begins, Grows, bare}
 use Rattle.life_elab_laws.proofs.Making.{Alive, IsOpen, IsPlace, IsPointer, a_target, an_object}
+use Rattle.life_elab_laws.proofs.Types.{value_held, value_kind}
 
 -- ---- what a variable is
 
@@ -60,22 +61,6 @@ pub record IsVariableAtBare (a : Around) (s : State) (x : ℕ) (v : TypedLocal) 
 
 abbrev pub IsVariableAt : Around → State → ℕ → TypedLocal → Type 0
 IsVariableAt a s x v = IsVariableAtBare a (bare s) x v
-
-value_class : (t : Ty) → is_value t ≡ true → kind (class (Some t)) ≡ Object
-value_class ty.Bool e = refl
-value_class ty.Char e = refl
-value_class ty.Int e = refl
-value_class ty.Long e = refl
-value_class ty.Size e = refl
-value_class _ e = absurd (false≢true e)
-
-pub value_held : (t : Ty) → is_value t ≡ true → held_if (class (Some t)) (kind (class (Some t))) (Some t) ≡ AnObject
-value_held ty.Bool e = refl
-value_held ty.Char e = refl
-value_held ty.Int e = refl
-value_held ty.Long e = refl
-value_held ty.Size e = refl
-value_held _ e = absurd (false≢true e)
 
 module _ (types : Types) (fs : List Function) (f : Function) where
   -- the table has the program's types, and the visible variables are there
@@ -115,10 +100,10 @@ module _ (types : Types) (fs : List Function) (f : Function) where
         ∙ ap (λ (o : Option Ty). held_if (class o) h.local.kind o) (ap (λ (i : TyId). slice_get types.types i.0) h.typed ∙ front v.ty.0 t at)
         ∙ ap (λ (k : LocalKind). held_if (class (Some t)) k (Some t)) (h.kind ∙ ap (λ (o : Option Ty). kind (class o)) at)
 
-    kind_is : (t : Ty) → slice_get a.program.types.types v.ty.0 ≡ Some t → h.local.kind ≡ kind (class (Some t))
+    pub kind_is : (t : Ty) → slice_get a.program.types.types v.ty.0 ≡ Some t → h.local.kind ≡ kind (class (Some t))
     kind_is t at = h.kind ∙ ap (λ (o : Option Ty). kind (class o)) at
 
-    place_is : (k : LocalKind) → h.local.kind ≡ k → variable_place s x ≡ place_of_kind k (variable s x)
+    pub place_is : (k : LocalKind) → h.local.kind ≡ k → variable_place s x ≡ place_of_kind k (variable s x)
     place_is k e = ap (λ (o : Option Local). place_of o (variable s x)) h.there ∙ ap (λ (c : LocalKind). place_of_kind c (variable s x)) e
 
     below : variable s x < length s.locals
@@ -130,7 +115,7 @@ module _ (types : Types) (fs : List Function) (f : Function) where
       where
         go : IsVariableType a.program.types v.ty → IsPlace (variable_place s x) (length s.locals) k
         go (a_value t at e) =
-            an_object (variable s x) (place_is Object (kind_is t at ∙ value_class t e)) below
+            an_object (variable s x) (place_is Object (kind_is t at ∙ value_kind t e)) below
             (alive.living (variable s x) h.lives ∙ ap known_as (sort_is t at ∙ value_held t e))
         go (a_raw target constant at) =
             a_target (variable s x) (place_is Register (kind_is (ty.Raw target constant) at)) below

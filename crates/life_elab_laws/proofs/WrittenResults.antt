@@ -1,8 +1,7 @@
 -- The core program of a well typed program that is built writes its results: on every way to a return of a function that gives a value back the result was
 -- written, but for the int of main.
-use Rattle.std.proofs.Common.{◌≡◌, ℕ, zero, suc, Bool, true, false, ◌||◌, List, [], ◌∷◌, slice_get, Some, None, refl, sym, ap, ◌∙◌, subst}
+use Rattle.std.proofs.Common.{◌≡◌, ℕ, Bool, true, false, ◌||◌, List, slice_get, Some, None, refl, sym, ap, ◌∙◌, subst}
 use Rattle.std.proofs.lemmas.Bool.{false≢true}
-use Rattle.std.proofs.lemmas.Option.{none-some, same_Some}
 use Rattle.life_types.specs.declared.ty.NameId.{NameId}
 use Rattle.life_types.specs.declared.ty.Ty.{Ty}
 use Rattle.life_types.specs.declared.ty.Ty.TheVariants as ty
@@ -21,6 +20,7 @@ use Rattle.life_well_typed.specs.Functions.{IsWellTyped}
 use Rattle.life_well_typed.specs.Mains.{HasIntMain, HaveIntMains}
 use Rattle.life_well_typed.specs.Results.{HasResults}
 use Rattle.life_elab.specs.Programs.{around, core_program}
+use Rattle.life_elab_laws.proofs.Fronts.{each_at}
 use Rattle.life_elab_laws.proofs.GivingBack.{GivesValue}
 use Rattle.life_elab_laws.proofs.Programs.{IsWritten, functions_built, of_all, of_program, one_body, whole, written_number, written_result}
 use Rattle.life_elab_laws.proofs.TypedKinds.{none_some}
@@ -47,9 +47,7 @@ needs true t over b int e w = absurd (false≢true (subst (λ (u : Ty). is_writt
 needs false t over b int e w = let v = value_of t b w in (v.0, no_fault (typing.is_void t) over v.1 e)
 
 int_at : (p : ProgramForm) (fs : List FunctionForm) (n : ℕ) (f : FunctionForm) → HaveIntMains p.names p.types fs → slice_get fs n ≡ Some f → is_main p.names f.name ≡ true → type_at p.types f.result ≡ ty.Int
-int_at p [] n f h at = absurd (none-some f at)
-int_at p (x ∷ fs) zero f h at = subst (λ (y : FunctionForm). is_main p.names y.name ≡ true → type_at p.types y.result ≡ ty.Int) (same_Some x f at) h.0
-int_at p (x ∷ fs) (suc n) f h at = int_at p fs n f h.1 at
+int_at p = each_at (λ (f : FunctionForm). is_main p.names f.name ≡ true → type_at p.types f.result ≡ ty.Int) (HaveIntMains p.names p.types) (λ f fs h. h)
 
 -- ---- each function
 
