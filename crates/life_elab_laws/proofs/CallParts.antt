@@ -1,6 +1,6 @@
 -- Calls: each argument is a number of the parameter's type in a register, and the result goes to a register of its type.
 use Rattle.std.proofs.Common.{◌≡◌, ℕ, Bool, true, false, ◌&&◌, ◌||◌, if◌then◌else◌, List, [], ◌∷◌, slice_get, slice_set, Option, Some, None, refl, ap, ◌∙◌}
-use Rattle.std.proofs.lemmas.Bool.{and_from, and_parts, false≢true, or_left, or_right}
+use Rattle.std.proofs.lemmas.Bool.{and_from, and_parts, or_left, or_right}
 use Rattle.life_types.specs.Types.{Types}
 use Rattle.life_types.specs.declared.place.Place.{Place}
 use Rattle.life_types.specs.declared.ty.Ty.{Ty}
@@ -29,14 +29,10 @@ use Rattle.life_elab_laws.proofs.Instructions.{Computes, IsIntoOf, computed_part
 use Rattle.life_elab_laws.proofs.Making.{IsOpen}
 use Rattle.life_elab_laws.proofs.OperandsThere.{number_any, value_either, value_same}
 use Rattle.life_elab_laws.proofs.Parts.{Makes, and_part, leaf_part, seen_part, then_part}
+use Rattle.life_elab_laws.proofs.Values.{by_values}
 
 value_no_pointer : (t : Ty) → is_value t ≡ true → is_pointer t ≡ false
-value_no_pointer ty.Bool v = refl
-value_no_pointer ty.Char v = refl
-value_no_pointer ty.Int v = refl
-value_no_pointer ty.Long v = refl
-value_no_pointer ty.Size v = refl
-value_no_pointer _ v = absurd (false≢true v)
+value_no_pointer = by_values (λ t. is_pointer t ≡ false) refl refl refl refl refl
 
 module _ (types : Types) (texts : ℕ) (fs : List Function) (f : Function) where
   -- ---- arguments

@@ -29,6 +29,7 @@ use Rattle.life_elab_laws.proofs.Emitting.{wanted_sort}
 use Rattle.life_elab_laws.proofs.Fronts.{IsFront, front_cut, front_then}
 use Rattle.life_elab_laws.proofs.Shaped.{value_later}
 use Rattle.life_elab_laws.proofs.Types.{value_held}
+use Rattle.life_elab_laws.proofs.Values.{by_values}
 
 -- what stands in a table is the type there
 pub type_found : (types : Types) (id : TyId) (t : Ty) → slice_get types.types id.0 ≡ Some t → type_at types id ≡ t
@@ -42,12 +43,7 @@ value_found types id w = go (slice_get types.types id.0) refl w
     go (Some t) at w = (t, at, w)
 
 result_kept : (t : Ty) (held : Holding) → is_value t ≡ true → result_if (Some t) held ≡ held
-result_kept ty.Bool held w = refl
-result_kept ty.Char held w = refl
-result_kept ty.Int held w = refl
-result_kept ty.Long held w = refl
-result_kept ty.Size held w = refl
-result_kept _ held w = absurd (false≢true w)
+result_kept t held = by_values (λ t. result_if (Some t) held ≡ held) refl refl refl refl refl t
 
 no_result : (t : Ty) (held : Holding) → is_void t ≡ true → result_if (Some t) held ≡ Blank
 no_result ty.Void held w = refl

@@ -62,6 +62,7 @@ use Rattle.life_elab_laws.proofs.Setting.{Setting}
 use Rattle.life_elab_laws.proofs.Shaping.{fine_acts, fine_append}
 use Rattle.life_elab_laws.proofs.TypedKinds.{none_some}
 use Rattle.life_elab_laws.proofs.Types.{object_or_pointer, same_types, value_held}
+use Rattle.life_elab_laws.proofs.Values.{by_values}
 use Rattle.life_elab_laws.proofs.VariablePlaces.{IsVariableType, a_raw, a_reference, a_value, variable_type}
 
 module _ (a : Around) (types : Types) (texts : ℕ) (fs : List Function) (f : Function) (setting : Setting a types fs f) (v : Visible) (in_loop : Bool) where
@@ -195,12 +196,7 @@ module _ (a : Around) (types : Types) (texts : ℕ) (fs : List Function) (f : Fu
             go false same = given_value_does
 
       value_given : (t : Ty) → is_value t ≡ true → given_one a u e t s ≡ object_given a u e (call_of (whole_form e)) s
-      value_given ty.Bool w = refl
-      value_given ty.Char w = refl
-      value_given ty.Int w = refl
-      value_given ty.Long w = refl
-      value_given ty.Size w = refl
-      value_given _ w = absurd (false≢true w)
+      value_given = by_values (λ t. given_one a u e t s ≡ object_given a u e (call_of (whole_form e)) s) refl refl refl refl refl
 
       raw_does : (target : TyId) (constant : Bool) → slice_get a.program.types.types u.ty.0 ≡ Some (ty.Raw target constant) → is_given a.program.types (ty.Raw target constant) e ≡ true → Born (given_one a u e (ty.Raw target constant) s)
       raw_does target constant is given =

@@ -1,6 +1,6 @@
 -- Each well typed expression that is built is of one of these kinds.
 use Rattle.std.proofs.Common.{◌≡◌, ℕ, Bool, true, false, cond, List, Option, Some, None, Ok, slice_get, refl, sym, ap, ◌∙◌, subst, true≢false}
-use Rattle.std.proofs.lemmas.Bool.{and_parts, false≢true}
+use Rattle.std.proofs.lemmas.Bool.{and_parts}
 use Rattle.life_types.specs.Types.{Types}
 use Rattle.life_types.specs.declared.ty.Ty.{Ty}
 use Rattle.life_types.specs.declared.ty.Ty.TheVariants as ty
@@ -22,6 +22,7 @@ use Rattle.life_well_typed.specs.Expressions.{HasResult, IsAddress, IsVariable}
 use Rattle.life_well_typed.specs.Given.{is_number}
 use Rattle.life_elab_laws.proofs.Fronts.{passed_at}
 use Rattle.life_elab_laws.proofs.TypedKinds.{HasKind, IsKind, a_null, a_number, a_pointer, err_ok, kind_of_result, kind_of_variable, no_value, ok_same, promoted_value, value_place}
+use Rattle.life_elab_laws.proofs.Values.{by_values}
 
 -- ---- what is built
 
@@ -67,12 +68,7 @@ pub record IsDereferenced (types : Types) (inner e : Typed) : Type 0 where
   pub is : e ≡ place_of types target constant e.place form
 
 value_no_target : (t : Ty) → is_value t ≡ true → dereferenced (Of t) ≡ None
-value_no_target ty.Bool e = refl
-value_no_target ty.Char e = refl
-value_no_target ty.Int e = refl
-value_no_target ty.Long e = refl
-value_no_target ty.Size e = refl
-value_no_target _ e = absurd (false≢true e)
+value_no_target = by_values (λ t. dereferenced (Of t) ≡ None) refl refl refl refl refl
 
 pub dereferenced_as : (types : Types) (inner e : Typed) → IsKind types inner → pointed_to types e.place inner ≡ Ok e → IsDereferenced types inner e
 dereferenced_as types inner e k h = go k.kind

@@ -22,6 +22,7 @@ use Rattle.life_writer.specs.Around as around
 use Rattle.life_writer.specs.Conditions.{is_null, stands_for_null}
 use Rattle.life_elab_laws.proofs.OperatorTypes.{promoted_is}
 use Rattle.life_elab_laws.proofs.TypedKinds.{HasKind, IsKind, a_null, a_number, a_pointer, err_ok, no_value, ok_same}
+use Rattle.life_elab_laws.proofs.Values.{by_values}
 use Rattle.life_elab_laws.proofs.WrittenLocals.{fits_register, value_fits}
 
 -- ---- types of expressions
@@ -82,12 +83,7 @@ result_number ty.Size types e b is n = refl
 result_number _ types e b is n = absurd (false≢true b)
 
 pub value_no_raw : (t : Ty) → is_value t ≡ true → is_raw t ≡ false
-value_no_raw ty.Bool v = refl
-value_no_raw ty.Char v = refl
-value_no_raw ty.Int v = refl
-value_no_raw ty.Long v = refl
-value_no_raw ty.Size v = refl
-value_no_raw _ v = absurd (false≢true v)
+value_no_raw = by_values (λ t. is_raw t ≡ false) refl refl refl refl refl
 
 -- minus gives what the operand is promoted to
 pub negated_promoted : (types : Types) (inner e : Typed) → IsKind types inner → negated_to (negated inner.ty) e.place inner ≡ Ok e → is_promoted (own_type e.ty) ≡ true

@@ -16,15 +16,11 @@ use Rattle.life_elab_laws.proofs.FormedLocals.{variable_fits, variable_found}
 use Rattle.life_elab_laws.proofs.FormedVariables.{reference_there}
 use Rattle.life_elab_laws.proofs.GivenNothing.{IsFlat}
 use Rattle.life_elab_laws.proofs.OperandsThere.{type_either, type_there}
+use Rattle.life_elab_laws.proofs.Values.{by_values}
 use Rattle.life_elab_laws.proofs.WrittenLocals.{fits_register}
 
 value_alone : (t : Ty) → is_value t ≡ true → is_composed t ≡ false
-value_alone ty.Bool v = refl
-value_alone ty.Char v = refl
-value_alone ty.Int v = refl
-value_alone ty.Long v = refl
-value_alone ty.Size v = refl
-value_alone _ v = absurd (false≢true v)
+value_alone = by_values (λ t. is_composed t ≡ false) refl refl refl refl refl
 
 -- what a local's type is
 pub record IsLocalType (types : Types) (l : Local) : Type 0 where

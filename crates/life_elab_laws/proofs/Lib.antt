@@ -58,6 +58,7 @@ pub mod Statements
 pub mod Stopping
 pub mod TypedKinds
 pub mod Types
+pub mod Values
 pub mod VariablePlaces
 pub mod WellFormedTranslations
 pub mod WrittenLocals

@@ -14,16 +14,12 @@ use Rattle.life_proper.specs.OperandTypes.{is_reference, is_value, same}
 use Rattle.life_proper.specs.Placed.{has_kind, is_number, is_number_of, is_object, object_at, register_at, type_at}
 use Rattle.life_typed.specs.BaseTypes as base
 use Rattle.life_elab_laws.proofs.Types.{same_types}
+use Rattle.life_elab_laws.proofs.Values.{by_values}
 
 -- ---- types
 
 pub value_either : (t : Ty) → base.is_value t ≡ true → is_value t ≡ true
-value_either ty.Bool v = refl
-value_either ty.Char v = refl
-value_either ty.Int v = refl
-value_either ty.Long v = refl
-value_either ty.Size v = refl
-value_either _ v = absurd (false≢true v)
+value_either = by_values (λ t. is_value t ≡ true) refl refl refl refl refl
 
 pub value_same : (t : Ty) → is_value t ≡ true → same t t ≡ true
 value_same ty.Bool v = search rules

@@ -13,6 +13,7 @@ use Rattle.life_well_typed.specs.Given.{is_number}
 use Rattle.life_writer.specs.Around.{own_type}
 use Rattle.life_writer.specs.Values.{operator_of}
 use Rattle.life_elab_laws.proofs.TypedKinds.{given_true}
+use Rattle.life_elab_laws.proofs.Values.{by_values}
 use Rattle.life_proper.specs.OperandTypes.{is_promoted}
 use Rattle.life_proper.specs.WellFormed.{answer_of}
 
@@ -28,20 +29,10 @@ promoted_is a b = go _ _
     go false c = inner c
 
 no_text : (t : Ty) → is_value t ≡ true → is_text t ≡ false
-no_text ty.Bool v = refl
-no_text ty.Char v = refl
-no_text ty.Int v = refl
-no_text ty.Long v = refl
-no_text ty.Size v = refl
-no_text _ v = absurd (false≢true v)
+no_text = by_values (λ t. is_text t ≡ false) refl refl refl refl refl
 
 no_iterator : (t : Ty) → is_value t ≡ true → is_iterator t ≡ false
-no_iterator ty.Bool v = refl
-no_iterator ty.Char v = refl
-no_iterator ty.Int v = refl
-no_iterator ty.Long v = refl
-no_iterator ty.Size v = refl
-no_iterator _ v = absurd (false≢true v)
+no_iterator = by_values (λ t. is_iterator t ≡ false) refl refl refl refl refl
 
 both_promoted : (a b t : Ty) → arithmetic a b ≡ Some t → t ≡ promoted a b
 both_promoted a b t e = sym (given_true (is_value a && is_value b) (promoted a b) t e).1

@@ -25,6 +25,7 @@ use Rattle.life_well_typed.specs.Given.{is_number}
 use Rattle.life_writer.specs.Around.{own_type}
 use Rattle.life_elab.specs.Simples.{compound_operator, step_operator}
 use Rattle.life_elab_laws.proofs.TypedKinds.{HasKind, IsKind, IsOperand, IsSimple as IsPlain, a_null, a_number, a_pointer, no_value, of_null, of_type}
+use Rattle.life_elab_laws.proofs.Values.{by_values}
 
 -- ---- targets
 
@@ -34,12 +35,7 @@ own_same NullPointer = refl
 own_same TextLiteral = refl
 
 value_no_owner : (t : Ty) → is_value t ≡ true → typing.is_owner t ≡ false
-value_no_owner ty.Bool e = refl
-value_no_owner ty.Char e = refl
-value_no_owner ty.Int e = refl
-value_no_owner ty.Long e = refl
-value_no_owner ty.Size e = refl
-value_no_owner _ e = absurd (false≢true e)
+value_no_owner = by_values (λ t. typing.is_owner t ≡ false) refl refl refl refl refl
 
 -- what is assigned to is a place
 pub target_place : (types : Types) (e : Typed) → IsKind types e → is_place e.ty e.category ≡ true → (id : TyId) × (constant : Bool) × (e.category ≡ category.Place id constant)

@@ -67,6 +67,7 @@ use Rattle.life_elab_laws.proofs.Setting.{Setting}
 use Rattle.life_elab_laws.proofs.SimpleTypes.{IsFree, compound_answer, compounded_numbers, free_place, own_counts, own_plain, own_same, printed_number, step_answer, step_value}
 use Rattle.life_elab_laws.proofs.TypedKinds.{HasKind, a_null, a_number as of_number, a_pointer as of_pointer, no_value, operand_kind, promoted_value, value_place}
 use Rattle.life_elab_laws.proofs.Types.{type_added}
+use Rattle.life_elab_laws.proofs.Values.{by_values}
 use Rattle.life_elab_laws.proofs.VariablePlaces.{Stands, stands_later}
 
 module _ (a : Around) (visible : List ℕ) (types : Types) (texts : ℕ) (fs : List Function) (f : Function) (setting : Setting a types fs f) where
@@ -262,12 +263,7 @@ module _ (a : Around) (visible : List ℕ) (types : Types) (texts : ℕ) (fs : L
       (alone_plain types fs f c.function w.given a.program.types is.of callee))
 
   not_void : (e : Typed) (c : Called) (t : Ty) (s : State) → is_value t ≡ true → discarded_as a e (Some c) t s ≡ (value a (whole_form e) t None s).state
-  not_void e c ty.Bool s v = refl
-  not_void e c ty.Char s v = refl
-  not_void e c ty.Int s v = refl
-  not_void e c ty.Long s v = refl
-  not_void e c ty.Size s v = refl
-  not_void e c _ s v = absurd (false≢true v)
+  not_void e c t s = by_values (λ t. discarded_as a e (Some c) t s ≡ (value a (whole_form e) t None s).state) refl refl refl refl refl t
 
   discarded_part : (e : Typed) (s : State) → is_built_expression e ≡ true → Whole e → ends_in_arguments e.form ≡ true → Standing s → Acts s (written_alone a e s)
   discarded_part e s b h ends stands = go (call_of e.form) refl

@@ -19,6 +19,7 @@ use Rattle.life_typed.specs.declared.typed_expr.ExprType.{ExprType}
 use Rattle.life_typed.specs.declared.typed_expr.ExprType.TheVariants.{Of, NullPointer, TextLiteral}
 use Rattle.life_type_expr.specs.Operands.{answer_of, combination, combined_to, place_of, value, variable_of}
 use Rattle.life_well_typed.specs.Given.{is_number}
+use Rattle.life_elab_laws.proofs.Values.{by_values}
 
 -- ---- what equations say
 
@@ -54,12 +55,7 @@ pub record IsSimple (t : Ty) : Type 0 where
   pub iterator : is_iterator t ≡ false
 
 pub value_simple : (t : Ty) → is_value t ≡ true → IsSimple t
-value_simple ty.Bool e = record { text = refl; view = refl; unique = refl; iterator = refl }
-value_simple ty.Char e = record { text = refl; view = refl; unique = refl; iterator = refl }
-value_simple ty.Int e = record { text = refl; view = refl; unique = refl; iterator = refl }
-value_simple ty.Long e = record { text = refl; view = refl; unique = refl; iterator = refl }
-value_simple ty.Size e = record { text = refl; view = refl; unique = refl; iterator = refl }
-value_simple _ e = absurd (false≢true e)
+value_simple = by_values IsSimple (record { text = refl; view = refl; unique = refl; iterator = refl }) (record { text = refl; view = refl; unique = refl; iterator = refl }) (record { text = refl; view = refl; unique = refl; iterator = refl }) (record { text = refl; view = refl; unique = refl; iterator = refl }) (record { text = refl; view = refl; unique = refl; iterator = refl })
 
 pub promoted_value : (t u : Ty) → is_value (promoted t u) ≡ true
 promoted_value t u = go _ _

@@ -15,6 +15,7 @@ use Rattle.life_proper.specs.ReadyKnown.{is_sort}
 use Rattle.life_writer.specs.Registers.{number_of}
 use Rattle.life_writer.specs.Variables.{kind}
 use Rattle.life_elab_laws.proofs.Fronts.{IsFront, front_append, front_itself}
+use Rattle.life_elab_laws.proofs.Values.{by_values}
 
 -- ---- numbers
 
@@ -58,12 +59,7 @@ types_before xs t = go (list_any (compared.eq t) xs)
 -- ---- what locals hold
 
 pub value_class : (t : Ty) → is_value t ≡ true → class (Some t) ≡ Value
-value_class ty.Bool e = refl
-value_class ty.Char e = refl
-value_class ty.Int e = refl
-value_class ty.Long e = refl
-value_class ty.Size e = refl
-value_class _ e = absurd (false≢true e)
+value_class = by_values (λ t. class (Some t) ≡ Value) refl refl refl refl refl
 
 pub value_kind : (t : Ty) → is_value t ≡ true → kind (class (Some t)) ≡ Object
 value_kind t e = ap kind (value_class t e)

@@ -1,5 +1,5 @@
 -- Where the visible variables of a function lie while it is written.
-use Rattle.std.proofs.Common.{◌≡◌, ◌<◌, ℕ, Bool, true, ◌||◌, List, Contains, length, slice_get, Option, Some, None, refl, sym, ap, ◌∙◌, subst, unwrap_or, arith}
+use Rattle.std.proofs.Common.{◌≡◌, ◌<◌, ℕ, Bool, true, false, ◌||◌, List, Contains, length, slice_get, Option, Some, None, refl, sym, ap, ◌∙◌, subst, unwrap_or, arith}
 use Rattle.std.proofs.lemmas.Bool.{false≢true}
 use Rattle.std.proofs.lemmas.Option.{slice_get_within}
 use Rattle.life_types.specs.Types.{Types, class, class_at}
@@ -27,6 +27,7 @@ use Rattle.life_elab_laws.proofs.Fronts.{IsFront, front_then}
 use Rattle.life_elab_laws.proofs.Growing.{Begins, Grows, bare}
 use Rattle.life_elab_laws.proofs.Making.{Alive, IsOpen, IsPlace, IsPointer, a_target, an_object}
 use Rattle.life_elab_laws.proofs.Types.{value_held, value_kind}
+use Rattle.life_elab_laws.proofs.Values.{by_values}
 
 -- ---- what a variable is
 
@@ -150,15 +151,7 @@ named_raw types e v form built is t of raw = go (type_at types v.ty) refl built 
     same e = cc
 
     not_raw : (u : Ty) → is_value u ≡ true → e.ty ≡ Of u → ⊥
-    not_raw u v at = clash u v (subst (λ (w : Ty). is_raw w ≡ true) (same (sym of ∙ at)) raw)
-      where
-        clash : (u : Ty) → is_value u ≡ true → is_raw u ≡ true → ⊥
-        clash ty.Bool v r = false≢true r
-        clash ty.Char v r = false≢true r
-        clash ty.Int v r = false≢true r
-        clash ty.Long v r = false≢true r
-        clash ty.Size v r = false≢true r
-        clash _ v r = false≢true v
+    not_raw u v at = false≢true (sym (by_values (λ t. is_raw t ≡ false) refl refl refl refl refl u v) ∙ subst (λ (w : Ty). is_raw w ≡ true) (same (sym of ∙ at)) raw)
 
     go : (u : Ty) → type_at types v.ty ≡ u → (is_value u || is_pointing types u) ≡ true → e ≡ variable_of u types v.ty v.constant e.place form → (target : TyId) × (constant : Bool) × (type_at types v.ty ≡ ty.Raw target constant)
     go (ty.Raw target constant) at b is = (target, constant, at)

@@ -18,6 +18,7 @@ use Rattle.life_writer.specs.Writing.{State}
 use Rattle.life_elab_laws.proofs.Fronts.{IsFront}
 use Rattle.life_elab_laws.proofs.OrderedTypes.{KeepsOrder, order_none, order_then}
 use Rattle.life_elab_laws.proofs.Shaped.{value_later}
+use Rattle.life_elab_laws.proofs.Values.{by_values}
 
 -- ---- what a register without a name holds: a value, a pointer or reference to one, or a view
 
@@ -26,12 +27,7 @@ fits_register types ty.View = true
 fits_register types t = is_value t || is_pointing types t
 
 pub value_fits : (types : Types) (t : Ty) → is_value t ≡ true → fits_register types t ≡ true
-value_fits types ty.Bool v = refl
-value_fits types ty.Char v = refl
-value_fits types ty.Int v = refl
-value_fits types ty.Long v = refl
-value_fits types ty.Size v = refl
-value_fits types _ v = absurd (false≢true v)
+value_fits types = by_values (λ t. fits_register types t ≡ true) refl refl refl refl refl
 
 pub fits_later : (few more : Types) → IsFront few.types more.types → (t : Ty) → fits_register few t ≡ true → fits_register more t ≡ true
 fits_later few more front (ty.Raw target constant) h = value_later few more front target h
