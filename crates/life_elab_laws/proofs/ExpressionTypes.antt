@@ -22,7 +22,7 @@ use Rattle.life_writer.specs.Around as around
 use Rattle.life_writer.specs.Conditions.{is_null, stands_for_null}
 use Rattle.life_elab_laws.proofs.OperatorTypes.{promoted_is}
 use Rattle.life_elab_laws.proofs.TypedKinds.{HasKind, IsKind, a_null, a_number, a_pointer, err_ok, no_value, ok_same}
-use Rattle.life_elab_laws.proofs.Values.{by_values}
+use Rattle.life_elab_laws.proofs.Values.{by_results, by_values}
 use Rattle.life_elab_laws.proofs.WrittenLocals.{fits_register, value_fits}
 
 -- ---- types of expressions
@@ -65,22 +65,11 @@ null_type TextLiteral e = absurd (false≢true e)
 
 -- what a call gives is no place
 pub result_value : (t : Ty) (types : Types) (e : Typed) → (is_void t || is_value t) ≡ true → e ≡ answer_of t types e.place e.form → e.category ≡ category.Value
-result_value ty.Void types e b is = ap (λ (x : Typed). x.category) is
-result_value ty.Bool types e b is = ap (λ (x : Typed). x.category) is
-result_value ty.Char types e b is = ap (λ (x : Typed). x.category) is
-result_value ty.Int types e b is = ap (λ (x : Typed). x.category) is
-result_value ty.Long types e b is = ap (λ (x : Typed). x.category) is
-result_value ty.Size types e b is = ap (λ (x : Typed). x.category) is
-result_value _ types e b is = absurd (false≢true b)
+result_value t types e b is = ap (λ (x : Typed). x.category) is ∙ by_results (λ t. (answer_of t types e.place e.form).category ≡ category.Value) refl (by_values (λ t. (answer_of t types e.place e.form).category ≡ category.Value) refl refl refl refl refl) t b
 
 pub result_number : (t : Ty) (types : Types) (e : Typed) → (is_void t || is_value t) ≡ true → e ≡ answer_of t types e.place e.form → is_number e.ty ≡ true → is_value t ≡ true
-result_number ty.Void types e b is n = absurd (false≢true (sym (ap (λ (x : Typed). is_number x.ty) is) ∙ n))
-result_number ty.Bool types e b is n = refl
-result_number ty.Char types e b is n = refl
-result_number ty.Int types e b is n = refl
-result_number ty.Long types e b is n = refl
-result_number ty.Size types e b is n = refl
-result_number _ types e b is n = absurd (false≢true b)
+result_number t types e =
+    by_results (λ t. e ≡ answer_of t types e.place e.form → is_number e.ty ≡ true → is_value t ≡ true) (λ is n. absurd (false≢true (sym (ap (λ (x : Typed). is_number x.ty) is) ∙ n))) (λ t v is n. v) t
 
 pub value_no_raw : (t : Ty) → is_value t ≡ true → is_raw t ≡ false
 value_no_raw = by_values (λ t. is_raw t ≡ false) refl refl refl refl refl

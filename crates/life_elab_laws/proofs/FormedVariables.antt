@@ -24,6 +24,7 @@ use Rattle.life_elab_laws.proofs.Fronts.{IsFront}
 use Rattle.life_elab_laws.proofs.Growing.{Begins}
 use Rattle.life_elab_laws.proofs.TypedKinds.{place_same}
 use Rattle.life_elab_laws.proofs.Types.{value_kind}
+use Rattle.life_elab_laws.proofs.Values.{by_values}
 use Rattle.life_elab_laws.proofs.VariablePlaces.{IsVariableAt, IsVariableType, a_raw, a_reference, a_value, kind_is, place_is, variable_type}
 use Rattle.life_proper.specs.OperandTypes.{is_void, keeps_const, pointee}
 use Rattle.life_proper.specs.Placed as placed
@@ -132,12 +133,10 @@ module _ (types : Types) (texts : ℕ) (fs : List Function) (f : Function) where
             (type_there types f (variable s x) h.local t there (typed_as t found) (value_no_reference t (value_either t w)) ∙ sym here))
 
         go : IsVariableType a.program.types v.ty → IsPlaceOf types texts fs f (type_at a.program.types id) constant (variable_place s x)
-        go (a_value ty.Bool found w) = object ty.Bool found w (named ty.Bool found)
-        go (a_value ty.Char found w) = object ty.Char found w (named ty.Char found)
-        go (a_value ty.Int found w) = object ty.Int found w (named ty.Int found)
-        go (a_value ty.Long found w) = object ty.Long found w (named ty.Long found)
-        go (a_value ty.Size found w) = object ty.Size found w (named ty.Size found)
-        go (a_value _ found w) = absurd (false≢true w)
+        go (a_value t found w) =
+            let place : variable_of t a.program.types v.ty v.constant e.place form ≡ place_typed a.program.types v.ty v.constant e.place form =
+            by_values (λ u. variable_of u a.program.types v.ty v.constant e.place form ≡ place_typed a.program.types v.ty v.constant e.place form) refl refl refl refl refl t w in
+            object t found w (named t found ∙ place)
         go (a_raw target c found) =
             let one : v.ty ≡ id = place_same v.ty id v.constant constant (own v.ty v.constant (named (ty.Raw target c) found)) in
             let here : type_at a.program.types id ≡ ty.Raw target c = ap (type_at a.program.types) (sym one) ∙ ap (λ (o : Option Ty). unwrap_or o ty.Void) found in

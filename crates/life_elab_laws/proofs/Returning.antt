@@ -41,16 +41,11 @@ use Rattle.life_elab_laws.proofs.Leaving.{IsEnded, ended, left_acts, left_does, 
 use Rattle.life_elab_laws.proofs.Nowhere.{nowhere_flows}
 use Rattle.life_elab_laws.proofs.Parts.{Makes}
 use Rattle.life_elab_laws.proofs.Setting.{Setting}
+use Rattle.life_elab_laws.proofs.Values.{by_results}
 use Rattle.life_elab_laws.proofs.WrittenLocals.{locals_added}
 
 pub not_void : (t : Ty) → (is_void t || is_value t) ≡ true → typing.is_void t ≡ false → is_value t ≡ true
-not_void ty.Void b e = absurd (false≢true (sym e))
-not_void ty.Bool b e = refl
-not_void ty.Char b e = refl
-not_void ty.Int b e = refl
-not_void ty.Long b e = refl
-not_void ty.Size b e = refl
-not_void _ b e = absurd (false≢true b)
+not_void = by_results (λ t. typing.is_void t ≡ false → is_value t ≡ true) (λ e. absurd (false≢true (sym e))) (λ t v e. v)
 
 module _ (a : Around) (types : Types) (texts : ℕ) (fs : List Function) (f : Function) (setting : Setting a types fs f) (v : Visible) (in_loop : Bool) where
   result_ready : (k : List Known) → is_result_ready k f.parameters (known_as (result_sort types f)) ≡ true

@@ -24,17 +24,12 @@ use Rattle.life_elab_laws.proofs.Fronts.{each_at}
 use Rattle.life_elab_laws.proofs.GivingBack.{GivesValue}
 use Rattle.life_elab_laws.proofs.Programs.{IsWritten, functions_built, of_all, of_program, one_body, whole, written_number, written_result}
 use Rattle.life_elab_laws.proofs.TypedKinds.{none_some}
+use Rattle.life_elab_laws.proofs.Values.{by_results, by_values}
 
 -- ---- what must be written is a value, and control doesn't run past the end
 
 value_of : (t : Ty) → (is_void t || is_value t) ≡ true → is_written_by false (Some t) ≡ true → (is_value t ≡ true) × (typing.is_void t ≡ false)
-value_of ty.Void b w = absurd (false≢true w)
-value_of ty.Bool b w = (refl, refl)
-value_of ty.Char b w = (refl, refl)
-value_of ty.Int b w = (refl, refl)
-value_of ty.Long b w = (refl, refl)
-value_of ty.Size b w = (refl, refl)
-value_of _ b w = absurd (false≢true b)
+value_of = by_results (λ t. is_written_by false (Some t) ≡ true → (is_value t ≡ true) × (typing.is_void t ≡ false)) (λ w. absurd (false≢true w)) (λ t v w. (v, by_values (λ u. typing.is_void u ≡ false) refl refl refl refl refl t v))
 
 no_fault : (void over : Bool) → void ≡ false → return_fault false void over ≡ None → over ≡ true
 no_fault true over v e = absurd (false≢true (sym v))
