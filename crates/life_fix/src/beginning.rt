@@ -40,7 +40,7 @@ fn empty_rows<R: Rows>(
     ensures locations { IfOk result (λ rows. AllLimited R.location_limit (length table.now.locations) rows.items) }
     ensures elements { IfOk result (λ rows. AllLimited R.element_limit (length table.now.elements) rows.items) }
 {
-    let mut rows = Vec::new(alloc);
+    let mut rows = Vec::with_capacity(alloc, count)?;
     for _ in 0..count {
         rows.push(R::empty(alloc, table.location_count(), table.element_count())?)?;
     }
@@ -75,7 +75,7 @@ pub fn plans_of(alloc: Global, flow: &Flow) -> Result<Vec<Plan>, NoMemory>
     ensures count { IfOk result (λ plans. length plans.items ≡ length flow.now.edges.now) }
     ensures made { IfOk result (λ plans. AreMade flow.now.sigs.now flow.now.types.now (function_of flow.now.f.now) flow.now.edges.now plans.items) }
 {
-    let mut plans = Vec::new(alloc);
+    let mut plans = Vec::with_capacity(alloc, flow.edges.len())?;
     for edge in flow.edges {
         plans.push(plan_of(alloc, flow, *edge)?)?;
     }
@@ -89,7 +89,7 @@ pub fn all_due(alloc: Global, locations: u32, count: usize) -> Result<Vec<Number
     ensures all { IfOk result (λ dues. (k l : ℕ) → k < count → l < locations → IsTrue (set_at dues.items k l)) }
 {
     let all = all_below(alloc, locations)?;
-    let mut dues = Vec::new(alloc);
+    let mut dues = Vec::with_capacity(alloc, count)?;
     for _ in 0..count {
         let mut due = NumberSet::empty(alloc, locations)?;
         due.add_all(&all);

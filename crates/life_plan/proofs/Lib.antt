@@ -1,4 +1,5 @@
 pub mod Adding
+pub mod AllKept
 pub mod Changing
 pub mod Crossings
 pub mod Gained

@@ -13,17 +13,19 @@ use Rattle.life_pset.specs.TableInvariant.{HasOneNumber}
 use Rattle.life_pset.specs.declared.element.Element.{Element}
 use Rattle.life_pset.specs.declared.element.Fact.{Fact}
 use Rattle.life_pset.proofs.Members.{none_in_empty, cons_cases}
-use Rattle.life_pset.proofs.Numbers.{one_location}
+use Rattle.life_pset.proofs.Numbers.{one_element, one_location}
 use Rattle.life_rules.specs.FactSets.{CarriesPair, Includes}
 use Rattle.life_rules.specs.Matching.{fact_at, facts_at}
 use Rattle.life_rules.specs.Staying.{mark, marks, spot_reads, spot_targets, spot_writes, staying}
-use Rattle.life_plan.specs.Carried.{IsCarried}
+use Rattle.life_plan.specs.Carried.{AreCarried, IsCarried, carried_by}
 use Rattle.life_plan.specs.Crossing.{Crosses, Crossing, FromNone, FromOne, FromTwo, crossing_of}
 use Rattle.life_plan.specs.Numbered.{made_by}
 use Rattle.life_plan.specs.declared.plan.Plan.{Plan}
+use Rattle.life_plan.specs.declared.tabulated.Tabulated.{Tabulated}
 use Rattle.life_plan.proofs.Crossings.{carries_crosses}
 use Rattle.life_plan.proofs.Laws.{ones, twos}
 use Rattle.life_plan.proofs.Naming.{cond_other, cond_parts, made_facts_is, map_from}
+use Rattle.life_plan.proofs.AllKept.{whole_settled}
 
 -- the mark at a location
 marked_at : (o : Option Element) (b : Bool) (x y : Fact) → Contains (cond b (facts_at x.location o) []) y → (b ≡ true) × ((o ≡ Some y.element) × (x.location ≡ y.location))
@@ -37,7 +39,7 @@ marked_at o b x y h = let k = cond_parts b (facts_at x.location o) y h in (k.0, 
           | inr none ↦ absurd (none_in_empty y none)
         ]
 
-module _ (c : Crossing) (unique : HasOneNumber c.table.locations) (plan : Plan) (due : ℕ → Bool) (from into : ℕ → ℕ → Bool) (carried : IsCarried c plan due from into) (none_due : (l : ℕ) → due l ≡ false) where
+module _ (c : Crossing) (unique : HasOneNumber c.table.locations) (plan : Tabulated) (due : ℕ → Bool) (from into : ℕ → ℕ → Bool) (carried : AreCarried c plan due from into) (none_due : (l : ℕ) → due l ≡ false) where
   settled_none : (l m : ℕ) → FromNone c l m → IsTrue (into l m)
   settled_none l m h =
       elim (cases_Bool plan.is_fresh) [
@@ -116,40 +118,55 @@ module _ (c : Crossing) (unique : HasOneNumber c.table.locations) (plan : Plan) 
 pub carried_settled : (sigs : List Signature) (types : Types) (f : Function) (edge : Edge) (plan : Plan) (due : ℕ → Bool) (from into : ℕ → ℕ → Bool)
     → IsCarried (crossing_of sigs types f edge) plan due from into → ((l : ℕ) → due l ≡ false) → (l m : ℕ) → CarriesPair sigs types f edge from l m → IsTrue (into l m)
 carried_settled sigs types f edge plan due from into carried none l m h =
-    settled (crossing_of sigs types f edge) (one_location types f) plan due from into carried none l m (carries_crosses sigs types f edge from l m h)
+    by plan.tabulated carried (carries_crosses sigs types f edge from l m h)
+  where
+    c : Crossing
+    c = crossing_of sigs types f edge
+
+    by : (o : Option Tabulated) → carried_by c o due from into → Crosses c from l m → IsTrue (into l m)
+    by None kept h = whole_settled c (one_location types f) (one_element types f) due from into kept none l m h
+    by (Some t) carried h = settled c (one_location types f) t due from into carried none l m h
 
 -- the first row gained pairs at locations that are due now, and what was due is
 pub carried_due : (c : Crossing) (plan : Plan) (due now_due : ℕ → Bool) (from now_from into : ℕ → ℕ → Bool) → ((l : ℕ) → IsTrue (due l) → IsTrue (now_due l)) → Includes from now_from
     → ((l e : ℕ) → now_due l ≡ false → IsTrue (now_from l e) → IsTrue (from l e)) → IsCarried c plan due from into → IsCarried c plan now_due now_from into
-carried_due c plan due now_due from now_from into more grown same was = record {
-  means = was.means;
-  fresh = λ fresh l within. more l (was.fresh fresh l within);
-  none = was.none;
-  targets = record {
-    seen = λ q e not_due target h. was.targets.seen q e (before q not_due) target (same q e not_due h);
-    marked = was.targets.marked;
-    only = λ e h. let k = was.targets.only e h in (k.0, (k.1.0, (k.1.1.0, (grown k.0 k.1.0 k.1.1.1.0, k.1.1.1.1))));
-  };
-  kept = λ l m not_due h. was.kept l m (before l not_due) (h.0, (h.1.0, (h.1.1.0, (h.1.1.1.0, (same l h.1.1.0 not_due h.1.1.1.1.0, h.1.1.1.1.1)))));
-  made = record {
-    made = was.made.made;
-    seen = λ k r at not_due e h. was.made.seen k r at (before r.location not_due) e (same r.location e not_due h);
-  };
-}
+carried_due c plan due now_due from now_from into more grown same was = by plan.tabulated was
   where
     before : (l : ℕ) → now_due l ≡ false → due l ≡ false
     before l not_due = false_from_ne_true (due l) (λ t. both_ways (now_due l) not_due (more l t))
 
+    by : (o : Option Tabulated) → carried_by c o due from into → carried_by c o now_due now_from into
+    by None was = record { keeps = was.keeps; kept = λ l m not_due lt h. was.kept l m (before l not_due) lt (same l m not_due h) }
+    by (Some t) was = record {
+      means = was.means;
+      fresh = λ fresh l within. more l (was.fresh fresh l within);
+      none = was.none;
+      targets = record {
+        seen = λ q e not_due target h. was.targets.seen q e (before q not_due) target (same q e not_due h);
+        marked = was.targets.marked;
+        only = λ e h. let k = was.targets.only e h in (k.0, (k.1.0, (k.1.1.0, (grown k.0 k.1.0 k.1.1.1.0, k.1.1.1.1))));
+      };
+      kept = λ l m not_due h. was.kept l m (before l not_due) (h.0, (h.1.0, (h.1.1.0, (h.1.1.1.0, (same l h.1.1.0 not_due h.1.1.1.1.0, h.1.1.1.1.1)))));
+      made = record {
+        made = was.made.made;
+        seen = λ k r at not_due e h. was.made.seen k r at (before r.location not_due) e (same r.location e not_due h);
+      };
+    }
+
 -- the second row gained pairs
 pub carried_into : (c : Crossing) (plan : Plan) (due : ℕ → Bool) (from into now_into : ℕ → ℕ → Bool) → Includes into now_into → IsCarried c plan due from into → IsCarried c plan due from now_into
-carried_into c plan due from into now_into grown was = record {
-  means = was.means;
-  fresh = was.fresh;
-  none = λ old l m h. grown l m (was.none old l m h);
-  targets = was.targets;
-  kept = λ l m not_due h. grown l m (was.kept l m not_due h);
-  made = record {
-    made = λ k r at l m h. grown l m (was.made.made k r at l m h);
-    seen = was.made.seen;
-  };
-}
+carried_into c plan due from into now_into grown was = by plan.tabulated was
+  where
+    by : (o : Option Tabulated) → carried_by c o due from into → carried_by c o due from now_into
+    by None was = record { keeps = was.keeps; kept = λ l m not_due lt h. grown l m (was.kept l m not_due lt h) }
+    by (Some t) was = record {
+      means = was.means;
+      fresh = was.fresh;
+      none = λ old l m h. grown l m (was.none old l m h);
+      targets = was.targets;
+      kept = λ l m not_due h. grown l m (was.kept l m not_due h);
+      made = record {
+        made = λ k r at l m h. grown l m (was.made.made k r at l m h);
+        seen = was.made.seen;
+      };
+    }

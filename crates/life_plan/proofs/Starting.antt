@@ -5,7 +5,7 @@ use Rattle.std.specs.Prelude.{slice_get}
 use Rattle.std.specs.declared.alloc.Global.{Global}
 use Rattle.std.specs.declared.vec.Vec.{Vec}
 use Rattle.life_sets.specs.NumberSets.{holds}
-use Rattle.life_plan.specs.Carried.{IsCarried}
+use Rattle.life_plan.specs.Carried.{AreCarried}
 use Rattle.life_plan.specs.Crossing.{Crossing}
 use Rattle.life_plan.specs.Numbered.{AreReadings, IsMarking, IsStaying}
 use Rattle.life_plan.specs.declared.marking.Marking.{Marking}
@@ -16,7 +16,7 @@ use Rattle.life_plan.proofs.Naming.{holds_within}
 -- it has nothing to answer for where all locations are due
 pub starts_carried : (c : Crossing) (s : Staying) (m : Marking) (readings : Vec Reading Global) → IsStaying c s → IsMarking c m → AreReadings c readings.items → ((n : ℕ) → holds m.seen n ≡ false) → ((n : ℕ) → holds m.mask n ≡ false)
     → ((k : ℕ) (r : Reading) → slice_get readings.items k ≡ Some r → (e : ℕ) → holds r.seen e ≡ false) → (due : ℕ → Bool) (from into : ℕ → ℕ → Bool) → ((l : ℕ) → l < length c.table.locations → due l ≡ true)
-    → IsCarried c (record { is_fresh = true; staying = s; marking = m; readings = readings }) due from into
+    → AreCarried c (record { is_fresh = true; staying = s; marking = m; readings = readings }) due from into
 starts_carried c s m readings is_s is_m are no_seen no_mask none_seen due from into all = record {
   means = record { staying = is_s; marking = is_m; readings = are };
   fresh = λ _ l lt. all l lt;

@@ -1,11 +1,13 @@
 -- How far a plan has been carried.
-use Rattle.std.specs.Prelude.{◌≡◌, ◌<◌, ◌⊎◌, ℕ, Bool, true, false, IsTrue, List, Some, length, nat_le, ◌&&◌, slice_get}
+use Rattle.std.specs.Prelude.{◌≡◌, ◌<◌, ◌⊎◌, ℕ, Bool, true, false, IsTrue, List, Option, Some, None, length, nat_le, ◌&&◌, slice_get}
 use Rattle.life_sets.specs.NumberSets.{holds}
+use Rattle.life_rules.specs.Staying.{spot_keeps}
 use Rattle.life_plan.specs.Crossing.{Crossing, FromNone}
-use Rattle.life_plan.specs.Numbered.{IsMarked, IsPlan, KeepsFrom, MakesAt, MarksNumber}
+use Rattle.life_plan.specs.Numbered.{IsMarked, IsTabulated, KeepsFrom, MakesAt, MarksNumber}
 use Rattle.life_plan.specs.declared.marking.Marking.{Marking}
 use Rattle.life_plan.specs.declared.plan.Plan.{Plan}
 use Rattle.life_plan.specs.declared.reading.Reading.{Reading}
+use Rattle.life_plan.specs.declared.tabulated.Tabulated.{Tabulated}
 use Rattle.life_plan.specs.declared.workspace.Workspace.{Workspace}
 
 -- what the elements of the set make where the plan reads, as far as they were seen, is in the second set; and all were seen
@@ -24,15 +26,28 @@ pub record AreSeen (c : Crossing) (m : Marking) (due : ℕ → Bool) (from : ℕ
   pub marked : (d e : ℕ) → IsTrue (holds m.seen d) → MarksNumber c d e → IsTrue (holds m.mask e)
   pub only : (e : ℕ) → IsTrue (holds m.mask e) → IsMarked c m from e
 
--- what comes of the first set is in the second, save for what comes of the locations that are due
-pub record IsCarried (c : Crossing) (plan : Plan) (due : ℕ → Bool) (from into : ℕ → ℕ → Bool) : Type 0 where
-  pub means : IsPlan c plan
+-- by what is tabulated, what comes of the first set is in the second, save for what comes of the locations that are due
+pub record AreCarried (c : Crossing) (plan : Tabulated) (due : ℕ → Bool) (from into : ℕ → ℕ → Bool) : Type 0 where
+  pub means : IsTabulated c plan
   -- a fresh plan hasn't carried what comes of no fact, and has all locations due
   pub fresh : plan.is_fresh ≡ true → (l : ℕ) → l < length c.table.locations → due l ≡ true
   pub none : plan.is_fresh ≡ false → (l m : ℕ) → FromNone c l m → IsTrue (into l m)
   pub targets : AreSeen c plan.marking due from
   pub kept : (l m : ℕ) → due l ≡ false → KeepsFrom plan.staying plan.marking (length c.table.locations) (length c.table.elements) from l m → IsTrue (into l m)
   pub made : AreMade c plan.readings.items due from into
+
+-- where nothing comes of facts but each fact itself, the pairs of the first set are in the second, save for those at the locations that are due
+pub record AreKept (c : Crossing) (due : ℕ → Bool) (from into : ℕ → ℕ → Bool) : Type 0 where
+  pub keeps : spot_keeps c.spot ≡ true
+  pub kept : (l m : ℕ) → due l ≡ false → l < length c.table.locations → IsTrue (from l m) → IsTrue (into l m)
+
+abbrev pub carried_by : Crossing → Option Tabulated → (due : ℕ → Bool) → (from into : ℕ → ℕ → Bool) → Type 0
+carried_by c None due from into = AreKept c due from into
+carried_by c (Some t) due from into = AreCarried c t due from into
+
+-- what comes of the first set is in the second, save for what comes of the locations that are due
+abbrev pub IsCarried : Crossing → Plan → (due : ℕ → Bool) → (from into : ℕ → ℕ → Bool) → Type 0
+IsCarried c plan due from into = carried_by c plan.tabulated due from into
 
 -- no location is due
 abbrev pub none_due : ℕ → Bool

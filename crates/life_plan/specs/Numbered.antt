@@ -10,10 +10,10 @@ use Rattle.life_rules.specs.FactSets.{pair_facts}
 use Rattle.life_rules.specs.Staying.{made_at, mark, marks, spot_reads, spot_targets, spot_writes, staying}
 use Rattle.life_plan.specs.Crossing.{Crossing}
 use Rattle.life_plan.specs.declared.marking.Marking.{Marking}
-use Rattle.life_plan.specs.declared.plan.Plan.{Plan}
 use Rattle.life_plan.specs.declared.reading.Reading.{Reading}
 use Rattle.life_plan.specs.declared.staying.Becoming.{Becoming}
 use Rattle.life_plan.specs.declared.staying.Staying.{Staying}
+use Rattle.life_plan.specs.declared.tabulated.Tabulated.{Tabulated}
 
 -- a test of the location with a number
 abbrev pub passes : {A : Type 0} → (A → Bool) → Option A → Bool
@@ -130,9 +130,15 @@ MakesAt c location elements l m = (y : Fact) × (Names c.table l m y × IsMadeAt
 abbrev pub MakesFrom : Crossing → List Reading → (from : ℕ → ℕ → Bool) → (l m : ℕ) → Type 0
 MakesFrom c readings from l m = (n : ℕ) × (IsReadAt readings n × MakesAt c n (from n) l m)
 
--- ---- the plan
+-- ---- what is tabulated of an edge
 
-pub record IsPlan (c : Crossing) (plan : Plan) : Type 0 where
-  pub staying : IsStaying c plan.staying
-  pub marking : IsMarking c plan.marking
-  pub readings : AreReadings c plan.readings.items
+pub record IsTabulated (c : Crossing) (t : Tabulated) : Type 0 where
+  pub staying : IsStaying c t.staying
+  pub marking : IsMarking c t.marking
+  pub readings : AreReadings c t.readings.items
+
+-- ---- where nothing comes of facts but each fact itself
+
+-- the pair is in the set, and below these limits
+abbrev pub IsAmong : (locations elements : ℕ) → (from : ℕ → ℕ → Bool) → (l m : ℕ) → Type 0
+IsAmong locations elements from l m = (l < locations) × ((m < elements) × IsTrue (from l m))

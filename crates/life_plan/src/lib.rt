@@ -10,6 +10,8 @@ mod plan;
 mod reading;
 mod row_facts;
 mod staying;
+mod tabulated;
+mod whole;
 mod workspace;
 
 pub use context::EdgeContext;

@@ -1,21 +1,18 @@
 // The plan of an edge.
-ghost use Rattle.std.specs.Prelude.{◌≡◌, ◌+◌, ℕ, ◌<◌, Bool, true, IfOk, IsTrue, OnOk, length};
+ghost use Rattle.std.specs.Prelude.{◌≡◌, ◌+◌, ℕ, ◌<◌, Bool, true, IfOk, OnOk, length};
 ghost use Rattle.life_core.specs.Function.{function_of};
 ghost use Rattle.life_sets.specs.NumberSets.{holds};
 ghost use Rattle.life_rules.specs.FactSets.{CarriesPair, GainsSome};
 ghost use Rattle.life_plan.specs.Carried.{none_due, IsCarried, IsRoom};
-ghost use Rattle.life_plan.specs.Crossing.{crossing_in, FromNone, IsContext};
+ghost use Rattle.life_plan.specs.Crossing.{crossing_in, IsContext};
 ghost use Rattle.life_plan.specs.Noted.{Notes};
 
 use crate::context::EdgeContext;
-use crate::keep::keep_due;
-use crate::marking::Marking;
-use crate::reading::{Reading, make_due, readings_of};
-use crate::row_facts::add_facts;
-use crate::staying::Staying;
+use crate::tabulated::Tabulated;
+use crate::whole::carry_whole;
 use crate::workspace::Workspace;
 use life_base::Steps;
-use life_rules::push_none;
+use life_rules::keeps_all;
 use life_sets::{NumberSet, Rows};
 use life_types::NoMemory;
 use std::alloc::Global;
@@ -25,11 +22,8 @@ use std::sync::ledger::Ledger;
 /// run as often as the row before the edge has gained pairs. It keeps how much it has carried.
 #[derive(Drop)]
 pub struct Plan {
-    // what comes of no fact isn't carried yet
-    pub(crate) is_fresh: bool,
-    pub(crate) staying: Staying,
-    pub(crate) marking: Marking,
-    pub(crate) readings: Vec<Reading>,
+    // None where nothing comes of facts but each fact itself
+    pub(crate) tabulated: Option<Tabulated>,
 }
 
 impl Plan {
@@ -40,14 +34,12 @@ impl Plan {
             → ((l : ℕ) → l < length context.now.table.now.locations → due l ≡ true)
             → IsCarried (crossing_in context.now) plan due from into) }
     {
-        let staying = Staying::of(alloc, context)?;
-        let marking = Marking::of(alloc, context)?;
-        let readings = readings_of(alloc, context)?;
+        if keeps_all(context.spot) {
+            return Ok(Plan { tabulated: None });
+        }
+        let tabulated = Tabulated::of(alloc, context)?;
         Ok(Plan {
-            is_fresh: true,
-            staying,
-            marking,
-            readings,
+            tabulated: Some(tabulated),
         })
     }
 
@@ -117,61 +109,11 @@ impl Plan {
         ensures gained { gained.new.limit ≡ gained.old.limit }
         ensures room { IsRoom (length context.now.table.now.elements) workspace.new }
     {
-        start(self.is_fresh, alloc, context, into, gained)?;
-        self.is_fresh = false;
-        let grew = self.marking.see(context, due, from, &mut workspace.before);
-        keep_due(
-            &self.staying,
-            &self.marking,
-            due,
-            grew,
-            from,
-            into,
-            gained,
-            workspace,
-        )?;
-        make_due(
-            alloc,
-            context,
-            due,
-            from,
-            &mut self.readings,
-            into,
-            gained,
-            &mut workspace.before,
-        )
+        match &mut self.tabulated {
+            None => carry_whole(due, from, into, gained, &mut workspace.before),
+            Some(tabulated) => {
+                tabulated.carry(alloc, context, due, from, into, gained, workspace)
+            }
+        }
     }
-}
-
-// Adds what comes of no fact, if the plan is fresh.
-fn start<R: Rows>(
-    is_fresh: bool,
-    alloc: Global,
-    context: &EdgeContext,
-    into: &mut R,
-    gained: &mut NumberSet,
-) -> Result<(), NoMemory>
-    requires locations { R.location_limit into.old ≡ length context.now.table.now.locations }
-    requires elements { R.element_limit into.old ≡ length context.now.table.now.elements }
-    requires gained { gained.old.limit ≡ length context.now.table.now.locations }
-    ensures none { OnOk result (is_fresh ≡ true → (l m : ℕ) → FromNone (crossing_in context.now) l m → IsTrue (R.has into.new l m)) }
-    ensures some { GainsSome (R.has into.old) (R.has into.new) (FromNone (crossing_in context.now)) }
-    ensures noted { OnOk result (Notes (R.has into.old) (R.has into.new) (holds gained.old) (holds gained.new)) }
-    ensures locations { R.location_limit into.new ≡ R.location_limit into.old }
-    ensures elements { R.element_limit into.new ≡ R.element_limit into.old }
-    ensures gained { gained.new.limit ≡ gained.old.limit }
-{
-    if !is_fresh {
-        return Ok(());
-    }
-    let mut facts = Vec::new(alloc);
-    push_none(
-        alloc,
-        context.sigs,
-        context.types,
-        context.f,
-        context.spot,
-        &mut facts,
-    )?;
-    add_facts(context.table, &facts, into, gained)
 }

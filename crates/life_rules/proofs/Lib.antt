@@ -1,5 +1,6 @@
 pub mod Calls
 pub mod Giving
+pub mod Kept
 pub mod Nothing
 pub mod OneFact
 pub mod OneFunction

@@ -8,7 +8,7 @@ use Rattle.life_types.specs.declared.place.Place.{Place}
 use Rattle.life_core.specs.Function.{Function}
 use Rattle.life_core.specs.Operands.{Argument, Base, Operand, Source, whole}
 use Rattle.life_core.specs.Operands as named
-use Rattle.life_core.specs.Step.{Step, End, Copy, Move, Aim, Repoint, Advance, Cut, Cursor, Changes, Call, Change, Erase, Test, NonZero, NotNull}
+use Rattle.life_core.specs.Step.{Step, Eval, Load, Save, Size, Same, Ports, End, Copy, Move, Aim, Repoint, Advance, Cut, Cursor, Changes, Call, Change, Erase, Test, NonZero, NotNull}
 use Rattle.life_core.specs.Step as step
 use Rattle.life_core.specs.Tree.{Node, Action, Question, Return, Stop, Spot}
 use Rattle.life_pset.specs.Elements.{called, end_elements, local_place, owner_changed}
@@ -238,3 +238,28 @@ node_mark place Stop = None
 abbrev pub mark : Option Spot → Option Element
 mark None = None
 mark (Some s) = node_mark s.place s.node
+
+-- ---- points of which nothing comes but each fact itself
+
+abbrev pub step_keeps : Step → Bool
+step_keeps (Eval r operation) = true
+step_keeps (Load r o) = true
+step_keeps (Save o r) = true
+step_keeps (Size r b) = true
+step_keeps (Same r a b equal) = true
+step_keeps (Ports p) = true
+step_keeps _ = false
+
+abbrev pub test_keeps : Test → Bool
+test_keeps (NonZero r) = true
+test_keeps (NotNull p) = false
+
+abbrev pub node_keeps : Node → Bool
+node_keeps (Action i) = step_keeps i
+node_keeps (Question t) = test_keeps t
+node_keeps Return = true
+node_keeps Stop = true
+
+abbrev pub spot_keeps : Option Spot → Bool
+spot_keeps None = false
+spot_keeps (Some s) = node_keeps s.node

@@ -2,7 +2,7 @@
 ghost use Rattle.std.specs.Prelude.{◌≡◌};
 ghost use Rattle.life_core.specs.Operands.{base_of, operand_of, source_of};
 ghost use Rattle.life_core.specs.Step.{asked_of, change_of, step_of};
-ghost use Rattle.life_rules.specs.Staying.{base_reads, change_reads, goes_through, is_copied, reads, source_reads, test_writes};
+ghost use Rattle.life_rules.specs.Staying.{base_reads, change_reads, goes_through, is_copied, reads, source_reads, test_keeps, test_writes};
 
 use crate::matching::{is_location, located};
 use crate::writes::is_whole;
@@ -92,5 +92,15 @@ pub fn is_tested(test: &Test, location: &AbsPlace) -> bool
     match test {
         Test::NonZero(_) => false,
         Test::NotNull(pointer) => is_location(pointer, location),
+    }
+}
+
+/// Whether the test is of a value, and of no pointer.
+pub fn is_of_value(test: &Test) -> bool
+    ensures { result ≡ test_keeps (asked_of test.now) }
+{
+    match test {
+        Test::NonZero(_) => true,
+        Test::NotNull(_) => false,
     }
 }

@@ -4,14 +4,14 @@ ghost use Rattle.std.specs.Prelude.{◌≡◌, ◌++◌, ◌∷◌, [], false, m
 ghost use Rattle.life_core.specs.Function.{function_of};
 ghost use Rattle.life_core.specs.Node.{spot_seen};
 ghost use Rattle.life_pset.specs.declared.element.Element.{Element};
-ghost use Rattle.life_rules.specs.Staying.{made_at, mark, marks, spot_moves, spot_reads, spot_targets, spot_writes, staying};
+ghost use Rattle.life_rules.specs.Staying.{made_at, mark, marks, spot_keeps, spot_moves, spot_reads, spot_targets, spot_writes, staying};
 
 use crate::branch::stops_at;
 use crate::marks::{mark, marks, targets};
 use crate::one::push_made_by;
 use crate::push::push_unless;
-use crate::reads::{is_tested, reads};
-use crate::stays::{moves, push_stays};
+use crate::reads::{is_of_value, is_tested, reads};
+use crate::stays::{keeps, moves, push_stays};
 use crate::writes::writes;
 use life_contract::Signatures;
 use life_core::{CoreFn, NodeRef, SpotRef};
@@ -30,6 +30,22 @@ pub fn is_written_at(spot: Option<SpotRef>, location: &AbsPlace) -> bool
             NodeRef::Question(test) => is_tested(test, location),
             NodeRef::Return => false,
             NodeRef::Stop => false,
+        },
+    }
+}
+
+/// Whether nothing comes of facts but each fact itself: where this holds, none of the other questions
+/// about the point need be asked.
+pub fn keeps_all(spot: Option<SpotRef>) -> bool
+    ensures { result ≡ spot_keeps (option_map spot_seen spot.entry) }
+{
+    match spot {
+        None => false,
+        Some(spot) => match spot.node {
+            NodeRef::Action(instr) => keeps(instr),
+            NodeRef::Question(test) => is_of_value(test),
+            NodeRef::Return => true,
+            NodeRef::Stop => true,
         },
     }
 }

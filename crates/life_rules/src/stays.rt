@@ -5,7 +5,7 @@ ghost use Rattle.life_core.specs.Function.{function_of};
 ghost use Rattle.life_core.specs.Step.{step_of};
 ghost use Rattle.life_pset.specs.Elements.{end_causes, end_if};
 ghost use Rattle.life_pset.specs.declared.element.Element.TheVariants as element;
-ghost use Rattle.life_rules.specs.Staying.{after_change, after_changes, after_end, becomes, ended_in, has_kill, moves, stays};
+ghost use Rattle.life_rules.specs.Staying.{after_change, after_changes, after_end, becomes, ended_in, has_kill, moves, stays, step_keeps};
 
 use crate::kill::{Kill, KillPair, is_gone, kills};
 use crate::matching::points_under;
@@ -180,5 +180,20 @@ pub fn moves(types: &TypeTable, f: &CoreFn, place: Place, instr: &Instr) -> bool
     match instr {
         Instr::End { .. } => true,
         _ => has_kill(kills(types, f, place, instr).first),
+    }
+}
+
+/// Whether the instruction leaves all facts as they are.
+pub fn keeps(instr: &Instr) -> bool
+    ensures { result ≡ step_keeps (step_of instr.now) }
+{
+    match instr {
+        Instr::Eval { .. } => true,
+        Instr::Load { .. } => true,
+        Instr::Save { .. } => true,
+        Instr::Size { .. } => true,
+        Instr::Same { .. } => true,
+        Instr::Port(_) => true,
+        _ => false,
     }
 }

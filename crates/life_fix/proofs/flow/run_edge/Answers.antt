@@ -29,6 +29,20 @@ returns-in_err-run_row-clause-elements g c =
     limited_as g.R.Rows.element_limit (length c.args.flow.now.table.now.elements) rows _ n (get_or back 0 c.index-back-0.result) c.run_row.new.into (write_behind rows front back n parts.ensures.value parts.ensures.front_len c.run_row.new.into)
     (at_behind rows front back n parts.ensures.value parts.ensures.front_len c.index-back-0.result parts.ensures.back_len within) c.run_row.ensures.elements c.requires.elements
 
+pub run_row-requires-clause-carried : goal.run_row-requires-clause-carried
+run_row-requires-clause-carried g c =
+    let rows = c.args.rows.now in
+    let parts = c.split_at_mut-front in
+    let front = parts.result.0.now in
+    let back = parts.result.1.now in
+    let n = c.row_index-to.result in
+    let i = c.row_index-from.result in
+    let within : n < length rows = omega (arith, c.row_index-to.ensures, c.requires.join.3) in
+    let lt : i < n = omega (arith, c.if-from-to.true) in
+    let behind = at_behind rows front back n parts.ensures.value parts.ensures.front_len c.index-back-0.result parts.ensures.back_len within in
+    let before = at_before rows front back n parts.ensures.value parts.ensures.front_len i c.index-front-from.result lt in
+    carried_rows g.R.Rows.has (crossing_of c.args.flow.now.sigs.now c.args.flow.now.types.now (function_of c.args.flow.now.f.now) c.args.edge) c.args.edge c.args.plan.now (holds c.args.due.now) rows i n (get_or front i c.index-front-from.result) (get_or back 0 c.index-back-0.result) c.row_index-from.ensures c.row_index-to.ensures before behind c.requires.carried
+
 pub run_row-requires-then-to-from-clause-carried : goal.run_row-requires-then-to-from-clause-carried
 run_row-requires-then-to-from-clause-carried g c =
     let rows = c.args.rows.now in

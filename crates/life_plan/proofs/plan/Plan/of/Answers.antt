@@ -1,7 +1,12 @@
+use Rattle.std.proofs.Common.{◌∙◌, sym}
+use Rattle.std.proofs.lemmas.Bool.{both_ways}
 use Rattle.life_plan.proofs.plan.Plan.of.Goals as goal
-use Rattle.life_plan.specs.Crossing.{crossing_in}
-use Rattle.life_plan.proofs.Starting.{starts_carried}
+
+pub returns-then-keeps_all : goal.returns-then-keeps_all
+returns-then-keeps_all c = λ due from into all. record {
+  keeps = sym c.keeps_all.ensures ∙ c.if-keeps_all.true;
+  kept = λ l m not_due lt h. absurd (both_ways (due l) not_due (all l lt));
+}
 
 pub returns : goal.returns
-returns c =
-    starts_carried (crossing_in c.args.context.now) c.in_ok-staying.staying c.in_ok-marking.marking c.in_ok-readings.readings c.in_ok-staying.ensures c.in_ok-marking.ensures.is c.in_ok-readings.ensures.are c.in_ok-marking.ensures.seen c.in_ok-marking.ensures.mask c.in_ok-readings.ensures.seen
+returns c = c.in_ok-tabulated.ensures
