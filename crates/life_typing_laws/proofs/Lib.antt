@@ -10,8 +10,8 @@ pub mod Domains
 pub mod Each
 pub mod Ending
 pub mod Entered
+pub mod ExpressionLaws
 pub mod Expressions
-pub mod ExpressionsKeep
 pub mod Files
 pub mod Fitting
 pub mod FromBuilt
@@ -24,11 +24,9 @@ pub mod HeadersStay
 pub mod Known
 pub mod Leaves
 pub mod LongBodies
-pub mod LongExpressions
 pub mod LongLists
 pub mod LongOperands
 pub mod LongPrograms
-pub mod LongRules
 pub mod LongSimples
 pub mod LongStatements
 pub mod LongValues
@@ -55,7 +53,7 @@ pub mod StatementsKeep
 pub mod StatementsStay
 pub mod Staying
 pub mod Steps
-pub mod TargetsKeep
+pub mod TargetLaws
 pub mod Turns
 pub mod Typed
 pub mod TypesKeep

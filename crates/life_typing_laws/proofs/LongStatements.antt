@@ -23,7 +23,7 @@ use Rattle.life_well_typed.specs.AsParsed.{has_longs_if_any, is_start_as_parsed,
 use Rattle.life_typing_laws.proofs.Domains.{Around}
 use Rattle.life_typing_laws.proofs.Each.{EachHolds}
 use Rattle.life_typing_laws.proofs.LongOperands.{IsLong}
-use Rattle.life_typing_laws.proofs.LongRules.{listed_each}
+use Rattle.life_typing_laws.proofs.ExpressionLaws.{listed_each}
 use Rattle.life_typing_laws.proofs.LongSimples.{IsParsedSimple, IsParsedStep, optional_simple_long, simple_long}
 use Rattle.life_typing_laws.proofs.LongValues.{IsLongIfAny, IsParsedDeclaration, declared_long, expr_given, optional_condition_long}
 use Rattle.life_typing_laws.proofs.Pairs.{Pairwise}

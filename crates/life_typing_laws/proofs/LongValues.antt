@@ -40,10 +40,10 @@ use Rattle.life_type_stmt.specs.Given.{given_expr, given_first, given_list, give
 use Rattle.life_type_stmt.specs.Ranges.{RangeForm, RangeHead, element_place, element_type, elements_of, range_head, range_of}
 use Rattle.life_well_typed.specs.AsParsed.{are_items_as_parsed, has_longs, has_longs_if_any, have_longs, is_first_as_parsed, is_initial_as_parsed}
 use Rattle.life_typing_laws.proofs.Each.{EachHolds}
-use Rattle.life_typing_laws.proofs.LongExpressions.{whole_additive_reads, whole_expr_reads, whole_init_list_reads}
 use Rattle.life_typing_laws.proofs.LongLists.{AreLong, passed_long}
 use Rattle.life_typing_laws.proofs.LongOperands.{GiveLong, GivesLong, IsLong}
 use Rattle.life_typing_laws.proofs.ReadTrees.{IsRead}
+use Rattle.life_typing_laws.proofs.Wholes.{additive_laws, expr_laws, init_list_laws}
 use Rattle.life_typing_laws.proofs.Yields.{Finds, Yields, finds_none, finds_ok, yields_behind, yields_given, yields_given_with, yields_ok, yields_then}
 
 -- ---- what is given
@@ -55,12 +55,12 @@ abbrev pub IsParsedFirst : Option InitialForm → Type 0
 IsParsedFirst value = is_first_as_parsed value ≡ true
 
 pub expr_given : (target : Ty) (e : Expr) → IsRead (expr_tree e) → (scope : Scope) (types : Types) → Yields IsLong (given_expr target e scope types)
-expr_given target e read scope types = yields_then IsLong IsLong _ _ (whole_expr_reads e read scope types) (λ x l. yields_given _ _ _ (λ _. yields_ok IsLong x.0 x.1 l))
+expr_given target e read scope types = yields_then IsLong IsLong _ _ ((expr_laws e).long read scope types) (λ x l. yields_given _ _ _ (λ _. yields_ok IsLong x.0 x.1 l))
 
 list_given : (target : Ty) (l : InitList) → IsRead (init_list_tree l) → (scope : Scope) (types : Types) → Yields IsParsedInitial (given_list target l scope types)
 list_given target l read scope types =
     yields_then (λ (f : ListForm). AreLong f.elements) IsParsedInitial _ _
-    (yields_then AreLong _ _ _ (passed_long _ _ _ _ (init_list_meaning l).list (whole_init_list_reads l read) scope types) (λ x all. yields_ok (λ (f : ListForm). AreLong f.elements) _ _ all))
+    (yields_then AreLong _ _ _ (passed_long _ _ _ _ (init_list_meaning l).list ((init_list_laws l).long read) scope types) (λ x all. yields_ok (λ (f : ListForm). AreLong f.elements) _ _ all))
     (λ x all. yields_ok IsParsedInitial (several x.0) x.1 all)
 
 pub value_given : (target : Ty) (value : InitialValue) → IsRead (initial_tree value) → (scope : Scope) (types : Types) → Yields IsParsedInitial (given_value target value scope types)
@@ -90,11 +90,11 @@ lone_long (e ∷ es) held scope types =
 
 lone_list_long : (l : InitList) → IsRead (init_list_tree l) → (scope : Scope) (types : Types) → Yields IsParsedInitial (lone_list l scope types)
 lone_list_long l read scope types =
-    yields_then AreLong IsParsedInitial _ _ (lone_long (out-InitList l).list.items (subst GiveLong (list_opened l) (whole_init_list_reads l read)) scope types) (λ x all.
+    yields_then AreLong IsParsedInitial _ _ (lone_long (out-InitList l).list.items (subst GiveLong (list_opened l) ((init_list_laws l).long read)) scope types) (λ x all.
     yields_ok IsParsedInitial (several (record { opening = (out-InitList l).opening; elements = x.0; closing = (out-InitList l).closing })) x.1 all)
 
 auto_long : (value : InitialValue) → IsRead (initial_tree value) → (scope : Scope) (types : Types) → Yields IsParsedInitial (auto_value value scope types)
-auto_long (initial_value.Expr e) read scope types = yields_then IsLong IsParsedInitial _ _ (whole_expr_reads e.value read.1 scope types) (λ x l. yields_ok IsParsedInitial (one x.0) x.1 l)
+auto_long (initial_value.Expr e) read scope types = yields_then IsLong IsParsedInitial _ _ ((expr_laws e.value).long read.1 scope types) (λ x l. yields_ok IsParsedInitial (one x.0) x.1 l)
 auto_long (initial_value.List l) read scope types = lone_list_long l read.1 scope types
 
 auto_first : (i : Option Initializer) → IsRead (initializer_tree i) → (scope : Scope) (types : Types) → Yields IsParsedFirst (auto_given i scope types)
@@ -123,7 +123,7 @@ declared_long (declared_type.Auto a) name i read scope types =
 
 pub condition_long : (e : Expr) → IsRead (expr_tree e) → (scope : Scope) (types : Types) → Yields IsLong (condition e scope types)
 condition_long e read scope types =
-    yields_then IsLong IsLong _ _ (whole_expr_reads e read scope types) (λ x l.
+    yields_then IsLong IsLong _ _ ((expr_laws e).long read scope types) (λ x l.
     yields_given IsLong (literal_allowed false x.0) _ (λ _. yields_given IsLong (allowed (unless (is_condition x.0.ty) kinds.WrongType) x.0.place) _ (λ _. yields_ok IsLong x.0 x.1 l)))
 
 abbrev pub IsLongIfAny : Option Typed → Type 0
@@ -148,7 +148,7 @@ items_with (line_end place) is l all = all
 
 item_long : (i : PrintItem) → IsRead (print_item_tree i) → (scope : Scope) (types : Types) → Yields IsParsedItem (item i scope types)
 item_long (print_item.Value e) read scope types =
-    yields_then IsLong IsParsedItem _ _ (whole_additive_reads e read.1 scope types) (λ x l. yields_given _ _ _ (λ _. yields_ok IsParsedItem (printed x.0) x.1 l))
+    yields_then IsLong IsParsedItem _ _ ((additive_laws e).long read.1 scope types) (λ x l. yields_given _ _ _ (λ _. yields_ok IsParsedItem (printed x.0) x.1 l))
 item_long (print_item.EndLine name) read scope types = yields_ok IsParsedItem (line_end name.word) types tt
 
 pub items_long : (ps : List PrintPart) → IsRead (list_tree (map print_part_tree ps)) → (scope : Scope) (types : Types) → Yields AreParsedItems (items ps scope types)
@@ -168,7 +168,7 @@ elements_long (Some element) colon e l = finds_ok _ _ l
 
 range_long : (name : Identifier) (colon : Place) (e : Expr) → IsRead (expr_tree e) → (scope : Scope) (types : Types) → Yields IsLongRange (range_of name colon e scope types)
 range_long name colon e read scope types =
-    yields_then IsLong IsLongRange _ _ (whole_expr_reads e read scope types) (λ x l.
+    yields_then IsLong IsLongRange _ _ ((expr_laws e).long read scope types) (λ x l.
     yields_given IsLongRange (literal_allowed false x.0) _ (λ _. yields_given IsLongRange (allowed (redeclared scope name.id) name.place) _ (λ _.
     yields_given_with IsLongRange _ _ _ (elements_long (range_element x.0.ty (is_constant x.0.category)) colon x.0 l) (λ r m. yields_ok IsLongRange r x.1 m))))
 

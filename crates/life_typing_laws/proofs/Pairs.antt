@@ -1,6 +1,7 @@
 -- What holds of each of a list with what stands at the same place in another.
-use Rattle.std.proofs.Common.{◌≡◌, List, [], ◌∷◌, map, subst}
+use Rattle.std.proofs.Common.{◌≡◌, List, [], ◌∷◌, map, subst, sym}
 use Rattle.life_unique.proofs.Lists.{Both}
+use Rattle.life_typing_laws.proofs.Each.{EachHolds}
 
 abbrev pub Pairwise : {A B : Type 0} → (A → B → Type 0) → List A → List B → Type 0
 Pairwise Holds [] [] = Unit {0}
@@ -14,3 +15,14 @@ paired Holds f g (x ∷ xs) = (x.1, paired Holds f g xs)
 
 pub both_same : {A B : Type 0} (Holds : A → B → Type 0) {x x' : A} {y y' : B} → x ≡ x' → y ≡ y' → Holds x y → Holds x' y'
 both_same Holds {x = x} {x' = x'} {y = y} {y' = y'} e d h = subst (λ z. Holds x' z) d (subst (λ z. Holds z y) e h)
+
+-- .. and so of what is made of a layer, by what rolling it up makes of both
+pub made_of : {O X A B : Type 0} (Holds : A → B → Type 0) (roll : O → X) (of : X → A) (tree : X → B) (o o' : O) {x : A} {y : B} → of (roll o) ≡ x → tree (roll o) ≡ y → Holds x y → o ≡ o' → Holds (of (roll o')) (tree (roll o'))
+made_of Holds roll of tree o o' made seen holds e = subst (λ z. Holds (of (roll z)) (tree (roll z))) e (both_same Holds (sym made) (sym seen) holds)
+
+-- .. or it holds of the first of each alone
+pub each_first : {A B : Type 0} (R : A → B → Type 0) (P : A → Type 0) → ((x : A) (y : B) → R x y → P x) → (xs : List A) (ys : List B) → Pairwise R xs ys → EachHolds P xs
+each_first R P one [] [] pairs = tt
+each_first R P one (x ∷ xs) (y ∷ ys) pairs = (one x y pairs.0, each_first R P one xs ys pairs.1)
+each_first R P one [] (y ∷ ys) pairs = absurd pairs
+each_first R P one (x ∷ xs) [] pairs = absurd pairs

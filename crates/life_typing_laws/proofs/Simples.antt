@@ -38,7 +38,8 @@ use Rattle.life_typing_laws.specs.Served.{is_served_form, is_served_simple, is_s
 use Rattle.life_typing_laws.proofs.Steps.{allowed_ok, bound, given_ok, same_value}
 use Rattle.life_typing_laws.proofs.Typed.{Good}
 use Rattle.life_typing_laws.proofs.Values.{operand_reads, target_reads, unless_none, value_is}
-use Rattle.life_typing_laws.proofs.Wholes.{expr_good, postfix_good, target_good}
+use Rattle.life_typing_laws.proofs.TargetLaws.{target_laws}
+use Rattle.life_typing_laws.proofs.Wholes.{expr_laws, postfix_laws}
 
 -- the same table, and a simple statement that is well typed
 pub record IsDone (scope : Scope) (types : Types) (x : SimpleForm × Types) : Type 0 where
@@ -83,7 +84,7 @@ assignment_is t equals i scope types x h served =
     let fine = allowed_ok (assignment_fault second.value.1 first.value.0 second.value.0) equals (λ _. Ok (typed.assign first.value.0 equals second.value.0, second.value.1)) x second.behind in
     let parts = and_parts (is_served_form first.value.0.form) (is_served_value second.value.0) (served_as (typed.assign first.value.0 equals second.value.0, second.value.1) x fine.1 served) in
     let reads = target_reads t scope types first.value first.gave in
-    let table : first.value.1 ≡ types = (target_good t).same scope types first.value reads parts.0 in
+    let table : first.value.1 ≡ types = (target_laws t).good.same scope types first.value reads parts.0 in
     let gave : given_value (type_of first.value.0.ty) i scope types ≡ Ok second.value = subst (λ (s : Types). given_value (type_of first.value.0.ty) i scope s ≡ Ok second.value) table second.gave in
     let value = value_is (type_of first.value.0.ty) i scope types second.value gave parts.1 in
     let no_place = lower_none (unless (is_place first.value.0.ty first.value.0.category) kinds.NotAssignable)
@@ -98,7 +99,7 @@ assignment_is t equals i scope types x h served =
     done_as scope types (typed.assign first.value.0 equals second.value.0, second.value.1) x fine.1 (record {
       same = value.same;
       is = λ p locals result v sound final. (
-        (place_given first.value.0 kinds.NotAssignable (self_fault first.value.0.form second.value.0) no_place.0 no_initial.1, ((target_good t).is p locals v scope types first.value reads parts.0 sound final).is),
+        (place_given first.value.0 kinds.NotAssignable (self_fault first.value.0.form second.value.0) no_place.0 no_initial.1, ((target_laws t).good.is p locals v scope types first.value reads parts.0 sound final).is),
         subst (λ (f : InitialForm). IsGiven p locals result v.visible (type_of first.value.0.ty) f) value.is
             (given_later second.value.1 p.types (subst (λ (s : Types). Grows s p.types) (sym value.same) final.grown) (type_of first.value.0.ty) value.value fits_it, (value.typed p locals v sound final).is),
       );
@@ -124,16 +125,16 @@ compound_is t operator place e scope types x h served =
     let fine = allowed_ok (compound_fault fit first.value.0) place (λ _. Ok (typed.compound first.value.0 operator place second.value.0, second.value.1)) x literal.behind in
     let parts = and_parts (is_served_form first.value.0.form) (is_served_form second.value.0.form) (served_as (typed.compound first.value.0 operator place second.value.0, second.value.1) x fine.1 served) in
     let reads = target_reads t scope types first.value first.gave in
-    let table : first.value.1 ≡ types = (target_good t).same scope types first.value reads parts.0 in
+    let table : first.value.1 ≡ types = (target_laws t).good.same scope types first.value reads parts.0 in
     let gave : expr_meaning e scope types ≡ Ok second.value = subst (λ (s : Types). expr_meaning e scope s ≡ Ok second.value) table second.gave in
     let no_place = lower_none (unless (is_place first.value.0.ty first.value.0.category) kinds.WrongType) (lower_kind (misfit_of kinds.WrongType fit) (const_or (is_constant first.value.0.category) None)) fine.0 in
     let no_misfit = lower_none (misfit_of kinds.WrongType fit) (const_or (is_constant first.value.0.category) None) no_place.1 in
     done_as scope types (typed.compound first.value.0 operator place second.value.0, second.value.1) x fine.1 (record {
-      same = (expr_good e).same scope types second.value gave parts.1;
+      same = (expr_laws e).good.same scope types second.value gave parts.1;
       is = λ p locals result v sound final. (
         fit_at_all fit (misfit_none kinds.WrongType fit no_misfit.0),
-        (place_given first.value.0 kinds.WrongType None no_place.0 no_misfit.1, ((target_good t).is p locals v scope types first.value reads parts.0 sound final).is),
-        ((expr_good e).is p locals v scope types second.value gave parts.1 sound final).is,
+        (place_given first.value.0 kinds.WrongType None no_place.0 no_misfit.1, ((target_laws t).good.is p locals v scope types first.value reads parts.0 sound final).is),
+        ((expr_laws e).good.is p locals v scope types second.value gave parts.1 sound final).is,
       );
     })
 
@@ -174,17 +175,17 @@ simple_is (simple.Assign t equals i) scope types x h served = assignment_is t eq
 simple_is (simple.Compound t operator place e) scope types x h served = compound_is t operator place e.value scope types x h served
 simple_is (simple.PrefixStep operator place t) scope types x h served =
     let first = bound (target t scope types) (step_taken operator place) x h in
-    step_is (target_meaning t) (target_good t) operator place scope types first.value x (target_reads t scope types first.value first.gave) first.behind served
+    step_is (target_meaning t) (target_laws t).good operator place scope types first.value x (target_reads t scope types first.value first.gave) first.behind served
 simple_is (simple.PostfixStep t operator place) scope types x h served =
     let first = bound (operand t scope types) (step_taken operator place) x h in
-    step_is (postfix_meaning t) (postfix_good t) operator place scope types first.value x (operand_reads t scope types first.value first.gave) first.behind served
+    step_is (postfix_meaning t) (postfix_laws t).good operator place scope types first.value x (operand_reads t scope types first.value first.gave) first.behind served
 simple_is (simple.Call c) scope types x h served =
     let first = bound (operand c scope types) (λ y. Ok (typed.discarded y.0, y.1)) x h in
     let reads = operand_reads c scope types first.value first.gave in
     let parts = and_parts (ends_in_arguments first.value.0.form) (is_served_form first.value.0.form) (served_as (typed.discarded first.value.0, first.value.1) x first.behind served) in
     done_as scope types (typed.discarded first.value.0, first.value.1) x first.behind (record {
-      same = (postfix_good c).same scope types first.value reads parts.1;
-      is = λ p locals result v sound final. (parts.0, ((postfix_good c).is p locals v scope types first.value reads parts.1 sound final).is);
+      same = (postfix_laws c).good.same scope types first.value reads parts.1;
+      is = λ p locals result v sound final. (parts.0, ((postfix_laws c).good.is p locals v scope types first.value reads parts.1 sound final).is);
     })
 
 -- .. where it may be left out

@@ -31,7 +31,7 @@ use Rattle.life_typing_laws.specs.Sound.{IsFinal, IsSound}
 use Rattle.life_typing_laws.specs.Served.{is_served_first, is_served_form, is_served_value}
 use Rattle.life_typing_laws.proofs.Steps.{allowed_ok, bound, given_ok, same_value}
 use Rattle.life_typing_laws.proofs.Typed.{IsTyped}
-use Rattle.life_typing_laws.proofs.Wholes.{expr_good}
+use Rattle.life_typing_laws.proofs.Wholes.{expr_laws}
 
 pub unless_none : (b : Bool) (kind : IllKind) → unless b kind ≡ None → b ≡ true
 unless_none true kind e = refl
@@ -95,8 +95,8 @@ one_read e scope types y x read h served =
     record {
       value = y.0;
       is = form;
-      same = ap (λ (z : InitialForm × Types). z.1) (sym same) ∙ (expr_good e).same scope types y read served_value;
-      typed = λ p locals v sound final. (expr_good e).is p locals v scope types y read served_value sound final;
+      same = ap (λ (z : InitialForm × Types). z.1) (sym same) ∙ (expr_laws e).good.same scope types y read served_value;
+      typed = λ p locals v sound final. (expr_laws e).good.is p locals v scope types y read served_value sound final;
     }
 
 -- a list isn't served

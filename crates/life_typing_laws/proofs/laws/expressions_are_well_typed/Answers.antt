@@ -1,6 +1,6 @@
-use Rattle.life_typing_laws.proofs.Wholes.{expr_good}
+use Rattle.life_typing_laws.proofs.Wholes.{expr_laws}
 use Rattle.life_typing_laws.proofs.laws.expressions_are_well_typed.Goals as goal
 
 pub returns : goal.returns
 returns c p locals e v scope types x h served sound final =
-    ((expr_good e).same scope types x h served, ((expr_good e).is p locals v scope types x h served sound final).is)
+    ((expr_laws e).good.same scope types x h served, ((expr_laws e).good.is p locals v scope types x h served sound final).is)
