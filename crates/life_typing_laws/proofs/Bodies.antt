@@ -2,6 +2,7 @@
 use Rattle.std.proofs.Common.{◌≡◌, Bool, true, false, List, [], None, Ok, sym, ap, subst, ◌∙◌}
 use Rattle.life_types.specs.Types.{Types, HasType}
 use Rattle.life_types.specs.declared.ty.TyId.{TyId}
+use Rattle.life_tree.specs.Views.{block_tree}
 use Rattle.life_tree.specs.declared.stmt.Block.{Block, out-Block}
 use Rattle.life_typed.specs.BaseTypes.{type_at}
 use Rattle.life_typed.specs.Ends.{ends}
@@ -20,10 +21,13 @@ use Rattle.life_well_typed.specs.Visible.{Visible}
 use Rattle.life_typing_laws.specs.Served.{is_served_statement}
 use Rattle.life_typing_laws.specs.Sound.{IsFinal, IsSound}
 use Rattle.life_typing_laws.proofs.Domains.{Around}
-use Rattle.life_typing_laws.proofs.Blocks.{whole_block}
-use Rattle.life_typing_laws.proofs.Ending.{block_ends_as}
+use Rattle.life_typing_laws.proofs.Blocks.{block_laws}
+use Rattle.life_typing_laws.proofs.NamedTrees.{IsNamedTree}
+use Rattle.life_typing_laws.proofs.ReadTrees.{IsRead}
+use Rattle.life_typing_laws.proofs.StatementLaws.{Said}
 use Rattle.life_typing_laws.proofs.Statements.{IsPart, is_block}
 use Rattle.life_typing_laws.proofs.Steps.{allowed_ok, bound, same_value}
+use Rattle.life_typing_laws.proofs.Yields.{Yields}
 
 abbrev pub around_body : TyId → Around
 around_body result = record { result = result; in_loop = false }
@@ -39,13 +43,17 @@ body_reads result is_main b scope types x h =
     let fine = allowed_ok (return_fault is_main (is_void (type_at step.value.1 result)) (block_ends b)) (out-Block b).closing (λ _. Ok step.value) x step.behind in
     step.gave ∙ ap (λ (y : (StmtForm × Scope) × Types). Ok y) (same_value step.value x fine.1)
 
+pub body_said : (result : TyId) (is_main : Bool) (b : Block) (scope : Scope) (types : Types)
+    → Yields (Said (IsRead (block_tree b)) (λ n. IsNamedTree n (block_tree b)) (block_ends b) [] scope) (body result is_main b scope types)
+body_said result is_main b scope types x h = (block_laws b).says (around_body result) scope types x (body_reads result is_main b scope types x h)
+
 pub body_part : (result : TyId) (is_main : Bool) (b : Block) (v : Visible) (scope : Scope) (types : Types) (x : (StmtForm × Scope) × Types) → body result is_main b scope types ≡ Ok x
     → is_served_statement x.0.0 ≡ true → IsSound v scope types → HasType types result → IsPart [] (around_body result) v scope types x
 body_part result is_main b v scope types x h served sound there =
-    (whole_block b).good.gives (around_body result) v scope types x (body_reads result is_main b scope types x h) served sound there
+    (block_laws b).good.good.gives (around_body result) v scope types x (body_reads result is_main b scope types x h) served sound there
 
 pub body_block : (result : TyId) (is_main : Bool) (b : Block) (scope : Scope) (types : Types) (x : (StmtForm × Scope) × Types) → body result is_main b scope types ≡ Ok x → is_block x.0.0 ≡ true
-body_block result is_main b scope types x h = (whole_block b).block (around_body result) scope types x (body_reads result is_main b scope types x h)
+body_block result is_main b scope types x h = (block_laws b).good.block (around_body result) scope types x (body_reads result is_main b scope types x h)
 
 -- no return is missing at its end
 pub body_ends : (result : TyId) (is_main : Bool) (b : Block) (scope : Scope) (types : Types) (x : (StmtForm × Scope) × Types) → body result is_main b scope types ≡ Ok x
@@ -55,7 +63,7 @@ body_ends result is_main b scope types x h =
     let step = bound (block_of b (around_body result) scope types) (ended result is_main b) x h in
     let fine = allowed_ok (return_fault is_main (is_void (type_at step.value.1 result)) (block_ends b)) (out-Block b).closing (λ _. Ok step.value) x step.behind in
     subst (λ (y : (StmtForm × Scope) × Types). return_fault is_main (is_void (type_at y.1 result)) (ends y.0.0) ≡ None) (same_value step.value x fine.1)
-    (subst (λ (e : Bool). return_fault is_main (is_void (type_at step.value.1 result)) e ≡ None) (sym (block_ends_as b (around_body result) scope types step.value step.gave)) fine.0)
+    (subst (λ (e : Bool). return_fault is_main (is_void (type_at step.value.1 result)) e ≡ None) (sym ((block_laws b).says (around_body result) scope types step.value step.gave).is.ended) fine.0)
 
 -- a body is well typed in a program that has in the end what there is behind it
 pub bodies : (p : ProgramForm) (locals : List TypedLocal) (result : TyId) (is_main : Bool) (b : Block) (v : Visible) (scope : Scope) (types : Types) (x : (StmtForm × Scope) × Types)

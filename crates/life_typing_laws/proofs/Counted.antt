@@ -29,9 +29,8 @@ use Rattle.life_typing.specs.Structs as structs
 use Rattle.life_typing.specs.Structs.{added_unless_empty, found_structure, member_types, named_structure, pointing_of_members, structure_form, structure_with, types_of}
 use Rattle.life_typing_laws.proofs.HeaderTypes.{by_seen}
 use Rattle.life_typing_laws.proofs.Declaring.{AgreesAt, behind_first, by_way, function_is, no_second, noted, numbered_is, parts, said, signature, with_header}
-use Rattle.life_typing_laws.proofs.Bodies.{around_body, body_reads}
+use Rattle.life_typing_laws.proofs.Bodies.{body_said}
 use Rattle.life_typing_laws.proofs.Headers.{HeaderIs}
-use Rattle.life_typing_laws.proofs.Leaves.{block_leaves_functions}
 use Rattle.life_typing_laws.proofs.Scopes.{IsDeclared, declared_is, set_else, set_length}
 use Rattle.life_typing_laws.proofs.Steps.{answered, same_some, same_answer, not_both}
 
@@ -144,7 +143,7 @@ module _ (f : Function) (p : ProgressView) (returned : TyId) (y : ℕ × Progres
       let step = answered (body returned (is_main y.1.scope f.name.id) b y.1.scope y.1.types) (λ x. Ok (body_kept f y.0 y.1 (x.0).0 (x.0).1 x.1)) z e in
       let w = step.value in
       let same : w.0.1.functions ≡ y.1.scope.functions =
-      block_leaves_functions b (around_body returned) y.1.scope y.1.types w (body_reads returned (is_main y.1.scope f.name.id) b y.1.scope y.1.types w step.gave) in
+      (body_said returned (is_main y.1.scope f.name.id) b y.1.scope y.1.types w step.gave).stays.functions in
       let left : (parameters_forgotten f.parameters.items (environment.without_locals w.0.1)).functions ≡ y.1.scope.functions = forgotten_leave f.parameters.items (environment.without_locals w.0.1) ∙ same in
       subst Behind (same_answer (body_kept f y.0 y.1 w.0.0 w.0.1 w.1) z step.behind) (record {
         bodies = λ n form d there noted has.

@@ -28,13 +28,12 @@ use Rattle.life_typing.specs.Parameters.{is_seen}
 use Rattle.life_typing.specs.Progress.{ProgressView}
 use Rattle.life_typing.specs.Resolves.{with_definition, with_definitions}
 use Rattle.life_typing.specs.Structs.{added_unless_empty, found_structure, member_types, named_structure, types_of, unless}
-use Rattle.life_typing_laws.proofs.Bodies.{around_body, body_reads}
+use Rattle.life_typing_laws.proofs.Bodies.{body_said}
 use Rattle.life_typing_laws.proofs.Declaring.{behind_first, by_way, function_is, numbered_is, parts, signature, with_header}
 use Rattle.life_typing_laws.proofs.Headers.{HeaderIs}
 use Rattle.life_typing_laws.proofs.HeadersStay.{function_seen_stays, header_stays}
 use Rattle.life_typing_laws.proofs.Parameters.{names_of}
 use Rattle.life_typing_laws.proofs.Scopes.{IsFree, IsIn, forgotten_functions, forgotten_keeps, forgotten_size, set_else, set_length, set_other, set_there}
-use Rattle.life_typing_laws.proofs.StatementsStay.{block_leaves_names}
 use Rattle.life_typing_laws.proofs.Staying.{Stays, StaysIn, free_not_seen, free_unseen, seen_keeps, stays_on}
 use Rattle.life_typing_laws.proofs.Yields.{Finds, Yields, finds_behind, finds_ok, finds_then}
 use Rattle.life_typing_laws.proofs.NamedDefinitions.{EachFunctionNamed, FunctionNamed}
@@ -136,7 +135,7 @@ left size f z meant =
     })
 
 body_stays : (returned : TyId) (main : Bool) (b : Block) (scope : Scope) (types : Types) → Yields (StaysIn {A = StmtForm} [] scope) (body returned main b scope types)
-body_stays returned main b scope types x e = block_leaves_names b (around_body returned) scope types x (body_reads returned main b scope types x e)
+body_stays returned main b scope types x e = (body_said returned main b scope types x e).stays
 
 body_meant : (size : ℕ) (f : Function) (number : ℕ) (q : ProgressView) (w : (StmtForm × Scope) × Types) → AreMeant size (names_of f.parameters.items) q → Stays [] q.scope w.0.1
     → AreMeant size (names_of f.parameters.items) (body_kept f number q w.0.0 w.0.1 w.1)

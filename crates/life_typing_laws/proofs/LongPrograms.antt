@@ -17,14 +17,15 @@ use Rattle.life_names.specs.declared.environment.Entity.TheVariants as entity
 use Rattle.life_names.specs.declared.fault.IllKind.TheVariants as kinds
 use Rattle.life_typing.specs.Functions.{PartsView, behind_header_as, changed_at, declared, header_with, with_function}
 use Rattle.life_typing.specs.Headers as headers
+use Rattle.life_typing.specs.Names.{is_main}
 use Rattle.life_typing.specs.Parameters.{is_seen}
 use Rattle.life_typing.specs.Progress.{ProgressView, nothing_defined}
 use Rattle.life_typing.specs.Resolves.{bodies_of, finished, resolved, texts_of, with_definition, with_definitions}
 use Rattle.life_typing.specs.Structs.{added_unless_empty, found_structure, member_types, named_structure, types_of, unless, with_structure}
 use Rattle.life_well_typed.specs.AsParsed.{are_as_parsed, is_as_parsed, is_statement_as_parsed}
-use Rattle.life_typing_laws.proofs.LongBodies.{body_long}
-use Rattle.life_typing_laws.proofs.LongStatements.{IsParsed, IsParsedPart}
+use Rattle.life_typing_laws.proofs.Bodies.{body_said}
 use Rattle.life_typing_laws.proofs.ReadTrees.{IsRead}
+use Rattle.life_typing_laws.proofs.StatementLaws.{IsParsed}
 use Rattle.life_typing_laws.proofs.Yields.{Finds, finds_behind, finds_none, finds_ok, finds_then}
 
 -- ---- functions so far
@@ -73,7 +74,7 @@ declared_parsed (entity.Local number) f h p so_far = finds_behind IsParsedNumber
 
 behind_parsed : (b : FunctionBody) (f : Function) (number : ℕ) (returned : TyId) (p : ProgressView) → IsRead (body_tree b) → IsParsedSoFar p → Finds IsParsedSoFar (behind_header_as b f number returned p)
 behind_parsed (function_body.Block b) f number returned p read so_far =
-    finds_then (λ x. IsParsedPart x.0) IsParsedSoFar _ _ (body_long returned _ b read p.scope p.types) (λ x parsed.
+    finds_then (λ x. IsParsed x.0.0) IsParsedSoFar _ _ (λ x gave. (body_said returned (is_main p.scope f.name.id) b p.scope p.types x gave).is.parsed read) (λ x parsed.
     finds_ok IsParsedSoFar _ (changed_parsed number (λ g. record g { place = f.name.place; locals = x.0.1.locals; body = x.0.0 }) (λ g. parsed) p.functions (slice_get p.functions number) so_far))
 behind_parsed (function_body.Declared place) f number returned p read so_far = finds_ok IsParsedSoFar _ so_far
 

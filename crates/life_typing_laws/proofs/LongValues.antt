@@ -7,44 +7,38 @@ use Rattle.life_types.specs.declared.place.Place.{Place}
 use Rattle.life_types.specs.declared.ty.Ty.{Ty}
 use Rattle.life_types.specs.declared.ty.TyId.{TyId}
 use Rattle.life_tree.specs.Views.{boxed, expr_tree, init_list_tree, initial_tree, initializer_tree, list_tree, optional_tree, print_item_tree, print_part_tree}
-use Rattle.life_tree.specs.declared.declaration.DeclaredType.{DeclaredType}
-use Rattle.life_tree.specs.declared.declaration.DeclaredType.TheVariants as declared_type
 use Rattle.life_tree.specs.declared.declaration.InitialValue.{InitialValue}
 use Rattle.life_tree.specs.declared.declaration.InitialValue.TheVariants as initial_value
 use Rattle.life_tree.specs.declared.declaration.Initializer.{Initializer}
 use Rattle.life_tree.specs.declared.declaration.Initializer.TheVariants as initializer
 use Rattle.life_tree.specs.declared.expr.Expr.{Expr}
 use Rattle.life_tree.specs.declared.expr.InitList.{InitList, out-InitList}
-use Rattle.life_tree.specs.declared.identifier.Identifier.{Identifier}
 use Rattle.life_tree.specs.declared.primary.PostfixPart.TheFolds.{fold_out-InitList}
 use Rattle.life_tree.specs.declared.stmt.PrintItem.{PrintItem}
 use Rattle.life_tree.specs.declared.stmt.PrintItem.TheVariants as print_item
 use Rattle.life_tree.specs.declared.stmt.PrintPart.{PrintPart}
 use Rattle.life_typed.specs.Operators.{is_condition}
-use Rattle.life_typed.specs.Statements.{range_element}
 use Rattle.life_typed.specs.TypedForm.{Typed}
-use Rattle.life_typed.specs.TypedStatement.{DeclarationForm, InitialForm, ItemForm, ListForm, line_end, one, printed, several}
-use Rattle.life_names.specs.Environment.{Scope, declared}
+use Rattle.life_typed.specs.TypedStatement.{InitialForm, ItemForm, ListForm, line_end, one, printed, several}
+use Rattle.life_names.specs.Environment.{Scope}
 use Rattle.life_names.specs.Found.{allowed}
 use Rattle.life_names.specs.declared.fault.IllKind.TheVariants as kinds
-use Rattle.life_typed.specs.BaseTypes.{type_at}
-use Rattle.life_names.specs.WrittenTypes.{written_local}
 use Rattle.life_type_expr.specs.Expressions.{PartMeaning, expr_meaning, init_list_meaning}
 use Rattle.life_type_expr.specs.Expressions.{part_step, primary_step, unary_step, additive_step, additive_part, multiplicative_step, multiplicative_part, equality_step, equality_part, relational_step, relational_part, and_part, arguments_step, expr_step, init_list_step, logical_and_step, or_part, postfix_step}
-use Rattle.life_type_expr.specs.Lists.{ListMeaning, Meaning, lower_kind}
-use Rattle.life_type_expr.specs.Operands.{is_constant, literal_allowed}
-use Rattle.life_type_stmt.specs.Autos.{auto_given, auto_local, auto_value, auto_written, lone_elements, lone_list}
+use Rattle.life_type_expr.specs.Lists.{ListMeaning, Meaning}
+use Rattle.life_type_expr.specs.Operands.{literal_allowed}
+use Rattle.life_type_stmt.specs.Autos.{auto_given, auto_value, lone_elements, lone_list}
 use Rattle.life_type_stmt.specs.Conditions.{condition, item, items, optional_condition, unless}
-use Rattle.life_type_stmt.specs.Declarations.{declaration_by, local_of, redeclared, variable_fault}
-use Rattle.life_type_stmt.specs.Given.{given_expr, given_first, given_list, given_value, value_fault}
-use Rattle.life_type_stmt.specs.Ranges.{RangeForm, RangeHead, element_place, element_type, elements_of, range_head, range_of}
+use Rattle.life_type_stmt.specs.Given.{given_expr, given_first, given_list, given_value}
+use Rattle.life_type_stmt.specs.Ranges.{RangeForm, elements_of}
+use Rattle.life_type_stmt.specs.Returns.{returned}
 use Rattle.life_well_typed.specs.AsParsed.{are_items_as_parsed, has_longs, has_longs_if_any, have_longs, is_first_as_parsed, is_initial_as_parsed}
 use Rattle.life_typing_laws.proofs.Each.{EachHolds}
 use Rattle.life_typing_laws.proofs.LongLists.{AreLong, passed_long}
 use Rattle.life_typing_laws.proofs.LongOperands.{GiveLong, GivesLong, IsLong}
 use Rattle.life_typing_laws.proofs.ReadTrees.{IsRead}
 use Rattle.life_typing_laws.proofs.Wholes.{additive_laws, expr_laws, init_list_laws}
-use Rattle.life_typing_laws.proofs.Yields.{Finds, Yields, finds_none, finds_ok, yields_behind, yields_given, yields_given_with, yields_ok, yields_then}
+use Rattle.life_typing_laws.proofs.Yields.{Finds, Yields, finds_none, finds_ok, yields_given, yields_ok, yields_then}
 
 -- ---- what is given
 
@@ -67,7 +61,7 @@ pub value_given : (target : Ty) (value : InitialValue) → IsRead (initial_tree 
 value_given target (initial_value.Expr e) read scope types = yields_then IsLong IsParsedInitial _ _ (expr_given target e.value read.1 scope types) (λ x l. yields_ok IsParsedInitial (one x.0) x.1 l)
 value_given target (initial_value.List l) read scope types = list_given target l read.1 scope types
 
-first_given : (target : Ty) (i : Option Initializer) → IsRead (initializer_tree i) → (scope : Scope) (types : Types) → Yields IsParsedFirst (given_first target i scope types)
+pub first_given : (target : Ty) (i : Option Initializer) → IsRead (initializer_tree i) → (scope : Scope) (types : Types) → Yields IsParsedFirst (given_first target i scope types)
 first_given target None read scope types = yields_ok IsParsedFirst None types refl
 first_given target (Some (initializer.Equals equals value)) read scope types =
     yields_then IsParsedInitial IsParsedFirst _ _ (value_given target value read.1.1 scope types) (λ x l. yields_ok IsParsedFirst (Some x.0) x.1 l)
@@ -97,27 +91,11 @@ auto_long : (value : InitialValue) → IsRead (initial_tree value) → (scope : 
 auto_long (initial_value.Expr e) read scope types = yields_then IsLong IsParsedInitial _ _ ((expr_laws e.value).long read.1 scope types) (λ x l. yields_ok IsParsedInitial (one x.0) x.1 l)
 auto_long (initial_value.List l) read scope types = lone_list_long l read.1 scope types
 
-auto_first : (i : Option Initializer) → IsRead (initializer_tree i) → (scope : Scope) (types : Types) → Yields IsParsedFirst (auto_given i scope types)
+pub auto_first : (i : Option Initializer) → IsRead (initializer_tree i) → (scope : Scope) (types : Types) → Yields IsParsedFirst (auto_given i scope types)
 auto_first None read scope types = yields_ok IsParsedFirst None types refl
 auto_first (Some (initializer.Equals equals value)) read scope types =
     yields_then IsParsedInitial IsParsedFirst _ _ (auto_long value read.1.1 scope types) (λ x l. yields_ok IsParsedFirst (Some x.0) x.1 l)
 auto_first (Some (initializer.List l)) read scope types = yields_then IsParsedInitial IsParsedFirst _ _ (lone_list_long l read.1 scope types) (λ x l. yields_ok IsParsedFirst (Some x.0) x.1 l)
-
--- ---- declarations
-
-abbrev pub IsParsedDeclaration : DeclarationForm × Scope → Type 0
-IsParsedDeclaration x = IsParsedFirst x.0.value
-
-pub declared_long : (t : DeclaredType) (name : Identifier) (i : Option Initializer) → IsRead (initializer_tree i) → (scope : Scope) (types : Types)
-    → Yields IsParsedDeclaration (declaration_by t name i scope types)
-declared_long (declared_type.Written t) name i read scope types =
-    yields_behind IsParsedDeclaration (written_local t name.place scope types) _ (λ w. yields_then IsParsedFirst IsParsedDeclaration _ _ (first_given _ i read scope w.1) (λ v l.
-    yields_given IsParsedDeclaration (allowed (lower_kind (redeclared scope name.id) (variable_fault v.1 (type_at w.1 w.0.ty) v.0)) name.place) _ (λ _.
-    yields_given IsParsedDeclaration (declared (local_of name w.0) scope) _ (λ n. yields_ok IsParsedDeclaration (record { local = n.0; name = name; value = v.0 }, n.1) v.1 l))))
-declared_long (declared_type.Auto a) name i read scope types =
-    yields_then IsParsedFirst IsParsedDeclaration _ _ (auto_first i read scope types) (λ v l.
-    yields_given IsParsedDeclaration (allowed (redeclared scope name.id) name.place) _ (λ _. yields_behind IsParsedDeclaration (auto_local a name.place v.0 scope v.1) _ (λ w.
-    yields_given IsParsedDeclaration (declared (local_of name w.0) scope) _ (λ n. yields_ok IsParsedDeclaration (record { local = n.0; name = name; value = v.0 }, n.1) w.1 l))))
 
 -- ---- what decides
 
@@ -132,6 +110,14 @@ IsLongIfAny e = has_longs_if_any e ≡ true
 pub optional_condition_long : (e : Option (Box Expr Global)) → IsRead (optional_tree (boxed expr_tree) e) → (scope : Scope) (types : Types) → Yields IsLongIfAny (optional_condition e scope types)
 optional_condition_long None read scope types = yields_ok IsLongIfAny None types refl
 optional_condition_long (Some e) read scope types = yields_then IsLong IsLongIfAny _ _ (condition_long e.value read scope types) (λ x l. yields_ok IsLongIfAny (Some x.0) x.1 l)
+
+-- ---- what is given back
+
+pub returned_long : (result : TyId) (keyword : Place) (value : Option (Box Expr Global)) → IsRead (optional_tree (boxed expr_tree) value) → (scope : Scope) (types : Types)
+    → Yields IsLongIfAny (returned result keyword value scope types)
+returned_long result keyword None read scope types = yields_given _ _ _ (λ _. yields_ok IsLongIfAny None types refl)
+returned_long result keyword (Some e) read scope types =
+    yields_then IsLong IsLongIfAny _ _ (expr_given _ e.value read scope types) (λ x l. yields_given _ _ _ (λ _. yields_ok IsLongIfAny (Some x.0) x.1 l))
 
 -- ---- what is printed
 
@@ -159,28 +145,9 @@ items_long (p ∷ ps) read scope types =
 
 -- ---- ranges
 
-abbrev IsLongRange : RangeForm → Type 0
+abbrev pub IsLongRange : RangeForm → Type 0
 IsLongRange r = IsLong r.range
 
-elements_long : (o : Option (TyId × Bool)) (colon : Place) (e : Typed) → IsLong e → Finds IsLongRange (elements_of o colon e)
+pub elements_long : (o : Option (TyId × Bool)) (colon : Place) (e : Typed) → IsLong e → Finds IsLongRange (elements_of o colon e)
 elements_long None colon e l = finds_none _ _
 elements_long (Some element) colon e l = finds_ok _ _ l
-
-range_long : (name : Identifier) (colon : Place) (e : Expr) → IsRead (expr_tree e) → (scope : Scope) (types : Types) → Yields IsLongRange (range_of name colon e scope types)
-range_long name colon e read scope types =
-    yields_then IsLong IsLongRange _ _ ((expr_laws e).long read scope types) (λ x l.
-    yields_given IsLongRange (literal_allowed false x.0) _ (λ _. yields_given IsLongRange (allowed (redeclared scope name.id) name.place) _ (λ _.
-    yields_given_with IsLongRange _ _ _ (elements_long (range_element x.0.ty (is_constant x.0.category)) colon x.0 l) (λ r m. yields_ok IsLongRange r x.1 m))))
-
-abbrev pub IsLongHead : RangeHead × Scope → Type 0
-IsLongHead h = IsLong h.0.range
-
-pub head_long : (t : DeclaredType) (name : Identifier) (colon : Place) (e : Expr) → IsRead (expr_tree e) → (scope : Scope) (types : Types) → Yields IsLongHead (range_head t name colon e scope types)
-head_long (declared_type.Written t) name colon e read scope types =
-    yields_behind IsLongHead (written_local t name.place scope types) _ (λ w. yields_then IsLongRange IsLongHead _ _ (range_long name colon e read scope w.1) (λ r l.
-    yields_given IsLongHead (allowed (value_fault kinds.WrongType r.1 (type_at w.1 w.0.ty) (element_type r.1 r.0.element) (element_place r.0.element)) name.place) _ (λ _.
-    yields_given IsLongHead (declared (local_of name w.0) scope) _ (λ n. yields_ok IsLongHead (record { local = n.0; range = r.0.range }, n.1) r.1 l))))
-head_long (declared_type.Auto a) name colon e read scope types =
-    yields_then IsLongRange IsLongHead _ _ (range_long name colon e read scope types) (λ r l.
-    yields_behind IsLongHead (auto_written a name.place (element_type r.1 r.0.element) (element_place r.0.element) scope r.1) _ (λ w.
-    yields_given IsLongHead (declared (local_of name w.0) scope) _ (λ n. yields_ok IsLongHead (record { local = n.0; range = r.0.range }, n.1) w.1 l)))

@@ -26,17 +26,18 @@ use Rattle.life_names.specs.declared.environment.Entity.TheVariants as entity
 use Rattle.life_names.specs.declared.fault.IllKind.TheVariants as kinds
 use Rattle.life_typing.specs.Functions.{PartsView, behind_header_as, body_kept, changed_at, declared, declared_first, header_with, sound_header, with_body, with_first, with_function, with_parameters_forgotten, without_body}
 use Rattle.life_typing.specs.Headers as headers
+use Rattle.life_typing.specs.Names.{is_main}
 use Rattle.life_typing.specs.Parameters.{declared_behind, is_seen, known_or_void, parameter_local, parameters_forgotten}
 use Rattle.life_typing.specs.Pieces.{pieces}
 use Rattle.life_typing.specs.Progress.{ProgressView, nothing_defined}
 use Rattle.life_typing.specs.Resolves.{bodies_of, finished, resolved, texts_of, with_definition, with_definitions}
 use Rattle.life_typing.specs.Structs.{added_unless_empty, found_structure, member_types, named_structure, types_of, unless, with_structure}
 use Rattle.life_well_typed.specs.Names.{is_function_named, is_local_named}
+use Rattle.life_typing_laws.proofs.Bodies.{body_said}
 use Rattle.life_typing_laws.proofs.Domains.{Piece}
 use Rattle.life_typing_laws.proofs.Each.{EachHolds}
 use Rattle.life_typing_laws.proofs.HeaderTypes.{by_seen}
 use Rattle.life_typing_laws.proofs.NamedLocals.{LocalsNamed, NamedBehind, local_named}
-use Rattle.life_typing_laws.proofs.NamedStatements.{body_named}
 use Rattle.life_typing_laws.proofs.NamedTrees.{IsNamedTree, tree_named}
 use Rattle.life_typing_laws.proofs.Yields.{Finds, finds_behind, finds_if, finds_none, finds_ok, finds_then}
 
@@ -127,7 +128,7 @@ module _ (names : ℕ) where
 
   behind_named : (b : FunctionBody) (f : Function) (number : ℕ) (returned : TyId) (p : ProgressView) → IsNamedTree names (body_tree b) → IsNamedSoFar p → Finds IsNamedSoFar (behind_header_as b f number returned p)
   behind_named (function_body.Block b) f number returned p named so_far =
-      finds_then (λ x. NamedBehind StmtForm names x.0) IsNamedSoFar _ _ (body_named names returned _ b named p.scope p.types so_far.1) (λ x kept.
+      finds_then (λ x. NamedBehind StmtForm names x.0) IsNamedSoFar _ _ (λ x gave. (body_said returned (is_main p.scope f.name.id) b p.scope p.types x gave).named names named so_far.1) (λ x kept.
       finds_ok IsNamedSoFar (body_kept f number p x.0.0 x.0.1 x.1) (with_body_named number f.name.place x.0.1.locals x.0.0 p.functions kept so_far.0, refl))
   behind_named (function_body.Declared place) f number returned p named so_far = finds_ok IsNamedSoFar (record p { scope = without_locals p.scope }) (so_far.0, refl)
 

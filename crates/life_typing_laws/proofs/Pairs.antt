@@ -20,6 +20,12 @@ both_same Holds {x = x} {x' = x'} {y = y} {y' = y'} e d h = subst (λ z. Holds x
 pub made_of : {O X A B : Type 0} (Holds : A → B → Type 0) (roll : O → X) (of : X → A) (tree : X → B) (o o' : O) {x : A} {y : B} → of (roll o) ≡ x → tree (roll o) ≡ y → Holds x y → o ≡ o' → Holds (of (roll o')) (tree (roll o'))
 made_of Holds roll of tree o o' made seen holds e = subst (λ z. Holds (of (roll z)) (tree (roll z))) e (both_same Holds (sym made) (sym seen) holds)
 
+-- .. of three
+pub made_of_three : {O X A B C : Type 0} (Holds : A → B → C → Type 0) (roll : O → X) (of : X → A) (tree : X → B) (end : X → C) (o o' : O) {x : A} {y : B} {z : C}
+    → of (roll o) ≡ x → tree (roll o) ≡ y → end (roll o) ≡ z → Holds x y z → o ≡ o' → Holds (of (roll o')) (tree (roll o')) (end (roll o'))
+made_of_three Holds roll of tree end o o' {z = z} made seen ended holds e =
+    subst (λ u. Holds (of (roll u)) (tree (roll u)) (end (roll u))) e (subst (λ c. Holds (of (roll o)) (tree (roll o)) c) (sym ended) (both_same (λ a b. Holds a b z) (sym made) (sym seen) holds))
+
 -- .. or it holds of the first of each alone
 pub each_first : {A B : Type 0} (R : A → B → Type 0) (P : A → Type 0) → ((x : A) (y : B) → R x y → P x) → (xs : List A) (ys : List B) → Pairwise R xs ys → EachHolds P xs
 each_first R P one [] [] pairs = tt
