@@ -12,7 +12,6 @@ use Rattle.life_names.specs.Environment.{Scope, forgotten}
 use Rattle.life_type_stmt.specs.Declarations.{declaration}
 use Rattle.life_type_stmt.specs.Ranges.{RangeHead, range_head}
 use Rattle.life_type_stmt.specs.Statements.{ItemPart, Part, in_loop, item_step, range_for_step}
-use Rattle.life_well_typed.specs.Statements.{is_one}
 use Rattle.life_typing_laws.proofs.Domains.{Around}
 use Rattle.life_typing_laws.proofs.Declarations.{IsNew, declaration_new}
 use Rattle.life_typing_laws.specs.Served.{is_served_statement}
@@ -28,20 +27,12 @@ abbrev pub behind_head : open_stmt.RangeFor-F ItemPart Part Part Part Part Part 
 behind_head f around x = f.body.value (in_loop around) x.0.1 x.1 >>= ranged f x.0.0
 
 pub range_good : (f : open_stmt.RangeFor-F ItemPart Part Part Part Part Part Part Part Part Part) → GoodPart (range_for_step f)
-range_good f = record {
-  gives = λ around v scope types x h served sound there.
-      let same = loop around scope types x h in
-      not_both (is_served_statement x.0.0) served same.0;
-  alone = λ around scope types x h. (loop around scope types x h).1;
-}
-  where
-    loop : (around : Around) (scope : Scope) (types : Types) (x : (StmtForm × Scope) × Types) → range_for_step f around scope types ≡ Ok x → (is_served_statement x.0.0 ≡ false) × (is_one x.0.0 ≡ true)
-    loop around scope types x h =
-        let first = bound (range_head f.ty f.name f.colon f.range.value scope types) (behind_head f around) x h in
-        let second = bound (f.body.value (in_loop around) first.value.0.1 first.value.1) (ranged f first.value.0.0) x first.behind in
-        let form : StmtForm = typed.range_loop f.keyword first.value.0.0.local f.name f.colon first.value.0.0.range f.closing second.value.0.0 in
-        let same = same_value {A = StmtForm × Scope} ((form, forgotten (f.name.id ∷ []) second.value.0.1), second.value.1) x second.behind in
-        (subst (λ (y : (StmtForm × Scope) × Types). is_served_statement y.0.0 ≡ false) same refl, subst (λ (y : (StmtForm × Scope) × Types). is_one y.0.0 ≡ true) same refl)
+range_good f around v scope types x h served sound there =
+    let first = bound (range_head f.ty f.name f.colon f.range.value scope types) (behind_head f around) x h in
+    let second = bound (f.body.value (in_loop around) first.value.0.1 first.value.1) (ranged f first.value.0.0) x first.behind in
+    let form : StmtForm = typed.range_loop f.keyword first.value.0.0.local f.name f.colon first.value.0.0.range f.closing second.value.0.0 in
+    let same = same_value {A = StmtForm × Scope} ((form, forgotten (f.name.id ∷ []) second.value.0.1), second.value.1) x second.behind in
+    not_both (is_served_statement x.0.0) served (subst (λ (y : (StmtForm × Scope) × Types). is_served_statement y.0.0 ≡ false) same refl)
 
 -- ---- parts of a block
 

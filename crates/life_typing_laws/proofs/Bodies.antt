@@ -50,7 +50,7 @@ body_said result is_main b scope types x h = (block_laws b).says (around_body re
 pub body_part : (result : TyId) (is_main : Bool) (b : Block) (v : Visible) (scope : Scope) (types : Types) (x : (StmtForm × Scope) × Types) → body result is_main b scope types ≡ Ok x
     → is_served_statement x.0.0 ≡ true → IsSound v scope types → HasType types result → IsPart [] (around_body result) v scope types x
 body_part result is_main b v scope types x h served sound there =
-    (block_laws b).good.good.gives (around_body result) v scope types x (body_reads result is_main b scope types x h) served sound there
+    (block_laws b).good.good (around_body result) v scope types x (body_reads result is_main b scope types x h) served sound there
 
 pub body_block : (result : TyId) (is_main : Bool) (b : Block) (scope : Scope) (types : Types) (x : (StmtForm × Scope) × Types) → body result is_main b scope types ≡ Ok x → is_block x.0.0 ≡ true
 body_block result is_main b scope types x h = (block_laws b).good.block (around_body result) scope types x (body_reads result is_main b scope types x h)

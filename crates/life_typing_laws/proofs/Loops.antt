@@ -31,7 +31,7 @@ use Rattle.life_type_stmt.specs.Returns.{is_void, moves_out, named_local, result
 use Rattle.life_type_stmt.specs.Simples.{named_in, optional_simple, simple_statement}
 use Rattle.life_type_stmt.specs.Statements.{Part, for_start_part, in_loop, in_loop_only, in_turn, optional_part, start_names}
 use Rattle.life_well_typed.specs.Given.{is_given}
-use Rattle.life_well_typed.specs.Statements.{IsReturned, IsStart, IsStatement, is_one}
+use Rattle.life_well_typed.specs.Statements.{IsReturned, IsStart, IsStatement}
 use Rattle.life_well_typed.specs.Visible.{Visible, after, after_start}
 use Rattle.life_typing_laws.proofs.Domains.{Around}
 use Rattle.life_typing_laws.proofs.Declarations.{IsNew, declaration_new}
@@ -43,15 +43,11 @@ use Rattle.life_typing_laws.proofs.Scopes.{Moves, final_before, final_remembered
 use Rattle.life_typing_laws.specs.Sound.{Grows, IsFinal, IsSound}
 use Rattle.life_typing_laws.specs.Served.{is_served_form, is_served_if_any, is_served_start, is_served_statement, is_served_step}
 use Rattle.life_typing_laws.proofs.Simples.{optional_simple_is, simple_is}
-use Rattle.life_typing_laws.proofs.Statements.{GoodPart, Gives, IsPart, condition_is, items_are, optional_condition_is, served_still, still}
+use Rattle.life_typing_laws.proofs.Statements.{Alone, GoodPart, IsPart, condition_is, items_are, optional_condition_is, served_still, still}
 use Rattle.life_typing_laws.proofs.Steps.{allowed_ok, bound, given_ok, same_value}
 use Rattle.life_typing_laws.proofs.Turns.{BranchesAre, GoodBranch, IsBranch, branches_are}
 use Rattle.life_typing_laws.proofs.Values.{given_expr_reads, unless_none}
 use Rattle.life_typing_laws.proofs.Wholes.{expr_laws}
-
--- a statement is one, as it is given
-one_as : (s : StmtForm) (scope : Scope) (types : Types) (x : (StmtForm × Scope) × Types) → ◌≡◌ {A = Checked (StmtForm × Scope)} (Ok ((s, scope), types)) (Ok x) → is_one s ≡ true → is_one x.0.0 ≡ true
-one_as s scope types x h one = subst (λ (y : (StmtForm × Scope) × Types). is_one y.0.0 ≡ true) (same_value {A = StmtForm × Scope} ((s, scope), types) x h) one
 
 served_as : (s : StmtForm) (scope : Scope) (types : Types) (x : (StmtForm × Scope) × Types) → ◌≡◌ {A = Checked (StmtForm × Scope)} (Ok ((s, scope), types)) (Ok x) → is_served_statement x.0.0 ≡ true
     → is_served_statement s ≡ true
@@ -60,52 +56,34 @@ served_as s scope types x h served = subst (λ (y : (StmtForm × Scope) × Types
 -- ---- statements without statements in them
 
 pub empty_good : (place : Place) → GoodPart (λ around scope types. Ok ((typed.empty place, scope), types))
-empty_good place = record {
-  gives = λ around v scope types x h served sound there. still around v scope types x sound (typed.empty place) types h refl refl (λ p locals final. tt);
-  alone = λ around scope types x h. one_as (typed.empty place) scope types x h refl;
-}
+empty_good place around v scope types x h served sound there = still around v scope types x sound (typed.empty place) types h refl refl (λ p locals final. tt)
 
 abbrev pub sentence_part : Simple → Place → Part
 sentence_part s semicolon around scope types = simple_statement s scope types >>= (λ x. Ok ((typed.sentence x.0 semicolon, scope), x.1))
 
 pub sentence_good : (s : Simple) (semicolon : Place) → GoodPart (sentence_part s semicolon)
-sentence_good s semicolon = record {
-  gives = λ around v scope types x h served sound there.
-      let step = bound {B = StmtForm × Scope} (simple_statement s scope types) (λ (y : SimpleForm × Types). Ok ((typed.sentence y.0 semicolon, scope), y.1)) x h in
-      let done = simple_is s scope types step.value step.gave (served_still (typed.sentence step.value.0 semicolon) scope step.value.1 x step.behind served) in
-      still around v scope types x sound (typed.sentence step.value.0 semicolon) step.value.1 step.behind done.same refl (λ p locals final. done.is p locals around.result v sound final);
-  alone = λ around scope types x h.
-      let step = bound {B = StmtForm × Scope} (simple_statement s scope types) (λ (y : SimpleForm × Types). Ok ((typed.sentence y.0 semicolon, scope), y.1)) x h in
-      one_as (typed.sentence step.value.0 semicolon) scope step.value.1 x step.behind refl;
-}
+sentence_good s semicolon around v scope types x h served sound there =
+    let step = bound {B = StmtForm × Scope} (simple_statement s scope types) (λ (y : SimpleForm × Types). Ok ((typed.sentence y.0 semicolon, scope), y.1)) x h in
+    let done = simple_is s scope types step.value step.gave (served_still (typed.sentence step.value.0 semicolon) scope step.value.1 x step.behind served) in
+    still around v scope types x sound (typed.sentence step.value.0 semicolon) step.value.1 step.behind done.same refl (λ p locals final. done.is p locals around.result v sound final)
 
 abbrev pub print_part : List PrintPart → Place → Part
 print_part ps semicolon around scope types = items ps scope types >>= (λ x. Ok ((typed.print x.0 semicolon, scope), x.1))
 
 pub print_good : (ps : List PrintPart) (semicolon : Place) → GoodPart (print_part ps semicolon)
-print_good ps semicolon = record {
-  gives = λ around v scope types x h served sound there.
-      let step = bound {B = StmtForm × Scope} (items ps scope types) (λ (y : List ItemForm × Types). Ok ((typed.print y.0 semicolon, scope), y.1)) x h in
-      let printed = items_are ps scope types step.value step.gave (served_still (typed.print step.value.0 semicolon) scope step.value.1 x step.behind served) in
-      still around v scope types x sound (typed.print step.value.0 semicolon) step.value.1 step.behind printed.same refl (λ p locals final. printed.are p locals around.result v sound final);
-  alone = λ around scope types x h.
-      let step = bound {B = StmtForm × Scope} (items ps scope types) (λ (y : List ItemForm × Types). Ok ((typed.print y.0 semicolon, scope), y.1)) x h in
-      one_as (typed.print step.value.0 semicolon) scope step.value.1 x step.behind refl;
-}
+print_good ps semicolon around v scope types x h served sound there =
+    let step = bound {B = StmtForm × Scope} (items ps scope types) (λ (y : List ItemForm × Types). Ok ((typed.print y.0 semicolon, scope), y.1)) x h in
+    let printed = items_are ps scope types step.value step.gave (served_still (typed.print step.value.0 semicolon) scope step.value.1 x step.behind served) in
+    still around v scope types x sound (typed.print step.value.0 semicolon) step.value.1 step.behind printed.same refl (λ p locals final. printed.are p locals around.result v sound final)
 
 abbrev pub assert_part : Place → Expr → Place → Place → Part
 assert_part keyword decides closing semicolon around scope types = condition decides scope types >>= (λ x. Ok ((typed.assertion keyword x.0 closing semicolon, scope), x.1))
 
 pub assert_good : (keyword : Place) (decides : Expr) (closing semicolon : Place) → GoodPart (assert_part keyword decides closing semicolon)
-assert_good keyword decides closing semicolon = record {
-  gives = λ around v scope types x h served sound there.
-      let step = bound {B = StmtForm × Scope} (condition decides scope types) (λ (y : Typed × Types). Ok ((typed.assertion keyword y.0 closing semicolon, scope), y.1)) x h in
-      let decided = condition_is decides scope types step.value step.gave (served_still (typed.assertion keyword step.value.0 closing semicolon) scope step.value.1 x step.behind served) in
-      still around v scope types x sound (typed.assertion keyword step.value.0 closing semicolon) step.value.1 step.behind decided.same refl (λ p locals final. decided.is p locals around.result v sound final);
-  alone = λ around scope types x h.
-      let step = bound {B = StmtForm × Scope} (condition decides scope types) (λ (y : Typed × Types). Ok ((typed.assertion keyword y.0 closing semicolon, scope), y.1)) x h in
-      one_as (typed.assertion keyword step.value.0 closing semicolon) scope step.value.1 x step.behind refl;
-}
+assert_good keyword decides closing semicolon around v scope types x h served sound there =
+    let step = bound {B = StmtForm × Scope} (condition decides scope types) (λ (y : Typed × Types). Ok ((typed.assertion keyword y.0 closing semicolon, scope), y.1)) x h in
+    let decided = condition_is decides scope types step.value step.gave (served_still (typed.assertion keyword step.value.0 closing semicolon) scope step.value.1 x step.behind served) in
+    still around v scope types x sound (typed.assertion keyword step.value.0 closing semicolon) step.value.1 step.behind decided.same refl (λ p locals final. decided.is p locals around.result v sound final)
 
 -- `break` and `continue`, which stand in a loop
 abbrev pub jump_part : StmtForm → Place → Part
@@ -119,24 +97,18 @@ jumped : (s t : StmtForm) (scope : Scope) (types : Types) (x : (StmtForm × Scop
     → ◌≡◌ {A = Checked (StmtForm × Scope)} (Ok ((s, scope), types)) (Ok x)
 jumped s t scope types x same h = subst (λ (u : StmtForm). ◌≡◌ {A = Checked (StmtForm × Scope)} (Ok ((u, scope), types)) (Ok x)) (sym same) h
 
-jump_good : (s : StmtForm) (keyword : Place) → is_one s ≡ true → ((v : Visible) → after s v ≡ v)
+jump_good : (s : StmtForm) (keyword : Place) → ((v : Visible) → after s v ≡ v)
     → ((p : ProgramForm) (locals : List TypedLocal) (result : TyId) (v : Visible) (looping : Bool) → looping ≡ true → IsStatement p locals result s looping v) → GoodPart (jump_part s keyword)
-jump_good s keyword one behind_it is = record {
-  gives = λ around v scope types x h served sound there.
-      let step = given_ok {B = StmtForm × Scope} (in_loop_only around.in_loop s keyword) (λ (t : StmtForm). Ok ((t, scope), types)) x h in
-      let only = loop_only around.in_loop s keyword step.value step.gave in
-      still around v scope types x sound s types (jumped s step.value scope types x only.1 step.behind) refl (behind_it v) (λ p locals final. is p locals around.result v around.in_loop only.0);
-  alone = λ around scope types x h.
-      let step = given_ok {B = StmtForm × Scope} (in_loop_only around.in_loop s keyword) (λ (t : StmtForm). Ok ((t, scope), types)) x h in
-      let only = loop_only around.in_loop s keyword step.value step.gave in
-      one_as s scope types x (jumped s step.value scope types x only.1 step.behind) one;
-}
+jump_good s keyword behind_it is around v scope types x h served sound there =
+    let step = given_ok {B = StmtForm × Scope} (in_loop_only around.in_loop s keyword) (λ (t : StmtForm). Ok ((t, scope), types)) x h in
+    let only = loop_only around.in_loop s keyword step.value step.gave in
+    still around v scope types x sound s types (jumped s step.value scope types x only.1 step.behind) refl (behind_it v) (λ p locals final. is p locals around.result v around.in_loop only.0)
 
 pub break_good : (keyword semicolon : Place) → GoodPart (jump_part (typed.loop_break keyword semicolon) keyword)
-break_good keyword semicolon = jump_good (typed.loop_break keyword semicolon) keyword refl (λ v. refl) (λ p locals result v looping inside. inside)
+break_good keyword semicolon = jump_good (typed.loop_break keyword semicolon) keyword (λ v. refl) (λ p locals result v looping inside. inside)
 
 pub continue_good : (keyword semicolon : Place) → GoodPart (jump_part (typed.loop_continue keyword semicolon) keyword)
-continue_good keyword semicolon = jump_good (typed.loop_continue keyword semicolon) keyword refl (λ v. refl) (λ p locals result v looping inside. inside)
+continue_good keyword semicolon = jump_good (typed.loop_continue keyword semicolon) keyword (λ v. refl) (λ p locals result v looping inside. inside)
 
 -- ---- returns
 
@@ -201,15 +173,10 @@ abbrev pub return_part : Place → Option (Box Expr Global) → Place → Part
 return_part keyword value semicolon around scope types = returned around.result keyword value scope types >>= (λ x. Ok ((typed.returned keyword x.0 semicolon, scope), x.1))
 
 pub return_good : (keyword : Place) (value : Option (Box Expr Global)) (semicolon : Place) → GoodPart (return_part keyword value semicolon)
-return_good keyword value semicolon = record {
-  gives = λ around v scope types x h served sound there.
-      let step = bound {B = StmtForm × Scope} (returned around.result keyword value scope types) (λ (y : Option Typed × Types). Ok ((typed.returned keyword y.0 semicolon, scope), y.1)) x h in
-      let back = returned_is around.result keyword value scope types step.value step.gave (served_still (typed.returned keyword step.value.0 semicolon) scope step.value.1 x step.behind served) in
-      still around v scope types x sound (typed.returned keyword step.value.0 semicolon) step.value.1 step.behind back.same refl (λ p locals final. back.is p locals v sound final there);
-  alone = λ around scope types x h.
-      let step = bound {B = StmtForm × Scope} (returned around.result keyword value scope types) (λ (y : Option Typed × Types). Ok ((typed.returned keyword y.0 semicolon, scope), y.1)) x h in
-      one_as (typed.returned keyword step.value.0 semicolon) scope step.value.1 x step.behind refl;
-}
+return_good keyword value semicolon around v scope types x h served sound there =
+    let step = bound {B = StmtForm × Scope} (returned around.result keyword value scope types) (λ (y : Option Typed × Types). Ok ((typed.returned keyword y.0 semicolon, scope), y.1)) x h in
+    let back = returned_is around.result keyword value scope types step.value step.gave (served_still (typed.returned keyword step.value.0 semicolon) scope step.value.1 x step.behind served) in
+    still around v scope types x sound (typed.returned keyword step.value.0 semicolon) step.value.1 step.behind back.same refl (λ p locals final. back.is p locals v sound final there)
 
 -- ---- `while`
 
@@ -222,35 +189,26 @@ behind_decided keyword closing body around scope x = body (in_loop around) scope
 abbrev pub while_part : Place → Expr → Place → Part → Part
 while_part keyword decides closing body around scope types = condition decides scope types >>= behind_decided keyword closing body around scope
 
-pub while_good : (keyword : Place) (decides : Expr) (closing : Place) (body : Part) → GoodPart body → GoodPart (while_part keyword decides closing body)
-while_good keyword decides closing body good = record { gives = gives; alone = alone }
-  where
-    gives : Gives [] (while_part keyword decides closing body)
-    gives around v scope types x h served sound there =
-        let first = bound (condition decides scope types) (behind_decided keyword closing body around scope) x h in
-        let second = bound (body (in_loop around) scope first.value.1) (looped keyword first.value.0 closing) x first.behind in
-        let same = same_value {A = StmtForm × Scope} ((typed.while_loop keyword first.value.0 closing second.value.0.0, second.value.0.1), second.value.1) x second.behind in
-        let parts = and_parts (is_served_form first.value.0.form) (is_served_statement second.value.0.0)
-        (served_as (typed.while_loop keyword first.value.0 closing second.value.0.0) second.value.0.1 second.value.1 x second.behind served) in
-        let decided = condition_is decides scope types first.value first.gave parts.0 in
-        let gave : body (in_loop around) scope types ≡ Ok second.value = subst (λ (s : Types). body (in_loop around) scope s ≡ Ok second.value) decided.same second.gave in
-        let inner : IsPart [] (in_loop around) v scope types second.value = good.gives (in_loop around) v scope types second.value gave parts.1 sound there in
-        let before : IsSound v scope types = sound in
-        subst (IsPart [] around v scope types) same (record {
-          moves = inner.moves;
-          sound = sound_behind v (after second.value.0.0 v) scope second.value.0.1 types second.value.1 sound inner.moves inner.sound.declared;
-          is = λ p locals final. (
-            decided.is p locals around.result v before (final_before p locals [] scope second.value.0.1 types second.value.1 inner.moves final),
-            good.alone (in_loop around) scope types second.value gave,
-            inner.is p locals final,
-          );
-        })
-
-    alone : (around : Around) (scope : Scope) (types : Types) (x : (StmtForm × Scope) × Types) → while_part keyword decides closing body around scope types ≡ Ok x → is_one x.0.0 ≡ true
-    alone around scope types x h =
-        let first = bound (condition decides scope types) (behind_decided keyword closing body around scope) x h in
-        let second = bound (body (in_loop around) scope first.value.1) (looped keyword first.value.0 closing) x first.behind in
-        one_as (typed.while_loop keyword first.value.0 closing second.value.0.0) second.value.0.1 second.value.1 x second.behind refl
+pub while_good : (keyword : Place) (decides : Expr) (closing : Place) (body : Part) → GoodPart body → Alone body → GoodPart (while_part keyword decides closing body)
+while_good keyword decides closing body good one around v scope types x h served sound there =
+    let first = bound (condition decides scope types) (behind_decided keyword closing body around scope) x h in
+    let second = bound (body (in_loop around) scope first.value.1) (looped keyword first.value.0 closing) x first.behind in
+    let same = same_value {A = StmtForm × Scope} ((typed.while_loop keyword first.value.0 closing second.value.0.0, second.value.0.1), second.value.1) x second.behind in
+    let parts = and_parts (is_served_form first.value.0.form) (is_served_statement second.value.0.0)
+    (served_as (typed.while_loop keyword first.value.0 closing second.value.0.0) second.value.0.1 second.value.1 x second.behind served) in
+    let decided = condition_is decides scope types first.value first.gave parts.0 in
+    let gave : body (in_loop around) scope types ≡ Ok second.value = subst (λ (s : Types). body (in_loop around) scope s ≡ Ok second.value) decided.same second.gave in
+    let inner : IsPart [] (in_loop around) v scope types second.value = good (in_loop around) v scope types second.value gave parts.1 sound there in
+    let before : IsSound v scope types = sound in
+    subst (IsPart [] around v scope types) same (record {
+      moves = inner.moves;
+      sound = sound_behind v (after second.value.0.0 v) scope second.value.0.1 types second.value.1 sound inner.moves inner.sound.declared;
+      is = λ p locals final. (
+        decided.is p locals around.result v before (final_before p locals [] scope second.value.0.1 types second.value.1 inner.moves final),
+        one (in_loop around) scope types second.value gave,
+        inner.is p locals final,
+      );
+    })
 
 -- ---- a branch
 
@@ -263,8 +221,8 @@ behind_condition keyword closing body around scope x = body around scope x.1 >>=
 abbrev pub branch_of : Place → Expr → Place → Part → Part
 branch_of keyword decides closing body around scope types = condition decides scope types >>= behind_condition keyword closing body around scope
 
-pub branch_good : (keyword : Place) (decides : Expr) (closing : Place) (body : Part) → GoodPart body → GoodBranch (branch_of keyword decides closing body)
-branch_good keyword decides closing body good around v scope types x h served sound there =
+pub branch_good : (keyword : Place) (decides : Expr) (closing : Place) (body : Part) → GoodPart body → Alone body → GoodBranch (branch_of keyword decides closing body)
+branch_good keyword decides closing body good one around v scope types x h served sound there =
     let first = bound (condition decides scope types) (behind_condition keyword closing body around scope) x h in
     let second = bound (body around scope first.value.1) (branched keyword first.value.0 closing) x first.behind in
     let same = same_value {A = StmtForm × Scope} ((typed.branch keyword first.value.0 closing second.value.0.0, second.value.0.1), second.value.1) x second.behind in
@@ -272,14 +230,14 @@ branch_good keyword decides closing body good around v scope types x h served so
     (served_as (typed.branch keyword first.value.0 closing second.value.0.0) second.value.0.1 second.value.1 x second.behind served) in
     let decided = condition_is decides scope types first.value first.gave parts.0 in
     let gave : body around scope types ≡ Ok second.value = subst (λ (s : Types). body around scope s ≡ Ok second.value) decided.same second.gave in
-    let inner : IsPart [] around v scope types second.value = good.gives around v scope types second.value gave parts.1 sound there in
+    let inner : IsPart [] around v scope types second.value = good around v scope types second.value gave parts.1 sound there in
     let before : IsSound v scope types = sound in
     subst (IsBranch around v scope types) same (record {
       moves = inner.moves;
       sound = sound_behind v (after second.value.0.0 v) scope second.value.0.1 types second.value.1 sound inner.moves inner.sound.declared;
       is = λ p locals final others are. (
         decided.is p locals around.result v before (final_before p locals [] scope second.value.0.1 types second.value.1 inner.moves final),
-        good.alone around scope types second.value gave,
+        one around scope types second.value gave,
         inner.is p locals final,
         are,
       );
@@ -287,19 +245,8 @@ branch_good keyword decides closing body good around v scope types x h served so
 
 -- ---- `if`
 
-none_good : GoodPart (optional_part None)
-none_good = record {
-  gives = λ around v scope types x h served sound there. still around v scope types x sound no_more types h refl refl (λ p locals final. tt);
-  alone = λ around scope types x h. one_as no_more scope types x h refl;
-}
-
-abbrev pub last_good_of : Option Part → Type 0
-last_good_of None = Unit {0}
-last_good_of (Some part) = GoodPart part
-
-last_good : (last : Option Part) → last_good_of last → GoodPart (optional_part last)
-last_good None held = none_good
-last_good (Some part) held = held
+pub none_good : GoodPart (optional_part None)
+none_good around v scope types x h served sound there = still around v scope types x sound no_more types h refl refl (λ p locals final. tt)
 
 abbrev pub with_last : List StmtForm → (StmtForm × Scope) × Types → Checked (StmtForm × Scope)
 with_last branches y = Ok ((typed.branching (stmt_forms branches) y.0.0, y.0.1), y.1)
@@ -310,35 +257,26 @@ behind_branches last around x = optional_part last around x.0.1 x.1 >>= with_las
 abbrev pub if_of : List Part → Option Part → Part
 if_of branches last around scope types = in_turn branches around scope types >>= behind_branches last around
 
-pub if_good : (branches : List Part) (last : Option Part) → EachHolds GoodBranch branches → last_good_of last → GoodPart (if_of branches last)
-if_good branches last good held = record { gives = gives; alone = alone }
-  where
-    gives : Gives [] (if_of branches last)
-    gives around v scope types x h served sound there =
-        let first = bound (in_turn branches around scope types) (behind_branches last around) x h in
-        let second = bound (optional_part last around first.value.0.1 first.value.1) (with_last first.value.0.0) x first.behind in
-        let same = same_value {A = StmtForm × Scope} ((typed.branching (stmt_forms first.value.0.0) second.value.0.0, second.value.0.1), second.value.1) x second.behind in
-        let parts = and_parts (is_served_statement (stmt_forms first.value.0.0)) (is_served_statement second.value.0.0)
-        (served_as (typed.branching (stmt_forms first.value.0.0) second.value.0.0) second.value.0.1 second.value.1 x second.behind served) in
-        let all : BranchesAre around v scope types first.value = branches_are branches around v scope types first.value good first.gave parts.0 sound there in
-        let middle : Visible = after (stmt_forms first.value.0.0) v in
-        let ending : IsPart [] around middle first.value.0.1 first.value.1 second.value =
-        (last_good last held).gives around middle first.value.0.1 first.value.1 second.value second.gave parts.1 all.sound (stays_there types first.value.1 around.result all.moves.types there) in
-        subst (IsPart [] around v scope types) same (record {
-          moves = moves_on [] [] scope first.value.0.1 second.value.0.1 types first.value.1 second.value.1 all.moves ending.moves;
-          sound = ending.sound;
-          is = λ p locals final. (
-            all.are p locals (final_before p locals [] first.value.0.1 second.value.0.1 first.value.1 second.value.1 ending.moves final),
-            (last_good last held).alone around first.value.0.1 first.value.1 second.value second.gave,
-            ending.is p locals final,
-          );
-        })
-
-    alone : (around : Around) (scope : Scope) (types : Types) (x : (StmtForm × Scope) × Types) → if_of branches last around scope types ≡ Ok x → is_one x.0.0 ≡ true
-    alone around scope types x h =
-        let first = bound (in_turn branches around scope types) (behind_branches last around) x h in
-        let second = bound (optional_part last around first.value.0.1 first.value.1) (with_last first.value.0.0) x first.behind in
-        one_as (typed.branching (stmt_forms first.value.0.0) second.value.0.0) second.value.0.1 second.value.1 x second.behind refl
+pub if_good : (branches : List Part) (last : Option Part) → EachHolds GoodBranch branches → GoodPart (optional_part last) → Alone (optional_part last) → GoodPart (if_of branches last)
+if_good branches last good held one around v scope types x h served sound there =
+    let first = bound (in_turn branches around scope types) (behind_branches last around) x h in
+    let second = bound (optional_part last around first.value.0.1 first.value.1) (with_last first.value.0.0) x first.behind in
+    let same = same_value {A = StmtForm × Scope} ((typed.branching (stmt_forms first.value.0.0) second.value.0.0, second.value.0.1), second.value.1) x second.behind in
+    let parts = and_parts (is_served_statement (stmt_forms first.value.0.0)) (is_served_statement second.value.0.0)
+    (served_as (typed.branching (stmt_forms first.value.0.0) second.value.0.0) second.value.0.1 second.value.1 x second.behind served) in
+    let all : BranchesAre around v scope types first.value = branches_are branches around v scope types first.value good first.gave parts.0 sound there in
+    let middle : Visible = after (stmt_forms first.value.0.0) v in
+    let ending : IsPart [] around middle first.value.0.1 first.value.1 second.value =
+    held around middle first.value.0.1 first.value.1 second.value second.gave parts.1 all.sound (stays_there types first.value.1 around.result all.moves.types there) in
+    subst (IsPart [] around v scope types) same (record {
+      moves = moves_on [] [] scope first.value.0.1 second.value.0.1 types first.value.1 second.value.1 all.moves ending.moves;
+      sound = ending.sound;
+      is = λ p locals final. (
+        all.are p locals (final_before p locals [] first.value.0.1 second.value.0.1 first.value.1 second.value.1 ending.moves final),
+        one around first.value.0.1 first.value.1 second.value second.gave,
+        ending.is p locals final,
+      );
+    })
 
 -- ---- `for`
 
@@ -384,51 +322,40 @@ module _ (keyword first_semicolon second_semicolon closing : Place) (start : Opt
   abbrev pub for_of : Part
   for_of around scope types = for_start_part start scope types >>= behind_start around
 
-  pub for_good : GoodPart body → GoodPart for_of
-  for_good good = record { gives = gives; alone = alone }
-    where
-      gives : Gives [] for_of
-      gives around v scope types x h served sound there =
-          let a = bound (for_start_part start scope types) (behind_start around) x h in
-          let b = bound (optional_condition decides a.value.0.1 a.value.1) (behind_test around a.value.0) x a.behind in
-          let c = bound (optional_simple stepping a.value.0.1 b.value.1) (behind_step around a.value.0 b.value.0) x b.behind in
-          let d = bound (body (in_loop around) a.value.0.1 c.value.1) (whole_for a.value.0.0 b.value.0 c.value.0) x c.behind in
-          let form : StmtForm = typed.for_loop keyword a.value.0.0 first_semicolon b.value.0 second_semicolon c.value.0 closing d.value.0.0 in
-          let out : Scope = forgotten (start_names start) d.value.0.1 in
-          let same = same_value {A = StmtForm × Scope} ((form, out), d.value.1) x d.behind in
-          let s1 = and_parts (is_served_start a.value.0.0) (is_served_if_any b.value.0 && (is_served_step c.value.0 && is_served_statement d.value.0.0)) (served_as form out d.value.1 x d.behind served) in
-          let s2 = and_parts (is_served_if_any b.value.0) (is_served_step c.value.0 && is_served_statement d.value.0.0) s1.1 in
-          let s3 = and_parts (is_served_step c.value.0) (is_served_statement d.value.0.0) s2.1 in
-          let started : IsStarted (start_names start) v scope types a.value = start_is start v scope types a.value a.gave s1.0 sound in
-          let w : Visible = after_start a.value.0.0 v in
-          let decided = optional_condition_is decides a.value.0.1 a.value.1 b.value b.gave s2.0 in
-          let c_gave : optional_simple stepping a.value.0.1 a.value.1 ≡ Ok c.value = subst (λ (t : Types). optional_simple stepping a.value.0.1 t ≡ Ok c.value) decided.same c.gave in
-          let stepped = optional_simple_is stepping a.value.0.1 a.value.1 c.value c_gave s3.0 in
-          let d_gave : body (in_loop around) a.value.0.1 a.value.1 ≡ Ok d.value = subst (λ (t : Types). body (in_loop around) a.value.0.1 t ≡ Ok d.value) stepped.same d.gave in
-          let inner : IsPart [] (in_loop around) w a.value.0.1 a.value.1 d.value =
-          good.gives (in_loop around) w a.value.0.1 a.value.1 d.value d_gave s3.1 started.sound (stays_there types a.value.1 around.result started.moves.types there) in
-          let moved : Moves (start_names start) scope d.value.0.1 types d.value.1 =
-          subst (λ (ns : List NameId). Moves ns scope d.value.0.1 types d.value.1) (append_none (start_names start))
-          (moves_on (start_names start) [] scope a.value.0.1 d.value.0.1 types a.value.1 d.value.1 started.moves inner.moves) in
-          let left : Moves [] scope out types d.value.1 = moves_behind (start_names start) scope d.value.0.1 types d.value.1 moved in
-          subst (IsPart [] around v scope types) same (record {
-            moves = left;
-            sound = sound_behind v (after d.value.0.0 w) scope out types d.value.1 sound left (ap length (forgotten_locals (start_names start) d.value.0.1) ∙ inner.sound.declared);
-            is = λ p locals final.
-                let last : IsFinal p locals d.value.0.1 d.value.1 = final_remembered p locals (start_names start) d.value.0.1 d.value.1 final in
-                let middle : IsFinal p locals a.value.0.1 a.value.1 = final_before p locals [] a.value.0.1 d.value.0.1 a.value.1 d.value.1 inner.moves last in (
-                  started.is p locals around.result middle,
-                  decided.is p locals around.result w started.sound middle,
-                  stepped.is p locals around.result w started.sound middle,
-                  good.alone (in_loop around) a.value.0.1 a.value.1 d.value d_gave,
-                  inner.is p locals last,
-                );
-          })
-
-      alone : (around : Around) (scope : Scope) (types : Types) (x : (StmtForm × Scope) × Types) → for_of around scope types ≡ Ok x → is_one x.0.0 ≡ true
-      alone around scope types x h =
-          let a = bound (for_start_part start scope types) (behind_start around) x h in
-          let b = bound (optional_condition decides a.value.0.1 a.value.1) (behind_test around a.value.0) x a.behind in
-          let c = bound (optional_simple stepping a.value.0.1 b.value.1) (behind_step around a.value.0 b.value.0) x b.behind in
-          let d = bound (body (in_loop around) a.value.0.1 c.value.1) (whole_for a.value.0.0 b.value.0 c.value.0) x c.behind in
-          one_as (typed.for_loop keyword a.value.0.0 first_semicolon b.value.0 second_semicolon c.value.0 closing d.value.0.0) (forgotten (start_names start) d.value.0.1) d.value.1 x d.behind refl
+  pub for_good : GoodPart body → Alone body → GoodPart for_of
+  for_good good one around v scope types x h served sound there =
+      let a = bound (for_start_part start scope types) (behind_start around) x h in
+      let b = bound (optional_condition decides a.value.0.1 a.value.1) (behind_test around a.value.0) x a.behind in
+      let c = bound (optional_simple stepping a.value.0.1 b.value.1) (behind_step around a.value.0 b.value.0) x b.behind in
+      let d = bound (body (in_loop around) a.value.0.1 c.value.1) (whole_for a.value.0.0 b.value.0 c.value.0) x c.behind in
+      let form : StmtForm = typed.for_loop keyword a.value.0.0 first_semicolon b.value.0 second_semicolon c.value.0 closing d.value.0.0 in
+      let out : Scope = forgotten (start_names start) d.value.0.1 in
+      let same = same_value {A = StmtForm × Scope} ((form, out), d.value.1) x d.behind in
+      let s1 = and_parts (is_served_start a.value.0.0) (is_served_if_any b.value.0 && (is_served_step c.value.0 && is_served_statement d.value.0.0)) (served_as form out d.value.1 x d.behind served) in
+      let s2 = and_parts (is_served_if_any b.value.0) (is_served_step c.value.0 && is_served_statement d.value.0.0) s1.1 in
+      let s3 = and_parts (is_served_step c.value.0) (is_served_statement d.value.0.0) s2.1 in
+      let started : IsStarted (start_names start) v scope types a.value = start_is start v scope types a.value a.gave s1.0 sound in
+      let w : Visible = after_start a.value.0.0 v in
+      let decided = optional_condition_is decides a.value.0.1 a.value.1 b.value b.gave s2.0 in
+      let c_gave : optional_simple stepping a.value.0.1 a.value.1 ≡ Ok c.value = subst (λ (t : Types). optional_simple stepping a.value.0.1 t ≡ Ok c.value) decided.same c.gave in
+      let stepped = optional_simple_is stepping a.value.0.1 a.value.1 c.value c_gave s3.0 in
+      let d_gave : body (in_loop around) a.value.0.1 a.value.1 ≡ Ok d.value = subst (λ (t : Types). body (in_loop around) a.value.0.1 t ≡ Ok d.value) stepped.same d.gave in
+      let inner : IsPart [] (in_loop around) w a.value.0.1 a.value.1 d.value =
+      good (in_loop around) w a.value.0.1 a.value.1 d.value d_gave s3.1 started.sound (stays_there types a.value.1 around.result started.moves.types there) in
+      let moved : Moves (start_names start) scope d.value.0.1 types d.value.1 =
+      subst (λ (ns : List NameId). Moves ns scope d.value.0.1 types d.value.1) (append_none (start_names start))
+      (moves_on (start_names start) [] scope a.value.0.1 d.value.0.1 types a.value.1 d.value.1 started.moves inner.moves) in
+      let left : Moves [] scope out types d.value.1 = moves_behind (start_names start) scope d.value.0.1 types d.value.1 moved in
+      subst (IsPart [] around v scope types) same (record {
+        moves = left;
+        sound = sound_behind v (after d.value.0.0 w) scope out types d.value.1 sound left (ap length (forgotten_locals (start_names start) d.value.0.1) ∙ inner.sound.declared);
+        is = λ p locals final.
+            let last : IsFinal p locals d.value.0.1 d.value.1 = final_remembered p locals (start_names start) d.value.0.1 d.value.1 final in
+            let middle : IsFinal p locals a.value.0.1 a.value.1 = final_before p locals [] a.value.0.1 d.value.0.1 a.value.1 d.value.1 inner.moves last in (
+              started.is p locals around.result middle,
+              decided.is p locals around.result w started.sound middle,
+              stepped.is p locals around.result w started.sound middle,
+              one (in_loop around) a.value.0.1 a.value.1 d.value d_gave,
+              inner.is p locals last,
+            );
+      })

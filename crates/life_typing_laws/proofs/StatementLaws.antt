@@ -23,11 +23,14 @@ use Rattle.life_type_stmt.specs.Ends.{branch_ends, else_if_ends, item_ends}
 use Rattle.life_type_stmt.specs.Statements.{ItemPart, Part, block_part, branch_part, else_if_part, in_turn, item_part, name_before, names_of, optional_part, parts_of}
 use Rattle.life_unique.proofs.Lists.{Both}
 use Rattle.life_well_typed.specs.AsParsed.{is_statement_as_parsed}
+use Rattle.life_well_typed.specs.Statements.{is_one}
 use Rattle.life_typing_laws.proofs.Behind.{Behind, still_named}
 use Rattle.life_typing_laws.proofs.Domains.{Around}
+use Rattle.life_typing_laws.proofs.Each.{each_of}
+use Rattle.life_typing_laws.proofs.Loops.{if_good, if_of}
 use Rattle.life_typing_laws.proofs.NamedTrees.{IsNamedTree}
 use Rattle.life_typing_laws.proofs.ReadTrees.{IsRead}
-use Rattle.life_typing_laws.proofs.Statements.{GoodItem, GoodPart}
+use Rattle.life_typing_laws.proofs.Statements.{Alone, GoodItem, GoodPart}
 use Rattle.life_typing_laws.proofs.Staying.{stays_behind, stays_not, stays_on, stays_then}
 use Rattle.life_typing_laws.proofs.Turns.{GoodBranch}
 use Rattle.life_typing_laws.proofs.Yields.{Yields, yields_ok, yields_then}
@@ -37,13 +40,14 @@ use Rattle.life_typing_laws.proofs.Yields.{Yields, yields_ok, yields_then}
 abbrev pub IsParsed : StmtForm → Type 0
 IsParsed s = is_statement_as_parsed s ≡ true
 
--- it is as it was parsed, if it was read, and ends as its text does: control can't run past the one where it can't run past the other
-pub record IsSaid (Read : Type 0) (e : Bool) (s : StmtForm) : Type 0 where
+-- it is one statement unless it declares these names, as it was parsed if it was read, and ends as its text does: control can't run past the one where it can't run past the other
+pub record IsSaid (Read : Type 0) (e : Bool) (names : List NameId) (s : StmtForm) : Type 0 where
+  pub alone : names ≡ [] → is_one s ≡ true
   pub parsed : Read → IsParsed s
   pub ended : ends s ≡ e
 
 abbrev pub Said : Type 0 → (ℕ → Type 0) → Bool → List NameId → Scope → StmtForm × Scope → Type 0
-Said Read Named e names scope = Behind StmtForm (IsSaid Read e) Named names scope
+Said Read Named e names scope = Behind StmtForm (IsSaid Read e names) Named names scope
 
 -- .. wherever it is checked
 abbrev pub Says : Type 0 → (ℕ → Type 0) → Bool → List NameId → Part → Type 0
@@ -73,40 +77,44 @@ pub record BranchLaws (part : Part) (b : BranchView) (e : Bool) : Type 0 where
 abbrev pub ElseIfLaws : Part → ElseIfView → Bool → Type 0
 ElseIfLaws part v e = BranchLaws part v.branch e
 
+-- one statement
+pub alone_by : {Read : Type 0} {Named : ℕ → Type 0} {e : Bool} {part : Part} → Says Read Named e [] part → Alone part
+alone_by says around scope types x h = (says around scope types x h).is.alone refl
+
 -- ---- what gives it
 
 module _ {Read : Type 0} {Named : ℕ → Type 0} {e : Bool} (scope : Scope) where
   -- the scope is as it was
-  pub still : (s : StmtForm) (types : Types) → (Read → IsParsed s) → ends s ≡ e → Yields (Said Read Named e [] scope) (Ok ((s, scope), types))
-  still s types parsed ended =
-      yields_ok (Said Read Named e [] scope) (s, scope) types (record { stays = stays_not scope; named = λ n named all. all; is = record { parsed = parsed; ended = ended } })
+  pub still : (s : StmtForm) (types : Types) → is_one s ≡ true → (Read → IsParsed s) → ends s ≡ e → Yields (Said Read Named e [] scope) (Ok ((s, scope), types))
+  still s types alone parsed ended =
+      yields_ok (Said Read Named e [] scope) (s, scope) types (record { stays = stays_not scope; named = λ n named all. all; is = record { alone = λ none. alone; parsed = parsed; ended = ended } })
 
   -- what is said in a tree inside
   pub again : {Inner : Type 0} {NamedInner : ℕ → Type 0} {names : List NameId} {c : Checked (StmtForm × Scope)} → Yields (Said Inner NamedInner e names scope) c → (Read → Inner) → ((n : ℕ) → Named n → NamedInner n)
       → Yields (Said Read Named e names scope) c
   again held read named x gave =
       let b = held x gave in
-      record { stays = b.stays; named = λ n m. b.named n (named n m); is = record { parsed = λ r. b.is.parsed (read r); ended = b.is.ended } }
+      record { stays = b.stays; named = λ n m. b.named n (named n m); is = record { alone = b.is.alone; parsed = λ r. b.is.parsed (read r); ended = b.is.ended } }
 
   -- .. behind what is made in it
   pub behind_made : {A : Type 0} (P : A → Type 0) (c : Checked A) (rest : A × Types → Checked (StmtForm × Scope)) → (Read → Yields P c)
       → ((y : A × Types) → (Read → P y.0) → Yields (Said Read Named e [] scope) (rest y)) → Yields (Said Read Named e [] scope) (c >>= rest)
   behind_made P c rest held behind = yields_then (λ y. Read → P y) (Said Read Named e [] scope) c rest (λ y gave read. held read y gave) behind
 
-  pub made : {A : Type 0} (P : A → Type 0) (c : Checked A) (form : A → StmtForm) → (Read → Yields P c) → ((y : A) → P y → IsParsed (form y)) → ((y : A) → ends (form y) ≡ e)
+  pub made : {A : Type 0} (P : A → Type 0) (c : Checked A) (form : A → StmtForm) → (Read → Yields P c) → ((y : A) → is_one (form y) ≡ true) → ((y : A) → P y → IsParsed (form y)) → ((y : A) → ends (form y) ≡ e)
       → Yields (Said Read Named e [] scope) (c >>= (λ y. Ok ((form y.0, scope), y.1)))
-  made P c form held parsed ended = behind_made P c (λ y. Ok ((form y.0, scope), y.1)) held (λ y p. still (form y.0) y.1 (λ read. parsed y.0 (p read)) (ended y.0))
+  made P c form held alone parsed ended = behind_made P c (λ y. Ok ((form y.0, scope), y.1)) held (λ y p. still (form y.0) y.1 (alone y.0) (λ read. parsed y.0 (p read)) (ended y.0))
 
   -- around a statement
   pub around_said : {Inner : Type 0} {NamedInner : ℕ → Type 0} {f : Bool} (c : Checked (StmtForm × Scope)) (form : StmtForm → StmtForm) → Yields (Said Inner NamedInner f [] scope) c
-      → ((n : ℕ) → Named n → NamedInner n) → ((s : StmtForm) → IsSaid Inner f s → IsSaid Read e (form s)) → Yields (Said Read Named e [] scope) (c >>= (λ y. Ok ((form y.0.0, y.0.1), y.1)))
+      → ((n : ℕ) → Named n → NamedInner n) → ((s : StmtForm) → IsSaid Inner f [] s → IsSaid Read e [] (form s)) → Yields (Said Read Named e [] scope) (c >>= (λ y. Ok ((form y.0.0, y.0.1), y.1)))
   around_said {Inner = Inner} {NamedInner = NamedInner} {f = f} c form held named is =
       yields_then (Said Inner NamedInner f [] scope) (Said Read Named e [] scope) c _ held (λ y b.
       yields_ok (Said Read Named e [] scope) (form y.0.0, y.0.1) y.1 (record { stays = b.stays; named = λ n m. b.named n (named n m); is = is y.0.0 b.is }))
 
   -- .. behind what declares these names, which are forgotten behind it
   pub loop_said : {A : Type 0} {Is : A → Type 0} {NamedFirst : ℕ → Type 0} {Inner : Type 0} {NamedInner : ℕ → Type 0} {f : Bool} (names : List NameId) (x : A × Scope) (c : Checked (StmtForm × Scope)) (form : StmtForm → StmtForm)
-      → Behind A Is NamedFirst names scope x → Yields (Said Inner NamedInner f [] x.1) c → ((n : ℕ) → Named n → NamedFirst n × NamedInner n) → ((s : StmtForm) → IsSaid Inner f s → IsSaid Read e (form s))
+      → Behind A Is NamedFirst names scope x → Yields (Said Inner NamedInner f [] x.1) c → ((n : ℕ) → Named n → NamedFirst n × NamedInner n) → ((s : StmtForm) → IsSaid Inner f [] s → IsSaid Read e [] (form s))
       → Yields (Said Read Named e [] scope) (c >>= (λ y. Ok ((form y.0.0, forgotten names y.0.1), y.1)))
   loop_said {Inner = Inner} {NamedInner = NamedInner} {f = f} names x c form first held named is =
       yields_then (Said Inner NamedInner f [] x.1) (Said Read Named e [] scope) c _ held (λ y b.
@@ -181,7 +189,7 @@ block_says r n opening closing after is around scope types =
     (typed.block (stmt_forms x.0.0) closing, forgotten (names_of (map item_part (items_of is))) x.0.1) x.1 (record {
       stays = stays_behind (names_of (map item_part (items_of is))) scope x.0.1 all.stays;
       named = λ m named kept. still_named m (names_of (map item_part (items_of is))) x.0.1 (all.named m named.0 kept);
-      is = record { parsed = λ read. all.is.parsed read.1.0; ended = last_same x.0.0 false ∙ ap (texts.last_of false) all.is.ended };
+      is = record { alone = λ none. refl; parsed = λ read. all.is.parsed read.1.0; ended = last_same x.0.0 false ∙ ap (texts.last_of false) all.is.ended };
     }))
 
 -- ---- branches
@@ -227,7 +235,7 @@ else_named n [] None named = (tt, tt)
 else_named n [] (Some t) named = (tt, named)
 else_named n (v ∷ vs) last named = let others = else_named n vs last named.1.1.1.1 in ((named.1.1.1.0, others.0), others.1)
 
-pub if_says : (first : Both BranchClaim) (more : List (Both ElseIfClaim)) (last : Option Part) (t : Option Tree) (e : Option Bool)
+if_says : (first : Both BranchClaim) (more : List (Both ElseIfClaim)) (last : Option Part) (t : Option Tree) (e : Option Bool)
     → Says (IsReadIfAny t) (λ n. IsNamedIfAny n t) (texts.else_ends e) [] (optional_part last)
     → SaysOf (node rules.branches (construct fixed.IF (branch_view first.0).keyword ((branch_view first.0).condition ⨾ (branch_view first.0).body ⨾ else_part_tree (map else_if_view (else_ifs_of more)) t)))
     (branch_ends first.0 && (texts.all_end (map else_if_ends (else_ifs_of more)) && texts.else_ends e)) []
@@ -245,6 +253,7 @@ if_says first more last t e ended around scope types =
       stays = stays_then [] scope x.0.1 y.0.1 all.stays rest.stays;
       named = λ n m kept. let others = else_named n vs t m.1.1 in rest.named n others.1 (all.named n (m.1.0, others.0) kept);
       is = record {
+        alone = λ none. refl;
         parsed = λ read.
             let others = else_read vs t read.1.1.1 in
             and_from (is_statement_as_parsed (stmt_forms x.0.0)) (is_statement_as_parsed y.0.0) (all.is.parsed ((read.1.0, read.1.1.0), others.0)) (rest.is.parsed others.1);
@@ -252,3 +261,17 @@ if_says first more last t e ended around scope types =
             ∙ and_assoc (branch_ends first.0) (texts.all_end es) (texts.else_ends e);
       };
     })))
+
+-- without an `else`
+pub no_else_says : Says (Unit {0}) (λ n. Unit {0}) false [] (optional_part None)
+no_else_says around scope types = still scope typed.no_more types refl (λ read. refl) refl
+
+pub if_laws : (first : Both BranchClaim) (more : List (Both ElseIfClaim)) (last : Option Part) (t : Option Tree) (e : Option Bool) → GoodPart (optional_part last)
+    → Says (IsReadIfAny t) (λ n. IsNamedIfAny n t) (texts.else_ends e) [] (optional_part last)
+    → PartLaws (if_of (branch_part first.0 ∷ map else_if_part (else_ifs_of more)) last)
+    (node rules.branches (construct fixed.IF (branch_view first.0).keyword ((branch_view first.0).condition ⨾ (branch_view first.0).body ⨾ else_part_tree (map else_if_view (else_ifs_of more)) t)))
+    (branch_ends first.0 && (texts.all_end (map else_if_ends (else_ifs_of more)) && texts.else_ends e))
+if_laws first more last t e good ended = record {
+  good = if_good (branch_part first.0 ∷ map else_if_part (else_ifs_of more)) last (first.1.good, each_of ElseIfClaim GoodBranch else_if_part (λ x laws. laws.good) more) good (alone_by ended);
+  says = if_says first more last t e ended;
+}

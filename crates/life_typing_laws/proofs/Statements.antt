@@ -47,9 +47,12 @@ Gives names part =
     → IsSound v scope types → HasType types around.result → IsPart names around v scope types x
 
 -- a statement: it declares nothing that is visible behind it
-pub record GoodPart (part : Part) : Type 0 where
-  pub gives : Gives [] part
-  pub alone : (around : Around) (scope : Scope) (types : Types) (x : (StmtForm × Scope) × Types) → part around scope types ≡ Ok x → is_one x.0.0 ≡ true
+abbrev pub GoodPart : Part → Type 0
+GoodPart = Gives []
+
+-- .. and is one
+abbrev pub Alone : Part → Type 0
+Alone part = (around : Around) (scope : Scope) (types : Types) (x : (StmtForm × Scope) × Types) → part around scope types ≡ Ok x → is_one x.0.0 ≡ true
 
 -- a part of a block declares at most its name
 abbrev pub GoodItem : ItemPart → Type 0

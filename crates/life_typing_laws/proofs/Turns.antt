@@ -11,7 +11,7 @@ use Rattle.life_typed.specs.declared.typed_program.TypedLocal.{TypedLocal}
 use Rattle.life_names.specs.Checked.{Checked, ◌>>=◌}
 use Rattle.life_names.specs.Environment.{Scope, forgotten}
 use Rattle.life_type_stmt.specs.Statements.{ItemPart, Part, block_part, in_turn, name_before, names_of, parts_of}
-use Rattle.life_well_typed.specs.Statements.{AreBranches, IsStatement, is_one}
+use Rattle.life_well_typed.specs.Statements.{AreBranches, IsStatement}
 use Rattle.life_well_typed.specs.Visible.{Visible, after}
 use Rattle.life_typing_laws.proofs.Domains.{Around}
 use Rattle.life_typing_laws.proofs.Each.{EachHolds}
@@ -65,12 +65,7 @@ closed is closing x = Ok ((typed.block (stmt_forms x.0.0) closing, forgotten (na
 
 pub block_good : (is : List ItemPart) (closing : Place) → EachHolds GoodItem is → GoodBlock (block_part is closing)
 block_good is closing good = record {
-  good = record {
-    gives = gives;
-    alone = λ around scope types x h.
-        let step = bound (in_turn (parts_of is) around scope types) (closed is closing) x h in
-        subst (λ (y : (StmtForm × Scope) × Types). is_one y.0.0 ≡ true) (same_value {A = StmtForm × Scope} ((typed.block (stmt_forms step.value.0.0) closing, forgotten (names_of is) step.value.0.1), step.value.1) x step.behind) refl;
-  };
+  good = gives;
   block = λ around scope types x h.
       let step = bound (in_turn (parts_of is) around scope types) (closed is closing) x h in
       subst (λ (y : (StmtForm × Scope) × Types). is_block y.0.0 ≡ true) (same_value {A = StmtForm × Scope} ((typed.block (stmt_forms step.value.0.0) closing, forgotten (names_of is) step.value.0.1), step.value.1) x step.behind) refl;
