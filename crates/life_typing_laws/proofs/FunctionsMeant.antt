@@ -8,8 +8,6 @@ use Rattle.life_types.proofs.TreeLemmas.{in_more, within}
 use Rattle.life_tree.specs.declared.function.Function.{Function}
 use Rattle.life_tree.specs.declared.function.FunctionBody.{FunctionBody}
 use Rattle.life_tree.specs.declared.function.FunctionBody.TheVariants as function_body
-use Rattle.life_tree.specs.declared.program.Definition.{Definition}
-use Rattle.life_tree.specs.declared.program.Definition.TheVariants as definition
 use Rattle.life_tree.specs.declared.program.StructDefinition.{StructDefinition}
 use Rattle.life_tree.specs.declared.stmt.Block.{Block}
 use Rattle.life_typed.specs.Programs.{FunctionForm}
@@ -26,7 +24,7 @@ use Rattle.life_typing.specs.Headers.{function_seen, seen_unless}
 use Rattle.life_typing.specs.Names.{is_main}
 use Rattle.life_typing.specs.Parameters.{is_seen}
 use Rattle.life_typing.specs.Progress.{ProgressView}
-use Rattle.life_typing.specs.Resolves.{with_definition, with_definitions}
+use Rattle.life_typing.specs.Structs as structs
 use Rattle.life_typing.specs.Structs.{added_unless_empty, found_structure, member_types, named_structure, types_of, unless}
 use Rattle.life_typing_laws.proofs.Bodies.{body_said}
 use Rattle.life_typing_laws.proofs.Declaring.{behind_first, by_way, function_is, numbered_is, parts, signature, with_header}
@@ -36,7 +34,6 @@ use Rattle.life_typing_laws.proofs.Parameters.{names_of}
 use Rattle.life_typing_laws.proofs.Scopes.{IsFree, IsIn, forgotten_functions, forgotten_keeps, forgotten_size, set_else, set_length, set_other, set_there}
 use Rattle.life_typing_laws.proofs.Staying.{Stays, StaysIn, free_not_seen, free_unseen, seen_keeps, stays_on}
 use Rattle.life_typing_laws.proofs.Yields.{Finds, Yields, finds_behind, finds_ok, finds_then}
-use Rattle.life_typing_laws.proofs.NamedDefinitions.{EachFunctionNamed, FunctionNamed}
 use Rattle.life_typing_laws.proofs.Counted.{changed_size}
 use Rattle.life_typing_laws.proofs.Went.{forgotten_are}
 
@@ -158,7 +155,7 @@ behind_meant size (function_body.Declared place) f number returned q meant =
 
 -- ---- definitions
 
-function_meant : (size : ℕ) (bodies : List Bool) (f : Function) (p : ProgressView) → f.name.id.0 < size → AreMeant size [] p → Finds (AreMeant size []) (functions.with_function bodies f p)
+pub function_meant : (size : ℕ) (bodies : List Bool) (f : Function) (p : ProgressView) → f.name.id.0 < size → AreMeant size [] p → Finds (AreMeant size []) (functions.with_function bodies f p)
 function_meant size bodies f p room meant q e =
     let it = function_is bodies f p q e in
     subst (AreMeant size []) it.is
@@ -198,12 +195,5 @@ named_meant size s p x meant found = finds_then (λ (y : ℕ × Scope). Stays []
           size = set_length x.1.scope.visible s.name.id.0 (entity.Structure (length x.1.scope.structs)) ∙ ap (λ (z : Scope). length z.visible) found.scope;
         })
 
-definition_meant : (size : ℕ) (bodies : List Bool) (d : Definition) (p : ProgressView) → FunctionNamed size d → AreMeant size [] p → Finds (AreMeant size []) (with_definition bodies d p)
-definition_meant size bodies (definition.Function f) p room meant = function_meant size bodies f p room meant
-definition_meant size bodies (definition.Struct s) p room meant =
-    finds_then (HasFound s p) (AreMeant size []) (found_structure s p) (named_structure s) (found_is s p) (λ x found. named_meant size s p x meant found)
-
-pub definitions_meant : (size : ℕ) (bodies : List Bool) (ds : List Definition) (p : ProgressView) → EachFunctionNamed size ds → AreMeant size [] p → Finds (AreMeant size []) (with_definitions bodies ds p)
-definitions_meant size bodies [] p each meant = finds_ok (AreMeant size []) p meant
-definitions_meant size bodies (d ∷ ds) p each meant =
-    finds_then (AreMeant size []) (AreMeant size []) _ _ (definition_meant size bodies d p each.0 meant) (λ q more. definitions_meant size bodies ds q each.1 more)
+pub structure_meant : (size : ℕ) (s : StructDefinition) (p : ProgressView) → AreMeant size [] p → Finds (AreMeant size []) (structs.with_structure s p)
+structure_meant size s p meant = finds_then (HasFound s p) (AreMeant size []) (found_structure s p) (named_structure s) (found_is s p) (λ x found. named_meant size s p x meant found)

@@ -26,13 +26,9 @@ pub mod HeadersStay
 pub mod Known
 pub mod LongLists
 pub mod LongOperands
-pub mod LongPrograms
 pub mod LongSimples
 pub mod LongValues
 pub mod Loops
-pub mod NamedDefinitions
-pub mod NamedLocals
-pub mod NamedPrograms
 pub mod NamedTrees
 pub mod Operands
 pub mod OwnNames
@@ -40,6 +36,7 @@ pub mod Pairs
 pub mod Parameters
 pub mod Pieces
 pub mod Prefixes
+pub mod ProgramLaws
 pub mod ReadTrees
 pub mod Reading
 pub mod Scopes

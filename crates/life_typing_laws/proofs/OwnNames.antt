@@ -1,20 +1,18 @@
 -- No two functions of a program have one name: it would mean both.
-use Rattle.std.proofs.Common.{◌≡◌, ℕ, suc, ◌+◌, Bool, true, false, not, Some, Ok, List, [], ◌∷◌, length, map, nat_eq, slice_get, refl, sym, ap, subst, ◌∙◌, arith}
+use Rattle.std.proofs.Common.{◌≡◌, ℕ, suc, ◌+◌, Bool, true, false, not, Some, List, [], ◌∷◌, length, map, nat_eq, slice_get, refl, sym, ap, subst, ◌∙◌, arith}
 use Rattle.std.specs.List.{list_any}
 use Rattle.std.proofs.lemmas.Bool.{and_from, eqb-true}
 use Rattle.life_types.specs.declared.ty.NameId.{NameId}
 use Rattle.life_tree.specs.declared.program.Program.{Program}
-use Rattle.life_typed.specs.Programs.{FunctionForm, ProgramForm}
+use Rattle.life_typed.specs.Programs.{FunctionForm}
 use Rattle.life_names.specs.Environment.{text_items, unseen_names}
 use Rattle.life_names.specs.declared.environment.Entity.{Entity}
 use Rattle.life_names.specs.declared.environment.Entity.TheVariants as entity
-use Rattle.life_typing.specs.Progress.{nothing_defined}
-use Rattle.life_typing.specs.Resolves.{bodies_of, finished, resolved, texts_of}
+use Rattle.life_typing.specs.Progress.{ProgressView, nothing_defined}
+use Rattle.life_typing.specs.Resolves.{texts_of}
 use Rattle.life_well_typed.specs.Names.{have_own_names, is_of_name}
 use Rattle.life_typing_laws.proofs.Steps.{same_number, same_some}
-use Rattle.life_typing_laws.proofs.Yields.{finds_ok, finds_then}
-use Rattle.life_typing_laws.proofs.NamedDefinitions.{EachFunctionNamed}
-use Rattle.life_typing_laws.proofs.FunctionsMeant.{AreMeant, definitions_meant}
+use Rattle.life_typing_laws.proofs.FunctionsMeant.{AreMeant}
 
 -- ---- no two have one name
 
@@ -44,14 +42,12 @@ unseen_count : {A : Type 0} (read : A → List ℕ) (names : List A) → length 
 unseen_count read [] = refl
 unseen_count read (name ∷ names) = ap suc (unseen_count read names)
 
-nothing_meant : (tree : Program) → AreMeant (length tree.names.items) [] (nothing_defined (texts_of tree))
+pub nothing_meant : (tree : Program) → AreMeant (length tree.names.items) [] (nothing_defined (texts_of tree))
 nothing_meant tree = record { means = λ k g e. absurd (never k g e); forms = refl; named = unseen_count text_items tree.names.items }
   where
     never : (k : ℕ) (g : FunctionForm) → slice_get {X = FunctionForm} [] k ≡ Some g → ⊥
     never k g e = cc
 
-pub functions_own_names : (tree : Program) (p : ProgramForm) → resolved tree ≡ Ok p → EachFunctionNamed (length tree.names.items) tree.definitions.items → have_own_names p.functions ≡ true
-functions_own_names tree p e each =
-    finds_then (AreMeant (length tree.names.items) []) (λ (q : ProgramForm). have_own_names q.functions ≡ true) _ _
-    (definitions_meant (length tree.names.items) (bodies_of tree) tree.definitions.items (nothing_defined (texts_of tree)) each (nothing_meant tree))
-    (λ q meant. finds_ok (λ (r : ProgramForm). have_own_names r.functions ≡ true) (finished tree q) (own_names q.scope.visible 0 q.functions (λ k g e. let none : k ≡ 0 + k = omega arith in subst (λ (n : ℕ). slice_get q.scope.visible g.name.0 ≡ Some (entity.Function n)) none (meant.means k g e).1))) p e
+pub meant_own_names : (size : ℕ) (q : ProgressView) → AreMeant size [] q → have_own_names q.functions ≡ true
+meant_own_names size q meant =
+    own_names q.scope.visible 0 q.functions (λ k g e. let none : k ≡ 0 + k = omega arith in subst (λ (n : ℕ). slice_get q.scope.visible g.name.0 ≡ Some (entity.Function n)) none (meant.means k g e).1)

@@ -1,8 +1,5 @@
-use Rattle.std.proofs.Common.{length}
-use Rattle.life_typing_laws.proofs.NamedPrograms.{resolved_named}
-use Rattle.life_typing_laws.proofs.NamedTrees.{program_named}
-use Rattle.life_typing_laws.proofs.OwnNames.{functions_own_names}
+use Rattle.life_typing_laws.proofs.ProgramLaws.{resolved_named}
 use Rattle.life_typing_laws.proofs.laws.resolved_programs_have_names.Goals as goal
 
 pub returns : goal.returns
-returns c tree p e named = record { named = resolved_named tree p e named; own = functions_own_names tree p e (program_named (length tree.names.items) tree named) }
+returns c tree p e named = let has = resolved_named tree named p e in record { named = has.0; own = has.1 }
