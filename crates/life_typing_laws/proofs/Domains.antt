@@ -1,6 +1,5 @@
 -- Types whose names the crates below keep to themselves, by the definitions that take their values.
 use Rattle.std.proofs.Common.{List}
-use Rattle.life_type_expr.specs.Members.{answered}
 use Rattle.life_type_stmt.specs.Statements.{in_loop}
 use Rattle.life_typing.specs.Attributes.{parameter_points}
 use Rattle.life_typing.specs.Functions.{sound_header}
@@ -16,10 +15,6 @@ ElementOf {A = A} f = A
 -- what stands around a statement: the function's result, and whether that is in a loop
 abbrev pub Around : Type 0
 Around = DomainOf in_loop
-
--- what a method's name stands for
-abbrev pub Called : Type 0
-Called = DomainOf answered
 
 -- the type of a function's result, and what it holds of pointers
 abbrev pub Returned : Type 0

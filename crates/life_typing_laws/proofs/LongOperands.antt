@@ -19,7 +19,7 @@ use Rattle.life_names.specs.Environment.{Scope}
 use Rattle.life_names.specs.Found.{found_in}
 use Rattle.life_type_expr.specs.Expressions.{PartMeaning, chain, chained, operand_part}
 use Rattle.life_type_expr.specs.Lists.{ListMeaning, Meaning}
-use Rattle.life_type_expr.specs.Operands.{address_to, combined_to, dereferenced_to, makes_text, negated_to, parenthesized, prefixed, prefixed_by, text_made}
+use Rattle.life_type_expr.specs.Operands.{address_to, combined_to, dereferenced_to, negated_to, parenthesized, prefixed, prefixed_by}
 use Rattle.life_well_typed.specs.AsParsed.{has_longs}
 use Rattle.life_typing_laws.proofs.Each.{EachHolds}
 use Rattle.life_typing_laws.proofs.Yields.{Finds, Yields, finds_if, finds_none, finds_ok, yields_found, yields_given, yields_ok, yields_then}
@@ -88,6 +88,3 @@ prefixed_long operator place inner good scope types =
 
 pub paren_long : (closing : Place) (inner : Meaning) → GivesLong inner → GivesLong (λ scope types. inner scope types >>= (λ x. found_in x.1 (parenthesized closing x.0)))
 paren_long closing inner good scope types = yields_then IsLong IsLong _ _ (good scope types) (λ x l. yields_found _ _ _ (finds_ok _ _ l))
-
-pub text_long : (place closing : Place) (inner : Meaning) → GivesLong inner → GivesLong (λ scope types. inner scope types >>= (λ x. found_in x.1 (text_made place closing x.0)))
-text_long place closing inner good scope types = yields_then IsLong IsLong _ _ (good scope types) (λ x l. yields_found _ _ _ (finds_if _ (makes_text x.0.ty) _ _ l))

@@ -1,5 +1,5 @@
 -- Whole expressions: each rule of the grammar, and so each expression, keeps what holds of a meaning and its tree.
-use Rattle.std.proofs.Common.{◌≡◌, ℕ, Bool, true, false, None, Some, refl, subst, if◌then◌else◌}
+use Rattle.std.proofs.Common.{◌≡◌, ℕ, Bool, true, false, None, Some, refl, if◌then◌else◌}
 use Rattle.std.specs.Prelude.{nat_le}
 use Rattle.std.proofs.lemmas.Bool.{ltb-true}
 use Rattle.life_types.specs.Types.{Types, HasParts}
@@ -26,7 +26,9 @@ use Rattle.life_tree.specs.declared.primary.PostfixPart.TheFolds.{fold-roll-Post
 use Rattle.life_tree.specs.declared.primary.PostfixPart.TheFolds.{ind-Additive, ind-Expr, ind-InitList, ind-Postfix}
 use Rattle.life_tree.specs.declared.primary.PostfixPart.TheFolds.{map-PostfixPart, map-Primary, map-Unary}
 use Rattle.life_tree.specs.declared.primary.PostfixPart.TheOpen as open_expr
+use Rattle.life_tree.specs.Grammar.{ends_in_arguments}
 use Rattle.life_tree.specs.Rules as rules
+use Rattle.life_tree.specs.Tree.{Tree}
 use Rattle.life_tree.specs.Views as views
 use Rattle.life_tree.specs.Views.{postfix_part_tree, primary_tree, unary_tree, additive_tree, additive_part_tree, multiplicative_tree, multiplicative_part_tree, equality_tree, equality_part_tree, relational_tree, relational_part_tree, and_part_tree, arguments_tree, expr_tree, init_list_tree, logical_and_tree, or_part_tree, postfix_tree}
 use Rattle.life_tree.specs.declared.fixed.TheConstants as fixed
@@ -38,20 +40,21 @@ use Rattle.life_type_expr.specs.Expressions.{PartMeaning, additive_operator, equ
 use Rattle.life_type_expr.specs.Expressions.{part_step, primary_step, unary_step, additive_step, additive_part, multiplicative_step, multiplicative_part, equality_step, equality_part, relational_step, relational_part, and_part, arguments_step, expr_step, init_list_step, logical_and_step, or_part, postfix_step}
 use Rattle.life_type_expr.specs.Expressions.{part_meaning, primary_meaning, unary_meaning, additive_meaning, additive_part_meaning, multiplicative_meaning, multiplicative_part_meaning, equality_meaning, equality_part_meaning, relational_meaning, relational_part_meaning, and_part_meaning, arguments_meaning, expr_meaning, init_list_meaning, logical_and_meaning, or_part_meaning, postfix_meaning}
 use Rattle.life_type_expr.specs.Lists.{ListMeaning, Meaning}
+use Rattle.life_type_expr.specs.Members.{arrow_part, dot_part}
 use Rattle.life_type_expr.specs.Operands.{number_type, value}
 use Rattle.life_unique.proofs.ExpressionLayers.{Claims, Layer-PostfixPart, Layer-Primary, Layer-Unary, Layer-Additive, Layer-AdditivePart, Layer-Multiplicative, Layer-MultiplicativePart, Layer-Equality, Layer-EqualityPart, Layer-Relational, Layer-RelationalPart, Layer-AndPart, Layer-Arguments, Layer-Expr, Layer-InitList, Layer-LogicalAnd, Layer-OrPart, Layer-Postfix}
 use Rattle.life_unique.proofs.ExpressionLayers.{parts_part, parts_primary, parts_unary, parts_additive, parts_additive_part, parts_multiplicative, parts_multiplicative_part, parts_equality, parts_equality_part, parts_relational, parts_relational_part, parts_and_part, parts_arguments, parts_expr, parts_init_list, parts_logical_and, parts_or_part, parts_postfix}
 use Rattle.life_unique.proofs.ExpressionLayers.{trees_part, trees_primary, trees_unary}
 use Rattle.life_unique.proofs.ExpressionLayers.{tree_of_part, tree_of_primary, tree_of_unary, tree_of_additive, tree_of_additive_part, tree_of_multiplicative, tree_of_multiplicative_part, tree_of_equality, tree_of_equality_part, tree_of_relational, tree_of_relational_part, tree_of_and_part, tree_of_arguments, tree_of_expr, tree_of_init_list, tree_of_logical_and, tree_of_or_part, tree_of_postfix}
 use Rattle.life_unique.specs.SettledExpressions.{Opened-PostfixPart, Opened-Primary, Opened-Unary, Opened-Additive, Opened-AdditivePart, Opened-Multiplicative, Opened-MultiplicativePart, Opened-Equality, Opened-EqualityPart, Opened-Relational, Opened-RelationalPart, Opened-AndPart, Opened-Arguments, Opened-Expr, Opened-InitList, Opened-LogicalAnd, Opened-OrPart, Opened-Postfix}
-use Rattle.life_typing_laws.specs.Served.{is_served_form}
 use Rattle.life_typing_laws.proofs.ExpressionLaws.{BehindLaws, Laws, ListLaws, PostfixLaws, PostfixPartLaws, alone_keeps, chain_keeps, list_keeps, never, operand_keeps, postfix_keeps, prefix_keeps}
-use Rattle.life_typing_laws.proofs.Expressions.{call_good, name_good, never_good, ok_parts}
-use Rattle.life_typing_laws.proofs.LongLists.{arrow_ends, arrow_long, call_ends, call_long, construct_ends, construct_long, dot_ends, dot_long, index_long, move_long, name_long, unique_ends, unique_long}
-use Rattle.life_typing_laws.proofs.LongOperands.{IsLong, paren_long, text_long}
+use Rattle.life_typing_laws.proofs.Expressions.{call_good, name_good}
+use Rattle.life_typing_laws.proofs.LongLists.{call_ends, call_long, name_long}
+use Rattle.life_typing_laws.proofs.LongOperands.{paren_long}
 use Rattle.life_typing_laws.proofs.Pairs.{made_of, paired}
 use Rattle.life_typing_laws.proofs.Prefixes.{paren_good}
-use Rattle.life_typing_laws.proofs.Unserved.{arrow_good, construct_good, dot_good, index_good, move_good, text_good, unique_good}
+use Rattle.life_typing_laws.proofs.ReadTrees.{IsRead}
+use Rattle.life_typing_laws.proofs.Unserved.{IsUnserved, arrow_none, construct_none, dot_none, index_none, move_none, text_none, unique_none, unserved_behind, unserved_laws}
 use Rattle.life_typing_laws.proofs.Yields.{yields_ok}
 
 -- an int or a long has no parts
@@ -106,17 +109,17 @@ of_parts_unary = map-Unary PostfixPart Primary Unary Additive AdditivePart Multi
     relational_part_meaning and_part_meaning arguments_meaning expr_meaning init_list_meaning logical_and_meaning or_part_meaning postfix_meaning
 
 part_layer : (l : Layer-PostfixPart claims) → PostfixPartLaws (part_step (of_parts_part (parts_part claims l))) (views.part_step (trees_part (parts_part claims l)))
-part_layer (open_expr.Member mark name None) = record { good = dot_good name None; long = λ read. dot_long name None tt; ends = λ e. never e; some = refl }
+part_layer (open_expr.Member mark name None) = unserved_behind (dot_part name None) (views.part_step (open_expr.Member mark name None)) (λ left. dot_none name None never left (λ read. read.1)) refl
 part_layer (open_expr.Member mark name (Some l)) =
     let given = arguments_meaning l.0 in
-    record { good = dot_good name (Some given); long = λ read. dot_long name (Some given) (l.1.long read.1.1.1); ends = λ e. dot_ends name given; some = refl }
-part_layer (open_expr.Arrow mark name None) = record { good = arrow_good name None; long = λ read. arrow_long name None tt; ends = λ e. never e; some = refl }
+    unserved_behind (dot_part name (Some given)) (views.part_step (open_expr.Member mark name (Some (arguments_tree l.0)))) (λ left. dot_none name (Some given) (λ read. l.1.long read.0.1.1.1) left (λ read. read.1)) refl
+part_layer (open_expr.Arrow mark name None) = unserved_behind (arrow_part name None) (views.part_step (open_expr.Arrow mark name None)) (λ left. arrow_none name None never left (λ read. read.1)) refl
 part_layer (open_expr.Arrow mark name (Some l)) =
     let given = arguments_meaning l.0 in
-    record { good = arrow_good name (Some given); long = λ read. arrow_long name (Some given) (l.1.long read.1.1.1); ends = λ e. arrow_ends name given; some = refl }
+    unserved_behind (arrow_part name (Some given)) (views.part_step (open_expr.Arrow mark name (Some (arguments_tree l.0)))) (λ left. arrow_none name (Some given) (λ read. l.1.long read.0.1.1.1) left (λ read. read.1)) refl
 part_layer (open_expr.Index opening position closing) =
-    let inner = expr_meaning position.value.0 in
-    record { good = index_good opening inner closing; long = λ read. index_long opening inner closing (position.value.1.long read.1.0); ends = λ e. never e; some = refl }
+    unserved_behind _ (views.part_step (trees_part (parts_part claims (open_expr.Index opening position closing))))
+    (λ left. index_none opening (expr_meaning position.value.0) closing (λ read. position.value.1.long read.0.1.0) never left (λ read. read.1)) refl
 
 primary_layer : (l : Layer-Primary claims) → PostfixLaws (primary_step (of_parts_primary (parts_primary claims l))) (views.primary_step (trees_primary (parts_primary claims l)))
 primary_layer (open_expr.Number n place) = alone_keeps (primary_step (open_expr.Number n place)) (value place (number_type n) (number n)) (views.primary_step (open_expr.Number n place)) (λ scope types. refl)
@@ -125,11 +128,8 @@ primary_layer (open_expr.Char c place) = alone_keeps (primary_step (open_expr.Ch
     (λ p locals v types served. record { is = (refl, ltb-true c _ served); parts = tt; place = tt }) (λ read. read.1) refl
 primary_layer (open_expr.Text n place) =
     let it : Typed = record { place = place; ty = expr_type.TextLiteral; category = category.Value; form = text n } in
-    record {
-      good = never_good (primary_step (open_expr.Text n place)) (λ scope types x e. subst (λ (y : Typed). is_served_form y.form ≡ false) (ok_parts it types x e).0 refl);
-      long = λ read scope types. yields_ok IsLong it types refl;
-      ends = λ e. never e;
-    }
+    let t : Tree = views.primary_step (open_expr.Text n place) in
+    unserved_laws _ t (λ scope types. yields_ok (IsUnserved (IsRead t) (ends_in_arguments t ≡ true)) it types (record { long = λ read. refl; ends = never; none = refl }))
 primary_layer (open_expr.True place) = alone_keeps (primary_step (open_expr.True place)) (value place ty.Bool (boolean true)) (views.primary_step (open_expr.True place)) (λ scope types. refl)
     (λ p locals v types served. record { is = refl; parts = tt; place = tt }) (λ read. refl) refl
 primary_layer (open_expr.False place) = alone_keeps (primary_step (open_expr.False place)) (value place ty.Bool (boolean false)) (views.primary_step (open_expr.False place)) (λ scope types. refl)
@@ -140,15 +140,15 @@ primary_layer (open_expr.Name name) = record { good = name_good name; long = λ 
 primary_layer (open_expr.Call name l) =
     let given = arguments_meaning l.0 in record { good = call_good name given l.1.good; long = λ read. call_long name given (l.1.long read.1.1); ends = λ e. call_ends name given }
 primary_layer (open_expr.Construct name l) =
-    let given = init_list_meaning l.0 in record { good = construct_good name given; long = λ read. construct_long name given (l.1.long read.1.1); ends = λ e. construct_ends name given }
+    unserved_laws _ (views.primary_step (trees_primary (parts_primary claims (open_expr.Construct name l)))) (λ scope types. construct_none name (init_list_meaning l.0) (λ read. l.1.long read.1.1) scope types)
 primary_layer (open_expr.Paren opening inner closing) =
     let e = expr_meaning inner.value.0 in record { good = paren_good closing e inner.value.1.good; long = λ read. paren_long closing e (inner.value.1.long read.1.0); ends = λ e. never e }
-primary_layer (open_expr.Move name opening moved closing) = record { good = move_good name.word moved; long = λ read. move_long name moved; ends = λ e. never e }
+primary_layer (open_expr.Move name opening moved closing) =
+    unserved_laws _ (views.primary_step (trees_primary (parts_primary claims (open_expr.Move name opening moved closing)))) (λ scope types. move_none name.word moved never scope types)
 primary_layer (open_expr.MakeUnique name element l) =
-    let given = arguments_meaning l.0 in
-    record { good = unique_good name.word element given; long = λ read. unique_long name.word element given (l.1.long read.1.1.1.1.1); ends = λ e. unique_ends name.word element given }
+    unserved_laws _ (views.primary_step (trees_primary (parts_primary claims (open_expr.MakeUnique name element l)))) (λ scope types. unique_none name.word element (arguments_meaning l.0) (λ read. l.1.long read.1.1.1.1.1) scope types)
 primary_layer (open_expr.TextOf name opening inner closing) =
-    let e = expr_meaning inner.value.0 in record { good = text_good name.word closing e; long = λ read. text_long name.word closing e (inner.value.1.long read.1.1.1.1.0); ends = λ e. never e }
+    unserved_laws _ (views.primary_step (trees_primary (parts_primary claims (open_expr.TextOf name opening inner closing)))) (λ scope types. text_none name.word closing (expr_meaning inner.value.0) (λ read. inner.value.1.long read.1.1.1.1.0) never scope types)
 primary_layer (open_expr.Input name opening closing) = alone_keeps (primary_step (open_expr.Input name opening closing)) (value name.word ty.Long input) (views.primary_step (open_expr.Input name opening closing)) (λ scope types. refl)
     (λ p locals v types served. record { is = refl; parts = tt; place = tt }) (λ read. refl) refl
 

@@ -22,9 +22,6 @@ finds_none P ill y e = absurd (cc)
 pub yields_ok : {A : Type 0} (P : A → Type 0) (x : A) (types : Types) → P x → Yields P (Ok (x, types))
 yields_ok {A = A} P x types holds y e = let same : ◌≡◌ {A = A × Types} (x, types) y = cc in subst (λ (z : A × Types). P z.0) same holds
 
-pub yields_none : {A : Type 0} (P : A → Type 0) (ill : Ill) → Yields P (Err ill)
-yields_none P ill y e = absurd (cc)
-
 pub yields_then : {A B : Type 0} (P : A → Type 0) (Q : B → Type 0) (first : Checked A) (rest : A × Types → Checked B) → Yields P first → ((x : A × Types) → P x.0 → Yields Q (rest x)) → Yields Q (first >>= rest)
 yields_then P Q first rest held behind y e = let b = bound first rest y e in behind b.value (held b.value b.gave) y b.behind
 
