@@ -47,13 +47,11 @@ use Rattle.life_well_typed.specs.AsParsed.{has_longs, has_longs_if_any, is_start
 use Rattle.life_well_typed.specs.Statements.{is_one}
 use Rattle.life_typing_laws.proofs.BlockParts.{declare_good, range_good}
 use Rattle.life_typing_laws.proofs.DeclarationLaws.{DeclaredBehind, HeadBehind, StartBehind, declaration_behind, head_behind, rest_read, start_behind}
-use Rattle.life_typing_laws.proofs.Each.{each_of}
+use Rattle.life_typing_laws.proofs.Each.{each_of, made_of_three}
 use Rattle.life_typing_laws.proofs.Loops.{assert_good, branch_good, break_good, continue_good, empty_good, for_good, none_good, print_good, return_good, sentence_good, while_good}
-use Rattle.life_typing_laws.proofs.LongOperands.{IsLong}
-use Rattle.life_typing_laws.proofs.LongSimples.{IsParsedSimple, IsParsedStep, optional_simple_long, simple_long}
-use Rattle.life_typing_laws.proofs.LongValues.{AreParsedItems, IsLongIfAny, condition_long, items_long, optional_condition_long, returned_long}
+use Rattle.life_typing_laws.proofs.Longs.{IsLong}
+use Rattle.life_typing_laws.proofs.LongValues.{AreParsedItems, condition_long, IsLongIfAny, IsParsedSimple, IsParsedStep, items_long, optional_condition_long, optional_simple_long, returned_long, simple_long}
 use Rattle.life_typing_laws.proofs.NamedTrees.{IsNamedTree}
-use Rattle.life_typing_laws.proofs.Pairs.{made_of_three}
 use Rattle.life_typing_laws.proofs.ReadTrees.{IsRead}
 use Rattle.life_typing_laws.proofs.StatementLaws.{BranchLaws, ElseIfLaws, IsParsed, ItemLaws, PartLaws, Said, SaysOf, again, alone_by, around_said, behind_made, block_says, if_laws, loop_said, no_else_says, made, still}
 use Rattle.life_typing_laws.proofs.Statements.{GoodBlock, GoodItem}

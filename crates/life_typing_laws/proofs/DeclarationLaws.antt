@@ -32,9 +32,8 @@ use Rattle.life_type_stmt.specs.Statements.{for_start_part, start_names}
 use Rattle.life_well_typed.specs.AsParsed.{is_start_as_parsed}
 use Rattle.life_typing_laws.proofs.Behind.{Behind, LocalBehind, local_behind}
 use Rattle.life_typing_laws.proofs.Fitting.{lower_none}
-use Rattle.life_typing_laws.proofs.LongOperands.{IsLong}
-use Rattle.life_typing_laws.proofs.LongSimples.{IsParsedSimple, simple_long}
-use Rattle.life_typing_laws.proofs.LongValues.{IsLongRange, IsParsedFirst, auto_first, elements_long, first_given}
+use Rattle.life_typing_laws.proofs.Longs.{IsLong}
+use Rattle.life_typing_laws.proofs.LongValues.{auto_first, elements_long, first_given, IsLongRange, IsParsedFirst, IsParsedSimple, simple_long}
 use Rattle.life_typing_laws.proofs.NamedTrees.{IsNamedTree}
 use Rattle.life_typing_laws.proofs.ReadTrees.{IsRead}
 use Rattle.life_typing_laws.proofs.Staying.{finds_allowed, free_to_declare, stays_not}

@@ -20,11 +20,9 @@ use Rattle.life_type_expr.specs.Operands.{prefixed}
 use Rattle.life_well_typed.specs.Visible.{Visible}
 use Rattle.life_typing_laws.specs.Served.{is_served_form}
 use Rattle.life_typing_laws.proofs.Chains.{chain_good, operand_good}
-use Rattle.life_typing_laws.proofs.Each.{EachHolds}
+use Rattle.life_typing_laws.proofs.Each.{each_first, EachHolds, Pairwise}
 use Rattle.life_typing_laws.proofs.Expressions.{alone_good}
-use Rattle.life_typing_laws.proofs.LongLists.{EndsInArguments}
-use Rattle.life_typing_laws.proofs.LongOperands.{GiveLong, GivesLong, GivesLongBehind, IsLong, chain_long, operand_long, prefixed_long}
-use Rattle.life_typing_laws.proofs.Pairs.{Pairwise, each_first}
+use Rattle.life_typing_laws.proofs.Longs.{chain_long, EndsInArguments, GiveLong, GivesLong, GivesLongBehind, IsLong, operand_long, prefixed_long}
 use Rattle.life_typing_laws.proofs.Prefixes.{prefix_good}
 use Rattle.life_typing_laws.proofs.ReadTrees.{IsRead}
 use Rattle.life_typing_laws.proofs.Typed.{Good, GoodBehind, GoodList, IsTyped}

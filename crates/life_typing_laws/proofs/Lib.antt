@@ -24,15 +24,12 @@ pub mod HeaderTypes
 pub mod Headers
 pub mod HeadersStay
 pub mod Known
-pub mod LongLists
-pub mod LongOperands
-pub mod LongSimples
 pub mod LongValues
+pub mod Longs
 pub mod Loops
 pub mod NamedTrees
 pub mod Operands
 pub mod OwnNames
-pub mod Pairs
 pub mod Parameters
 pub mod Pieces
 pub mod Prefixes

@@ -1,12 +1,12 @@
--- What a statement gives to something, and what decides, is printed or goes over a range: of a tree that is read, its numbers and characters are longs.
-use Rattle.std.proofs.Common.{◌≡◌, Bool, true, false, List, [], ◌∷◌, map, Option, None, Some, Box, refl, subst}
+-- What a statement gives to something, what decides, is printed or given back, and simple statements: of a tree that is read, the numbers and characters are longs, and only what ends in arguments stands alone.
+use Rattle.std.proofs.Common.{◌≡◌, Bool, true, List, [], ◌∷◌, map, Option, None, Some, Box, refl, subst}
 use Rattle.std.specs.declared.alloc.Global.{Global}
 use Rattle.std.proofs.lemmas.Bool.{and_from}
 use Rattle.life_types.specs.Types.{Types}
 use Rattle.life_types.specs.declared.place.Place.{Place}
 use Rattle.life_types.specs.declared.ty.Ty.{Ty}
 use Rattle.life_types.specs.declared.ty.TyId.{TyId}
-use Rattle.life_tree.specs.Views.{boxed, expr_tree, init_list_tree, initial_tree, initializer_tree, list_tree, optional_tree, print_item_tree, print_part_tree}
+use Rattle.life_tree.specs.Views.{boxed, expr_tree, init_list_tree, initial_tree, initializer_tree, list_tree, optional_tree, print_item_tree, print_part_tree, postfix_tree, simple_tree, target_tree}
 use Rattle.life_tree.specs.declared.declaration.InitialValue.{InitialValue}
 use Rattle.life_tree.specs.declared.declaration.InitialValue.TheVariants as initial_value
 use Rattle.life_tree.specs.declared.declaration.Initializer.{Initializer}
@@ -17,28 +17,34 @@ use Rattle.life_tree.specs.declared.primary.PostfixPart.TheFolds.{fold_out-InitL
 use Rattle.life_tree.specs.declared.stmt.PrintItem.{PrintItem}
 use Rattle.life_tree.specs.declared.stmt.PrintItem.TheVariants as print_item
 use Rattle.life_tree.specs.declared.stmt.PrintPart.{PrintPart}
-use Rattle.life_typed.specs.Operators.{is_condition}
+use Rattle.life_tree.specs.declared.operator.StepOperator.{StepOperator}
+use Rattle.life_tree.specs.declared.primary.Postfix.{Postfix}
+use Rattle.life_tree.specs.declared.simple.Simple.{Simple}
+use Rattle.life_tree.specs.declared.simple.Simple.TheVariants as simple
+use Rattle.life_tree.specs.declared.simple.Target.{Target}
 use Rattle.life_typed.specs.TypedForm.{Typed}
-use Rattle.life_typed.specs.TypedStatement.{InitialForm, ItemForm, ListForm, line_end, one, printed, several}
+use Rattle.life_typed.specs.TypedStatement.{InitialForm, ItemForm, ListForm, line_end, one, printed, several, SimpleForm, assign, compound, discarded, step}
+use Rattle.life_typed.specs.Statements.{compounded}
 use Rattle.life_names.specs.Environment.{Scope}
 use Rattle.life_names.specs.Found.{allowed}
-use Rattle.life_names.specs.declared.fault.IllKind.TheVariants as kinds
-use Rattle.life_type_expr.specs.Expressions.{PartMeaning, expr_meaning, init_list_meaning}
-use Rattle.life_type_expr.specs.Expressions.{part_step, primary_step, unary_step, additive_step, additive_part, multiplicative_step, multiplicative_part, equality_step, equality_part, relational_step, relational_part, and_part, arguments_step, expr_step, init_list_step, logical_and_step, or_part, postfix_step}
-use Rattle.life_type_expr.specs.Lists.{ListMeaning, Meaning}
+use Rattle.life_type_expr.specs.Expressions.{PartMeaning, expr_meaning, init_list_meaning, part_step, primary_step, unary_step, additive_step, additive_part, multiplicative_step, multiplicative_part, equality_step, equality_part, relational_step, relational_part, and_part, arguments_step, expr_step, init_list_step, logical_and_step, or_part, postfix_step}
+use Rattle.life_type_expr.specs.Lists.{ListMeaning, Meaning, fits_at_all}
 use Rattle.life_type_expr.specs.Operands.{literal_allowed}
 use Rattle.life_type_stmt.specs.Autos.{auto_given, auto_value, lone_elements, lone_list}
-use Rattle.life_type_stmt.specs.Conditions.{condition, item, items, optional_condition, unless}
+use Rattle.life_type_stmt.specs.Conditions.{condition, item, items, optional_condition}
 use Rattle.life_type_stmt.specs.Given.{given_expr, given_first, given_list, given_value}
 use Rattle.life_type_stmt.specs.Ranges.{RangeForm, elements_of}
 use Rattle.life_type_stmt.specs.Returns.{returned}
-use Rattle.life_well_typed.specs.AsParsed.{are_items_as_parsed, has_longs, has_longs_if_any, have_longs, is_first_as_parsed, is_initial_as_parsed}
+use Rattle.life_type_stmt.specs.Simples.{compound_fault, operand, optional_simple, simple_statement, step_fault, stepped, target, type_of}
+use Rattle.life_well_typed.specs.AsParsed.{are_items_as_parsed, has_longs, has_longs_if_any, have_longs, is_first_as_parsed, is_initial_as_parsed, is_simple_as_parsed, is_step_as_parsed}
+use Rattle.life_well_typed.specs.Statements.{ends_in_arguments}
 use Rattle.life_typing_laws.proofs.Each.{EachHolds}
-use Rattle.life_typing_laws.proofs.LongLists.{AreLong, passed_long}
-use Rattle.life_typing_laws.proofs.LongOperands.{GiveLong, GivesLong, IsLong}
+use Rattle.life_typing_laws.proofs.Longs.{AreLong, EndsInArguments, GiveLong, GivesLong, IsLong, passed_long}
 use Rattle.life_typing_laws.proofs.ReadTrees.{IsRead}
-use Rattle.life_typing_laws.proofs.Wholes.{additive_laws, expr_laws, init_list_laws}
-use Rattle.life_typing_laws.proofs.Yields.{Finds, Yields, finds_none, finds_ok, yields_given, yields_ok, yields_then}
+use Rattle.life_typing_laws.proofs.Values.{condition_reads, given_expr_reads, operand_reads, target_reads}
+use Rattle.life_typing_laws.proofs.Wholes.{additive_laws, expr_laws, init_list_laws, postfix_laws}
+use Rattle.life_typing_laws.proofs.Yields.{Finds, Yields, finds_none, finds_ok, yields_given, yields_ok, yields_then, finds_with, yields_given_with}
+use Rattle.life_typing_laws.proofs.TargetLaws.{target_laws}
 
 -- ---- what is given
 
@@ -48,8 +54,8 @@ IsParsedInitial value = is_initial_as_parsed value ≡ true
 abbrev pub IsParsedFirst : Option InitialForm → Type 0
 IsParsedFirst value = is_first_as_parsed value ≡ true
 
-pub expr_given : (target : Ty) (e : Expr) → IsRead (expr_tree e) → (scope : Scope) (types : Types) → Yields IsLong (given_expr target e scope types)
-expr_given target e read scope types = yields_then IsLong IsLong _ _ ((expr_laws e).long read scope types) (λ x l. yields_given _ _ _ (λ _. yields_ok IsLong x.0 x.1 l))
+expr_given : (target : Ty) (e : Expr) → IsRead (expr_tree e) → (scope : Scope) (types : Types) → Yields IsLong (given_expr target e scope types)
+expr_given target e read scope types x h = (expr_laws e).long read scope types x (given_expr_reads target e scope types x h)
 
 list_given : (target : Ty) (l : InitList) → IsRead (init_list_tree l) → (scope : Scope) (types : Types) → Yields IsParsedInitial (given_list target l scope types)
 list_given target l read scope types =
@@ -100,9 +106,7 @@ auto_first (Some (initializer.List l)) read scope types = yields_then IsParsedIn
 -- ---- what decides
 
 pub condition_long : (e : Expr) → IsRead (expr_tree e) → (scope : Scope) (types : Types) → Yields IsLong (condition e scope types)
-condition_long e read scope types =
-    yields_then IsLong IsLong _ _ ((expr_laws e).long read scope types) (λ x l.
-    yields_given IsLong (literal_allowed false x.0) _ (λ _. yields_given IsLong (allowed (unless (is_condition x.0.ty) kinds.WrongType) x.0.place) _ (λ _. yields_ok IsLong x.0 x.1 l)))
+condition_long e read scope types x h = (expr_laws e).long read scope types x (condition_reads e scope types x h).0
 
 abbrev pub IsLongIfAny : Option Typed → Type 0
 IsLongIfAny e = has_longs_if_any e ≡ true
@@ -151,3 +155,48 @@ IsLongRange r = IsLong r.range
 pub elements_long : (o : Option (TyId × Bool)) (colon : Place) (e : Typed) → IsLong e → Finds IsLongRange (elements_of o colon e)
 elements_long None colon e l = finds_none _ _
 elements_long (Some element) colon e l = finds_ok _ _ l
+
+-- ---- targets
+
+target_long : (t : Target) → IsRead (target_tree t) → (scope : Scope) (types : Types) → Yields IsLong (target t scope types)
+target_long t read scope types x h = (target_laws t).long read scope types x (target_reads t scope types x h)
+
+operand_long : (p : Postfix) → IsRead (postfix_tree p) → (scope : Scope) (types : Types) → Yields IsLong (operand p scope types)
+operand_long p read scope types x h = (postfix_laws p).long read scope types x (operand_reads p scope types x h)
+
+-- ---- simple statements
+
+abbrev pub IsParsedSimple : SimpleForm → Type 0
+IsParsedSimple s = is_simple_as_parsed s ≡ true
+
+step_long : (operator : StepOperator) (place : Place) (t : Typed) → IsLong t → Finds IsParsedSimple (stepped operator place t)
+step_long operator place t l = finds_with IsParsedSimple (allowed (step_fault t) place) _ (λ _. finds_ok IsParsedSimple (step t operator place) l)
+
+-- a call that stands alone
+abbrev IsCall : Typed → Type 0
+IsCall e = IsLong e × EndsInArguments e
+
+pub simple_long : (s : Simple) → IsRead (simple_tree s) → (scope : Scope) (types : Types) → Yields IsParsedSimple (simple_statement s scope types)
+simple_long (simple.Assign t equals value) read scope types =
+    yields_then IsLong IsParsedSimple _ _ (target_long t read.1.0 scope types) (λ x l. yields_then IsParsedInitial IsParsedSimple _ _ (value_given _ value read.1.1.1 scope x.1) (λ y m.
+    yields_given _ _ _ (λ _. yields_ok IsParsedSimple (assign x.0 equals y.0) y.1 (and_from (has_longs x.0.form) (is_initial_as_parsed y.0) l m))))
+simple_long (simple.Compound t operator place e) read scope types =
+    yields_then IsLong IsParsedSimple _ _ (target_long t read.1.0 scope types) (λ x l. yields_then IsLong IsParsedSimple _ _ ((expr_laws e.value).long read.1.1.1 scope x.1) (λ y m.
+    yields_given IsParsedSimple (literal_allowed (fits_at_all (compounded operator (type_of x.0.ty) y.0.ty)) y.0) _ (λ _.
+    yields_given IsParsedSimple (allowed (compound_fault (compounded operator (type_of x.0.ty) y.0.ty) x.0) place) _ (λ _. yields_ok IsParsedSimple (compound x.0 operator place y.0) y.1 (and_from (has_longs x.0.form) (has_longs y.0.form) l m)))))
+simple_long (simple.PrefixStep operator place t) read scope types =
+    yields_then IsLong IsParsedSimple _ _ (target_long t read.1 scope types) (λ x l. yields_given_with IsParsedSimple _ _ _ (step_long operator place x.0 l) (λ s m. yields_ok IsParsedSimple s x.1 m))
+simple_long (simple.PostfixStep t operator place) read scope types =
+    yields_then IsLong IsParsedSimple _ _ (operand_long t read.1.0.1 scope types) (λ x l. yields_given_with IsParsedSimple _ _ _ (step_long operator place x.0 l) (λ s m. yields_ok IsParsedSimple s x.1 m))
+simple_long (simple.Call call) read scope types =
+    yields_then IsCall IsParsedSimple _ _
+    (yields_then IsCall IsCall _ _ (λ x gave. ((postfix_laws call).long read.1.0.1 scope types x gave, (postfix_laws call).ends read.0 scope types x gave)) (λ x c.
+    yields_given _ _ _ (λ _. yields_ok IsCall x.0 x.1 c)))
+    (λ x c. yields_ok IsParsedSimple (discarded x.0) x.1 (and_from (ends_in_arguments x.0.form) (has_longs x.0.form) c.1 c.0))
+
+abbrev pub IsParsedStep : Option SimpleForm → Type 0
+IsParsedStep s = is_step_as_parsed s ≡ true
+
+pub optional_simple_long : (s : Option (Box Simple Global)) → IsRead (optional_tree (boxed simple_tree) s) → (scope : Scope) (types : Types) → Yields IsParsedStep (optional_simple s scope types)
+optional_simple_long None read scope types = yields_ok IsParsedStep None types refl
+optional_simple_long (Some s) read scope types = yields_then IsParsedSimple IsParsedStep _ _ (simple_long s.value read scope types) (λ x l. yields_ok IsParsedStep (Some x.0) x.1 l)

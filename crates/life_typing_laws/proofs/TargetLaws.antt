@@ -13,7 +13,7 @@ use Rattle.life_type_expr.specs.Lists.{Meaning}
 use Rattle.life_unique.proofs.TargetLayers.{Layer-Target, parts_target, tree_of_target, trees_target}
 use Rattle.life_unique.specs.SettledSimples.{Opened-Target}
 use Rattle.life_typing_laws.proofs.ExpressionLaws.{Laws, prefix_keeps}
-use Rattle.life_typing_laws.proofs.Pairs.{made_of}
+use Rattle.life_typing_laws.proofs.Each.{made_of}
 use Rattle.life_typing_laws.proofs.Wholes.{postfix_laws}
 
 abbrev claim : Target → Type 0

@@ -32,8 +32,7 @@ use Rattle.life_well_typed.specs.AsParsed.{has_longs}
 use Rattle.life_typing_laws.specs.Served.{is_served_form}
 use Rattle.life_typing_laws.proofs.ExpressionLaws.{PostfixLaws, PostfixPartLaws}
 use Rattle.life_typing_laws.proofs.Expressions.{never_good, never_good_behind}
-use Rattle.life_typing_laws.proofs.LongLists.{AreLong, EndsInArguments, first_long, forms_long, passed_long}
-use Rattle.life_typing_laws.proofs.LongOperands.{GiveLong, GivesLong, IsLong, pointed_long}
+use Rattle.life_typing_laws.proofs.Longs.{AreLong, EndsInArguments, first_long, forms_long, GiveLong, GivesLong, IsLong, passed_long, pointed_long}
 use Rattle.life_typing_laws.proofs.ReadTrees.{IsRead}
 use Rattle.life_typing_laws.proofs.Yields.{Finds, Yields, finds_if, finds_none, finds_ok, yields_behind, yields_found, yields_given, yields_given_with, yields_ok, yields_then}
 

@@ -49,9 +49,8 @@ use Rattle.life_unique.proofs.ExpressionLayers.{tree_of_part, tree_of_primary, t
 use Rattle.life_unique.specs.SettledExpressions.{Opened-PostfixPart, Opened-Primary, Opened-Unary, Opened-Additive, Opened-AdditivePart, Opened-Multiplicative, Opened-MultiplicativePart, Opened-Equality, Opened-EqualityPart, Opened-Relational, Opened-RelationalPart, Opened-AndPart, Opened-Arguments, Opened-Expr, Opened-InitList, Opened-LogicalAnd, Opened-OrPart, Opened-Postfix}
 use Rattle.life_typing_laws.proofs.ExpressionLaws.{BehindLaws, Laws, ListLaws, PostfixLaws, PostfixPartLaws, alone_keeps, chain_keeps, list_keeps, never, operand_keeps, postfix_keeps, prefix_keeps}
 use Rattle.life_typing_laws.proofs.Expressions.{call_good, name_good}
-use Rattle.life_typing_laws.proofs.LongLists.{call_ends, call_long, name_long}
-use Rattle.life_typing_laws.proofs.LongOperands.{paren_long}
-use Rattle.life_typing_laws.proofs.Pairs.{made_of, paired}
+use Rattle.life_typing_laws.proofs.Longs.{call_ends, call_long, name_long, paren_long}
+use Rattle.life_typing_laws.proofs.Each.{made_of, paired}
 use Rattle.life_typing_laws.proofs.Prefixes.{paren_good}
 use Rattle.life_typing_laws.proofs.ReadTrees.{IsRead}
 use Rattle.life_typing_laws.proofs.Unserved.{IsUnserved, arrow_none, construct_none, dot_none, index_none, move_none, text_none, unique_none, unserved_behind, unserved_laws}
