@@ -29,7 +29,6 @@ use Rattle.life_typing_laws.proofs.Fitting.{arguments_given, first_none}
 use Rattle.life_typing_laws.proofs.Growing.{parts_there}
 use Rattle.life_typing_laws.proofs.Operands.{answer_form, answer_stays, function_is, local_is, variable_stays}
 use Rattle.life_typing_laws.proofs.Reading.{IsPassed, passed_is}
-use Rattle.life_typing_laws.specs.Sound.{IsFinal, IsSound}
 use Rattle.life_typing_laws.proofs.Steps.{bound, given_ok}
 use Rattle.life_typing_laws.proofs.Typed.{Good, GoodBehind, GoodList, IsTyped, PartsThere, PlaceThere, not_served}
 
@@ -62,36 +61,16 @@ answer_place types _ place form parts = tt
 module _ (m : Meaning) (e : Typed) (gives : (scope : Scope) (types : Types) → m scope types ≡ Ok (e, types))
     (is : (p : ProgramForm) (locals : List TypedLocal) (v : Visible) (types : Types) → is_served_form e.form ≡ true → IsTyped p locals v types e) where
   pub alone_good : Good m
-  alone_good = record { same = same; is = typed }
-    where
-      found : (scope : Scope) (types : Types) (x : Typed × Types) → m scope types ≡ Ok x → ◌≡◌ {A = Typed × Types} (e, types) x
-      found scope types x h = same_value (sym (gives scope types) ∙ h)
-        where
-          same_value : ◌≡◌ {A = Checked Typed} (Ok (e, types)) (Ok x) → ◌≡◌ {A = Typed × Types} (e, types) x
-          same_value h = cc
-
-      same : (scope : Scope) (types : Types) (x : Typed × Types) → m scope types ≡ Ok x → is_served_form x.0.form ≡ true → x.1 ≡ types
-      same scope types x h served = ap (λ (y : Typed × Types). y.1) (sym (found scope types x h))
-
-      typed : (p : ProgramForm) (locals : List TypedLocal) (v : Visible) (scope : Scope) (types : Types) (x : Typed × Types) → m scope types ≡ Ok x → is_served_form x.0.form ≡ true
-          → IsSound v scope types → IsFinal p locals scope types → IsTyped p locals v types x.0
-      typed p locals v scope types x h served sound final =
-          let e_is : e ≡ x.0 = ap (λ (y : Typed × Types). y.0) (found scope types x h) in
-          subst (IsTyped p locals v types) e_is (is p locals v types (subst (λ (y : Typed). is_served_form y.form ≡ true) (sym e_is) served))
+  alone_good scope types x h served =
+      let parts = ok_parts e types x (sym (gives scope types) ∙ h) in
+      record { same = sym parts.1; is = λ p locals v sound final. subst (IsTyped p locals v types) parts.0 (is p locals v types (subst (λ (y : Typed). is_served_form y.form ≡ true) (sym parts.0) served)) }
 
 -- what is never served
 pub never_good : (m : Meaning) → ((scope : Scope) (types : Types) (x : Typed × Types) → m scope types ≡ Ok x → is_served_form x.0.form ≡ false) → Good m
-never_good m never = record {
-  same = λ scope types x h served. not_served x.0.form (never scope types x h) served;
-  is = λ p locals v scope types x h served sound final. not_served x.0.form (never scope types x h) served;
-}
+never_good m never scope types x h served = not_served x.0.form (never scope types x h) served
 
 pub never_good_behind : (q : PartMeaning) → ((left : Typed) (scope : Scope) (types : Types) (x : Typed × Types) → q left scope types ≡ Ok x → is_served_form x.0.form ≡ false) → GoodBehind q
-never_good_behind q never = record {
-  back = λ left scope types x h served. not_served x.0.form (never left scope types x h) served;
-  same = λ left scope types x h served. not_served x.0.form (never left scope types x h) served;
-  is = λ p locals v left scope types x h served sound final left_is. not_served x.0.form (never left scope types x h) served;
-}
+never_good_behind q never left scope types x h served = not_served x.0.form (never left scope types x h) served
 
 -- ---- variables
 
@@ -108,24 +87,24 @@ named_is name scope types x e =
     (found.value, found.gave, parts.0, parts.1)
 
 pub name_good : (name : Identifier) → Good (named name)
-name_good name = record { same = λ scope types x e served. sym (named_is name scope types x e).3; is = typed }
-  where
-    typed : (p : ProgramForm) (locals : List TypedLocal) (v : Visible) (scope : Scope) (types : Types) (x : Typed × Types) → named name scope types ≡ Ok x → is_served_form x.0.form ≡ true
-        → IsSound v scope types → IsFinal p locals scope types → IsTyped p locals v types x.0
-    typed p locals v scope types x e served sound final =
-        let n = named_is name scope types x e in
-        let l = n.0 in
-        let l_is = local_is name scope l n.1 in
-        let there : HasType types l.1.ty = sound.locals_there l.0 l.1 l_is.there in
-        let parts : HasParts types (type_at types l.1.ty) = parts_there types l.1.ty sound.ordered there in
-        let stays = variable_stays types p.types final.grown l name.place x.0 there parts n.2 in
-        let kept : slice_get locals l.0 ≡ Some l.1 = final.kept l.0 l.1 l_is.there in
-        record {
-          is = subst (IsMadeOf p locals v.visible x.0) (sym stays.0)
-              (sound.visible name.id.0 l.0 l_is.means, subst (λ (o : Option TypedLocal). IsVariable p.types l.0 o x.0) (sym kept) stays.1);
-          parts = subst (λ (y : Typed). PartsThere types y.ty) n.2 (variable_parts types (type_at types l.1.ty) l.1.ty l.1.constant name.place (local l.0) sound.ordered there parts);
-          place = subst (λ (y : Typed). PlaceThere types y.category) n.2 (variable_place types (type_at types l.1.ty) l.1.ty l.1.constant name.place (local l.0) there parts);
-        }
+name_good name scope types x e served =
+    let n = named_is name scope types x e in
+    let l = n.0 in
+    let l_is = local_is name scope l n.1 in
+    record {
+      same = sym n.3;
+      is = λ p locals v sound final.
+          let there : HasType types l.1.ty = sound.locals_there l.0 l.1 l_is.there in
+          let parts : HasParts types (type_at types l.1.ty) = parts_there types l.1.ty sound.ordered there in
+          let stays = variable_stays types p.types final.grown l name.place x.0 there parts n.2 in
+          let kept : slice_get locals l.0 ≡ Some l.1 = final.kept l.0 l.1 l_is.there in
+          record {
+            is = subst (IsMadeOf p locals v.visible x.0) (sym stays.0)
+                (sound.visible name.id.0 l.0 l_is.means, subst (λ (o : Option TypedLocal). IsVariable p.types l.0 o x.0) (sym kept) stays.1);
+            parts = subst (λ (y : Typed). PartsThere types y.ty) n.2 (variable_parts types (type_at types l.1.ty) l.1.ty l.1.constant name.place (local l.0) sound.ordered there parts);
+            place = subst (λ (y : Typed). PlaceThere types y.category) n.2 (variable_place types (type_at types l.1.ty) l.1.ty l.1.constant name.place (local l.0) there parts);
+          };
+    }
 
 -- ---- calls
 
@@ -168,49 +147,39 @@ count_is ids n e = go (nat_eq n (length ids)) refl e
     go false same e = absurd (cc)
 
 pub call_good : (name : Identifier) (arguments : ListMeaning) → GoodList arguments → Good (call_of name arguments)
-call_good name arguments good = record { same = same; is = typed }
-  where
-    form_is : (scope : Scope) (types : Types) (x : Typed × Types) (c : IsCalled name arguments scope types x) → x.0.form ≡ call c.f.0 (forms c.y.0) arguments.closing
-    form_is scope types x c = subst (λ (z : Typed). z.form ≡ call c.f.0 (forms c.y.0) arguments.closing) c.is
-        (answer_form c.y.1 (type_at c.y.1 c.f.1.result) name.place (call c.f.0 (forms c.y.0) arguments.closing))
-
-    served_arguments : (scope : Scope) (types : Types) (x : Typed × Types) (c : IsCalled name arguments scope types x) → is_served_form x.0.form ≡ true → is_served_form (forms c.passed.read.more) ≡ true
-    served_arguments scope types x c served =
-        subst (λ (es : List Typed). is_served_form (forms es) ≡ true) c.passed.read.all (subst (λ (f : Form). is_served_form f ≡ true) (form_is scope types x c) served)
-
-    same : (scope : Scope) (types : Types) (x : Typed × Types) → call_of name arguments scope types ≡ Ok x → is_served_form x.0.form ≡ true → x.1 ≡ types
-    same scope types x e served =
-        let c = called_is name arguments scope types x good e in
-        sym c.table ∙ c.passed.read.same (served_arguments scope types x c served)
-
-    typed : (p : ProgramForm) (locals : List TypedLocal) (v : Visible) (scope : Scope) (types : Types) (x : Typed × Types) → call_of name arguments scope types ≡ Ok x → is_served_form x.0.form ≡ true
-        → IsSound v scope types → IsFinal p locals scope types → IsTyped p locals v types x.0
-    typed p locals v scope types x e served sound final =
-        let c = called_is name arguments scope types x good e in
-        let served_all = served_arguments scope types x c served in
-        let table : c.y.1 ≡ types = c.passed.read.same served_all in
-        let s = c.f.1 in
-        let answered : answer_of (type_at types s.result) types name.place (call c.f.0 (forms c.y.0) arguments.closing) ≡ x.0 =
-        subst (λ (t : Types). answer_of (type_at t s.result) t name.place (call c.f.0 (forms c.y.0) arguments.closing) ≡ x.0) table c.is in
-        let has = final.functions c.f.0 s c.there in
-        let result_there : HasType types s.result = sound.results_there c.f.0 s c.there in
-        let result_parts : HasParts types (type_at types s.result) = parts_there types s.result sound.ordered result_there in
-        let answer : x.0 ≡ answer_of (type_at p.types s.result) p.types x.0.place x.0.form =
-        answer_stays types p.types final.grown s.result name.place (call c.f.0 (forms c.y.0) arguments.closing) x.0 result_there result_parts answered in
-        let fine : misfits kinds.WrongArguments (parameters s.parameters) types (lower_kind None (count_fault kinds.WrongArguments (parameters s.parameters) (length c.y.0))) 0 c.y.0 ≡ None =
-        subst (λ (t : Types). misfits kinds.WrongArguments (parameters s.parameters) t (lower_kind None (count_fault kinds.WrongArguments (parameters s.parameters) (length c.y.0))) 0 c.y.0 ≡ None) table c.passed.fine in
-        let count : length c.y.0 ≡ length s.parameters =
-        count_is s.parameters (length c.y.0) (first_none kinds.WrongArguments (parameters s.parameters) types (count_fault kinds.WrongArguments (parameters s.parameters) (length c.y.0)) 0 c.y.0 fine) in
-        let given_all : are_given p.types s.parameters (forms c.y.0) ≡ true =
-        arguments_given kinds.WrongArguments s.parameters types p.types final.grown s.parameters c.y.0 0 (count_fault kinds.WrongArguments (parameters s.parameters) (length c.y.0))
-        (sound.parameters_there c.f.0 s c.there) (λ k. let none_more : 0 + k ≡ k = omega arith in ap (slice_get s.parameters) none_more) count fine in
-        record {
-          is = subst (IsMadeOf p locals v.visible x.0) (sym (form_is scope types x c)) (
-            subst (λ (o : Option FunctionForm). HasResult p.types o x.0) (sym has.there) (subst (λ (id : TyId). x.0 ≡ answer_of (type_at p.types id) p.types x.0.place x.0.form) (sym has.result) answer),
-            subst (λ (o : Option FunctionForm). are_given p.types (parameter_types o) (forms c.y.0) ≡ true) (sym has.there)
-                (subst (λ (ids : List TyId). are_given p.types ids (forms c.y.0) ≡ true) (sym has.parameters) given_all),
-            subst (λ (es : List Typed). AreExpressions p locals v.visible (forms es)) (sym c.passed.read.all) (c.passed.read.are p locals v served_all sound final),
-          );
-          parts = subst (λ (y : Typed). PartsThere types y.ty) answered (answer_parts types (type_at types s.result) name.place (call c.f.0 (forms c.y.0) arguments.closing) sound.ordered result_parts);
-          place = subst (λ (y : Typed). PlaceThere types y.category) answered (answer_place types (type_at types s.result) name.place (call c.f.0 (forms c.y.0) arguments.closing) result_parts);
-        }
+call_good name arguments good scope types x e served =
+    let c = called_is name arguments scope types x good e in
+    let form_is : x.0.form ≡ call c.f.0 (forms c.y.0) arguments.closing =
+    subst (λ (z : Typed). z.form ≡ call c.f.0 (forms c.y.0) arguments.closing) c.is (answer_form c.y.1 (type_at c.y.1 c.f.1.result) name.place (call c.f.0 (forms c.y.0) arguments.closing)) in
+    let served_all : is_served_form (forms c.passed.read.more) ≡ true =
+    subst (λ (es : List Typed). is_served_form (forms es) ≡ true) c.passed.read.all (subst (λ (f : Form). is_served_form f ≡ true) form_is served) in
+    let table : c.y.1 ≡ types = c.passed.read.same served_all in
+    record {
+      same = sym c.table ∙ table;
+      is = λ p locals v sound final.
+          let s = c.f.1 in
+          let answered : answer_of (type_at types s.result) types name.place (call c.f.0 (forms c.y.0) arguments.closing) ≡ x.0 =
+          subst (λ (t : Types). answer_of (type_at t s.result) t name.place (call c.f.0 (forms c.y.0) arguments.closing) ≡ x.0) table c.is in
+          let has = final.functions c.f.0 s c.there in
+          let result_there : HasType types s.result = sound.results_there c.f.0 s c.there in
+          let result_parts : HasParts types (type_at types s.result) = parts_there types s.result sound.ordered result_there in
+          let answer : x.0 ≡ answer_of (type_at p.types s.result) p.types x.0.place x.0.form =
+          answer_stays types p.types final.grown s.result name.place (call c.f.0 (forms c.y.0) arguments.closing) x.0 result_there result_parts answered in
+          let fine : misfits kinds.WrongArguments (parameters s.parameters) types (lower_kind None (count_fault kinds.WrongArguments (parameters s.parameters) (length c.y.0))) 0 c.y.0 ≡ None =
+          subst (λ (t : Types). misfits kinds.WrongArguments (parameters s.parameters) t (lower_kind None (count_fault kinds.WrongArguments (parameters s.parameters) (length c.y.0))) 0 c.y.0 ≡ None) table c.passed.fine in
+          let count : length c.y.0 ≡ length s.parameters =
+          count_is s.parameters (length c.y.0) (first_none kinds.WrongArguments (parameters s.parameters) types (count_fault kinds.WrongArguments (parameters s.parameters) (length c.y.0)) 0 c.y.0 fine) in
+          let given_all : are_given p.types s.parameters (forms c.y.0) ≡ true =
+          arguments_given kinds.WrongArguments s.parameters types p.types final.grown s.parameters c.y.0 0 (count_fault kinds.WrongArguments (parameters s.parameters) (length c.y.0))
+          (sound.parameters_there c.f.0 s c.there) (λ k. let none_more : 0 + k ≡ k = omega arith in ap (slice_get s.parameters) none_more) count fine in
+          record {
+            is = subst (IsMadeOf p locals v.visible x.0) (sym form_is) (
+              subst (λ (o : Option FunctionForm). HasResult p.types o x.0) (sym has.there) (subst (λ (id : TyId). x.0 ≡ answer_of (type_at p.types id) p.types x.0.place x.0.form) (sym has.result) answer),
+              subst (λ (o : Option FunctionForm). are_given p.types (parameter_types o) (forms c.y.0) ≡ true) (sym has.there)
+                  (subst (λ (ids : List TyId). are_given p.types ids (forms c.y.0) ≡ true) (sym has.parameters) given_all),
+              subst (λ (es : List Typed). AreExpressions p locals v.visible (forms es)) (sym c.passed.read.all) (c.passed.read.are p locals v served_all sound final),
+            );
+            parts = subst (λ (y : Typed). PartsThere types y.ty) answered (answer_parts types (type_at types s.result) name.place (call c.f.0 (forms c.y.0) arguments.closing) sound.ordered result_parts);
+            place = subst (λ (y : Typed). PlaceThere types y.category) answered (answer_place types (type_at types s.result) name.place (call c.f.0 (forms c.y.0) arguments.closing) result_parts);
+          };
+    }

@@ -158,14 +158,14 @@ returned_is result keyword (Some e) scope types x h served =
     let same = same_value {A = Option Typed} (Some step.value.0, step.value.1) x fine.1 in
     let served_value : is_served_form step.value.0.form ≡ true = subst (λ (z : Option Typed × Types). is_served_if_any z.0 ≡ true) (sym same) served in
     let reads = given_expr_reads (type_at types result) e.value scope types step.value step.gave in
-    let table : step.value.1 ≡ types = (expr_laws e.value).good.same scope types step.value reads served_value in
+    let table : step.value.1 ≡ types = ((expr_laws e.value).good scope types step.value reads served_value).same in
     subst (IsGivenBack result scope types) same (record {
       same = table;
       is = λ p locals v sound final there.
           let given = result_given step.value.1 p.types (subst (λ (s : Types). Grows s p.types) (sym table) final.grown) (type_at types result) result named step.value.0 fine.0 in (
             subst (λ (t : Ty). is_void t ≡ false) (sym (same_type_at types p.types result final.grown there)) given.0,
             subst (λ (t : Ty). is_given p.types t step.value.0 ≡ true) (sym (same_type_at types p.types result final.grown there)) given.1,
-            ((expr_laws e.value).good.is p locals v scope types step.value reads served_value sound final).is,
+            (((expr_laws e.value).good scope types step.value reads served_value).is p locals v sound final).is,
           );
     })
 

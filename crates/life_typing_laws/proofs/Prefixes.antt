@@ -154,21 +154,14 @@ prefixed_is operator place operand scope types x e =
     record { inner = step.value; reads = step.gave; is = found.0; table = found.1 }
 
 pub prefix_good : (operator : PrefixOperator) (place : Place) (operand : Meaning) → Good operand → Good (prefix_of operator place operand)
-prefix_good operator place operand good = record { same = same; is = typed }
-  where
-    same : (scope : Scope) (types : Types) (x : Typed × Types) → prefix_of operator place operand scope types ≡ Ok x → is_served_form x.0.form ≡ true → x.1 ≡ types
-    same scope types x e served =
-        let q = prefixed_is operator place operand scope types x e in
-        sym q.table ∙ good.same scope types q.inner q.reads (prefixed_served operator q.inner.1 place q.inner.0 x.0 q.is served)
-
-    typed : (p : ProgramForm) (locals : List TypedLocal) (v : Visible) (scope : Scope) (types : Types) (x : Typed × Types) → prefix_of operator place operand scope types ≡ Ok x → is_served_form x.0.form ≡ true
-        → IsSound v scope types → IsFinal p locals scope types → IsTyped p locals v types x.0
-    typed p locals v scope types x e served sound final =
-        let q = prefixed_is operator place operand scope types x e in
-        let served_inner = prefixed_served operator q.inner.1 place q.inner.0 x.0 q.is served in
-        let table : q.inner.1 ≡ types = good.same scope types q.inner q.reads served_inner in
-        prefixed_typed p locals v scope types sound final operator place q.inner.0 x.0 (subst (λ (t : Types). prefixed_by operator t place q.inner.0 ≡ Ok x.0) table q.is)
-        (good.is p locals v scope types q.inner q.reads served_inner sound final)
+prefix_good operator place operand good scope types x e served =
+    let q = prefixed_is operator place operand scope types x e in
+    let inner = good scope types q.inner q.reads (prefixed_served operator q.inner.1 place q.inner.0 x.0 q.is served) in
+    record {
+      same = sym q.table ∙ inner.same;
+      is = λ p locals v sound final.
+          prefixed_typed p locals v scope types sound final operator place q.inner.0 x.0 (subst (λ (t : Types). prefixed_by operator t place q.inner.0 ≡ Ok x.0) inner.same q.is) (inner.is p locals v sound final);
+    }
 
 -- ---- parentheses
 
@@ -194,19 +187,12 @@ paren_is closing operand scope types x e =
     same_ok a b h = cc
 
 pub paren_good : (closing : Place) (operand : Meaning) → Good operand → Good (paren_of closing operand)
-paren_good closing operand good = record { same = same; is = typed }
-  where
-    served_inner : (scope : Scope) (types : Types) (x : Typed × Types) (q : IsParen closing operand scope types x) → is_served_form x.0.form ≡ true → is_served_form q.inner.0.form ≡ true
-    served_inner scope types x q served = subst (λ (y : Typed). is_served_form y.form ≡ true) (sym q.is) served
-
-    same : (scope : Scope) (types : Types) (x : Typed × Types) → paren_of closing operand scope types ≡ Ok x → is_served_form x.0.form ≡ true → x.1 ≡ types
-    same scope types x e served =
-        let q = paren_is closing operand scope types x e in
-        sym q.table ∙ good.same scope types q.inner q.reads (served_inner scope types x q served)
-
-    typed : (p : ProgramForm) (locals : List TypedLocal) (v : Visible) (scope : Scope) (types : Types) (x : Typed × Types) → paren_of closing operand scope types ≡ Ok x → is_served_form x.0.form ≡ true
-        → IsSound v scope types → IsFinal p locals scope types → IsTyped p locals v types x.0
-    typed p locals v scope types x e served sound final =
-        let q = paren_is closing operand scope types x e in
-        let inner = good.is p locals v scope types q.inner q.reads (served_inner scope types x q served) sound final in
-        subst (IsTyped p locals v types) q.is (record { is = (refl, inner.is); parts = inner.parts; place = inner.place })
+paren_good closing operand good scope types x e served =
+    let q = paren_is closing operand scope types x e in
+    let inner = good scope types q.inner q.reads (subst (λ (y : Typed). is_served_form y.form ≡ true) (sym q.is) served) in
+    record {
+      same = sym q.table ∙ inner.same;
+      is = λ p locals v sound final.
+          let typed = inner.is p locals v sound final in
+          subst (IsTyped p locals v types) q.is (record { is = (refl, typed.is); parts = typed.parts; place = typed.place });
+    }

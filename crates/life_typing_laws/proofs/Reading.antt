@@ -55,11 +55,11 @@ all_read targets done (m ∷ ms) scope types x good e =
     record {
       more = step.value.0 ∷ rest.more;
       all = rest.all ∙ append_assoc done (step.value.0 ∷ []) rest.more;
-      same = λ served. let parts = and_parts (is_served_form step.value.0.form) (is_served_form (forms rest.more)) served in rest.same parts.1 ∙ good.0.same scope types step.value step.gave parts.0;
+      same = λ served. let parts = and_parts (is_served_form step.value.0.form) (is_served_form (forms rest.more)) served in rest.same parts.1 ∙ (good.0 scope types step.value step.gave parts.0).same;
       are = λ p locals v served sound final.
           let parts = and_parts (is_served_form step.value.0.form) (is_served_form (forms rest.more)) served in
-          let table : step.value.1 ≡ types = good.0.same scope types step.value step.gave parts.0 in (
-            (good.0.is p locals v scope types step.value step.gave parts.0 sound final).is,
+          let table : step.value.1 ≡ types = (good.0 scope types step.value step.gave parts.0).same in (
+            ((good.0 scope types step.value step.gave parts.0).is p locals v sound final).is,
             rest.are p locals v parts.1 (subst (IsSound v scope) (sym table) sound) (subst (IsFinal p locals scope) (sym table) final),
           );
     }

@@ -84,7 +84,7 @@ assignment_is t equals i scope types x h served =
     let fine = allowed_ok (assignment_fault second.value.1 first.value.0 second.value.0) equals (λ _. Ok (typed.assign first.value.0 equals second.value.0, second.value.1)) x second.behind in
     let parts = and_parts (is_served_form first.value.0.form) (is_served_value second.value.0) (served_as (typed.assign first.value.0 equals second.value.0, second.value.1) x fine.1 served) in
     let reads = target_reads t scope types first.value first.gave in
-    let table : first.value.1 ≡ types = (target_laws t).good.same scope types first.value reads parts.0 in
+    let table : first.value.1 ≡ types = ((target_laws t).good scope types first.value reads parts.0).same in
     let gave : given_value (type_of first.value.0.ty) i scope types ≡ Ok second.value = subst (λ (s : Types). given_value (type_of first.value.0.ty) i scope s ≡ Ok second.value) table second.gave in
     let value = value_is (type_of first.value.0.ty) i scope types second.value gave parts.1 in
     let no_place = lower_none (unless (is_place first.value.0.ty first.value.0.category) kinds.NotAssignable)
@@ -99,7 +99,7 @@ assignment_is t equals i scope types x h served =
     done_as scope types (typed.assign first.value.0 equals second.value.0, second.value.1) x fine.1 (record {
       same = value.same;
       is = λ p locals result v sound final. (
-        (place_given first.value.0 kinds.NotAssignable (self_fault first.value.0.form second.value.0) no_place.0 no_initial.1, ((target_laws t).good.is p locals v scope types first.value reads parts.0 sound final).is),
+        (place_given first.value.0 kinds.NotAssignable (self_fault first.value.0.form second.value.0) no_place.0 no_initial.1, (((target_laws t).good scope types first.value reads parts.0).is p locals v sound final).is),
         subst (λ (f : InitialForm). IsGiven p locals result v.visible (type_of first.value.0.ty) f) value.is
             (given_later second.value.1 p.types (subst (λ (s : Types). Grows s p.types) (sym value.same) final.grown) (type_of first.value.0.ty) value.value fits_it, (value.typed p locals v sound final).is),
       );
@@ -125,16 +125,16 @@ compound_is t operator place e scope types x h served =
     let fine = allowed_ok (compound_fault fit first.value.0) place (λ _. Ok (typed.compound first.value.0 operator place second.value.0, second.value.1)) x literal.behind in
     let parts = and_parts (is_served_form first.value.0.form) (is_served_form second.value.0.form) (served_as (typed.compound first.value.0 operator place second.value.0, second.value.1) x fine.1 served) in
     let reads = target_reads t scope types first.value first.gave in
-    let table : first.value.1 ≡ types = (target_laws t).good.same scope types first.value reads parts.0 in
+    let table : first.value.1 ≡ types = ((target_laws t).good scope types first.value reads parts.0).same in
     let gave : expr_meaning e scope types ≡ Ok second.value = subst (λ (s : Types). expr_meaning e scope s ≡ Ok second.value) table second.gave in
     let no_place = lower_none (unless (is_place first.value.0.ty first.value.0.category) kinds.WrongType) (lower_kind (misfit_of kinds.WrongType fit) (const_or (is_constant first.value.0.category) None)) fine.0 in
     let no_misfit = lower_none (misfit_of kinds.WrongType fit) (const_or (is_constant first.value.0.category) None) no_place.1 in
     done_as scope types (typed.compound first.value.0 operator place second.value.0, second.value.1) x fine.1 (record {
-      same = (expr_laws e).good.same scope types second.value gave parts.1;
+      same = ((expr_laws e).good scope types second.value gave parts.1).same;
       is = λ p locals result v sound final. (
         fit_at_all fit (misfit_none kinds.WrongType fit no_misfit.0),
-        (place_given first.value.0 kinds.WrongType None no_place.0 no_misfit.1, ((target_laws t).good.is p locals v scope types first.value reads parts.0 sound final).is),
-        ((expr_laws e).good.is p locals v scope types second.value gave parts.1 sound final).is,
+        (place_given first.value.0 kinds.WrongType None no_place.0 no_misfit.1, (((target_laws t).good scope types first.value reads parts.0).is p locals v sound final).is),
+        (((expr_laws e).good scope types second.value gave parts.1).is p locals v sound final).is,
       );
     })
 
@@ -164,8 +164,8 @@ step_is m good operator place scope types y x reads h served =
     let no_step = lower_none (unless (is_place y.0.ty y.0.category && can_step (type_of y.0.ty)) kinds.WrongType) (const_or (is_constant y.0.category) None) step.fine in
     let tests = and_parts (is_place y.0.ty y.0.category) (can_step (type_of y.0.ty)) (unless_none (is_place y.0.ty y.0.category && can_step (type_of y.0.ty)) kinds.WrongType no_step.0) in
     done_as scope types (typed.step y.0 operator place, y.1) x whole (record {
-      same = good.same scope types y reads served_target;
-      is = λ p locals result v sound final. (tests.1, (and_from (is_place y.0.ty y.0.category) (not (is_constant y.0.category)) tests.0 (const_none (is_constant y.0.category) None no_step.1), (good.is p locals v scope types y reads served_target sound final).is));
+      same = (good scope types y reads served_target).same;
+      is = λ p locals result v sound final. (tests.1, (and_from (is_place y.0.ty y.0.category) (not (is_constant y.0.category)) tests.0 (const_none (is_constant y.0.category) None no_step.1), ((good scope types y reads served_target).is p locals v sound final).is));
     })
 
 -- ---- all of them
@@ -184,8 +184,8 @@ simple_is (simple.Call c) scope types x h served =
     let reads = operand_reads c scope types first.value first.gave in
     let parts = and_parts (ends_in_arguments first.value.0.form) (is_served_form first.value.0.form) (served_as (typed.discarded first.value.0, first.value.1) x first.behind served) in
     done_as scope types (typed.discarded first.value.0, first.value.1) x first.behind (record {
-      same = (postfix_laws c).good.same scope types first.value reads parts.1;
-      is = λ p locals result v sound final. (parts.0, ((postfix_laws c).good.is p locals v scope types first.value reads parts.1 sound final).is);
+      same = ((postfix_laws c).good scope types first.value reads parts.1).same;
+      is = λ p locals result v sound final. (parts.0, (((postfix_laws c).good scope types first.value reads parts.1).is p locals v sound final).is);
     })
 
 -- .. where it may be left out

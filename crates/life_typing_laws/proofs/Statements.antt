@@ -95,8 +95,8 @@ pub condition_is : (e : Expr) (scope : Scope) (types : Types) (x : Typed × Type
 condition_is e scope types x h served =
     let reads = condition_reads e scope types x h in
     record {
-      same = (expr_laws e).good.same scope types x reads.0 served;
-      is = λ p locals result v sound final. (reads.1, ((expr_laws e).good.is p locals v scope types x reads.0 served sound final).is);
+      same = ((expr_laws e).good scope types x reads.0 served).same;
+      is = λ p locals result v sound final. (reads.1, (((expr_laws e).good scope types x reads.0 served).is p locals v sound final).is);
     }
 
 pub record IsDecidedIfAny (scope : Scope) (types : Types) (x : Option Typed × Types) : Type 0 where
@@ -133,9 +133,9 @@ item_is (print_item.Value e) scope types x h served =
     let same = same_value {A = ItemForm} (typed.printed step.value.0, step.value.1) x fine.1 in
     let served_value : is_served_form step.value.0.form ≡ true = subst (λ (z : ItemForm × Types). is_served_item z.0 ≡ true) (sym same) served in
     subst (IsPrinted scope types) same (record {
-      same = (additive_laws e).good.same scope types step.value step.gave served_value;
+      same = ((additive_laws e).good scope types step.value step.gave served_value).same;
       is = λ p locals result v sound final.
-          (unless_none (is_printed step.value.0.ty) kinds.WrongType fine.0, ((additive_laws e).good.is p locals v scope types step.value step.gave served_value sound final).is);
+          (unless_none (is_printed step.value.0.ty) kinds.WrongType fine.0, (((additive_laws e).good scope types step.value step.gave served_value).is p locals v sound final).is);
     })
 item_is (print_item.EndLine name) scope types x h served =
     subst (IsPrinted scope types) (same_value {A = ItemForm} (typed.line_end name.word, types) x h) (record { same = refl; is = λ p locals result v sound final. tt })

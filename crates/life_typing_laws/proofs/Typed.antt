@@ -37,17 +37,22 @@ pub record IsTyped (p : ProgramForm) (locals : List TypedLocal) (v : Visible) (t
 
 -- ---- what gives one
 
-pub record Good (m : Meaning) : Type 0 where
-  pub same : (scope : Scope) (types : Types) (x : Typed × Types) → m scope types ≡ Ok x → is_served_form x.0.form ≡ true → x.1 ≡ types
-  pub is : (p : ProgramForm) (locals : List TypedLocal) (v : Visible) (scope : Scope) (types : Types) (x : Typed × Types) → m scope types ≡ Ok x → is_served_form x.0.form ≡ true
-      → IsSound v scope types → IsFinal p locals scope types → IsTyped p locals v types x.0
+-- .. leaves the table as it was, and gives what is well typed in the end
+pub record IsGood (scope : Scope) (types : Types) (x : Typed × Types) : Type 0 where
+  pub same : x.1 ≡ types
+  pub is : (p : ProgramForm) (locals : List TypedLocal) (v : Visible) → IsSound v scope types → IsFinal p locals scope types → IsTyped p locals v types x.0
+
+abbrev pub Good : Meaning → Type 0
+Good m = (scope : Scope) (types : Types) (x : Typed × Types) → m scope types ≡ Ok x → is_served_form x.0.form ≡ true → IsGood scope types x
 
 -- .. behind an operand: what is served has a served operand
-pub record GoodBehind (q : PartMeaning) : Type 0 where
-  pub back : (left : Typed) (scope : Scope) (types : Types) (x : Typed × Types) → q left scope types ≡ Ok x → is_served_form x.0.form ≡ true → is_served_form left.form ≡ true
-  pub same : (left : Typed) (scope : Scope) (types : Types) (x : Typed × Types) → q left scope types ≡ Ok x → is_served_form x.0.form ≡ true → x.1 ≡ types
-  pub is : (p : ProgramForm) (locals : List TypedLocal) (v : Visible) (left : Typed) (scope : Scope) (types : Types) (x : Typed × Types) → q left scope types ≡ Ok x
-      → is_served_form x.0.form ≡ true → IsSound v scope types → IsFinal p locals scope types → IsTyped p locals v types left → IsTyped p locals v types x.0
+pub record IsGoodBehind (left : Typed) (scope : Scope) (types : Types) (x : Typed × Types) : Type 0 where
+  pub back : is_served_form left.form ≡ true
+  pub same : x.1 ≡ types
+  pub is : (p : ProgramForm) (locals : List TypedLocal) (v : Visible) → IsSound v scope types → IsFinal p locals scope types → IsTyped p locals v types left → IsTyped p locals v types x.0
+
+abbrev pub GoodBehind : PartMeaning → Type 0
+GoodBehind q = (left : Typed) (scope : Scope) (types : Types) (x : Typed × Types) → q left scope types ≡ Ok x → is_served_form x.0.form ≡ true → IsGoodBehind left scope types x
 
 -- .. each of a list
 abbrev pub GoodList : ListMeaning → Type 0

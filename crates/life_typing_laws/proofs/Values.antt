@@ -95,8 +95,8 @@ one_read e scope types y x read h served =
     record {
       value = y.0;
       is = form;
-      same = ap (λ (z : InitialForm × Types). z.1) (sym same) ∙ (expr_laws e).good.same scope types y read served_value;
-      typed = λ p locals v sound final. (expr_laws e).good.is p locals v scope types y read served_value sound final;
+      same = ap (λ (z : InitialForm × Types). z.1) (sym same) ∙ ((expr_laws e).good scope types y read served_value).same;
+      typed = λ p locals v sound final. ((expr_laws e).good scope types y read served_value).is p locals v sound final;
     }
 
 -- a list isn't served
