@@ -20,18 +20,17 @@ use Rattle.life_type_stmt.specs.Bodies.{body}
 use Rattle.life_typing.specs.Answers.{Answer, ◌>>◌}
 use Rattle.life_typing.specs.Functions as functions
 use Rattle.life_typing.specs.Functions.{PartsView, behind_header_as, body_kept, changed, changed_at, with_parameters_forgotten}
-use Rattle.life_typing.specs.Headers.{function_seen}
 use Rattle.life_typing.specs.Names.{DeclaredView, has_body, is_main}
-use Rattle.life_typing.specs.Parameters.{declared_behind, is_seen, known_or_void, parameter_local, parameters_forgotten}
+use Rattle.life_typing.specs.Parameters.{is_seen, parameters_forgotten}
 use Rattle.life_typing.specs.Progress.{ProgressView}
 use Rattle.life_typing.specs.Resolves.{with_definition, with_definitions}
 use Rattle.life_typing.specs.Structs as structs
 use Rattle.life_typing.specs.Structs.{added_unless_empty, found_structure, member_types, named_structure, pointing_of_members, structure_form, structure_with, types_of}
-use Rattle.life_typing_laws.proofs.HeaderTypes.{by_seen}
 use Rattle.life_typing_laws.proofs.Declaring.{AgreesAt, behind_first, by_way, function_is, no_second, noted, numbered_is, parts, said, signature, with_header}
 use Rattle.life_typing_laws.proofs.Bodies.{body_said}
 use Rattle.life_typing_laws.proofs.Headers.{HeaderIs}
-use Rattle.life_typing_laws.proofs.Scopes.{IsDeclared, declared_is, set_else, set_length}
+use Rattle.life_typing_laws.proofs.HeadersStay.{function_seen_stays, header_stays}
+use Rattle.life_typing_laws.proofs.Scopes.{set_else, set_length}
 use Rattle.life_typing_laws.proofs.Steps.{answered, same_some, same_answer, not_both}
 
 -- ---- what is counted
@@ -53,14 +52,6 @@ pub record Goes (p q : ProgressView) : Type 0 where
 
 -- ---- headers
 
--- parameters are no functions
-parameters_leave : (known : List TyId) (ps : List Parameter) (hides : List Bool) (scope : Scope) (x : List Bool × Scope) → declared_behind hides known ps scope ≡ Ok x → x.1.functions ≡ scope.functions
-parameters_leave known [] hides scope x e = let same : ◌≡◌ {A = List Bool × Scope} (hides, scope) x = cc in ap (λ (y : List Bool × Scope). y.1.functions) (sym same)
-parameters_leave known (q ∷ ps) hides scope x e =
-    let step = answered (environment.declared (parameter_local q (known_or_void known (length hides))) scope) (λ (y : ℕ × Scope). declared_behind (hides ++ is_seen scope q.name.id ∷ []) known ps y.1) x e in
-    let d : IsDeclared (parameter_local q (known_or_void known (length hides))) scope step.value = declared_is (parameter_local q (known_or_void known (length hides))) scope step.value step.gave in
-    parameters_leave known ps (hides ++ is_seen scope q.name.id ∷ []) step.value.1 x step.behind ∙ ap (λ (s : Scope). s.functions) d.behind
-
 -- before its body
 record Enters (f : Function) (p : ProgressView) (y : ℕ × ProgressView) : Type 0 where
   goes : Goes p y.1
@@ -74,7 +65,7 @@ more xs x ys y e =
 
 module _ (bodies : List Bool) (f : Function) (p : ProgressView) (counted : IsCounted p) (x : PartsView × ProgressView) (h : HeaderIs bodies (meaning p.scope f.name.id) f p x) where
   same_functions : h.scope.functions ≡ p.scope.functions
-  same_functions = parameters_leave h.known.types f.parameters.items [] (function_seen f p.scope) (h.hides, h.scope) h.declares ∙ by_seen f p.scope (λ (s : Scope). s.functions ≡ p.scope.functions) refl refl
+  same_functions = (header_stays bodies (meaning p.scope f.name.id) f p x h).functions ∙ (function_seen_stays f p.scope).functions
 
   still_counted : IsCounted (with_header h)
   still_counted = record { forms = counted.forms ∙ ap length (sym same_functions); declared = counted.declared ∙ ap length (sym same_functions) }

@@ -1,5 +1,5 @@
 -- Functions and whole files: what is resolved of a tree that is read is as it is read, and has its names in a table of so many, if the tree's names are.
-use Rattle.std.proofs.Common.{◌≡◌, ℕ, ◌-◌, ◌^◌, zero, suc, Bool, true, not, List, [], ◌∷◌, ◌++◌, length, map, nat_lt, Option, None, Some, refl, slice_get, slice_set, sym, subst, ◌∙◌}
+use Rattle.std.proofs.Common.{ap, ◌&&◌, ◌≡◌, ℕ, ◌-◌, ◌^◌, zero, suc, Bool, true, not, List, [], ◌∷◌, ◌++◌, length, map, nat_lt, Option, None, Some, refl, slice_get, slice_set, sym, subst, ◌∙◌}
 use Rattle.std.proofs.lemmas.Bool.{and_from, and_parts, ltb-true}
 use Rattle.std.proofs.lemmas.List.{length-map}
 use Rattle.std.proofs.lemmas.List.Folds.{list_all-append}
@@ -25,7 +25,7 @@ use Rattle.life_names.specs.declared.environment.Entity.{Entity}
 use Rattle.life_names.specs.declared.environment.Entity.TheVariants as entity
 use Rattle.life_names.specs.declared.fault.IllKind.TheVariants as kinds
 use Rattle.life_type_stmt.specs.Ends.{block_ends}
-use Rattle.life_typing.specs.Functions.{PartsView, behind_header_as, body_kept, changed_at, declared, declared_first, header_with, sound_header, with_body, with_first, with_function, with_parameters_forgotten, without_body}
+use Rattle.life_typing.specs.Functions.{PartsView, behind_header_as, body_kept, changed, changed_at, declared, declared_first, header_with, sound_header, with_first, with_function, with_parameters_forgotten, without_body}
 use Rattle.life_typing.specs.Headers as headers
 use Rattle.life_typing.specs.Names.{is_main}
 use Rattle.life_typing.specs.Parameters.{declared_behind, is_seen, known_or_void, parameter_local, parameters_forgotten}
@@ -44,61 +44,54 @@ use Rattle.life_typing_laws.proofs.Behind.{LocalsNamed, NamedBehind, local_named
 use Rattle.life_typing_laws.proofs.NamedTrees.{IsNamedTree, tree_named}
 use Rattle.life_typing_laws.proofs.OwnNames.{meant_own_names, nothing_meant}
 use Rattle.life_typing_laws.proofs.ReadTrees.{IsRead}
-use Rattle.life_typing_laws.proofs.StatementLaws.{IsParsed, Said}
+use Rattle.life_typing_laws.proofs.StatementLaws.{Said}
 use Rattle.life_typing_laws.proofs.Yields.{Finds, finds_behind, finds_if, finds_none, finds_ok, finds_then}
 
--- ---- functions that are as they were parsed
+-- ---- functions of which a test holds
 
-abbrev AreParsed : List FunctionForm → Type 0
-AreParsed fs = are_as_parsed fs ≡ true
+module _ (test : FunctionForm → Bool) where
+  abbrev All : List FunctionForm → Type 0
+  All fs = list_all test fs ≡ true
 
-more_parsed : (fs : List FunctionForm) (f : FunctionForm) → AreParsed fs → IsParsed f.body → AreParsed (fs ++ f ∷ [])
-more_parsed [] f all one = and_from (is_statement_as_parsed f.body) true one refl
-more_parsed (g ∷ gs) f all one =
-    let both = and_parts (is_statement_as_parsed g.body) (are_as_parsed gs) all in
-    and_from (is_statement_as_parsed g.body) (are_as_parsed (gs ++ f ∷ [])) both.0 (more_parsed gs f both.1 one)
+  more_all : (fs : List FunctionForm) (f : FunctionForm) → All fs → test f ≡ true → All (fs ++ f ∷ [])
+  more_all fs f all one = list_all-append test fs (f ∷ []) ∙ and_from (list_all test fs) (list_all test (f ∷ [])) all (and_from (test f) true one refl)
 
-set_parsed : (fs : List FunctionForm) (n : ℕ) (f : FunctionForm) → AreParsed fs → IsParsed f.body → AreParsed (slice_set fs n f)
-set_parsed [] n f all one = all
-set_parsed (g ∷ gs) zero f all one = and_from (is_statement_as_parsed f.body) (are_as_parsed gs) one (and_parts (is_statement_as_parsed g.body) (are_as_parsed gs) all).1
-set_parsed (g ∷ gs) (suc n) f all one =
-    let both = and_parts (is_statement_as_parsed g.body) (are_as_parsed gs) all in
-    and_from (is_statement_as_parsed g.body) (are_as_parsed (slice_set gs n f)) both.0 (set_parsed gs n f both.1 one)
+  set_all : (fs : List FunctionForm) (n : ℕ) (f : FunctionForm) → All fs → test f ≡ true → All (slice_set fs n f)
+  set_all [] n f all one = all
+  set_all (g ∷ gs) zero f all one = and_from (test f) (list_all test gs) one (and_parts (test g) (list_all test gs) all).1
+  set_all (g ∷ gs) (suc n) f all one = let both = and_parts (test g) (list_all test gs) all in and_from (test g) (list_all test (slice_set gs n f)) both.0 (set_all gs n f both.1 one)
 
-changed_parsed : (n : ℕ) (change : FunctionForm → FunctionForm) → ((f : FunctionForm) → IsParsed (change f).body) → (fs : List FunctionForm) (o : Option FunctionForm) → AreParsed fs
-    → AreParsed (changed_at n change fs o)
-changed_parsed n change one fs None all = all
-changed_parsed n change one fs (Some f) all = set_parsed fs n (change f) all (one f)
+  all_at : (fs : List FunctionForm) (n : ℕ) (f : FunctionForm) → All fs → slice_get fs n ≡ Some f → test f ≡ true
+  all_at [] n f all e = absurd (cc)
+  all_at (g ∷ gs) zero f all e = let same : g ≡ f = cc in subst (λ (h : FunctionForm). test h ≡ true) same (and_parts (test g) (list_all test gs) all).0
+  all_at (g ∷ gs) (suc n) f all e = all_at gs n f (and_parts (test g) (list_all test gs) all).1 e
+
+  -- one is changed into what passes, if it does
+  changed_all : (n : ℕ) (change : FunctionForm → FunctionForm) → ((f : FunctionForm) → test f ≡ true → test (change f) ≡ true) → (fs : List FunctionForm) → All fs → All (changed n change fs)
+  changed_all n change passes fs all = of (slice_get fs n) refl
+    where
+      of : (o : Option FunctionForm) → slice_get fs n ≡ o → All (changed_at n change fs o)
+      of None is = all
+      of (Some f) is = set_all fs n (change f) all (passes f (all_at fs n f all is))
+
+-- ---- as they were parsed
+
+abbrev is_parsed : FunctionForm → Bool
+is_parsed f = is_statement_as_parsed f.body
+
+are_parsed : (fs : List FunctionForm) → list_all is_parsed fs ≡ are_as_parsed fs
+are_parsed [] = refl
+are_parsed (f ∷ fs) = ap (λ (b : Bool). is_parsed f && b) (are_parsed fs)
+
+-- ---- with names in a table of so many
 
 -- a function with this body and these variables
 abbrev bodied : Place → List TypedLocal → StmtForm → FunctionForm → FunctionForm
 bodied place locals found f = record f { place = place; locals = locals; body = found }
 
--- ---- functions with names in a table of so many
-
 module _ (names : ℕ) where
-  abbrev HaveNames : List FunctionForm → Type 0
-  HaveNames fs = list_all (is_function_named names) fs ≡ true
-
-  more_functions : (fs : List FunctionForm) (f : FunctionForm) → HaveNames fs → is_function_named names f ≡ true → HaveNames (fs ++ f ∷ [])
-  more_functions fs f all one =
-      list_all-append (is_function_named names) fs (f ∷ []) ∙ and_from (list_all (is_function_named names) fs) (list_all (is_function_named names) (f ∷ [])) all (and_from (is_function_named names f) true one refl)
-
-  -- a function gets a body, with these variables
-  with_body_named : (n : ℕ) (place : Place) (locals : List TypedLocal) (found : StmtForm) (fs : List FunctionForm) → LocalsNamed names locals → HaveNames fs → HaveNames (with_body n place locals found fs)
-  with_body_named n place locals found [] kept all = all
-  with_body_named zero place locals found (f ∷ fs) kept all =
-      let both = and_parts (is_function_named names f) (list_all (is_function_named names) fs) all in
-      let own = and_parts (nat_lt f.name.0 names) (list_all (is_local_named names) f.locals) both.0 in
-      and_from (is_function_named names (bodied place locals found f)) (list_all (is_function_named names) fs)
-      (and_from (nat_lt f.name.0 names) (list_all (is_local_named names) locals) own.0 kept) both.1
-  with_body_named (suc n) place locals found (f ∷ fs) kept all =
-      let both = and_parts (is_function_named names f) (list_all (is_function_named names) fs) all in
-      go (slice_get fs n) both.0 (with_body_named n place locals found fs kept both.1)
-    where
-      go : (o : Option FunctionForm) → is_function_named names f ≡ true → HaveNames (changed_at n (bodied place locals found) fs o) → HaveNames (changed_at (suc n) (bodied place locals found) (f ∷ fs) o)
-      go None one more = and_from (is_function_named names f) (list_all (is_function_named names) fs) one more
-      go (Some g) one more = and_from (is_function_named names f) (list_all (is_function_named names) (slice_set fs n (bodied place locals found g))) one more
+  bodied_named : (place : Place) (locals : List TypedLocal) (found : StmtForm) → LocalsNamed names locals → (f : FunctionForm) → is_function_named names f ≡ true → is_function_named names (bodied place locals found f) ≡ true
+  bodied_named place locals found kept f one = and_from (nat_lt f.name.0 names) (list_all (is_local_named names) locals) (and_parts (nat_lt f.name.0 names) (list_all (is_local_named names) f.locals) one).0 kept
 
   each_parameter : (known : List TyId) (ps : List Parameter) → EachHolds (λ (q : Parameter). nat_lt q.name.id.0 names ≡ true) ps → (hides : List Bool) (scope : Scope) → LocalsNamed names scope.locals
       → Finds (NamedBehind (List Bool) names) (declared_behind hides known ps scope)
@@ -126,7 +119,7 @@ module _ (names : ℕ) where
 -- behind what is read, if so much was, and whose names are in a table of so many, if those are: the functions so far, and the variables of the one at hand
 module _ (names : ℕ) (Read Named : Type 0) where
   abbrev IsSoFar : ProgressView → Type 0
-  IsSoFar p = (Read → AreParsed p.functions) × (Named → HaveNames names p.functions × LocalsNamed names p.scope.locals)
+  IsSoFar p = (Read → All is_parsed p.functions) × (Named → All (is_function_named names) p.functions × LocalsNamed names p.scope.locals)
 
   -- .. of what has this scope and so many functions
   abbrev IsBeside : {A : Type 0} → A × ProgressView → Type 0
@@ -149,8 +142,8 @@ module _ (names : ℕ) (Read Named : Type 0) where
   first_so_far f h p named so_far =
       finds_then (AreNamedBehind {A = ℕ}) (IsBeside {A = ℕ}) _ _ (finds_if (AreNamedBehind {A = ℕ}) (nat_lt (length p.scope.functions) (2 ^ 32 - 1)) _ _ (λ n. (so_far.1 n).1)) (λ x kept.
       finds_ok (IsBeside {A = ℕ}) (x.0, record (with_first f h p) { scope = x.1 }) (
-        λ r. more_parsed p.functions (without_body f h.returned p.scope) (so_far.0 r) refl,
-        λ n. (more_functions names p.functions (without_body f h.returned p.scope) (so_far.1 n).0 (and_from (nat_lt f.name.id.0 names) true (named n) refl), kept n),
+        λ r. more_all is_parsed p.functions (without_body f h.returned p.scope) (so_far.0 r) refl,
+        λ n. (more_all (is_function_named names) p.functions (without_body f h.returned p.scope) (so_far.1 n).0 (and_from (nat_lt f.name.id.0 names) true (named n) refl), kept n),
       ))
 
   declared_so_far : (before : Entity) (f : Function) (h : PartsView) (p : ProgressView) → (Named → nat_lt f.name.id.0 names ≡ true) → IsSoFar p → Finds (IsBeside {A = ℕ}) (declared before f h p)
@@ -164,8 +157,8 @@ module _ (names : ℕ) (Read Named : Type 0) where
   behind_so_far (function_body.Block b) f number returned p read named so_far =
       finds_then (λ x. Said (IsRead (block_tree b)) (λ n. IsNamedTree n (block_tree b)) (block_ends b) [] p.scope x.0) IsSoFar _ _ (λ x gave. body_said returned (is_main p.scope f.name.id) b p.scope p.types x gave) (λ x said.
       finds_ok IsSoFar (body_kept f number p x.0.0 x.0.1 x.1) (
-        λ r. changed_parsed number (bodied f.name.place x.0.1.locals x.0.0) (λ g. said.is.parsed (read r)) p.functions (slice_get p.functions number) (so_far.0 r),
-        λ n. (with_body_named names number f.name.place x.0.1.locals x.0.0 p.functions (said.named names (named n) (so_far.1 n).1) (so_far.1 n).0, refl),
+        λ r. changed_all is_parsed number (bodied f.name.place x.0.1.locals x.0.0) (λ g passed. said.is.parsed (read r)) p.functions (so_far.0 r),
+        λ n. (changed_all (is_function_named names) number (bodied f.name.place x.0.1.locals x.0.0) (bodied_named names f.name.place x.0.1.locals x.0.0 (said.named names (named n) (so_far.1 n).1)) p.functions (so_far.1 n).0, refl),
       ))
   behind_so_far (function_body.Declared place) f number returned p read named so_far = finds_ok IsSoFar (record p { scope = without_locals p.scope }) (so_far.0, λ n. ((so_far.1 n).0, refl))
 
@@ -217,7 +210,7 @@ so_far tree =
 
 pub program_parsed : (tree : Program) → IsRead (program_tree tree) → Finds (λ p. is_as_parsed p ≡ true) (resolved tree)
 program_parsed tree read =
-    finds_then (IsOf tree) (λ (p : ProgramForm). is_as_parsed p ≡ true) _ _ (so_far tree) (λ q all. finds_ok (λ (p : ProgramForm). is_as_parsed p ≡ true) (finished tree q) (all.0.0 read))
+    finds_then (IsOf tree) (λ (p : ProgramForm). is_as_parsed p ≡ true) _ _ (so_far tree) (λ q all. finds_ok (λ (p : ProgramForm). is_as_parsed p ≡ true) (finished tree q) (sym (are_parsed q.functions) ∙ all.0.0 read))
 
 -- .. in a program's table; and no two functions have one name
 abbrev HasNamedFunctions : ProgramForm → Type 0
