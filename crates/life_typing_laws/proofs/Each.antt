@@ -28,6 +28,10 @@ both_same Holds {x = x} {x' = x'} {y = y} {y' = y'} e d h = subst (λ z. Holds x
 pub made_of : {O X A B : Type 0} (Holds : A → B → Type 0) (roll : O → X) (of : X → A) (tree : X → B) (o o' : O) {x : A} {y : B} → of (roll o) ≡ x → tree (roll o) ≡ y → Holds x y → o ≡ o' → Holds (of (roll o')) (tree (roll o'))
 made_of Holds roll of tree o o' made seen holds e = subst (λ z. Holds (of (roll z)) (tree (roll z))) e (both_same Holds (sym made) (sym seen) holds)
 
+-- .. of one alone
+pub made_alone : {O X A : Type 0} (Holds : A → Type 0) (roll : O → X) (of : X → A) (o o' : O) {x : A} → of (roll o) ≡ x → Holds x → o ≡ o' → Holds (of (roll o'))
+made_alone Holds roll of o o' made holds e = subst (λ z. Holds (of (roll z))) e (subst Holds (sym made) holds)
+
 -- .. of three
 pub made_of_three : {O X A B C : Type 0} (Holds : A → B → C → Type 0) (roll : O → X) (of : X → A) (tree : X → B) (end : X → C) (o o' : O) {x : A} {y : B} {z : C}
     → of (roll o) ≡ x → tree (roll o) ≡ y → end (roll o) ≡ z → Holds x y z → o ≡ o' → Holds (of (roll o')) (tree (roll o')) (end (roll o'))

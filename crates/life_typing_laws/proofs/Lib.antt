@@ -45,7 +45,6 @@ pub mod Steps
 pub mod TargetLaws
 pub mod Turns
 pub mod Typed
-pub mod TypesKeep
 pub mod Unserved
 pub mod Values
 pub mod Visible

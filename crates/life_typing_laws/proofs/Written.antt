@@ -9,21 +9,26 @@ use Rattle.life_types.specs.declared.ty.Ty.{Ty}
 use Rattle.life_types.specs.declared.ty.Ty.TheVariants as ty
 use Rattle.life_types.specs.declared.ty.TyId.{TyId}
 use Rattle.life_typing_laws.specs.Sound.{Grows}
+use Rattle.life_tree.specs.declared.type_name.Base.{Base, roll-Base}
+use Rattle.life_tree.specs.declared.type_name.Base.TheFolds.{fold-roll-Base, fold-roll-TypeArgument, fold-roll-TypeName, ind-TypeName, map-Base, map-TypeName}
 use Rattle.life_tree.specs.declared.type_name.Base.TheOpen as type_open
 use Rattle.life_tree.specs.declared.type_name.IteratorName.{IteratorName}
 use Rattle.life_tree.specs.declared.type_name.Suffix.{Suffix}
 use Rattle.life_tree.specs.declared.type_name.Suffix.TheVariants as suffix
-use Rattle.life_tree.specs.declared.type_name.TypeName.{TypeName}
+use Rattle.life_tree.specs.declared.type_name.TypeArgument.{TypeArgument, roll-TypeArgument}
+use Rattle.life_tree.specs.declared.type_name.TypeName.{TypeName, roll-TypeName}
 use Rattle.life_typed.specs.BaseTypes.{base_types}
 use Rattle.life_typed.specs.declared.basic.TheConstants.{BOOL, CHAR, INT, LONG, SIZE, TEXT, VIEW}
 use Rattle.life_names.specs.Checked.{Checked}
 use Rattle.life_names.specs.Environment.{Scope, StructureView, meaning}
-use Rattle.life_names.specs.WrittenTypes.{Meaning, NameMeaning, argument_step, base_step, element_fault, held_fault, sound, span, struct_type, suffixed, target_fault, type_meaning, type_meant, type_step, unique, vector, vector_type}
+use Rattle.life_names.specs.WrittenTypes.{Meaning, NameMeaning, argument_meaning, argument_step, base_meaning, base_step, element_fault, held_fault, sound, span, struct_type, suffixed, target_fault, type_meaning, type_meant, type_step, unique, vector, vector_type}
 use Rattle.life_names.specs.declared.environment.Entity.{Entity}
 use Rattle.life_names.specs.declared.environment.Entity.TheVariants as entity
+use Rattle.life_unique.proofs.TypeLayers.{Claims, Layer-Base, Layer-TypeArgument, Layer-TypeName, parts_argument, parts_base, parts_type}
+use Rattle.life_unique.specs.SettledTypes.{Opened-Base, Opened-TypeArgument, Opened-TypeName}
+use Rattle.life_typing_laws.proofs.Each.{made_alone}
 use Rattle.life_typing_laws.proofs.Growing.{IsAdded, grows_not, grows_on, sound_added}
 use Rattle.life_typing_laws.proofs.Steps.{bound}
-use Rattle.life_typing_laws.proofs.TypesKeep.{Held-Base, type_holds}
 
 -- a number of a type that is there, and the table behind it
 pub record IsFound (types : Types) (x : TyId × Types) : Type 0 where
@@ -85,18 +90,25 @@ span_finds element finds place scope types x ordered base none e =
     behind types step.value x (ty.Span step.value.0 element.constant) part
     (sound_added (target_fault step.value.1 step.value.0) place (ty.Span step.value.0 element.constant) step.value.1 x part.ordered step.behind)
 
-base_finds : (l : type_open.Base-F Meaning NameMeaning NameMeaning) → Held-Base Meaning NameMeaning Finds FindsNamed l → Finds (base_step l)
-base_finds (type_open.Bool at) held place scope types x ordered base none e = same_found types BOOL x e (based types BOOL ordered base (omega arith))
-base_finds (type_open.Char at) held place scope types x ordered base none e = same_found types CHAR x e (based types CHAR ordered base (omega arith))
-base_finds (type_open.Int at) held place scope types x ordered base none e = same_found types INT x e (based types INT ordered base (omega arith))
-base_finds (type_open.Long at) held place scope types x ordered base none e = same_found types LONG x e (based types LONG ordered base (omega arith))
-base_finds (type_open.SizeT name) held place scope types x ordered base none e = same_found types SIZE x e (based types SIZE ordered base (omega arith))
-base_finds (type_open.Text name) held place scope types x ordered base none e = same_found types TEXT x e (based types TEXT ordered base (omega arith))
-base_finds (type_open.View name) held place scope types x ordered base none e = same_found types VIEW x e (based types VIEW ordered base (omega arith))
-base_finds (type_open.Named name) held place scope types x ordered base none e = named_finds (meaning scope name.id) name.place scope types x none e
-base_finds (type_open.Vector name element iterator) held place scope types x ordered base none e = vector_finds element iterator held place scope types x ordered base none e
-base_finds (type_open.UniquePtr name element) held place scope types x ordered base none e = unique_finds element held place scope types x ordered base none e
-base_finds (type_open.Span name element) held place scope types x ordered base none e = span_finds element held place scope types x ordered base none e
+-- what is claimed of each type, and of its base
+abbrev claims : Claims
+claims = record { base = λ x. Finds (base_meaning x); argument = λ x. FindsNamed (argument_meaning x); type = λ x. FindsNamed (type_meaning x) }
+
+abbrev of_parts_base : Opened-Base → type_open.Base-F Meaning NameMeaning NameMeaning
+of_parts_base = map-Base Base TypeArgument TypeName Meaning NameMeaning NameMeaning base_meaning argument_meaning type_meaning
+
+base_finds : (l : Layer-Base claims) → Finds (base_step (of_parts_base (parts_base claims l)))
+base_finds (type_open.Bool at) place scope types x ordered base none e = same_found types BOOL x e (based types BOOL ordered base (omega arith))
+base_finds (type_open.Char at) place scope types x ordered base none e = same_found types CHAR x e (based types CHAR ordered base (omega arith))
+base_finds (type_open.Int at) place scope types x ordered base none e = same_found types INT x e (based types INT ordered base (omega arith))
+base_finds (type_open.Long at) place scope types x ordered base none e = same_found types LONG x e (based types LONG ordered base (omega arith))
+base_finds (type_open.SizeT name) place scope types x ordered base none e = same_found types SIZE x e (based types SIZE ordered base (omega arith))
+base_finds (type_open.Text name) place scope types x ordered base none e = same_found types TEXT x e (based types TEXT ordered base (omega arith))
+base_finds (type_open.View name) place scope types x ordered base none e = same_found types VIEW x e (based types VIEW ordered base (omega arith))
+base_finds (type_open.Named name) place scope types x ordered base none e = named_finds (meaning scope name.id) name.place scope types x none e
+base_finds (type_open.Vector name element iterator) place scope types x ordered base none e = vector_finds (argument_meaning element.0) iterator element.1 place scope types x ordered base none e
+base_finds (type_open.UniquePtr name element) place scope types x ordered base none e = unique_finds (argument_meaning element.0) element.1 place scope types x ordered base none e
+base_finds (type_open.Span name element) place scope types x ordered base none e = span_finds (argument_meaning element.0) element.1 place scope types x ordered base none e
 
 suffixed_finds : (constant : Bool) (s : Option Suffix) (place : Place) (id : TyId) (types : Types) (x : TyId × Types) → IsOrdered types → HasType types id
     → suffixed constant s place id types ≡ Ok x → IsFound types x
@@ -118,5 +130,17 @@ type_finds l finds place scope types x ordered base none e =
     record { grows = grows_on types step.value.1 x.1 part.grows whole.grows; ordered = whole.ordered; there = whole.there }
 
 pub written_finds : (t : TypeName) → FindsNamed (type_meaning t)
-unfolding type_meaning
-written_finds = type_holds Meaning NameMeaning Finds FindsNamed base_step argument_step type_step base_finds (λ l held. held) type_finds
+unfolding base_meaning argument_meaning type_meaning
+written_finds = ind-TypeName claims.base claims.argument claims.type base_made argument_made type_made
+  where
+    base_made : (x : Opened-Base) (l : Layer-Base claims) → parts_base claims l ≡ x → claims.base (roll-Base x)
+    base_made x l = made_alone Finds roll-Base base_meaning (parts_base claims l) x (fold-roll-Base Meaning NameMeaning NameMeaning base_step argument_step type_step (parts_base claims l)) (base_finds l)
+
+    argument_made : (x : Opened-TypeArgument) (l : Layer-TypeArgument claims) → parts_argument claims l ≡ x → claims.argument (roll-TypeArgument x)
+    argument_made x l =
+        made_alone FindsNamed roll-TypeArgument argument_meaning (parts_argument claims l) x (fold-roll-TypeArgument Meaning NameMeaning NameMeaning base_step argument_step type_step (parts_argument claims l)) l.ty.value.1
+
+    type_made : (x : Opened-TypeName) (l : Layer-TypeName claims) → parts_type claims l ≡ x → claims.type (roll-TypeName x)
+    type_made x l =
+        made_alone FindsNamed roll-TypeName type_meaning (parts_type claims l) x (fold-roll-TypeName Meaning NameMeaning NameMeaning base_step argument_step type_step (parts_type claims l))
+        (type_finds (map-TypeName Base TypeArgument TypeName Meaning NameMeaning NameMeaning base_meaning argument_meaning type_meaning (parts_type claims l)) l.base.1)
