@@ -49,10 +49,6 @@ use Rattle.life_typing_laws.proofs.Turns.{BranchesAre, GoodBranch, IsBranch, bra
 use Rattle.life_typing_laws.proofs.Values.{given_expr_reads, unless_none}
 use Rattle.life_typing_laws.proofs.Wholes.{expr_laws}
 
-served_as : (s : StmtForm) (scope : Scope) (types : Types) (x : (StmtForm × Scope) × Types) → ◌≡◌ {A = Checked (StmtForm × Scope)} (Ok ((s, scope), types)) (Ok x) → is_served_statement x.0.0 ≡ true
-    → is_served_statement s ≡ true
-served_as s scope types x h served = subst (λ (y : (StmtForm × Scope) × Types). is_served_statement y.0.0 ≡ true) (sym (same_value {A = StmtForm × Scope} ((s, scope), types) x h)) served
-
 -- ---- statements without statements in them
 
 pub empty_good : (place : Place) → GoodPart (λ around scope types. Ok ((typed.empty place, scope), types))
@@ -195,7 +191,7 @@ while_good keyword decides closing body good one around v scope types x h served
     let second = bound (body (in_loop around) scope first.value.1) (looped keyword first.value.0 closing) x first.behind in
     let same = same_value {A = StmtForm × Scope} ((typed.while_loop keyword first.value.0 closing second.value.0.0, second.value.0.1), second.value.1) x second.behind in
     let parts = and_parts (is_served_form first.value.0.form) (is_served_statement second.value.0.0)
-    (served_as (typed.while_loop keyword first.value.0 closing second.value.0.0) second.value.0.1 second.value.1 x second.behind served) in
+    (served_still (typed.while_loop keyword first.value.0 closing second.value.0.0) second.value.0.1 second.value.1 x second.behind served) in
     let decided = condition_is decides scope types first.value first.gave parts.0 in
     let gave : body (in_loop around) scope types ≡ Ok second.value = subst (λ (s : Types). body (in_loop around) scope s ≡ Ok second.value) decided.same second.gave in
     let inner : IsPart [] (in_loop around) v scope types second.value = good (in_loop around) v scope types second.value gave parts.1 sound there in
@@ -227,7 +223,7 @@ branch_good keyword decides closing body good one around v scope types x h serve
     let second = bound (body around scope first.value.1) (branched keyword first.value.0 closing) x first.behind in
     let same = same_value {A = StmtForm × Scope} ((typed.branch keyword first.value.0 closing second.value.0.0, second.value.0.1), second.value.1) x second.behind in
     let parts = and_parts (is_served_form first.value.0.form) (is_served_statement second.value.0.0)
-    (served_as (typed.branch keyword first.value.0 closing second.value.0.0) second.value.0.1 second.value.1 x second.behind served) in
+    (served_still (typed.branch keyword first.value.0 closing second.value.0.0) second.value.0.1 second.value.1 x second.behind served) in
     let decided = condition_is decides scope types first.value first.gave parts.0 in
     let gave : body around scope types ≡ Ok second.value = subst (λ (s : Types). body around scope s ≡ Ok second.value) decided.same second.gave in
     let inner : IsPart [] around v scope types second.value = good around v scope types second.value gave parts.1 sound there in
@@ -263,7 +259,7 @@ if_good branches last good held one around v scope types x h served sound there 
     let second = bound (optional_part last around first.value.0.1 first.value.1) (with_last first.value.0.0) x first.behind in
     let same = same_value {A = StmtForm × Scope} ((typed.branching (stmt_forms first.value.0.0) second.value.0.0, second.value.0.1), second.value.1) x second.behind in
     let parts = and_parts (is_served_statement (stmt_forms first.value.0.0)) (is_served_statement second.value.0.0)
-    (served_as (typed.branching (stmt_forms first.value.0.0) second.value.0.0) second.value.0.1 second.value.1 x second.behind served) in
+    (served_still (typed.branching (stmt_forms first.value.0.0) second.value.0.0) second.value.0.1 second.value.1 x second.behind served) in
     let all : BranchesAre around v scope types first.value = branches_are branches around v scope types first.value good first.gave parts.0 sound there in
     let middle : Visible = after (stmt_forms first.value.0.0) v in
     let ending : IsPart [] around middle first.value.0.1 first.value.1 second.value =
@@ -331,7 +327,7 @@ module _ (keyword first_semicolon second_semicolon closing : Place) (start : Opt
       let form : StmtForm = typed.for_loop keyword a.value.0.0 first_semicolon b.value.0 second_semicolon c.value.0 closing d.value.0.0 in
       let out : Scope = forgotten (start_names start) d.value.0.1 in
       let same = same_value {A = StmtForm × Scope} ((form, out), d.value.1) x d.behind in
-      let s1 = and_parts (is_served_start a.value.0.0) (is_served_if_any b.value.0 && (is_served_step c.value.0 && is_served_statement d.value.0.0)) (served_as form out d.value.1 x d.behind served) in
+      let s1 = and_parts (is_served_start a.value.0.0) (is_served_if_any b.value.0 && (is_served_step c.value.0 && is_served_statement d.value.0.0)) (served_still form out d.value.1 x d.behind served) in
       let s2 = and_parts (is_served_if_any b.value.0) (is_served_step c.value.0 && is_served_statement d.value.0.0) s1.1 in
       let s3 = and_parts (is_served_step c.value.0) (is_served_statement d.value.0.0) s2.1 in
       let started : IsStarted (start_names start) v scope types a.value = start_is start v scope types a.value a.gave s1.0 sound in

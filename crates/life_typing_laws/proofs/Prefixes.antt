@@ -181,10 +181,10 @@ paren_is : (closing : Place) (operand : Meaning) (scope : Scope) (types : Types)
 paren_is closing operand scope types x e =
     let step = bound (operand scope types) (λ y. found_in y.1 (parenthesized closing y.0)) x e in
     let found = found_ok step.value.1 (parenthesized closing step.value.0) x step.behind in
-    record { inner = step.value; reads = step.gave; is = same_ok (around closing step.value.0) x.0 found.0; table = found.1 }
+    record { inner = step.value; reads = step.gave; is = same_found (around closing step.value.0) x.0 found.0; table = found.1 }
   where
-    same_ok : (a b : Typed) → ◌≡◌ {A = Found Typed} (Ok a) (Ok b) → a ≡ b
-    same_ok a b h = cc
+    same_found : (a b : Typed) → ◌≡◌ {A = Found Typed} (Ok a) (Ok b) → a ≡ b
+    same_found a b h = cc
 
 pub paren_good : (closing : Place) (operand : Meaning) → Good operand → Good (paren_of closing operand)
 paren_good closing operand good scope types x e served =

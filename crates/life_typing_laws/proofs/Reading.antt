@@ -17,7 +17,7 @@ use Rattle.life_well_typed.specs.Visible.{Visible}
 use Rattle.life_typing_laws.proofs.Each.{EachHolds}
 use Rattle.life_typing_laws.specs.Served.{is_served_form}
 use Rattle.life_typing_laws.specs.Sound.{IsFinal, IsSound}
-use Rattle.life_typing_laws.proofs.Steps.{allowed_ok, bound, given_ok}
+use Rattle.life_typing_laws.proofs.Steps.{allowed_ok, bound, given_ok, same_value}
 use Rattle.life_typing_laws.proofs.Typed.{Good}
 
 -- what was read behind those that were there: the table is the same, and each is well typed, if all are served
@@ -26,9 +26,6 @@ pub record IsRead (done : List Typed) (scope : Scope) (types : Types) (x : List 
   pub all : x.0 ≡ done ++ more
   pub same : is_served_form (forms more) ≡ true → x.1 ≡ types
   pub are : (p : ProgramForm) (locals : List TypedLocal) (v : Visible) → is_served_form (forms more) ≡ true → IsSound v scope types → IsFinal p locals scope types → AreExpressions p locals v.visible (forms more)
-
-same_ok : {A : Type 0} (x y : A × Types) → ◌≡◌ {A = Checked A} (Ok x) (Ok y) → x ≡ y
-same_ok x y e = cc
 
 pub append_none : {A : Type 0} (xs : List A) → xs ++ [] ≡ xs
 append_none [] = refl
@@ -44,7 +41,7 @@ behind_one targets done ms scope x = given (taken targets done x) (λ _. read_on
 all_read : (targets : Targets) (done : List Typed) (ms : List Meaning) (scope : Scope) (types : Types) (x : List Typed × Types) → EachHolds Good ms → read_onto targets done ms scope types ≡ Ok x
     → IsRead done scope types x
 all_read targets done [] scope types x good e =
-    let whole : ◌≡◌ {A = List Typed × Types} (done, types) x = same_ok {A = List Typed} (done, types) x e in
+    let whole : ◌≡◌ {A = List Typed × Types} (done, types) x = same_value {A = List Typed} (done, types) x e in
     let all : done ≡ x.0 = ap (λ (y : List Typed × Types). y.0) whole in
     let table : types ≡ x.1 = ap (λ (y : List Typed × Types). y.1) whole in
     record { more = []; all = sym all ∙ sym (append_none done); same = λ served. sym table; are = λ p locals v served sound final. tt }
@@ -78,5 +75,5 @@ unfolding passed
 passed_is general other place targets ms scope types x good e =
     let step = bound (read_onto targets [] ms scope types) (λ y. fitting (fault_of general other targets y) place y) x e in
     let fits = allowed_ok (fault_of general other targets step.value) place (λ _. Ok step.value) x step.behind in
-    let same : step.value ≡ x = same_ok step.value x fits.1 in
+    let same : step.value ≡ x = same_value step.value x fits.1 in
     subst (IsPassed general other targets scope types) same (record { read = all_read targets [] ms scope types step.value good step.gave; fine = fits.0 })
