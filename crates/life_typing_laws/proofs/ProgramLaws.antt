@@ -1,4 +1,4 @@
--- Functions and whole files: what is resolved of a tree that is read is as it is read, and has its names in a table of so many, if the tree's names are.
+-- Functions and whole files: what is resolved of a tree that is read is as it is read; and if the tree's names are in a table of so many, so are its own, and no two functions have one.
 use Rattle.std.proofs.Common.{ap, ◌&&◌, ◌≡◌, ℕ, ◌-◌, ◌^◌, zero, suc, Bool, true, not, List, [], ◌∷◌, ◌++◌, length, map, nat_lt, Option, None, Some, refl, slice_get, slice_set, sym, subst, ◌∙◌}
 use Rattle.std.proofs.lemmas.Bool.{and_from, and_parts, ltb-true}
 use Rattle.std.proofs.lemmas.List.{length-map}
