@@ -1,6 +1,6 @@
 -- A function with which a run may begin is admitted where the input has numbers for its parameters.
 use Rattle.std.proofs.Common.{◌≡◌, ◌≤◌, ℕ, zero, suc, true, List, [], ◌∷◌, Option, length, refl}
-use Rattle.std.specs.Prelude.{ℤ, ◌&&◌, nat_le, slice_get, take}
+use Rattle.std.specs.Prelude.{ℤ, ◌&&◌, map, nat_le, slice_get, take}
 use Rattle.std.specs.List.{list_all}
 use Rattle.std.proofs.lemmas.Bool.{and_parts, false≢true, leb-true}
 use Rattle.life_types.specs.Types.{Types, class_at}
@@ -8,7 +8,7 @@ use Rattle.life_types.specs.declared.ty.Class.{Class}
 use Rattle.life_types.specs.declared.ty.Class.TheVariants.{Value, Pointer, Owner, Aggregate}
 use Rattle.life_types.specs.declared.ty.Ty.{Ty}
 use Rattle.life_core.specs.Function.{Function, Program}
-use Rattle.life_core.specs.Holdings.{AnObject, given_holdings, held_if}
+use Rattle.life_core.specs.Holdings.{AnObject, held_if, sort_of_local}
 use Rattle.life_core.specs.declared.program.Local.{Local}
 use Rattle.life_core.specs.declared.program.LocalKind.{LocalKind}
 use Rattle.life_core.specs.declared.program.LocalKind.TheVariants as kind
@@ -23,7 +23,7 @@ held_object Pointer k t h = absurd (false≢true h)
 held_object Owner k t h = absurd (false≢true h)
 held_object Aggregate k t h = absurd (false≢true h)
 
-all_objects : (types : Types) (n : ℕ) (ls : List Local) → list_all (holds_value types) (take n ls) ≡ true → AreObjects (take n (given_holdings types n ls))
+all_objects : (types : Types) (n : ℕ) (ls : List Local) → list_all (holds_value types) (take n ls) ≡ true → AreObjects (map (sort_of_local types) (take n ls))
 all_objects types zero ls h = tt
 all_objects types (suc n) [] h = tt
 all_objects types (suc n) (l ∷ ls) h =

@@ -1,5 +1,5 @@
 -- Functions and programs as definitions see them: plain lists and trees.
-use Rattle.std.specs.Prelude.{◌<◌, Bool, ℕ, zero, suc, List, [], ◌∷◌, Option, Some, None, length, map, option_and_then, slice_get}
+use Rattle.std.specs.Prelude.{◌<◌, Bool, ℕ, zero, suc, List, [], ◌∷◌, Option, length, map, option_and_then, slice_get}
 use Rattle.life_types.specs.Types.{Types}
 use Rattle.life_types.specs.declared.place.Place.{Place}
 use Rattle.life_types.specs.declared.ty.NameId.{NameId}

@@ -1,5 +1,5 @@
--- What a local holds where it is ready, by its type and its kind.
-use Rattle.std.specs.Prelude.{ℕ, zero, suc, List, [], ◌∷◌, Option, Some, None, slice_get, take}
+-- What a local holds where it is there, by its type and its kind.
+use Rattle.std.specs.Prelude.{ℕ, List, Option, Some, None, map, slice_get, take}
 use Rattle.life_types.specs.Types.{Types, class_at}
 use Rattle.life_types.specs.declared.ty.Class.{Class}
 use Rattle.life_types.specs.declared.ty.Class.TheVariants.{Value, Pointer, Owner, Aggregate}
@@ -18,8 +18,7 @@ pub data Holding : Type 0 where
   APointer : Holding
   AView : Holding
 
--- an iterator and a span hold nothing so far, like an owner and a struct: no function that is built has such a local, and a point
--- that needs one to be ready isn't
+-- an iterator and a span hold nothing so far, like an owner and a struct: no function that is served has such a local
 abbrev pub pointer_held : Option Ty → Holding
 pointer_held (Some (variant.Raw target constant)) = APointer
 pointer_held (Some (variant.Reference target constant)) = APointer
@@ -38,7 +37,7 @@ abbrev pub held_by : Types → Option Local → Holding
 held_by types None = Blank
 held_by types (Some l) = held_if (class_at types l.ty) l.kind (slice_get types.types l.ty.0)
 
--- what the local holds where it is ready, by its type and kind
+-- what the local with this number holds
 abbrev pub sort_of : Types → Function → ℕ → Holding
 sort_of types f x = held_by types (slice_get f.locals x)
 
@@ -50,19 +49,9 @@ result_if _ held = held
 abbrev pub result_sort : Types → Function → Holding
 result_sort types f = result_if (slice_get types.types f.result.0) (sort_of types f f.parameters)
 
--- what each local holds, in the order of their numbers
-abbrev pub Holdings : Type 0
-Holdings = List Holding
-
--- at the entry: so many parameters are ready, and nothing else is
-abbrev pub given_holdings : Types → ℕ → List Local → Holdings
-given_holdings types n [] = []
-given_holdings types zero (l ∷ ls) = Blank ∷ given_holdings types zero ls
-given_holdings types (suc n) (l ∷ ls) = held_by types (Some l) ∷ given_holdings types n ls
-
-abbrev pub entry_holdings : Types → Function → Holdings
-entry_holdings types f = given_holdings types f.parameters f.locals
-
 -- what each parameter holds
+abbrev pub sort_of_local : Types → Local → Holding
+sort_of_local types l = held_by types (Some l)
+
 abbrev pub parameter_sorts : Types → Function → List Holding
-parameter_sorts types f = take f.parameters (entry_holdings types f)
+parameter_sorts types f = map (sort_of_local types) (take f.parameters f.locals)

@@ -9,10 +9,8 @@ use Rattle.life_core.specs.declared.operand.Characters.TheVariants as characters
 use Rattle.life_core.specs.declared.operand.Location.{Location as Held}
 use Rattle.life_core.specs.declared.operand.Operand.{Operand as PlaceHeld}
 use Rattle.life_core.specs.declared.operand.Operand.TheVariants as operand
-use Rattle.life_core.specs.declared.operand.RangeEnd.{RangeEnd}
 use Rattle.life_core.specs.declared.operand.Source.{Source as AimedAt}
 use Rattle.life_core.specs.declared.operand.Source.TheVariants as source
-use Rattle.life_core.specs.declared.operand.Which.{Which}
 
 pub record Location : Type 0 where
   pub local : ℕ

@@ -1,5 +1,5 @@
 -- Where the body of a function begins: its parameters live, and no other variable does.
-use Rattle.std.proofs.Common.{◌≡◌, ◌<◌, ◌≤◌, ◌⊎◌, inl, inr, ℕ, zero, suc, true, ◌||◌, List, [], ◌∷◌, ◌++◌, length, map, slice_get, Option, Some, option_map, refl, sym, ap, ◌∙◌, subst, unwrap_or, arith, length-append, append_assoc, append-nil}
+use Rattle.std.proofs.Common.{◌≡◌, ◌<◌, ◌≤◌, ◌⊎◌, inl, inr, ℕ, zero, suc, Bool, true, false, ◌||◌, List, [], ◌∷◌, ◌++◌, length, map, slice_get, Option, Some, option_map, refl, sym, ap, ◌∙◌, subst, unwrap_or, arith, length-append, append_assoc, append-nil}
 use Rattle.std.proofs.lemmas.Bool.{and_parts, cases_eq, cases_lt, false≢true}
 use Rattle.std.proofs.lemmas.Option.{none-some, slice_get-map}
 use Rattle.life_types.specs.Types.{Types}
@@ -10,7 +10,7 @@ use Rattle.life_typed.specs.BaseTypes.{is_value, type_at}
 use Rattle.life_typed.specs.declared.typed_program.ParameterPromise.{ParameterPromise}
 use Rattle.life_typed.specs.declared.typed_program.TypedLocal.{TypedLocal}
 use Rattle.life_core.specs.Function.{Function}
-use Rattle.life_core.specs.Holdings.{Blank, Holding, Holdings, given_holdings, held_by, sort_of}
+use Rattle.life_core.specs.Ready.{Ready, given_ready}
 use Rattle.life_core.specs.declared.program.Local.{Local}
 use Rattle.life_proper.specs.declared.known.Known.{Known}
 use Rattle.life_proper.specs.declared.known.Known.TheVariants as known
@@ -32,32 +32,32 @@ use Rattle.life_elab_laws.proofs.OrderedTypes.{order_none}
 use Rattle.life_elab_laws.proofs.Shaped.{AreShaped, shaped_more}
 use Rattle.life_elab_laws.proofs.WrittenLocals.{AddsRegisters, AreWrittenLocals, IsIntermediate, locals_added, own_added, register_pushed, registers_none, value_fits}
 
--- ---- what parameters hold at the entry
+-- ---- what is there at the entry
 
-given_length : (types : Types) (n : ℕ) (ls : List Local) → length (given_holdings types n ls) ≡ length ls
-given_length types n [] = refl
-given_length types zero (l ∷ ls) = ap suc (given_length types zero ls)
-given_length types (suc n) (l ∷ ls) = ap suc (given_length types n ls)
+given_length : (n : ℕ) (ls : List Local) → length (given_ready n ls) ≡ length ls
+given_length n [] = refl
+given_length zero (l ∷ ls) = ap suc (given_length zero ls)
+given_length (suc n) (l ∷ ls) = ap suc (given_length n ls)
 
-given_there : (types : Types) (n : ℕ) (ls : List Local) (y : ℕ) (l : Local) → y < n → slice_get ls y ≡ Some l → slice_get (given_holdings types n ls) y ≡ Some (held_by types (Some l))
-given_there types n [] y l lt at = absurd (none-some l at)
-given_there types zero (u ∷ ls) y l lt at = absurd (omega (arith, lt))
-given_there types (suc n) (u ∷ ls) zero l lt at = ap (λ (o : Option Local). Some (held_by types o)) at
-given_there types (suc n) (u ∷ ls) (suc y) l lt at = given_there types n ls y l (omega (arith, lt)) at
+given_there : (n : ℕ) (ls : List Local) (y : ℕ) (l : Local) → y < n → slice_get ls y ≡ Some l → slice_get (given_ready n ls) y ≡ Some true
+given_there n [] y l lt at = absurd (none-some l at)
+given_there zero (u ∷ ls) y l lt at = absurd (omega (arith, lt))
+given_there (suc n) (u ∷ ls) zero l lt at = refl
+given_there (suc n) (u ∷ ls) (suc y) l lt at = given_there n ls y l (omega (arith, lt)) at
 
-given_blank : (types : Types) (n : ℕ) (ls : List Local) (y : ℕ) (l : Local) → n ≤ y → slice_get ls y ≡ Some l → slice_get (given_holdings types n ls) y ≡ Some Blank
-given_blank types n [] y l le at = absurd (none-some l at)
-given_blank types zero (u ∷ ls) zero l le at = refl
-given_blank types zero (u ∷ ls) (suc y) l le at = given_blank types zero ls y l (omega arith) at
-given_blank types (suc n) (u ∷ ls) zero l le at = absurd (omega (arith, le))
-given_blank types (suc n) (u ∷ ls) (suc y) l le at = given_blank types n ls y l (omega (arith, le)) at
+given_blank : (n : ℕ) (ls : List Local) (y : ℕ) (l : Local) → n ≤ y → slice_get ls y ≡ Some l → slice_get (given_ready n ls) y ≡ Some false
+given_blank n [] y l le at = absurd (none-some l at)
+given_blank zero (u ∷ ls) zero l le at = refl
+given_blank zero (u ∷ ls) (suc y) l le at = given_blank zero ls y l (omega arith) at
+given_blank (suc n) (u ∷ ls) zero l le at = absurd (omega (arith, le))
+given_blank (suc n) (u ∷ ls) (suc y) l le at = given_blank n ls y l (omega (arith, le)) at
 
-known_given : (hs : Holdings) (y : ℕ) (h : Holding) → slice_get hs y ≡ Some h → known_at (map known_as hs) y ≡ known_as h
-known_given hs y h at = ap (λ (o : Option Known). unwrap_or o known.Unknown) (slice_get-map known_as hs y ∙ ap (option_map known_as) at)
+known_given : (bits : Ready) (y : ℕ) (there : Bool) → slice_get bits y ≡ Some there → known_at (map known_as bits) y ≡ known_as there
+known_given bits y there at = ap (λ (o : Option Known). unwrap_or o known.Unknown) (slice_get-map known_as bits y ∙ ap (option_map known_as) at)
 
-map_length : (hs : Holdings) → length (map known_as hs) ≡ length hs
+map_length : (bits : Ready) → length (map known_as bits) ≡ length bits
 map_length [] = refl
-map_length (h ∷ hs) = ap suc (map_length hs)
+map_length (b ∷ bits) = ap suc (map_length bits)
 
 -- ---- the parameters of a function
 
@@ -233,8 +233,8 @@ module _ (a : Around) where
       sym (ap (λ (o : Option Ty). unwrap_or o ty.Void) at),
     )
 
-    module _ (types : Types) (fs : List Function) (f : Function) (front : IsFront a.program.types.types types.types) (variables : are_built_variables a.program.types a.function.locals ≡ true) where
-      nothing_follows : Follows types fs f a (with_parameters 0) (nothing_written T)
+    module _ (types : Types) (f : Function) (front : IsFront a.program.types.types types.types) (variables : are_built_variables a.program.types a.function.locals ≡ true) where
+      nothing_follows : Follows types f a (with_parameters 0) (nothing_written T)
       nothing_follows = record {
         count = refl;
         visible = λ x c. absurd (contains_among [] x c);
@@ -245,27 +245,27 @@ module _ (a : Around) where
         sorts = λ b y m. absurd m;
       }
 
-      each_follows : (ps : List ParameterPromise) (done us : List TypedLocal) (v : Visible) (s : State) → done ++ us ≡ a.function.locals → length done ≡ v.declared → length ps ≤ length us → Follows types fs f a v s
-          → Follows types fs f a (past_parameters ps v) (elab.with_parameters a ps us s)
+      each_follows : (ps : List ParameterPromise) (done us : List TypedLocal) (v : Visible) (s : State) → done ++ us ≡ a.function.locals → length done ≡ v.declared → length ps ≤ length us → Follows types f a v s
+          → Follows types f a (past_parameters ps v) (elab.with_parameters a ps us s)
       each_follows [] done us v s e n few h = h
       each_follows (p ∷ ps) done [] v s e n few h = absurd (omega (arith, few))
       each_follows (p ∷ ps) done (u ∷ us) v s e n few h =
           let at : slice_get a.function.locals v.declared ≡ Some u = subst (λ (k : ℕ). slice_get a.function.locals k ≡ Some u) n (subst (λ (xs : List TypedLocal). slice_get xs (length done) ≡ Some u) e (middle_there done u us)) in
           each_follows ps (done ++ u ∷ []) us (with_next v) (with_new (parameter_local a p u) s) (append_assoc done (u ∷ []) us ∙ e) (omega (arith, n, length-append done (u ∷ []))) (omega (arith, few))
-          (follows_new types fs f a front v u (parameter_local a p u) (record { named = refl; typed = refl; kind = refl }) s h at (variable_built a.program.types a.function.locals v.declared u variables at))
+          (follows_new types f a front v u (parameter_local a p u) (record { named = refl; typed = refl; kind = refl }) s h at (variable_built a.program.types a.function.locals v.declared u variables at))
 
-      given_follows : Follows types fs f a (with_parameters (length a.function.parameters)) given
+      given_follows : Follows types f a (with_parameters (length a.function.parameters)) given
       given_follows =
-          subst (λ (v : Visible). Follows types fs f a v given) (all_visible a.function.parameters)
+          subst (λ (v : Visible). Follows types f a v given) (all_visible a.function.parameters)
           (each_follows a.function.parameters [] a.function.locals (with_parameters 0) (nothing_written T) refl refl fits nothing_follows)
 
-      pub first_follows : Follows types fs f a (with_parameters (length a.function.parameters)) (first_state a T)
-      first_follows = follows_grown types fs f a (with_parameters (length a.function.parameters)) given (first_state a T) (result_grows (type_at a.program.types a.function.result) given) given_follows
+      pub first_follows : Follows types f a (with_parameters (length a.function.parameters)) (first_state a T)
+      first_follows = follows_grown types f a (with_parameters (length a.function.parameters)) given (first_state a T) (result_grows (type_at a.program.types a.function.result) given) given_follows
 
       -- the parameters are known, and all else that has a name is blank
-      pub entry_knows : f.parameters ≡ length a.function.parameters → IsFront (first_state a T).locals f.locals → Knows types fs f (first_state a T).living (entry_known types f)
+      pub entry_knows : f.parameters ≡ length a.function.parameters → IsFront (first_state a T).locals f.locals → Knows f (first_state a T).living (entry_known f)
       entry_knows count locals = record {
-        sized = map_length (given_holdings types f.parameters f.locals) ∙ given_length types f.parameters f.locals;
+        sized = map_length (given_ready f.parameters f.locals) ∙ given_length f.parameters f.locals;
         alive = λ y m. alive y (subst (Among y) same m);
         blank = λ y l name there named none. blank y l there (λ m. none (subst (Among y) (sym same) m));
       }
@@ -276,16 +276,15 @@ module _ (a : Around) where
           same : (first_state a T).living ≡ given.living
           same = grows.living
 
-          alive : (y : ℕ) → Among y given.living → known_at (entry_known types f) y ≡ known_as (sort_of types f y)
+          alive : (y : ℕ) → Among y given.living → known_at (entry_known f) y ≡ known.Ready
           alive y m =
               let is = given_follows.living y m in
               let there : slice_get f.locals y ≡ Some is.local = locals y is.local (grows.locals y is.local is.there) in
-              let below : y < length given.locals = follows_below types fs f a (with_parameters (length a.function.parameters)) given given_follows y m in
-              known_given (given_holdings types f.parameters f.locals) y (held_by types (Some is.local)) (given_there types f.parameters f.locals y is.local (omega (arith, below, given_count, count)) there)
-              ∙ ap (λ (o : Option Local). known_as (held_by types o)) (sym there)
+              let below : y < length given.locals = follows_below types f a (with_parameters (length a.function.parameters)) given given_follows y m in
+              known_given (given_ready f.parameters f.locals) y true (given_there f.parameters f.locals y is.local (omega (arith, below, given_count, count)) there)
 
-          blank : (y : ℕ) (l : Local) → slice_get f.locals y ≡ Some l → (Among y given.living → ⊥) → known_at (entry_known types f) y ≡ known.Blank
+          blank : (y : ℕ) (l : Local) → slice_get f.locals y ≡ Some l → (Among y given.living → ⊥) → known_at (entry_known f) y ≡ known.Blank
           blank y l there none = elim (cases_lt y (length given.locals)) [
             | inl lt ↦ absurd (none (all_live a.function.parameters a.function.locals (nothing_written T) (λ z small. absurd (omega (arith, small))) y lt))
-            | inr le ↦ known_given (given_holdings types f.parameters f.locals) y Blank (given_blank types f.parameters f.locals y l (omega (arith, le, given_count, count)) there)
+            | inr le ↦ known_given (given_ready f.parameters f.locals) y false (given_blank f.parameters f.locals y l (omega (arith, le, given_count, count)) there)
           ]

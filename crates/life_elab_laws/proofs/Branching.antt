@@ -25,18 +25,18 @@ use Rattle.life_elab_laws.proofs.WrittenLocals.{locals_added}
 module _ (types : Types) (texts : ℕ) (fs : List Function) (f : Function) where
   -- ---- behind a condition
 
-  module _ (a : Around) (v : Visible) (in_loop : Bool) (s : State) (w : Gives Tree) (h : Follows types fs f a v s) (test : Tests types texts fs f s w) where
-    pub tested_follows : Follows types fs f a v (with_code [] w.state)
-    tested_follows = follows_grown types fs f a v s w.state test.grown h
+  module _ (a : Around) (v : Visible) (in_loop : Bool) (s : State) (w : Gives Tree) (h : Follows types f a v s) (test : Tests types texts fs f s w) where
+    pub tested_follows : Follows types f a v (with_code [] w.state)
+    tested_follows = follows_grown types f a v s w.state test.grown h
 
     pub same_outside : take w.state.outside w.state.living ≡ take s.outside s.living
     same_outside = ap (λ (n : ℕ). take n w.state.living) test.grown.outside ∙ ap (take s.outside) test.grown.living
 
     -- what is known on both ways
-    pub known_behind : Begins types f w.state → (k : List Known) (asked : Asked types texts fs f s w.given k) → Knows types fs f s.living k → Knows types fs f s.living asked.on × Knows types fs f s.living asked.off
+    pub known_behind : Begins types f w.state → (k : List Known) (asked : Asked types texts fs f s w.given k) → Knows f s.living k → Knows f s.living asked.on × Knows f s.living asked.off
     known_behind b k asked knows =
-        let names = follows_named types fs f a v s h (begins_added types fs f s w.state (grows_adds types fs f s w.state test.grown) b) in
-        (knows_written types fs f s.living (length s.locals) None k asked.on names knows asked.keeps_on, knows_written types fs f s.living (length s.locals) None k asked.off names knows asked.keeps_off)
+        let names = follows_named types f a v s h (begins_added types f s w.state (grows_adds types f s w.state test.grown) b) in
+        (knows_written f s.living (length s.locals) None k asked.on names knows asked.keeps_on, knows_written f s.living (length s.locals) None k asked.off names knows asked.keeps_off)
 
     -- both branches, the second of which is written behind the first
     module _ (u x : Visible) (t r : State) (first : DoesLevel types texts fs f a u in_loop (with_code [] w.state) t) (second : DoesLevel types texts fs f a x in_loop (with_code [] t) r) where
@@ -46,10 +46,10 @@ module _ (types : Types) (texts : ℕ) (fs : List Function) (f : Function) where
       abbrev chosen : Tree
       chosen = Choice w.given (trees first.does.code) (trees second.does.code)
 
-      branched_adds : Adds types fs f s both
+      branched_adds : Adds types f s both
       branched_adds =
-          adds_then types fs f s t r
-          (adds_then types fs f s w.state t (grows_adds types fs f s w.state test.grown) first.does.adds)
+          adds_then types f s t r
+          (adds_then types f s w.state t (grows_adds types f s w.state test.grown) first.does.adds)
           second.does.adds
 
       branched_level : r.living ≡ s.living
@@ -57,10 +57,10 @@ module _ (types : Types) (texts : ℕ) (fs : List Function) (f : Function) where
 
       module _ (b : Begins types f r) where
         begun : Begins types f t
-        begun = begins_added types fs f t r second.does.adds b
+        begun = begins_added types f t r second.does.adds b
 
         tested : Begins types f w.state
-        tested = begins_added types fs f w.state t first.does.adds begun
+        tested = begins_added types f w.state t first.does.adds begun
 
         asks : AsksAll types texts fs f s w.given
         asks = test.runs tested
@@ -75,43 +75,43 @@ module _ (types : Types) (texts : ℕ) (fs : List Function) (f : Function) where
         outside_second = ap (λ (n : ℕ). take n t.living) first.does.adds.outside ∙ ap (take w.state.outside) first.level ∙ same_outside
 
         -- .. on each of both ways
-        module _ (k : List Known) (knows : Knows types fs f s.living k) where
+        module _ (k : List Known) (knows : Knows f s.living k) where
           abbrev g : Asked types texts fs f s w.given k
-          g = asks.goes k (knows_alive types fs f a v s k knows)
+          g = asks.goes k (knows_alive types f a v s k knows)
 
-          known_on : Knows types fs f w.state.living g.on
-          known_on = subst (λ (xs : List ℕ). Knows types fs f xs g.on) (sym test.grown.living) (known_behind tested k g knows).0
+          known_on : Knows f w.state.living g.on
+          known_on = subst (λ (xs : List ℕ). Knows f xs g.on) (sym test.grown.living) (known_behind tested k g knows).0
 
-          known_off : Knows types fs f t.living g.off
-          known_off = subst (λ (xs : List ℕ). Knows types fs f xs g.off) (sym (first.level ∙ test.grown.living)) (known_behind tested k g knows).1
+          known_off : Knows f t.living g.off
+          known_off = subst (λ (xs : List ℕ). Knows f xs g.off) (sym (first.level ∙ test.grown.living)) (known_behind tested k g knows).1
 
-          went : Leaves types fs f in_loop r.living (take s.outside s.living) (flow types fs f (trees (chosen ∷ [])) (Some k))
+          went : Leaves f in_loop r.living (take s.outside s.living) (flow types f (trees (chosen ∷ [])) (Some k))
           went =
               let on = one.ways (Some g.on) known_on in
               let off = other.ways (Some g.off) known_off in
-              let after = leaves_joined types fs f in_loop r.living (take s.outside s.living) (flow types fs f (trees first.does.code) (Some g.on)) (flow types fs f (trees second.does.code) (Some g.off))
-              (leaves_same types fs f in_loop t.living r.living (take w.state.outside w.state.living) (take s.outside s.living) (flow types fs f (trees first.does.code) (Some g.on)) (sym second.level) same_outside on)
-              (leaves_same types fs f in_loop r.living r.living (take t.outside t.living) (take s.outside s.living) (flow types fs f (trees second.does.code) (Some g.off)) refl outside_second off) in
-              subst (Leaves types fs f in_loop r.living (take s.outside s.living))
-              (sym (joined_end (flow types fs f chosen (Some k))
-              ∙ ap (λ (q : Flow). joined (before_both q) (joined (flow types fs f (trees first.does.code) q.on_true) (flow types fs f (trees second.does.code) q.on_false))) g.decides))
+              let after = leaves_joined f in_loop r.living (take s.outside s.living) (flow types f (trees first.does.code) (Some g.on)) (flow types f (trees second.does.code) (Some g.off))
+              (leaves_same f in_loop t.living r.living (take w.state.outside w.state.living) (take s.outside s.living) (flow types f (trees first.does.code) (Some g.on)) (sym second.level) same_outside on)
+              (leaves_same f in_loop r.living r.living (take t.outside t.living) (take s.outside s.living) (flow types f (trees second.does.code) (Some g.off)) refl outside_second off) in
+              subst (Leaves f in_loop r.living (take s.outside s.living))
+              (sym (joined_end (flow types f chosen (Some k))
+              ∙ ap (λ (q : Flow). joined (before_both q) (joined (flow types f (trees first.does.code) q.on_true) (flow types f (trees second.does.code) q.on_false))) g.decides))
               after
 
-          returned : GivesValue a → ReturnsKnown types fs f (result_local a) (trees (chosen ∷ [])) (Some k)
+          returned : GivesValue a → ReturnsKnown types f (result_local a) (trees (chosen ∷ [])) (Some k)
           returned gives =
-              let behind = subst (λ (q : Flow). ReturnsKnown types fs f (result_local a) (trees first.does.code) q.on_true × ReturnsKnown types fs f (result_local a) (trees second.does.code) q.on_false) (sym g.decides)
+              let behind = subst (λ (q : Flow). ReturnsKnown types f (result_local a) (trees first.does.code) q.on_true × ReturnsKnown types f (result_local a) (trees second.does.code) q.on_false) (sym g.decides)
               (first.does.returns begun gives (Some g.on) known_on, second.does.returns b gives (Some g.off) known_off) in
-              ((asks_known types fs f (result_local a) texts w.given asks.fine (Some k), behind), tt)
+              ((asks_known types f (result_local a) texts fs w.given asks.fine (Some k), behind), tt)
 
         branched_acts : Acting types texts fs f in_loop s both (chosen ∷ [])
         branched_acts = record {
           stated =
               stated_alone types texts fs f in_loop chosen (stated_choice types texts fs f in_loop w.given (trees first.does.code) (trees second.does.code) asks.fine one.stated other.stated);
-          ways = leaves_may types fs f in_loop s.living r.living (take s.outside s.living) (trees (chosen ∷ [])) went;
+          ways = leaves_may types f in_loop s.living r.living (take s.outside s.living) (trees (chosen ∷ [])) went;
         }
 
-        branched_returns : GivesValue a → (o : Knowing) → MayKnow types fs f s.living o → ReturnsKnown types fs f (result_local a) (trees (chosen ∷ [])) o
-        branched_returns gives = known_may types fs f (result_local a) s.living (trees (chosen ∷ [])) (λ k knows. returned k knows gives)
+        branched_returns : GivesValue a → (o : Knowing) → MayKnow f s.living o → ReturnsKnown types f (result_local a) (trees (chosen ∷ [])) o
+        branched_returns gives = known_may types f (result_local a) s.living (trees (chosen ∷ [])) (λ k knows. returned k knows gives)
 
       pub branched_does : DoesLevel types texts fs f a x in_loop s both
       branched_does = record {
@@ -138,32 +138,32 @@ module _ (types : Types) (texts : ℕ) (fs : List Function) (f : Function) where
       stated =
           stated_alone types texts fs f in_loop (Choice w.given Skip (Stops keyword))
           (stated_choice types texts fs f in_loop w.given Skip (Stops keyword) asks.fine (stated_none types texts fs f in_loop)
-          (record { statement = refl; tests = refl; breaks = refl; plain = refl; formed = refl }));
-      ways = leaves_may types fs f in_loop s.living w.state.living (take s.outside s.living) (trees (Choice w.given Skip (Stops keyword) ∷ [])) went;
+          (record { statement = refl; tests = refl; breaks = refl; plain = refl; formed = refl; served = refl }));
+      ways = leaves_may types f in_loop s.living w.state.living (take s.outside s.living) (trees (Choice w.given Skip (Stops keyword) ∷ [])) went;
     }
       where
         asks : AsksAll types texts fs f s w.given
         asks = test.runs b
 
-        went : (k : List Known) → Knows types fs f s.living k → Leaves types fs f in_loop w.state.living (take s.outside s.living) (flow types fs f (trees (Choice w.given Skip (Stops keyword) ∷ [])) (Some k))
+        went : (k : List Known) → Knows f s.living k → Leaves f in_loop w.state.living (take s.outside s.living) (flow types f (trees (Choice w.given Skip (Stops keyword) ∷ [])) (Some k))
         went k knows =
-            let g = asks.goes k (knows_alive types fs f a v s k knows) in
-            subst (Leaves types fs f in_loop w.state.living (take s.outside s.living))
-            (sym (joined_end (flow types fs f (Choice w.given Skip (Stops keyword)) (Some k))
-            ∙ ap (λ (q : Flow). joined (before_both q) (joined (flow types fs f Skip q.on_true) (flow types fs f (Stops keyword) q.on_false))) g.decides))
-            (leaves_falling types fs f in_loop w.state.living (take s.outside s.living) g.on (subst (λ (xs : List ℕ). Knows types fs f xs g.on) (sym test.grown.living) (known_behind b k g knows).0))
+            let g = asks.goes k (knows_alive types f a v s k knows) in
+            subst (Leaves f in_loop w.state.living (take s.outside s.living))
+            (sym (joined_end (flow types f (Choice w.given Skip (Stops keyword)) (Some k))
+            ∙ ap (λ (q : Flow). joined (before_both q) (joined (flow types f Skip q.on_true) (flow types f (Stops keyword) q.on_false))) g.decides))
+            (leaves_falling f in_loop w.state.living (take s.outside s.living) g.on (subst (λ (xs : List ℕ). Knows f xs g.on) (sym test.grown.living) (known_behind b k g knows).0))
 
     pub asserted_does : (keyword : Place) → DoesLevel types texts fs f a v in_loop s (write (Choice w.given Skip (Stops keyword)) w.state)
     asserted_does keyword = record {
       does = record {
-        adds = grows_adds types fs f s w.state test.grown;
+        adds = grows_adds types f s w.state test.grown;
         locals = locals_added types a s w.state test.grown.types test.registers;
         order = test.registers.1;
-        follows = follows_grown types fs f a v s w.state test.grown h;
+        follows = follows_grown types f a v s w.state test.grown h;
         code = Choice w.given Skip (Stops keyword) ∷ [];
         written = ap (λ (c : List Tree). c ++ Choice w.given Skip (Stops keyword) ∷ []) test.unwritten;
         acts = asserted_acts keyword;
-        returns = λ b gives o k. ((asks_known types fs f (result_local a) texts w.given (test.runs b).fine o, (tt, tt)), tt);
+        returns = λ b gives o k. ((asks_known types f (result_local a) texts fs w.given (test.runs b).fine o, (tt, tt)), tt);
       };
       level = test.grown.living;
     }

@@ -1,34 +1,34 @@
 -- Calls: each argument is a number of the parameter's type in a register, and the result goes to a register of its type.
-use Rattle.std.proofs.Common.{◌≡◌, ℕ, Bool, true, false, ◌&&◌, ◌||◌, if◌then◌else◌, List, [], ◌∷◌, slice_get, slice_set, Option, Some, None, refl, ap, ◌∙◌}
+use Rattle.std.proofs.Common.{◌≡◌, ℕ, Bool, true, false, ◌&&◌, ◌||◌, if◌then◌else◌, List, [], ◌∷◌, slice_get, Option, Some, None, refl, ap, ◌∙◌}
 use Rattle.std.proofs.lemmas.Bool.{and_from, and_parts, or_left, or_right}
 use Rattle.life_types.specs.Types.{Types}
 use Rattle.life_types.specs.declared.place.Place.{Place}
 use Rattle.life_types.specs.declared.ty.Ty.{Ty}
 use Rattle.life_types.specs.declared.ty.Ty.TheVariants as ty
 use Rattle.life_types.specs.declared.ty.TyId.{TyId}
-use Rattle.life_typed.specs.BaseTypes.{is_value, type_at}
+use Rattle.life_typed.specs.BaseTypes.{is_value}
 use Rattle.life_typed.specs.Programs.{FunctionForm}
 use Rattle.life_core.specs.ByValue.{is_pointer as points}
 use Rattle.life_core.specs.Function.{Function}
-use Rattle.life_core.specs.Holdings.{Holding}
+use Rattle.life_core.specs.Holdings.{sort_of}
 use Rattle.life_core.specs.Operands.{Argument, Location, Value, whole}
 use Rattle.life_pset.specs.Shapes.{is_pointer, ty_of}
-use Rattle.life_proper.specs.Knowing.{known_as}
 use Rattle.life_proper.specs.OperandTypes.{same}
 use Rattle.life_proper.specs.OperandTypes as operands
 use Rattle.life_proper.specs.Placed.{is_number, is_number_of, object_at, register_at, type_in}
 use Rattle.life_proper.specs.Placed as placed
-use Rattle.life_proper.specs.WellFormed.{are_arguments_for, goes_to, have_own_slots, is_argument_for, is_call, is_well_formed_step, types_taken}
+use Rattle.life_proper.specs.WellFormed.{are_arguments_for, goes_to, have_own_slots, is_argument_for, is_call, types_taken}
 use Rattle.life_well_typed.specs.Expressions.{parameter_types}
 use Rattle.life_writer.specs.Calls.{called, called_alone, handed}
 use Rattle.life_writer.specs.Registers.{computed}
 use Rattle.life_writer.specs.Writing.{Gives, State, gives}
-use Rattle.life_elab_laws.proofs.Calls.{IsCallee, call_plain, call_ready}
+use Rattle.life_elab_laws.proofs.Calls.{IsCallee, alone_plain, call_plain, written_fills}
 use Rattle.life_elab_laws.proofs.Gifts.{AreHanded, a_number, arguments, both, nothing}
 use Rattle.life_elab_laws.proofs.Instructions.{Computes, IsIntoOf, computed_part, into_of_later}
 use Rattle.life_elab_laws.proofs.Making.{IsOpen}
-use Rattle.life_elab_laws.proofs.OperandsThere.{number_any, value_either, value_same}
+use Rattle.life_elab_laws.proofs.OperandsThere.{number_any, number_sort, value_either, value_same}
 use Rattle.life_elab_laws.proofs.Parts.{Makes, and_part, leaf_part, seen_part, then_part}
+use Rattle.life_elab_laws.proofs.Shaping.{IsFineStep}
 use Rattle.life_elab_laws.proofs.Values.{by_values}
 
 value_no_pointer : (t : Ty) → is_value t ≡ true → is_pointer t ≡ false
@@ -38,10 +38,10 @@ module _ (types : Types) (texts : ℕ) (fs : List Function) (f : Function) where
   -- ---- arguments
 
   pub none_handed : (s : State) → Makes types texts fs f None s (gives [] s) (arguments types texts fs f [])
-  none_handed s = leaf_part types texts fs f [] s (arguments types texts fs f []) (λ b. record { fit = refl; own = refl }) (λ b k alive. tt)
+  none_handed s = leaf_part types texts fs f [] s (arguments types texts fs f []) (λ b. record { fit = refl; own = refl; served = refl }) (λ b k alive. tt)
 
   -- one before the others
-  pub handed_part : (id : TyId) (t : Ty) (ids : List TyId) (first : State → Gives ℕ) (others : State → Gives (List Argument)) (s : State) → ty_of types id ≡ t → IsOpen types fs f s
+  pub handed_part : (id : TyId) (t : Ty) (ids : List TyId) (first : State → Gives ℕ) (others : State → Gives (List Argument)) (s : State) → ty_of types id ≡ t → IsOpen s
       → Makes types texts fs f None s (first s) (a_number types texts fs f t) → Makes types texts fs f None (first s).state (others (first s).state) (arguments types texts fs f ids)
       → Makes types texts fs f None s (handed first others s) (arguments types texts fs f (id ∷ ids))
   handed_part id t ids first others s at opened one more =
@@ -53,6 +53,7 @@ module _ (types : Types) (texts : ℕ) (fs : List Function) (f : Function) where
       (λ b h. record {
         fit = and_from (is_argument_for types texts fs f id (Value r.given)) (are_arguments_for types texts fs f ids xs.given) (ap (λ (u : Ty). is_number_of types f u r.given) at ∙ h.0) h.1.fit;
         own = h.1.own;
+        served = h.1.served;
       })
       (λ n k h. h)
 
@@ -71,34 +72,45 @@ module _ (types : Types) (texts : ℕ) (fs : List Function) (f : Function) where
       ap (λ (b : Bool). if b then operands.takes types (type_in types f (whole x)) t else (same t (type_in types f (whole x)) && (object_at types f x || is_number types f x))) (value_no_pointer t v)
       ∙ and_from (same t (placed.type_at types f x)) (object_at types f x || is_number types f x) (ap (same t) typed ∙ value_same t (value_either t v)) (or_left (object_at types f x) (is_number types f x) there)
 
-  pub called_formed : (table : Types) (g : ℕ) (xs : List Argument) (of : FunctionForm) (target : Option Location) → IsCallee table types fs g of → AreHanded types texts fs f (parameter_types (Some of)) xs
+  pub called_formed : (g : ℕ) (xs : List Argument) (of : FunctionForm) (target : Option Location) → IsCallee types fs g of → AreHanded types texts fs f (parameter_types (Some of)) xs
       → goes_to types texts fs f (ty_of types of.result) target ≡ true → is_call types texts fs f (slice_get fs g) target xs ≡ true
-  called_formed table g xs of target callee given goes =
+  called_formed g xs of target callee given goes =
       ap (λ (o : Option Function). is_call types texts fs f o target xs) callee.there
       ∙ and_from (are_arguments_for types texts fs f (types_taken callee.core) xs) (have_own_slots types texts fs f xs && goes_to types texts fs f (ty_of types callee.core.result) target)
       (ap (λ (ids : List TyId). are_arguments_for types texts fs f ids xs) callee.typed ∙ given.fit)
       (and_from (have_own_slots types texts fs f xs) (goes_to types texts fs f (ty_of types callee.core.result) target) given.own
       (ap (λ (id : TyId). goes_to types texts fs f (ty_of types id) target) callee.gives ∙ goes))
 
-  pub alone_formed : (table : Types) (g : ℕ) (xs : List Argument) (of : FunctionForm) → IsCallee table types fs g of → AreHanded types texts fs f (parameter_types (Some of)) xs → ty_of types of.result ≡ ty.Void
-      → is_well_formed_step types texts fs f (called_alone g xs) ≡ true
-  alone_formed table g xs of callee h void = called_formed table g xs of None callee h (ap (λ (u : Ty). goes_to types texts fs f u None) void)
+  pub alone_fine : (g : ℕ) (xs : List Argument) (of : FunctionForm) → IsCallee types fs g of → AreHanded types texts fs f (parameter_types (Some of)) xs → ty_of types of.result ≡ ty.Void
+      → IsFineStep types texts fs f (called_alone g xs)
+  alone_fine g xs of callee h void = record {
+    plain = alone_plain types fs f g of callee xs;
+    formed = called_formed g xs of None callee h (ap (λ (u : Ty). goes_to types texts fs f u None) void);
+    served = h.served;
+  }
+
+  -- a call whose result goes to a local that holds no pointer
+  pub called_fine : (g : ℕ) (xs : List Argument) (of : FunctionForm) (x : ℕ) → IsCallee types fs g of → AreHanded types texts fs f (parameter_types (Some of)) xs → points (sort_of types f x) ≡ false
+      → goes_to types texts fs f (ty_of types of.result) (Some (whole x)) ≡ true → IsFineStep types texts fs f (called g xs x)
+  called_fine g xs of x callee h sort goes = record {
+    plain = call_plain types fs f g of callee xs x sort;
+    formed = called_formed g xs of (Some (whole x)) callee h goes;
+    served = h.served;
+  }
 
   -- ---- a call that gives a number
 
-  pub call_computes : (table : Types) (g : ℕ) (xs : List Argument) (of : FunctionForm) (t : Ty) → IsCallee table types fs g of → is_value (type_at table of.result) ≡ true → ty_of types of.result ≡ t → is_value t ≡ true
+  pub call_computes : (g : ℕ) (xs : List Argument) (of : FunctionForm) (t : Ty) → IsCallee types fs g of → ty_of types of.result ≡ t → is_value t ≡ true
       → Computes types texts fs f (arguments types texts fs f (parameter_types (Some of))) xs t (called g xs)
-  call_computes table g xs of t callee value own v = record {
-    ready = λ r n k e p. call_ready types fs f g xs n table of r k callee value p e;
-    after = λ r k e. ap (λ (h : Holding). slice_set k r (known_as h)) e;
-    plain = λ r e. call_plain types fs f g xs table of r callee (ap points e);
-    formed = λ r e h. called_formed table g xs of (Some (whole r)) callee h (ap (λ (u : Ty). goes_to types texts fs f u (Some (whole r))) own ∙ goes_value t r v e);
+  call_computes g xs of t callee own v = record {
+    fills = λ r n k e p. written_fills f g (parameter_types (Some of)) xs n k p r e;
+    fine = λ r e h. called_fine g xs of r callee h (ap points (number_sort types f t r e)) (ap (λ (u : Ty). goes_to types texts fs f u (Some (whole r))) own ∙ goes_value t r v e);
   }
 
-  pub call_part : (table : Types) (g : ℕ) (of : FunctionForm) (into : Option ℕ) (t : Ty) (place : Place) (s : State) (w : Gives (List Argument)) → IsCallee table types fs g of → is_value (type_at table of.result) ≡ true → ty_of types of.result ≡ t
-      → is_value t ≡ true → IsIntoOf t s into → IsOpen types fs f s → Makes types texts fs f None s w (arguments types texts fs f (parameter_types (Some of)))
+  pub call_part : (g : ℕ) (of : FunctionForm) (into : Option ℕ) (t : Ty) (place : Place) (s : State) (w : Gives (List Argument)) → IsCallee types fs g of → ty_of types of.result ≡ t
+      → is_value t ≡ true → IsIntoOf t s into → IsOpen s → Makes types texts fs f None s w (arguments types texts fs f (parameter_types (Some of)))
       → Makes types texts fs f into s (computed into t place (called g w.given) w.state) (a_number types texts fs f t)
-  call_part table g of into t place s w callee value own v wanted opened first =
+  call_part g of into t place s w callee own v wanted opened first =
       let P = arguments types texts fs f (parameter_types (Some of)) in
       then_part types texts fs f (nothing types texts fs f) tt into s w _ P (a_number types texts fs f t) opened first
-      (computed_part types texts fs f P w.given into t place (called g w.given) w.state v (into_of_later t s w.state into first.grown wanted) (call_computes table g w.given of t callee value own v))
+      (computed_part types texts fs f P w.given into t place (called g w.given) w.state v (into_of_later t s w.state into first.grown wanted) (call_computes g w.given of t callee own v))

@@ -1,8 +1,9 @@
 -- What the core functions of a built program take and give: values.
-use Rattle.std.proofs.Common.{◌≡◌, ◌<◌, ◌≤◌, ◌⊎◌, inl, inr, ℕ, zero, suc, true, false, List, [], ◌∷◌, ◌++◌, length, map, slice_get, take, Option, Some, None, refl, sym, ap, ◌∙◌, subst, unwrap_or, arith}
+use Rattle.std.proofs.Common.{◌≡◌, ◌<◌, ◌≤◌, ◌⊎◌, inl, inr, ℕ, zero, suc, true, false, ◌||◌, List, [], ◌∷◌, ◌++◌, length, map, slice_get, take, Option, Some, None, refl, sym, ap, ◌∙◌, subst, unwrap_or, arith}
 use Rattle.std.proofs.lemmas.Bool.{and_parts, false≢true, or_cases}
 use Rattle.std.proofs.lemmas.Option.{none-some, same_Some}
 use Rattle.life_types.specs.Types.{Types, class, class_at}
+use Rattle.life_types.specs.declared.ty.Class.TheVariants.{Value}
 use Rattle.life_types.specs.declared.ty.Ty.{Ty}
 use Rattle.life_types.specs.declared.ty.Ty.TheVariants as ty
 use Rattle.life_types.specs.declared.ty.TyId.{TyId}
@@ -12,7 +13,7 @@ use Rattle.life_typed.specs.Programs.{FunctionForm, ProgramForm}
 use Rattle.life_typed.specs.declared.typed_program.ParameterPromise.{ParameterPromise}
 use Rattle.life_typed.specs.declared.typed_program.TypedLocal.{TypedLocal}
 use Rattle.life_core.specs.Function.{Function}
-use Rattle.life_core.specs.Holdings.{AnObject, ANumber, Blank, Holding, given_holdings, held_by, held_if, parameter_sorts, result_if, result_sort, sort_of}
+use Rattle.life_core.specs.Holdings.{AnObject, Holding, held_by, held_if, parameter_sorts, sort_of_local}
 use Rattle.life_core.specs.declared.program.Local.{Local}
 use Rattle.life_pset.specs.Shapes.{or_void, ty_of}
 use Rattle.life_proper.specs.OperandTypes as operands
@@ -23,13 +24,12 @@ use Rattle.life_writer.specs.Around.{Around}
 use Rattle.life_writer.specs.Variables.{kind}
 use Rattle.life_elab.specs.Functions.{first_state, parameter_local}
 use Rattle.life_elab.specs.Programs.{around}
-use Rattle.life_elab_laws.proofs.Beginning.{first_types, parameter_locals, parameters_front, register_there}
+use Rattle.life_elab_laws.proofs.Beginning.{parameter_locals, parameters_front, register_there}
 use Rattle.life_elab_laws.proofs.Calls.{IsCallee, objects}
-use Rattle.life_elab_laws.proofs.Emitting.{wanted_sort}
 use Rattle.life_elab_laws.proofs.Fronts.{IsFront, front_cut, front_then}
 use Rattle.life_elab_laws.proofs.Shaped.{value_later}
-use Rattle.life_elab_laws.proofs.Types.{value_held}
-use Rattle.life_elab_laws.proofs.Values.{by_values}
+use Rattle.life_elab_laws.proofs.Types.{value_class, value_held}
+use Rattle.life_elab_laws.proofs.Values.{by_results}
 
 -- what stands in a table is the type there
 pub type_found : (types : Types) (id : TyId) (t : Ty) → slice_get types.types id.0 ≡ Some t → type_at types id ≡ t
@@ -42,12 +42,9 @@ value_found types id w = go (slice_get types.types id.0) refl w
     go None at w = absurd (false≢true w)
     go (Some t) at w = (t, at, w)
 
-result_kept : (t : Ty) (held : Holding) → is_value t ≡ true → result_if (Some t) held ≡ held
-result_kept t held = by_values (λ t. result_if (Some t) held ≡ held) refl refl refl refl refl t
-
-no_result : (t : Ty) (held : Holding) → is_void t ≡ true → result_if (Some t) held ≡ Blank
-no_result ty.Void held w = refl
-no_result _ held w = absurd (false≢true w)
+-- a value, or nothing
+value_or_void : (t : Ty) → (is_void t || is_value t) ≡ true → class (Some t) ≡ Value
+value_or_void = by_results (λ t. class (Some t) ≡ Value) refl (λ t v. value_class t v)
 
 void_either : (t : Ty) → is_void t ≡ true → operands.is_void t ≡ true
 void_either ty.Void w = refl
@@ -86,12 +83,12 @@ module _ (a : Around) (types : Types) (front : IsFront a.program.types.types typ
       ∙ value_held found.0 found.2
 
   objects_taken : (ps : List ParameterPromise) (us : List TypedLocal) (rest : List Local) → length ps ≤ length us → are_values a.program.types (take (length ps) us) ≡ true
-      → take (length ps) (given_holdings types (length ps) (parameter_locals a ps us ++ rest)) ≡ objects (map type_of (take (length ps) us))
+      → map (sort_of_local types) (take (length ps) (parameter_locals a ps us ++ rest)) ≡ objects (map type_of (take (length ps) us))
   objects_taken [] us rest few b = refl
   objects_taken (p ∷ ps) [] rest few b = absurd (omega (arith, few))
   objects_taken (p ∷ ps) (u ∷ us) rest few b =
       let parts = and_parts (is_value (type_at a.program.types u.ty)) (are_values a.program.types (take (length ps) us)) b in
-      ap (λ (h : Holding). h ∷ take (length ps) (given_holdings types (length ps) (parameter_locals a ps us ++ rest))) (held_parameter p u parts.0)
+      ap (λ (h : Holding). h ∷ map (sort_of_local types) (take (length ps) (parameter_locals a ps us ++ rest))) (held_parameter p u parts.0)
       ∙ ap (λ (hs : List Holding). AnObject ∷ hs) (objects_taken ps us rest (omega (arith, few)) parts.1)
 
 -- .. of the types of its parameters
@@ -129,7 +126,7 @@ pub record IsBegun (p : ProgramForm) (f : FunctionForm) (T types : Types) (core 
   pub same : core.result ≡ f.result
   pub locals : IsFront (first_state (around p f) T).locals core.locals
 
-module _ (p : ProgramForm) (of : FunctionForm) (T types : Types) (fs : List Function) (core : Function) (is : IsFunctionOf p of) (begun : IsBegun p of T types core) where
+module _ (p : ProgramForm) (of : FunctionForm) (T types : Types) (core : Function) (is : IsFunctionOf p of) (begun : IsBegun p of T types core) where
   front : IsFront p.types.types types.types
   front = front_then p.types.types T.types types.types begun.table begun.later
 
@@ -141,8 +138,8 @@ module _ (p : ProgramForm) (of : FunctionForm) (T types : Types) (fs : List Func
 
   takes_objects : parameter_sorts types core ≡ objects (parameter_types (Some of))
   takes_objects =
-      ap (λ (n : ℕ). take n (given_holdings types n core.locals)) begun.count
-      ∙ ap (λ (ls : List Local). take (length of.parameters) (given_holdings types (length of.parameters) ls)) cut.1
+      ap (λ (n : ℕ). map (sort_of_local types) (take n core.locals)) begun.count
+      ∙ ap (λ (ls : List Local). map (sort_of_local types) (take (length of.parameters) ls)) cut.1
       ∙ objects_taken (around p of) types front of.parameters of.locals cut.0 is.typed.parameters is.built.parameters
 
   takes_types : types_taken core ≡ parameter_types (Some of)
@@ -160,28 +157,13 @@ module _ (p : ProgramForm) (of : FunctionForm) (T types : Types) (fs : List Func
   result_type : slice_get types.types core.result.0 ≡ Some is.ty
   result_type = ap (λ (id : TyId). slice_get types.types id.0) begun.same ∙ front of.result.0 is.ty is.result
 
-  pub gives_nothing : is_void (type_at p.types of.result) ≡ true → result_sort types core ≡ Blank
-  gives_nothing w =
-      ap (λ (o : Option Ty). result_if o (sort_of types core core.parameters)) result_type
-      ∙ no_result is.ty (sort_of types core core.parameters) (subst (λ (x : Ty). is_void x ≡ true) (type_found p.types of.result is.ty is.result) w)
+  pub callee_from : (fs : List Function) (g : ℕ) → slice_get fs g ≡ Some core → IsCallee types fs g of
+  callee_from fs g there = record { core = core; there = there; takes = takes_objects; typed = takes_types; gives = begun.same }
 
-  pub gives_number : is_value (type_at p.types of.result) ≡ true → result_sort types core ≡ ANumber
-  gives_number w =
-      ap (λ (o : Option Ty). result_if o (sort_of types core core.parameters)) result_type
-      ∙ result_kept is.ty (sort_of types core core.parameters) (subst (λ (x : Ty). is_value x ≡ true) (type_found p.types of.result is.ty is.result) w)
-      ∙ ap (sort_of types core) begun.count
-      ∙ wanted_sort types fs core (first_state (around p of) T) (length of.parameters) (register_there (around p of) T is.typed.parameters begun.table is.ty is.result w).0
-      (record { locals = begun.locals; table = subst (λ (x : Types). IsFront x.types types.types) (sym (first_types (around p of) T is.typed.parameters begun.table)) begun.later })
-
-  pub callee_from : (g : ℕ) → slice_get fs g ≡ Some core → IsCallee p.types types fs g of
-  callee_from g there = record { core = core; there = there; takes = takes_objects; void = gives_nothing; number = gives_number; typed = takes_types; gives = begun.same }
-
-  pub gives_from : (result_sort types core ≡ Blank) ⊎ (result_sort types core ≡ ANumber)
-  gives_from = go (or_cases (is_void (type_at p.types of.result)) (is_value (type_at p.types of.result)) is.built.result)
-    where
-      go : (is_void (type_at p.types of.result) ≡ true) ⊎ (is_value (type_at p.types of.result) ≡ true) → (result_sort types core ≡ Blank) ⊎ (result_sort types core ≡ ANumber)
-      go (inl e) = inl (gives_nothing e)
-      go (inr e) = inr (gives_number e)
+  pub gives_from : class_at types core.result ≡ Value
+  gives_from =
+      ap class result_type
+      ∙ value_or_void is.ty (subst (λ (t : Ty). (is_void t || is_value t) ≡ true) (type_found p.types of.result is.ty is.result) is.built.result)
 
   -- the local of its result has no name
   pub result_nameless : (l : Local) → slice_get core.locals core.parameters ≡ Some l → operands.is_void (ty_of types core.result) ≡ false → l.name ≡ None

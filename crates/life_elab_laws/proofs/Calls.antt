@@ -1,96 +1,122 @@
 -- Calls: arguments in registers, and what a function that is called takes and gives.
-use Rattle.std.proofs.Common.{◌≡◌, ℕ, Bool, true, false, ◌||◌, not, List, [], ◌∷◌, map, slice_get, Option, Some, None, refl, ap, ◌∙◌}
+use Rattle.std.proofs.Common.{◌≡◌, ℕ, Bool, true, false, ◌||◌, not, List, [], ◌∷◌, ◌++◌, cond, flat_map, slice_get, Option, Some, None, refl, ap, ◌∙◌}
 use Rattle.std.specs.List.{list_any}
-use Rattle.std.proofs.lemmas.Bool.{and_from, or_left, or_right}
+use Rattle.std.proofs.lemmas.Bool.{and_from, false≢true}
 use Rattle.life_types.specs.Types.{Types}
 use Rattle.life_types.specs.declared.ty.TyId.{TyId}
-use Rattle.life_built.specs.Built.{is_void}
-use Rattle.life_typed.specs.BaseTypes.{is_value, type_at}
 use Rattle.life_typed.specs.Programs.{FunctionForm}
 use Rattle.life_core.specs.ByValue.{is_by_value, is_pointer, takes_pointer}
 use Rattle.life_core.specs.Function.{Function}
-use Rattle.life_core.specs.Operands.{Argument, Value, whole}
-use Rattle.life_core.specs.Holdings.{Holding, AnObject, ANumber, Blank, parameter_sorts, result_sort, sort_of}
+use Rattle.life_core.specs.Holdings.{Holding, AnObject, parameter_sorts, sort_of}
+use Rattle.life_core.specs.Kinds.{has_kind, is_object, is_object_at, is_register, is_register_at}
+use Rattle.life_core.specs.Operands.{Argument, Value}
+use Rattle.life_core.specs.Touched.{argument_leaves, argument_uses, if_object, touched_by, unless_object}
+use Rattle.life_core.specs.declared.program.Local.{Local}
+use Rattle.life_core.specs.declared.program.LocalKind.{LocalKind}
+use Rattle.life_core.specs.declared.program.LocalKind.TheVariants.{Object, Range, Register}
 use Rattle.life_proper.specs.declared.known.Known.{Known}
 use Rattle.life_proper.specs.declared.known.Known.TheVariants as known
-use Rattle.life_proper.specs.Knowing.{known_as, known_at, same}
-use Rattle.life_proper.specs.ReadyKnown.{are_arguments_ready, holds, is_call_ready, is_local, is_sort, is_step_ready, is_target_ready}
+use Rattle.life_proper.specs.Knowing.{known_at}
+use Rattle.life_proper.specs.ReadyKnown.{are_known, are_ready, can_leave, is_known, known_after, set_known}
 use Rattle.life_proper.specs.WellFormed.{types_taken}
+use Rattle.life_proper.proofs.ReadyTests.{all_ready, both_known, one_known}
 use Rattle.life_writer.specs.Calls.{called, called_alone}
 use Rattle.life_well_typed.specs.Expressions.{parameter_types}
+use Rattle.life_elab_laws.proofs.Falling.{Fills}
 use Rattle.life_elab_laws.proofs.Gifts.{AreNumbersFor}
-use Rattle.life_elab_laws.proofs.Held.{number_held, number_sort}
+use Rattle.life_elab_laws.proofs.Held.{blank_there, ready_there}
 
--- ---- arguments
+-- ---- functions
 
 -- what so many value parameters hold
 abbrev pub objects : List TyId → List Holding
 objects [] = []
 objects (id ∷ ids) = AnObject ∷ objects ids
 
-pub numbers_ready : (ids : List TyId) (xs : List Argument) (n : ℕ) (k : List Known) → AreNumbersFor ids xs n k → are_arguments_ready k (map known_as (objects ids)) xs ≡ true
-numbers_ready [] [] n k h = refl
-numbers_ready (id ∷ ids) (Value r ∷ xs) n k h =
-    and_from (holds k r ANumber) (are_arguments_ready k (map known_as (objects ids)) xs) (number_held k r h.0.1) (numbers_ready ids xs n k h.1)
-numbers_ready _ _ n k h = absurd h
-
-pub no_pointers : (ids : List TyId) → list_any is_pointer (objects ids) ≡ false
+no_pointers : (ids : List TyId) → list_any is_pointer (objects ids) ≡ false
 no_pointers [] = refl
 no_pointers (id ∷ ids) = no_pointers ids
 
--- ---- functions
-
--- the core function with this number takes values, and gives back one or nothing
-pub record IsCallee (table types : Types) (fs : List Function) (g : ℕ) (of : FunctionForm) : Type 0 where
+-- the core function with this number takes values
+pub record IsCallee (types : Types) (fs : List Function) (g : ℕ) (of : FunctionForm) : Type 0 where
   pub core : Function
   pub there : slice_get fs g ≡ Some core
   pub takes : parameter_sorts types core ≡ objects (parameter_types (Some of))
-  pub void : is_void (type_at table of.result) ≡ true → result_sort types core ≡ Blank
-  pub number : is_value (type_at table of.result) ≡ true → result_sort types core ≡ ANumber
-  -- .. of the types of the typed one
+  -- .. of the types of the typed one, and gives what that gives
   pub typed : types_taken core ≡ parameter_types (Some of)
   pub gives : core.result ≡ of.result
 
-module _ (types : Types) (fs : List Function) (f : Function) where
-  -- ---- a call that gives a number
+-- ---- no pointer goes into a call, or comes out of it
 
-  taken_plain : (g : ℕ) (table : Types) (of : FunctionForm) → IsCallee table types fs g of → takes_pointer types (slice_get fs g) ≡ false
-  taken_plain g table of callee = ap (takes_pointer types) callee.there ∙ ap (list_any is_pointer) callee.takes ∙ no_pointers (parameter_types (Some of))
+module _ (types : Types) (fs : List Function) (f : Function) (g : ℕ) (of : FunctionForm) (callee : IsCallee types fs g of) (xs : List Argument) where
+  taken_plain : takes_pointer types (slice_get fs g) ≡ false
+  taken_plain = ap (takes_pointer types) callee.there ∙ ap (list_any is_pointer) callee.takes ∙ no_pointers (parameter_types (Some of))
 
-  pub call_plain : (g : ℕ) (xs : List Argument) (table : Types) (of : FunctionForm) (r : ℕ) → IsCallee table types fs g of → is_pointer (sort_of types f r) ≡ false → is_by_value types fs f (called g xs r) ≡ true
-  call_plain g xs table of r callee e = ap not (ap (λ (b : Bool). b || is_pointer (sort_of types f r)) (taken_plain g table of callee) ∙ e)
+  pub call_plain : (x : ℕ) → is_pointer (sort_of types f x) ≡ false → is_by_value types fs f (called g xs x) ≡ true
+  call_plain x e = ap not (ap (λ (b : Bool). b || is_pointer (sort_of types f x)) taken_plain ∙ e)
 
-  pub call_ready : (g : ℕ) (xs : List Argument) (n : ℕ) (table : Types) (of : FunctionForm) (r : ℕ) (k : List Known) → IsCallee table types fs g of → is_value (type_at table of.result) ≡ true
-      → AreNumbersFor (parameter_types (Some of)) xs n k → sort_of types f r ≡ ANumber → is_step_ready types fs f k (called g xs r) ≡ true
-  call_ready g xs n table of r k callee v numbers e =
-      ap (λ (o : Option Function). is_call_ready types f k o (Some (whole r)) xs) callee.there
-      ∙ and_from (are_arguments_ready k (map known_as (parameter_sorts types callee.core)) xs) (is_target_ready types f k (known_as (result_sort types callee.core)) (Some (whole r)))
-      (ap (λ (hs : List Holding). are_arguments_ready k (map known_as hs) xs) callee.takes ∙ numbers_ready (parameter_types (Some of)) xs n k numbers)
-      (ap (λ (h : Holding). is_target_ready types f k (known_as h) (Some (whole r))) (callee.number v) ∙ or_left (is_local types f (whole r) ANumber) _ (number_sort (sort_of types f r) e))
+  pub alone_plain : is_by_value types fs f (called_alone g xs) ≡ true
+  alone_plain = ap not (ap (λ (b : Bool). b || false) taken_plain)
 
-  -- ---- a call whose answer is thrown away, or that brings a variable to life
+-- ---- a call is ready where its arguments are there
 
-  arguments_ready : (g : ℕ) (xs : List Argument) (n : ℕ) (table : Types) (of : FunctionForm) (k : List Known) (callee : IsCallee table types fs g of) → AreNumbersFor (parameter_types (Some of)) xs n k
-      → are_arguments_ready k (map known_as (parameter_sorts types callee.core)) xs ≡ true
-  arguments_ready g xs n table of k callee numbers = ap (λ (hs : List Holding). are_arguments_ready k (map known_as hs) xs) callee.takes ∙ numbers_ready (parameter_types (Some of)) xs n k numbers
+-- an object is born with the result, and a register written
+one_local : (object : Bool) (x : ℕ) → cond object (x ∷ []) [] ++ cond object [] (x ∷ []) ≡ x ∷ []
+one_local true x = refl
+one_local false x = refl
 
-  pub alone_ready : (g : ℕ) (xs : List Argument) (n : ℕ) (table : Types) (of : FunctionForm) (k : List Known) → IsCallee table types fs g of → AreNumbersFor (parameter_types (Some of)) xs n k
-      → is_step_ready types fs f k (called_alone g xs) ≡ true
-  alone_ready g xs n table of k callee numbers =
-      ap (λ (o : Option Function). is_call_ready types f k o None xs) callee.there
-      ∙ and_from (are_arguments_ready k (map known_as (parameter_sorts types callee.core)) xs) true (arguments_ready g xs n table of k callee numbers) refl
+no_object : (o : Option Local) → has_kind is_register o ≡ true → has_kind is_object o ≡ false
+no_object None e = refl
+no_object (Some l) e = go l.kind e
+  where
+    go : (k : LocalKind) → is_register k ≡ true → is_object k ≡ false
+    go Object e = absurd (false≢true e)
+    go Register e = refl
+    go Range e = refl
 
-  pub alone_plain : (g : ℕ) (xs : List Argument) (table : Types) (of : FunctionForm) → IsCallee table types fs g of → is_by_value types fs f (called_alone g xs) ≡ true
-  alone_plain g xs table of callee = ap not (ap (λ (b : Bool). b || false) (taken_plain g table of callee))
+module _ (f : Function) where
+  numbers_there : (ids : List TyId) (xs : List Argument) (n : ℕ) (k : List Known) → AreNumbersFor ids xs n k → are_known known.Ready k (flat_map (argument_uses f) xs) ≡ true
+  numbers_there [] [] n k h = refl
+  numbers_there (id ∷ ids) (Value r ∷ xs) n k h =
+      and_from (is_known known.Ready k r) (are_known known.Ready k (flat_map (argument_uses f) xs)) (ready_there k r h.0.1) (numbers_there ids xs n k h.1)
+  numbers_there _ _ n k h = absurd h
 
-  pub born_ready : (g : ℕ) (xs : List Argument) (n : ℕ) (table : Types) (of : FunctionForm) (x : ℕ) (k : List Known) → IsCallee table types fs g of → is_value (type_at table of.result) ≡ true
-      → AreNumbersFor (parameter_types (Some of)) xs n k → sort_of types f x ≡ AnObject → known_at k x ≡ known.Blank → is_step_ready types fs f k (called g xs x) ≡ true
-  born_ready g xs n table of x k callee v numbers e blank =
-      ap (λ (o : Option Function). is_call_ready types f k o (Some (whole x)) xs) callee.there
-      ∙ and_from (are_arguments_ready k (map known_as (parameter_sorts types callee.core)) xs) (is_target_ready types f k (known_as (result_sort types callee.core)) (Some (whole x)))
-      (arguments_ready g xs n table of k callee numbers)
-      (ap (λ (h : Holding). is_target_ready types f k (known_as h) (Some (whole x))) (callee.number v)
-      ∙ or_right (is_local types f (whole x) ANumber) _ (and_from (is_local types f (whole x) AnObject) (holds k x Blank) (ap (λ (h : Holding). is_sort h AnObject) e) (ap (λ (b : Known). same b known.Blank) blank)))
+  -- nothing is given over
+  numbers_stay : (ids : List TyId) (xs : List Argument) (n : ℕ) (k : List Known) → AreNumbersFor ids xs n k → flat_map (argument_leaves f) xs ≡ []
+  numbers_stay [] [] n k h = refl
+  numbers_stay (id ∷ ids) (Value r ∷ xs) n k h = numbers_stay ids xs n k h.1
+  numbers_stay _ _ n k h = absurd h
 
-  pub born_plain : (g : ℕ) (xs : List Argument) (table : Types) (of : FunctionForm) (x : ℕ) → IsCallee table types fs g of → sort_of types f x ≡ AnObject → is_by_value types fs f (called g xs x) ≡ true
-  born_plain g xs table of x callee e = call_plain g xs table of x callee (ap is_pointer e)
+  module _ (g : ℕ) (ids : List TyId) (xs : List Argument) (n : ℕ) (k : List Known) (numbers : AreNumbersFor ids xs n k) where
+    used : are_known known.Ready k (flat_map (argument_uses f) xs ++ []) ≡ true
+    used = both_known known.Ready k (flat_map (argument_uses f) xs) [] (numbers_there ids xs n k numbers) refl
+
+    stay : flat_map (argument_leaves f) xs ≡ []
+    stay = numbers_stay ids xs n k numbers
+
+    call_fills : (x : ℕ) → are_known known.Blank k (if_object f x) ≡ true → Fills f k (called g xs x) x
+    call_fills x born = record {
+      ready = all_ready k (touched_by f (called g xs x)) used (ap (can_leave k) stay) born;
+      after =
+          ap (λ (gone : List ℕ). set_known known.Ready (if_object f x ++ unless_object f x) (set_known known.Blank gone k)) stay
+          ∙ ap (λ (here : List ℕ). set_known known.Ready here k) (one_local (is_object_at f x) x);
+    }
+
+    -- its result goes to a register
+    pub written_fills : (r : ℕ) → is_register_at f r ≡ true → Fills f k (called g xs r) r
+    written_fills r e = call_fills r (ap (λ (object : Bool). are_known known.Blank k (cond object (r ∷ []) [])) (no_object (slice_get f.locals r) e))
+
+    -- .. or brings to life what isn't there
+    pub born_fills : (x : ℕ) → known_at k x ≡ known.Blank → Fills f k (called g xs x) x
+    born_fills x blank = call_fills x (go (is_object_at f x))
+      where
+        go : (object : Bool) → are_known known.Blank k (cond object (x ∷ []) []) ≡ true
+        go true = one_known known.Blank k x (blank_there k x blank)
+        go false = refl
+
+    -- .. or is thrown away
+    pub alone_ready : are_ready k (touched_by f (called_alone g xs)) ≡ true
+    alone_ready = all_ready k (touched_by f (called_alone g xs)) used (ap (can_leave k) stay) refl
+
+    pub alone_after : known_after (touched_by f (called_alone g xs)) k ≡ k
+    alone_after = ap (λ (gone : List ℕ). set_known known.Blank gone k) stay

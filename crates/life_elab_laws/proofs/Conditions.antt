@@ -1,6 +1,6 @@
 -- Conditions, and values that are decided by them.
 use Rattle.std.proofs.Common.{◌≡◌, ◌<◌, ℕ, Bool, true, false, cond, List, [], ◌∷◌, ◌++◌, length, slice_set, Option, Some, None, refl, sym, ap, ◌∙◌, subst, arith}
-use Rattle.std.proofs.lemmas.Bool.{and_from, or_left}
+use Rattle.std.proofs.lemmas.Bool.{or_left}
 use Rattle.std.proofs.lemmas.Option.{slice_get_within}
 use Rattle.std.specs.Prelude.{pos, ℤ}
 use Rattle.life_types.specs.Types.{Types}
@@ -8,17 +8,18 @@ use Rattle.life_types.specs.declared.place.Place.{Place}
 use Rattle.life_types.specs.declared.ty.Ty.{Ty}
 use Rattle.life_typed.specs.BaseTypes.{is_raw, is_value}
 use Rattle.life_core.specs.Function.{Function}
-use Rattle.life_core.specs.Holdings.{ANumber, APointer, sort_of}
 use Rattle.life_core.specs.Operands.{Location}
 use Rattle.life_core.specs.Step.{NonZero, NotNull, Test}
-use Rattle.life_core.specs.Tree.{Acts, Asks, Both, Choice, Either, Then, Tree, trees}
+use Rattle.life_core.specs.Served.{is_served_test}
+use Rattle.life_core.specs.Tree.{Question, Acts, Asks, Both, Choice, Either, Then, Tree, trees}
 use Rattle.life_pset.specs.Shapes as shapes
-use Rattle.life_proper.specs.Knowing.{agreed_all}
+use Rattle.life_proper.specs.Knowing.{agreed_all, known_at}
 use Rattle.life_proper.specs.Placed.{is_number_of, type_in}
-use Rattle.life_proper.specs.ReadyKnown.{holds_at, is_sort, is_test_ready}
-use Rattle.life_proper.specs.WellFormed.{is_well_formed_step, is_well_formed_test}
+use Rattle.life_proper.specs.ReadyKnown.{is_node_ready}
+use Rattle.life_proper.specs.WellFormed.{is_well_formed_test}
 use Rattle.life_proper.specs.declared.known.Known.{Known}
 use Rattle.life_proper.specs.declared.known.Known.TheVariants as known
+use Rattle.life_proper.proofs.ReadyTests.{uses_ready}
 use Rattle.life_writer.specs.Conditions.{answer, branched, by_branch, condition_from, joined, negation, non_zero, not_null, tested}
 use Rattle.life_writer.specs.Registers.{constant, target}
 use Rattle.life_writer.specs.Writing.{Gives, State, mapped, with_code}
@@ -26,13 +27,13 @@ use Rattle.life_elab_laws.proofs.Emitting.{IsNameless, Targets, keeps_set, targe
 use Rattle.life_elab_laws.proofs.Falling.{Decides, Falls, decides_asks, decides_behind, decides_both, decides_either, decides_negated, falls_acts, falls_choice}
 use Rattle.life_elab_laws.proofs.Gifts.{Gift, a_number, a_pointer, nothing}
 use Rattle.life_elab_laws.proofs.Growing.{Begins, Grows, begins_before, grows_then}
-use Rattle.life_elab_laws.proofs.Held.{number_held, number_sort, pointer_held}
+use Rattle.life_elab_laws.proofs.Held.{one_there}
 use Rattle.life_elab_laws.proofs.Instructions.{IsIntoOf, into_of_later, is_constant, is_into, raw_either, target_number}
 use Rattle.life_elab_laws.proofs.Knowledge.{agreed_length, at_agreed, at_set}
 use Rattle.life_elab_laws.proofs.Making.{Alive, IsBeside, IsOpen, Keeps, alive_later, keeps_then}
 use Rattle.life_elab_laws.proofs.OperandsThere.{number_any}
 use Rattle.life_elab_laws.proofs.Parts.{Goes, Makes, Runs}
-use Rattle.life_elab_laws.proofs.Shaping.{IsFineTest, fine_acts, fine_asks, fine_behind, fine_both, fine_choice, fine_either, fine_negated}
+use Rattle.life_elab_laws.proofs.Shaping.{IsFineStep, IsFineTest, fine_acts, fine_asks, fine_behind, fine_both, fine_choice, fine_either, fine_negated}
 use Rattle.life_elab_laws.proofs.WrittenLocals.{AddsRegisters, registers_then}
 
 module _ (types : Types) (texts : ℕ) (fs : List Function) (f : Function) where
@@ -41,13 +42,13 @@ module _ (types : Types) (texts : ℕ) (fs : List Function) (f : Function) where
   pub record Asked (s : State) (t : Tree) (k : List Known) : Type 0 where
     pub on : List Known
     pub off : List Known
-    pub decides : Decides types fs f t k on off
-    pub keeps_on : Keeps types fs f (length s.locals) None k on
-    pub keeps_off : Keeps types fs f (length s.locals) None k off
+    pub decides : Decides types f t k on off
+    pub keeps_on : Keeps f (length s.locals) None k on
+    pub keeps_off : Keeps f (length s.locals) None k off
 
   pub record AsksAll (s : State) (t : Tree) : Type 0 where
     pub fine : IsFineTest types texts fs f t
-    pub goes : (k : List Known) → Alive types fs f s k → Asked s t k
+    pub goes : (k : List Known) → Alive f s k → Asked s t k
 
   pub record Tests (s : State) (w : Gives Tree) : Type 0 where
     pub grown : Grows s w.state
@@ -57,7 +58,7 @@ module _ (types : Types) (texts : ℕ) (fs : List Function) (f : Function) where
 
   -- ---- where two ways meet
 
-  pub keeps_agreed : (n : ℕ) (into : Option ℕ) (k j l : List Known) → Keeps types fs f n into k j → Keeps types fs f n into k l → Keeps types fs f n into k (agreed_all j l)
+  pub keeps_agreed : (n : ℕ) (into : Option ℕ) (k j l : List Known) → Keeps f n into k j → Keeps f n into k l → Keeps f n into k (agreed_all j l)
   keeps_agreed n into k j l first second = record {
     sized = agreed_length j l sizes ∙ first.sized;
     below = λ y lt b. at_agreed j l y sizes (first.below y lt b ∙ sym (second.below y lt b)) ∙ first.below y lt b;
@@ -70,8 +71,8 @@ module _ (types : Types) (texts : ℕ) (fs : List Function) (f : Function) where
   -- ---- single tests
 
   -- of what a part gives
-  pub tested_part : {A : Type 0} (place : Place) (test : A → Test) (value : State → Gives A) (s : State) (Q : Gift types texts fs f A) → ((x : A) (n : ℕ) (k : List Known) → Q.ready x n k → is_test_ready k (test x) ≡ true)
-      → ((x : A) → Q.typed x → is_well_formed_test types texts fs f (test x) ≡ true) → Makes types texts fs f None (with_code [] s) (value (with_code [] s)) Q → Tests s (tested place (λ s. mapped test (value s)) s)
+  pub tested_part : {A : Type 0} (place : Place) (test : A → Test) (value : State → Gives A) (s : State) (Q : Gift types texts fs f A) → ((x : A) (n : ℕ) (k : List Known) → Q.ready x n k → is_node_ready types f k (Question (test x)) ≡ true)
+      → ((x : A) → Q.typed x → (is_well_formed_test types texts fs f (test x) ≡ true) × (is_served_test types f (test x) ≡ true)) → Makes types texts fs f None (with_code [] s) (value (with_code [] s)) Q → Tests s (tested place (λ s. mapped test (value s)) s)
   tested_part {A = A} place test value s Q ready formed made = record {
     grown = made.grown;
     registers = made.registers;
@@ -84,11 +85,11 @@ module _ (types : Types) (texts : ℕ) (fs : List Function) (f : Function) where
 
       all : Runs types texts fs f (nothing types texts fs f) tt None (with_code [] s) w Q made.code → AsksAll s (Then (trees made.code) (Asks place (test w.given)))
       all r = record {
-        fine = fine_behind types texts fs f made.code (Asks place (test w.given)) r.fine (fine_asks types texts fs f place (test w.given) (formed w.given r.typed));
+        fine = fine_behind types texts fs f made.code (Asks place (test w.given)) r.fine (let is = formed w.given r.typed in fine_asks types texts fs f place (test w.given) is.0 is.1);
         goes = λ k alive. let g = r.goes k alive tt in record {
           on = g.after;
           off = g.after;
-          decides = decides_behind types fs f made.code (Asks place (test w.given)) k g.after g.after g.after g.falls (decides_asks types fs f place (test w.given) g.after (ready w.given (length w.state.locals) g.after g.gives));
+          decides = decides_behind types f made.code (Asks place (test w.given)) k g.after g.after g.after g.falls (decides_asks types f place (test w.given) g.after (ready w.given (length w.state.locals) g.after g.gives));
           keeps_on = g.keeps;
           keeps_off = g.keeps;
         };
@@ -96,13 +97,13 @@ module _ (types : Types) (texts : ℕ) (fs : List Function) (f : Function) where
 
   pub non_zero_part : (place : Place) (t : Ty) (value : State → Gives ℕ) (s : State) → Makes types texts fs f None (with_code [] s) (value (with_code [] s)) (a_number types texts fs f t) → Tests s (non_zero place value s)
   non_zero_part place t value s made =
-      tested_part place NonZero value s (a_number types texts fs f t) (λ r n k h. number_held k r h.1) (λ r h. number_any types f t r h) made
+      tested_part place NonZero value s (a_number types texts fs f t) (λ r n k h. uses_ready k (r ∷ []) [] (one_there k r h.1)) (λ r h. (number_any types f t r h, refl)) made
 
   pub not_null_part : (place : Place) (t : Ty) (pointer : State → Gives Location) (s : State) → is_raw t ≡ true → Makes types texts fs f None (with_code [] s) (pointer (with_code [] s)) (a_pointer types texts fs f t)
       → Tests s (not_null place pointer s)
   not_null_part place t pointer s raw made =
-      tested_part place NotNull pointer s (a_pointer types texts fs f t) (λ l n k h. ap (λ (q : Location). holds_at k q APointer) h.is ∙ pointer_held k h.local h.held)
-      (λ l h. or_left (shapes.is_raw (type_in types f l)) (shapes.is_unique (type_in types f l)) (ap shapes.is_raw h ∙ raw_either t raw)) made
+      tested_part place NotNull pointer s (a_pointer types texts fs f t) (λ l n k h. uses_ready k (l.local ∷ []) [] (one_there k l.local (ap (λ (q : Location). known_at k q.local) h.is ∙ h.held)))
+      (λ l h. (or_left (shapes.is_raw (type_in types f l)) (shapes.is_unique (type_in types f l)) (ap shapes.is_raw h.typed ∙ raw_either t raw), h.served)) made
 
   -- ---- conditions of others
 
@@ -116,14 +117,14 @@ module _ (types : Types) (texts : ℕ) (fs : List Function) (f : Function) where
       goes = λ k alive. let g = r.goes k alive in record {
         on = g.off;
         off = g.on;
-        decides = decides_negated types fs f (w s).given k g.on g.off g.decides;
+        decides = decides_negated types f (w s).given k g.on g.off g.decides;
         keeps_on = g.keeps_off;
         keeps_off = g.keeps_on;
       };
     };
   }
 
-  module _ (left right : State → Gives Tree) (s : State) (opened : IsOpen types fs f s) (first : Tests s (left s)) (second : Tests (left s).state (right (left s).state)) where
+  module _ (left right : State → Gives Tree) (s : State) (opened : IsOpen s) (first : Tests s (left s)) (second : Tests (left s).state (right (left s).state)) where
     grown : Grows s (right (left s).state).state
     grown = grows_then s (left s).state (right (left s).state).state first.grown second.grown
 
@@ -134,27 +135,27 @@ module _ (types : Types) (texts : ℕ) (fs : List Function) (f : Function) where
     before b = begins_before types f (left s).state (right (left s).state).state second.grown b
 
     -- what the second keeps
-    then_keeps : (k j l : List Known) → Keeps types fs f (length s.locals) None k j → Keeps types fs f (length (left s).state.locals) None j l → Keeps types fs f (length s.locals) None k l
-    then_keeps k j l a b = keeps_then types fs f (length s.locals) (length (left s).state.locals) None k j l first.grown.count a b
+    then_keeps : (k j l : List Known) → Keeps f (length s.locals) None k j → Keeps f (length (left s).state.locals) None j l → Keeps f (length s.locals) None k l
+    then_keeps k j l a b = keeps_then f (length s.locals) (length (left s).state.locals) None k j l first.grown.count a b
 
-    both_asked : (k : List Known) → Alive types fs f s k → Asked s (left s).given k → AsksAll (left s).state (right (left s).state).given → Asked s (Both (left s).given (right (left s).state).given) k
+    both_asked : (k : List Known) → Alive f s k → Asked s (left s).given k → AsksAll (left s).state (right (left s).state).given → Asked s (Both (left s).given (right (left s).state).given) k
     both_asked k alive g q =
-        let h = q.goes g.on (alive_later types fs f s (left s).state k g.on opened first.grown alive g.keeps_on) in
+        let h = q.goes g.on (alive_later f s (left s).state k g.on opened first.grown alive g.keeps_on) in
         record {
           on = h.on;
           off = agreed_all g.off h.off;
-          decides = decides_both types fs f (left s).given (right (left s).state).given k g.on g.off h.on h.off g.decides h.decides;
+          decides = decides_both types f (left s).given (right (left s).state).given k g.on g.off h.on h.off g.decides h.decides;
           keeps_on = then_keeps k g.on h.on g.keeps_on h.keeps_on;
           keeps_off = keeps_agreed (length s.locals) None k g.off h.off g.keeps_off (then_keeps k g.on h.off g.keeps_on h.keeps_off);
         }
 
-    either_asked : (k : List Known) → Alive types fs f s k → Asked s (left s).given k → AsksAll (left s).state (right (left s).state).given → Asked s (Either (left s).given (right (left s).state).given) k
+    either_asked : (k : List Known) → Alive f s k → Asked s (left s).given k → AsksAll (left s).state (right (left s).state).given → Asked s (Either (left s).given (right (left s).state).given) k
     either_asked k alive g q =
-        let h = q.goes g.off (alive_later types fs f s (left s).state k g.off opened first.grown alive g.keeps_off) in
+        let h = q.goes g.off (alive_later f s (left s).state k g.off opened first.grown alive g.keeps_off) in
         record {
           on = agreed_all g.on h.on;
           off = h.off;
-          decides = decides_either types fs f (left s).given (right (left s).state).given k g.on g.off h.on h.off g.decides h.decides;
+          decides = decides_either types f (left s).given (right (left s).state).given k g.on g.off h.on h.off g.decides h.decides;
           keeps_on = keeps_agreed (length s.locals) None k g.on h.on g.keeps_on (then_keeps k g.off h.on g.keeps_off h.keeps_on);
           keeps_off = then_keeps k g.off h.off g.keeps_off h.keeps_off;
         }
@@ -189,16 +190,16 @@ module _ (types : Types) (texts : ℕ) (fs : List Function) (f : Function) where
 
   -- ---- an answer in a register
 
-  answered : (place : Place) (n : ℤ) (r : ℕ) (k : List Known) → sort_of types f r ≡ ANumber → Falls types fs f (Acts place (constant n r) ∷ []) k (slice_set k r known.Number)
-  answered place n r k e = falls_acts types fs f place (constant n r) k (and_from (is_sort (sort_of types f r) ANumber) true (number_sort (sort_of types f r) e) refl)
+  answered : (place : Place) (n : ℤ) (r : ℕ) (k : List Known) → Falls types f (Acts place (constant n r) ∷ []) k (slice_set k r known.Ready)
+  answered place n r k = falls_acts types f place (constant n r) k refl
 
-  answer_formed : (n : ℤ) (t : Ty) (r : ℕ) → is_number_of types f t r ≡ true → is_well_formed_step types texts fs f (constant n r) ≡ true
-  answer_formed n t r e = (is_constant types texts fs f (nothing types texts fs f) tt t n).formed r e tt
+  answer_fine : (n : ℤ) (t : Ty) (r : ℕ) → is_number_of types f t r ≡ true → IsFineStep types texts fs f (constant n r)
+  answer_fine n t r e = (is_constant types texts fs f (nothing types texts fs f) tt t n).fine r e tt
 
-  pub by_branch_part : (into : Option ℕ) (t : Ty) (place : Place) (condition : State → Gives Tree) (s : State) → is_value t ≡ true → IsIntoOf t s into → IsOpen types fs f s
+  pub by_branch_part : (into : Option ℕ) (t : Ty) (place : Place) (condition : State → Gives Tree) (s : State) → is_value t ≡ true → IsIntoOf t s into → IsOpen s
       → Tests s (condition s) → Makes types texts fs f into s (by_branch into t place condition s) (a_number types texts fs f t)
   by_branch_part into t place condition s v wanted opened test =
-      made (target place into t (condition s).state) (targeted types fs f place t (condition s).state into v (is_into t (condition s).state into later)) (target_number types texts fs f place into t (condition s).state v later)
+      made (target place into t (condition s).state) (targeted types f place t (condition s).state into v (is_into t (condition s).state into later)) (target_number types texts fs f place into t (condition s).state v later)
     where
       later : IsIntoOf t (condition s).state into
       later = into_of_later t s (condition s).state into test.grown wanted
@@ -206,12 +207,12 @@ module _ (types : Types) (texts : ℕ) (fs : List Function) (f : Function) where
       chosen : ℕ → Tree
       chosen r = Choice (condition s).given (answer place (pos 1) r) (answer place (pos 0) r)
 
-      run : (w : Gives ℕ) → Targets types fs f ANumber into (condition s).state w → IsNameless types fs f ANumber w.given → is_number_of types f t w.given ≡ true → AsksAll s (condition s).given
+      run : (w : Gives ℕ) → Targets types f into (condition s).state w → IsNameless f w.given → is_number_of types f t w.given ≡ true → AsksAll s (condition s).given
           → Runs types texts fs f (nothing types texts fs f) tt into s (branched place (condition s).given w.given w.state) (a_number types texts fs f t) (chosen w.given ∷ [])
       run w target is number asks = record {
         fine = fine_choice types texts fs f (condition s).given (Acts place (constant (pos 1) w.given) ∷ []) (Acts place (constant (pos 0) w.given) ∷ []) asks.fine
-            (fine_acts types texts fs f place (constant (pos 1) w.given) refl (answer_formed (pos 1) t w.given number))
-            (fine_acts types texts fs f place (constant (pos 0) w.given) refl (answer_formed (pos 0) t w.given number));
+            (fine_acts types texts fs f place (constant (pos 1) w.given) (answer_fine (pos 1) t w.given number))
+            (fine_acts types texts fs f place (constant (pos 0) w.given) (answer_fine (pos 0) t w.given number));
         typed = number;
         goes = λ k alive p. went k alive (asks.goes k alive);
       }
@@ -219,30 +220,30 @@ module _ (types : Types) (texts : ℕ) (fs : List Function) (f : Function) where
           beside : (y : ℕ) → y < length s.locals → IsBeside into y → w.given ≡ y → ⊥
           beside y lt b = target.beside y (omega (arith, lt, test.grown.count)) b
 
-          written : (k j : List Known) → Keeps types fs f (length s.locals) None k j → Keeps types fs f (length s.locals) into k (slice_set j w.given known.Number)
+          written : (k j : List Known) → Keeps f (length s.locals) None k j → Keeps f (length s.locals) into k (slice_set j w.given known.Ready)
           written k j keeps =
-              keeps_then types fs f (length s.locals) (length s.locals) into k j (slice_set j w.given known.Number) (omega arith) keeps
-              (keeps_set types fs f (length s.locals) into ANumber w.given known.Number j is beside)
+              keeps_then f (length s.locals) (length s.locals) into k j (slice_set j w.given known.Ready) (omega arith) keeps
+              (keeps_set f (length s.locals) into w.given known.Ready j is beside)
 
-          size : (k j : List Known) → Alive types fs f s k → Keeps types fs f (length s.locals) None k j → w.given < length j
+          size : (k j : List Known) → Alive f s k → Keeps f (length s.locals) None k j → w.given < length j
           size k j alive keeps = omega (arith, keeps.sized, alive.sized, slice_get_within f.locals w.given is.local is.there)
 
-          went : (k : List Known) → Alive types fs f s k → Asked s (condition s).given k → Goes types texts fs f into s (branched place (condition s).given w.given w.state) (a_number types texts fs f t) (chosen w.given ∷ []) k
+          went : (k : List Known) → Alive f s k → Asked s (condition s).given k → Goes types texts fs f into s (branched place (condition s).given w.given w.state) (a_number types texts fs f t) (chosen w.given ∷ []) k
           went k alive g = record {
-            after = agreed_all (slice_set g.on w.given known.Number) (slice_set g.off w.given known.Number);
-            falls = falls_choice types fs f (condition s).given (Acts place (constant (pos 1) w.given) ∷ []) (Acts place (constant (pos 0) w.given) ∷ []) k g.on g.off
-                (slice_set g.on w.given known.Number) (slice_set g.off w.given known.Number) g.decides (answered place (pos 1) w.given g.on is.sort) (answered place (pos 0) w.given g.off is.sort);
-            keeps = keeps_agreed (length s.locals) into k (slice_set g.on w.given known.Number) (slice_set g.off w.given known.Number) (written k g.on g.keeps_on) (written k g.off g.keeps_off);
+            after = agreed_all (slice_set g.on w.given known.Ready) (slice_set g.off w.given known.Ready);
+            falls = falls_choice types f (condition s).given (Acts place (constant (pos 1) w.given) ∷ []) (Acts place (constant (pos 0) w.given) ∷ []) k g.on g.off
+                (slice_set g.on w.given known.Ready) (slice_set g.off w.given known.Ready) g.decides (answered place (pos 1) w.given g.on) (answered place (pos 0) w.given g.off);
+            keeps = keeps_agreed (length s.locals) into k (slice_set g.on w.given known.Ready) (slice_set g.off w.given known.Ready) (written k g.on g.keeps_on) (written k g.off g.keeps_off);
             gives = (
               target.below,
-              at_agreed (slice_set g.on w.given known.Number) (slice_set g.off w.given known.Number) w.given
+              at_agreed (slice_set g.on w.given known.Ready) (slice_set g.off w.given known.Ready) w.given
                   ((written k g.on g.keeps_on).sized ∙ sym (written k g.off g.keeps_off).sized)
-                  (at_set g.on w.given known.Number (size k g.on alive g.keeps_on) ∙ sym (at_set g.off w.given known.Number (size k g.off alive g.keeps_off)))
-                  ∙ at_set g.on w.given known.Number (size k g.on alive g.keeps_on),
+                  (at_set g.on w.given known.Ready (size k g.on alive g.keeps_on) ∙ sym (at_set g.off w.given known.Ready (size k g.off alive g.keeps_off)))
+                  ∙ at_set g.on w.given known.Ready (size k g.on alive g.keeps_on),
             );
           }
 
-      made : (w : Gives ℕ) → Targets types fs f ANumber into (condition s).state w → (Begins types f w.state → is_number_of types f t w.given ≡ true) → Makes types texts fs f into s (branched place (condition s).given w.given w.state) (a_number types texts fs f t)
+      made : (w : Gives ℕ) → Targets types f into (condition s).state w → (Begins types f w.state → is_number_of types f t w.given ≡ true) → Makes types texts fs f into s (branched place (condition s).given w.given w.state) (a_number types texts fs f t)
       made w target number = record {
         grown = grows_then s (condition s).state w.state test.grown target.grown;
         registers = registers_then types s (condition s).state w.state target.grown.types test.registers target.registers;

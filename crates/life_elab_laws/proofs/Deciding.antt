@@ -32,7 +32,7 @@ module _ (a : Around) (visible : List ℕ) (types : Types) (texts : ℕ) (fs : L
   Whole form = IsExpression a.program a.function.locals visible form
 
   abbrev Standing : State → Type 0
-  Standing s = Stands types fs f a visible s
+  Standing s = Stands a visible s
 
   abbrev pub Pointed : Ty → State → Gives Location → Type 0
   Pointed t s w = Makes types texts fs f None s w (a_pointer types texts fs f t)
@@ -118,12 +118,12 @@ module _ (a : Around) (visible : List ℕ) (types : Types) (texts : ℕ) (fs : L
       let kinds = joined_kinds (typed_in left).ty (typed_in right).ty c.ty c.answer in
       let first = lc kinds.0 s stands in
       subst (λ (v : State → Gives Tree). Decided s (v s)) (some_same is)
-      (both_part types texts fs f (condition a left) (condition a right) s stands.opened first (rc kinds.1 (condition a left s).state (stands_later types fs f a visible s (condition a left s).state first.grown stands)))
+      (both_part types texts fs f (condition a left) (condition a right) s stands.opened first (rc kinds.1 (condition a left s).state (stands_later a visible s (condition a left s).state first.grown stands)))
   binary_decided operator.Or place left right e c l r lo ro lc rc lp rp w s stands is =
       let kinds = joined_kinds (typed_in left).ty (typed_in right).ty c.ty c.answer in
       let first = lc kinds.0 s stands in
       subst (λ (v : State → Gives Tree). Decided s (v s)) (some_same is)
-      (either_part types texts fs f (condition a left) (condition a right) s stands.opened first (rc kinds.1 (condition a left s).state (stands_later types fs f a visible s (condition a left s).state first.grown stands)))
+      (either_part types texts fs f (condition a left) (condition a right) s stands.opened first (rc kinds.1 (condition a left s).state (stands_later a visible s (condition a left s).state first.grown stands)))
   binary_decided operator.Equal place left right e c l r lo ro lc rc lp rp w s stands is =
       compared_null true place left right w s (equated_kinds (typed_in left).ty (typed_in right).ty c.ty lo ro c.answer) l r lp rp stands is
   binary_decided operator.NotEqual place left right e c l r lo ro lc rc lp rp w s stands is =

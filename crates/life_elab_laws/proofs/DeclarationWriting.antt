@@ -1,7 +1,7 @@
 -- What is written for a declaration is ready and well formed: the variable lives, and is given what typing lets it be given.
-use Rattle.std.proofs.Common.{◌≡◌, ◌<◌, ◌⊎◌, inl, ℕ, Bool, true, false, ◌||◌, cond, List, [], ◌∷◌, ◌++◌, length, slice_get, slice_set, Option, Some, None, refl, sym, ap, ◌∙◌, subst, unwrap_or, arith, append_assoc}
-use Rattle.std.proofs.lemmas.Bool.{and_from, and_parts, false≢true}
-use Rattle.life_types.specs.Types.{Types, class}
+use Rattle.std.proofs.Common.{◌≡◌, ◌<◌, ℕ, Bool, true, false, ◌||◌, cond, List, [], ◌∷◌, ◌++◌, length, slice_get, slice_set, Option, Some, None, refl, sym, ap, ◌∙◌, subst, unwrap_or, arith, append_assoc}
+use Rattle.std.proofs.lemmas.Bool.{and_parts, false≢true}
+use Rattle.life_types.specs.Types.{Types}
 use Rattle.life_types.specs.contracts.ty.TyPartialEq.TheImpl.{ghosts as compared}
 use Rattle.life_types.specs.declared.place.Place.{Place}
 use Rattle.life_types.specs.declared.ty.Ty.{Ty}
@@ -18,16 +18,18 @@ use Rattle.life_typed.specs.declared.typed_program.TypedLocal.{TypedLocal}
 use Rattle.life_type_stmt.specs.Declarations.{default_fault}
 use Rattle.life_core.specs.Function.{Function}
 use Rattle.life_core.specs.Operands.{Argument, Place as Aimed, object_named, whole}
-use Rattle.life_core.specs.Holdings.{AnObject, ANumber, APointer, Blank, held_if, sort_of}
+use Rattle.life_core.specs.ByValue.{is_pointer as points}
+use Rattle.life_core.specs.Holdings.{AView, AnObject, Holding, sort_of}
+use Rattle.life_core.specs.Served.{is_served_birth}
 use Rattle.life_core.specs.Step.{Live, Save}
 use Rattle.life_core.specs.Tree.{Tree, Acts}
 use Rattle.life_core.specs.declared.instr.Form.TheVariants.{Plain}
 use Rattle.life_pset.specs.Shapes.{ty_of}
 use Rattle.life_proper.specs.declared.known.Known.{Known}
 use Rattle.life_proper.specs.declared.known.Known.TheVariants as known
-use Rattle.life_proper.specs.Knowing.{known_as, known_at, same}
-use Rattle.life_proper.specs.ReadyKnown.{holds, is_operand_ready, is_sort, is_step_ready}
-use Rattle.life_proper.specs.WellFormed.{can_live, goes_to, is_source_of, is_well_formed_step}
+use Rattle.life_proper.specs.Knowing.{known_at}
+use Rattle.life_proper.proofs.ReadyTests.{one_known, uses_ready}
+use Rattle.life_proper.specs.WellFormed.{can_live, goes_to, is_source_of}
 use Rattle.life_well_typed.specs.Expressions.{IsExpression, parameter_types}
 use Rattle.life_well_typed.specs.Given.{is_given, is_number}
 use Rattle.life_well_typed.specs.Statements.{IsDeclaration, IsInitialised}
@@ -37,36 +39,36 @@ use Rattle.life_writer.specs.Around as around
 use Rattle.life_writer.specs.Calls.{Called, call_of, called}
 use Rattle.life_writer.specs.Expressions.{handed_over, operand, pointing, value}
 use Rattle.life_writer.specs.Pointers.{Pointing, At, pointed}
-use Rattle.life_writer.specs.Variables.{kind, variable_local}
+use Rattle.life_writer.specs.Variables.{variable_local}
 use Rattle.life_writer.specs.Writing.{State, Gives, emit, gives, mapped, with_code}
 use Rattle.life_elab.specs.Declarations.{declared, declared_as, given_by_call, given_initial, given_one, given_value, live, object_given}
-use Rattle.life_elab_laws.proofs.Aiming.{aimed_after, aimed_ready, pointed_formed, pointed_plain}
-use Rattle.life_elab_laws.proofs.CallParts.{called_formed}
-use Rattle.life_elab_laws.proofs.Calls.{born_plain, born_ready}
+use Rattle.life_elab_laws.proofs.Aiming.{pointed_fills, pointed_fine}
+use Rattle.life_elab_laws.proofs.CallParts.{called_fine}
+use Rattle.life_elab_laws.proofs.Calls.{born_fills}
 use Rattle.life_elab_laws.proofs.Declaring.{declared_does, its_local, new_below, new_ends, new_sort, with_new}
 use Rattle.life_elab_laws.proofs.Doing.{Does}
 use Rattle.life_elab_laws.proofs.ExpressionKinds.{variable_built}
 use Rattle.life_elab_laws.proofs.ExpressionForms.{IsWhole}
 use Rattle.life_elab_laws.proofs.Expressions.{expression, result_later, whole_expression}
 use Rattle.life_elab_laws.proofs.GivenKinds.{given_number, given_pointer}
-use Rattle.life_elab_laws.proofs.Falling.{Falls, falling, falls_acts, falls_append}
-use Rattle.life_elab_laws.proofs.Following.{Follows, follows_grown}
+use Rattle.life_elab_laws.proofs.Falling.{Falls, Fills, falls_acts, falls_append, falls_filling}
+use Rattle.life_elab_laws.proofs.Following.{Follows, follows_grown, is_variable_sort}
 use Rattle.life_elab_laws.proofs.FormedFits.{IsBoundTo, given_raw, given_reference}
 use Rattle.life_elab_laws.proofs.Gifts.{IsGivenAs, a_number, a_place, a_pointing, arguments, nothing}
 use Rattle.life_elab_laws.proofs.Growing.{Begins, Grows}
-use Rattle.life_elab_laws.proofs.Held.{number_held, object_held}
+use Rattle.life_elab_laws.proofs.Held.{blank_there, two_there}
 use Rattle.life_elab_laws.proofs.Knowledge.{at_set, beside_set}
 use Rattle.life_elab_laws.proofs.NewVariables.{bound_given, raw_declared, raw_lives, reference_declared, value_goes, value_lives, value_saved}
 use Rattle.life_elab_laws.proofs.Parts.{Makes, leaf_part, seen_part}
 use Rattle.life_elab_laws.proofs.Setting.{Setting}
-use Rattle.life_elab_laws.proofs.Shaping.{fine_acts, fine_append}
+use Rattle.life_elab_laws.proofs.Shaping.{IsFineStep, fine_acts, fine_append}
 use Rattle.life_elab_laws.proofs.TypedKinds.{none_some}
-use Rattle.life_elab_laws.proofs.Types.{object_or_pointer, same_types, value_held}
+use Rattle.life_elab_laws.proofs.Types.{same_types, value_held}
 use Rattle.life_elab_laws.proofs.Values.{by_values}
 use Rattle.life_elab_laws.proofs.VariablePlaces.{IsVariableType, a_raw, a_reference, a_value, variable_type}
 
 module _ (a : Around) (types : Types) (texts : ℕ) (fs : List Function) (f : Function) (setting : Setting a types fs f) (v : Visible) (in_loop : Bool) where
-  module _ (u : TypedLocal) (s : State) (h : Follows types fs f a v s) (at : slice_get a.function.locals v.declared ≡ Some u) (built : is_built_variable a.program.types u.ty ≡ true) where
+  module _ (u : TypedLocal) (s : State) (h : Follows types f a v s) (at : slice_get a.function.locals v.declared ≡ Some u) (built : is_built_variable a.program.types u.ty ≡ true) where
     abbrev Born : State → Type 0
     Born s' = Does types texts fs f a (with_next v) in_loop s s'
 
@@ -83,19 +85,26 @@ module _ (a : Around) (types : Types) (texts : ℕ) (fs : List Function) (f : Fu
     -- ---- what the variable holds
 
     object_sort : (t : Ty) → slice_get a.program.types.types u.ty.0 ≡ Some t → is_value t ≡ true → (s' : State) → Grows s s' → New s' → sort_of types f (length s'.locals) ≡ AnObject
-    object_sort t is w s' g b = new_sort types fs f a setting.front v u (variable_local a u) (its_local a u) s' (follows_grown types fs f a v s s' g h) at built b t is ∙ value_held t w
-
-    pointer_sort : (t : Ty) → slice_get a.program.types.types u.ty.0 ≡ Some t → held_if (class (Some t)) (kind (class (Some t))) (Some t) ≡ APointer → (s' : State) → Grows s s' → New s' → sort_of types f (length s'.locals) ≡ APointer
-    pointer_sort t is w s' g b = new_sort types fs f a setting.front v u (variable_local a u) (its_local a u) s' (follows_grown types fs f a v s s' g h) at built b t is ∙ w
+    object_sort t is w s' g b = new_sort types f a setting.front v u (variable_local a u) (its_local a u) s' (follows_grown types f a v s s' g h) at built b t is ∙ value_held t w
 
     below : (s' : State) → Grows s s' → New s' → length s'.locals < length f.locals
-    below s' g b = new_below types fs f a setting.front v u (variable_local a u) (its_local a u) s' (follows_grown types fs f a v s s' g h) at built b
+    below s' g b = new_below types f a setting.front v u (variable_local a u) (its_local a u) s' (follows_grown types f a v s s' g h) at built b
 
     -- ---- it comes to life
 
-    live_ready : (x : ℕ) (k : List Known) → known_at k x ≡ known.Blank → (sort_of types f x ≡ AnObject) ⊎ (sort_of types f x ≡ APointer) → is_step_ready types fs f k (Live x Plain) ≡ true
-    live_ready x k blank sort =
-        and_from (holds k x Blank) (is_sort (sort_of types f x) AnObject || is_sort (sort_of types f x) APointer) (ap (λ (b : Known). same b known.Blank) blank) (object_or_pointer (sort_of types f x) sort)
+    live_fills : (x : ℕ) (k : List Known) → known_at k x ≡ known.Blank → Fills f k (Live x Plain) x
+    live_fills x k e = record { ready = one_known known.Blank k x (blank_there k x e); after = refl }
+
+    birth_served : (sort : Holding) → is_variable_sort sort ≡ true → is_served_birth sort ≡ true
+    birth_served AView e = absurd (false≢true e)
+    birth_served _ e = refl
+
+    live_fine : (s' : State) → Follows types f a v s' → New s' → can_live types texts fs f (length s'.locals) ≡ true → IsFineStep types texts fs f (Live (length s'.locals) Plain)
+    live_fine s' follows b lives = record {
+      plain = refl;
+      formed = lives;
+      served = birth_served (sort_of types f (length s'.locals)) (new_ends types f a setting.front v u (variable_local a u) (its_local a u) s' follows at built b);
+    }
 
     lives : default_fault (type_of a u.ty) ≡ None → New s → can_live types texts fs f (length s.locals) ≡ true
     lives none b = go (variable_type a.program.types u.ty built)
@@ -109,21 +118,19 @@ module _ (a : Around) (types : Types) (texts : ℕ) (fs : List Function) (f : Fu
     live_does none =
         declared_does types texts fs f a setting.front v in_loop u s (gives tt s) (nothing types texts fs f) (Acts u.place (Live (length s.locals) Plain) ∷ []) h at built
         (leaf_part types texts fs f tt s (nothing types texts fs f) (λ b. tt) (λ b k alive. tt))
-        (λ b q. fine_acts types texts fs f u.place (Live (length s.locals) Plain) refl (lives none b))
-        (λ b k size q blank. falls_acts types fs f u.place (Live (length s.locals) Plain) k (live_ready (length s.locals) k blank (new_ends types fs f a setting.front v u (variable_local a u) (its_local a u) s h at built b)))
+        (λ b q. fine_acts types texts fs f u.place (Live (length s.locals) Plain) (live_fine s h b (lives none b)))
+        (λ b k size q blank. falls_filling types f u.place (Live (length s.locals) Plain) (length s.locals) k (live_fills (length s.locals) k blank))
 
     -- ---- an object
 
-    saved : (x r : ℕ) (k : List Known) → sort_of types f x ≡ AnObject → x < length k → known_at k x ≡ known.Blank → r < x → known_at k r ≡ known.Number
-        → Falls types fs f (Acts u.place (Live x Plain) ∷ Acts u.place (Save (object_named x) r) ∷ []) k (slice_set k x (known_as (sort_of types f x)))
-    saved x r k sort lt blank lower number =
-        let j : List Known = slice_set k x (known_as (sort_of types f x)) in
-        falls_append types fs f (Acts u.place (Live x Plain) ∷ []) (Acts u.place (Save (object_named x) r) ∷ []) k j j
-        (falls_acts types fs f u.place (Live x Plain) k (live_ready x k blank (inl sort)))
-        (falls_acts types fs f u.place (Save (object_named x) r) j
-        (and_from (holds j r ANumber) (is_operand_ready j (object_named x))
-        (number_held j r (beside_set k x r (known_as (sort_of types f x)) (λ e. omega (arith, e, lower)) ∙ number))
-        (object_held j x (at_set k x (known_as (sort_of types f x)) lt ∙ ap known_as sort))))
+    saved : (x r : ℕ) (k : List Known) → x < length k → known_at k x ≡ known.Blank → r < x → known_at k r ≡ known.Ready
+        → Falls types f (Acts u.place (Live x Plain) ∷ Acts u.place (Save (object_named x) r) ∷ []) k (slice_set k x known.Ready)
+    saved x r k lt blank lower number =
+        let j : List Known = slice_set k x known.Ready in
+        falls_append types f (Acts u.place (Live x Plain) ∷ []) (Acts u.place (Save (object_named x) r) ∷ []) k j j
+        (falls_filling types f u.place (Live x Plain) x k (live_fills x k blank))
+        (falls_acts types f u.place (Save (object_named x) r) j
+        (uses_ready j (r ∷ x ∷ []) [] (two_there j r x (beside_set k x r known.Ready (λ e. omega (arith, e, lower)) ∙ number) (at_set k x known.Ready lt))))
 
     -- a value is computed before it lives
     valued_does : (t : Ty) → slice_get a.program.types.types u.ty.0 ≡ Some t → is_value t ≡ true → (w : Gives ℕ) → Makes types texts fs f None s w (a_number types texts fs f (type_of a u.ty))
@@ -137,37 +144,36 @@ module _ (a : Around) (types : Types) (texts : ℕ) (fs : List Function) (f : Fu
         (sym (append_assoc w.state.code lives saves))
         (declared_does types texts fs f a setting.front v in_loop u s w (a_number types texts fs f (type_of a u.ty)) (lives ++ saves) h at built made
         (λ b q.
-        fine_append types texts fs f lives saves (fine_acts types texts fs f u.place (Live x Plain) refl (value_lives a types texts fs f setting.front u w.state b value))
-        (fine_acts types texts fs f u.place (Save (object_named x) w.given) refl (value_saved a types texts fs f setting.front u w.state b value w.given q)))
-        (λ b k size q blank. saved x w.given k (object_sort t is worth w.state made.grown b) (omega (arith, size, below w.state made.grown b)) blank q.0 q.1))
+        fine_append types texts fs f lives saves
+        (fine_acts types texts fs f u.place (Live x Plain) (live_fine w.state (follows_grown types f a v s w.state made.grown h) b (value_lives a types texts fs f setting.front u w.state b value)))
+        (fine_acts types texts fs f u.place (Save (object_named x) w.given) (value_saved a types texts fs f setting.front u w.state b value w.given q)))
+        (λ b k size q blank. saved x w.given k (omega (arith, size, below w.state made.grown b)) blank q.0 q.1))
 
     -- a call brings it to life, where it gives its type
-    called_does : (t : Ty) → slice_get a.program.types.types u.ty.0 ≡ Some t → is_value t ≡ true → (g : ℕ) (of : FunctionForm) (place : Place) → slice_get a.program.functions g ≡ Some of → is_value (type_at a.program.types of.result) ≡ true
+    called_does : (t : Ty) → slice_get a.program.types.types u.ty.0 ≡ Some t → is_value t ≡ true → (g : ℕ) (of : FunctionForm) (place : Place) → slice_get a.program.functions g ≡ Some of
         → ty_of types of.result ≡ type_of a u.ty → (w : Gives (List Argument)) → Makes types texts fs f None s w (arguments types texts fs f (parameter_types (Some of)))
         → Born (emit place (called g w.given (length w.state.locals)) (with_new (variable_local a u) w.state))
-    called_does t is worth g of place there value same w made =
+    called_does t is worth g of place there same w made =
         let x = length w.state.locals in
         let callee = setting.callees g of there in
         declared_does types texts fs f a setting.front v in_loop u s w (arguments types texts fs f (parameter_types (Some of))) (Acts place (called g w.given x) ∷ []) h at built made
         (λ b q.
-        fine_acts types texts fs f place (called g w.given x) (born_plain types fs f g w.given a.program.types of x callee (object_sort t is worth w.state made.grown b))
-        (called_formed types texts fs f a.program.types g w.given of (Some (whole x)) callee q
+        fine_acts types texts fs f place (called g w.given x)
+        (called_fine types texts fs f g w.given of x callee q (ap points (object_sort t is worth w.state made.grown b))
         (ap (λ (r : Ty). goes_to types texts fs f r (Some (whole x))) same ∙ value_goes a types texts fs f setting.front u w.state b (ap is_value (type_is t is) ∙ worth))))
-        (λ b k size q blank. falls_acts types fs f place (called g w.given x) k (born_ready types fs f g w.given x a.program.types of x k callee value q (object_sort t is worth w.state made.grown b) blank))
+        (λ b k size q blank. falls_filling types f place (called g w.given x) x k (born_fills f g (parameter_types (Some of)) w.given x k q x blank))
 
     -- ---- a pointer or a reference
 
-    aimed_does : (t : Ty) → slice_get a.program.types.types u.ty.0 ≡ Some t → held_if (class (Some t)) (kind (class (Some t))) (Some t) ≡ APointer → (place : Place) (from : ExprType) (w : Gives Pointing)
+    aimed_does : (place : Place) (from : ExprType) (w : Gives Pointing)
         → Makes types texts fs f None s w (a_pointing types texts fs f from)
-        → (New w.state → IsGivenAs types texts fs f from w.given → is_well_formed_step types texts fs f (pointed (whole (length w.state.locals)) w.given) ≡ true)
+        → (New w.state → IsGivenAs types texts fs f from w.given → IsFineStep types texts fs f (pointed (whole (length w.state.locals)) w.given))
         → Born (emit place (pointed (whole (length w.state.locals)) w.given) (with_new (variable_local a u) w.state))
-    aimed_does t is held place from w made fits =
+    aimed_does place from w made fits =
         let x = length w.state.locals in
         declared_does types texts fs f a setting.front v in_loop u s w (a_pointing types texts fs f from) (Acts place (pointed (whole x) w.given) ∷ []) h at built made
-        (λ b q. fine_acts types texts fs f place (pointed (whole x) w.given) (pointed_plain types texts fs f (whole x) w.given) (fits b q))
-        (λ b k size q blank.
-        falls_acts types fs f place (pointed (whole x) w.given) k (aimed_ready types texts fs f x x w.given k (pointer_sort t is held w.state made.grown b) q)
-        ∙ ap falling (aimed_after types texts fs f x w.given k))
+        (λ b q. fine_acts types texts fs f place (pointed (whole x) w.given) (fits b q))
+        (λ b k size q blank. falls_filling types f place (pointed (whole x) w.given) x k (pointed_fills f x x w.given k q))
 
     -- ---- any variable that is given one expression
 
@@ -183,7 +189,7 @@ module _ (a : Around) (types : Types) (texts : ℕ) (fs : List Function) (f : Fu
         given_by_call_does : (c : Called) → call_of e.form ≡ Some c → compared.eq (own_type e.ty) (type_of a u.ty) ≡ true → Born (given_by_call a u e.place c s)
         given_by_call_does c found same =
             let k = (expression a v.visible types texts fs f setting e.form e b he).calls c found in
-            called_does t is worth c.function k.of e.place k.there (k.worth n)
+            called_does t is worth c.function k.of e.place k.there
             (result_later a v.visible types texts fs f setting c.function k.of k.there ∙ sym (ap own_type k.own) ∙ same_types (own_type e.ty) (type_of a u.ty) same)
             (handed_over a c.arguments (around.parameter_types a c.function) s) (k.hands s h.stands)
 
@@ -203,9 +209,9 @@ module _ (a : Around) (types : Types) (texts : ℕ) (fs : List Function) (f : Fu
           let r = ty.Raw target constant in
           let w = pointing a (whole_form e) s in
           let worth : is_value (type_at a.program.types target) ≡ true = subst (λ (t : Ty). (is_value t || is_pointing a.program.types t) ≡ true) (type_is r is) built in
-          aimed_does r is refl e.place e.ty w (whole_is.points (given_pointer a.program.types r e refl given) s h.stands)
+          aimed_does e.place e.ty w (whole_is.points (given_pointer a.program.types r e refl given) s h.stands)
           (λ b q.
-          pointed_formed types texts fs f (whole (length w.state.locals)) r e.ty w.given refl (raw_declared a types texts fs f setting.front u w.state b target constant is)
+          pointed_fine types texts fs f (whole (length w.state.locals)) r e.ty w.given refl (raw_declared a types texts fs f setting.front u w.state b target constant is)
           (given_raw a.program.types types setting.front target constant worth e given) q)
 
       reference_does : (target : TyId) (constant : Bool) → slice_get a.program.types.types u.ty.0 ≡ Some (ty.Reference target constant) → is_value (type_at a.program.types target) ≡ true → IsBoundTo target constant e.category
@@ -213,11 +219,15 @@ module _ (a : Around) (types : Types) (texts : ℕ) (fs : List Function) (f : Fu
       reference_does target constant is worth bound =
           let r = ty.Reference target constant in
           let w = operand a (whole_form e) s in
-          aimed_does r is refl e.place (Of r) (mapped (λ o. At (Aimed o)) w)
+          aimed_does e.place (Of r) (mapped (λ o. At (Aimed o)) w)
           (seen_part types texts fs f (nothing types texts fs f) tt None s w (a_place types texts fs f (type_at a.program.types target) bound.held) (λ o. At (Aimed o)) (a_pointing types texts fs f (Of r))
           (whole_is.names target bound.held bound.place worth s h.stands)
           (λ b q. bound_given a types texts fs f setting.front target constant bound.held w.given worth bound.kept q) (λ n k q. q))
-          (λ b q. ap (λ (t : Ty). is_source_of types texts fs f t (Aimed w.given)) (reference_declared a types texts fs f setting.front u w.state b target constant is worth) ∙ q)
+          (λ b q. record {
+            plain = refl;
+            formed = ap (λ (t : Ty). is_source_of types texts fs f t (Aimed w.given)) (reference_declared a types texts fs f setting.front u w.state b target constant is worth) ∙ q.fits;
+            served = q.served;
+          })
 
       one_does : needs_no_temporary (type_of a u.ty) e ≡ true → is_given a.program.types (type_of a u.ty) e ≡ true → Born (given_one a u e (type_of a u.ty) s)
       one_does temporary given = go (variable_type a.program.types u.ty built)
@@ -245,7 +255,7 @@ module _ (a : Around) (types : Types) (texts : ℕ) (fs : List Function) (f : Fu
         let parts = and_parts (is_built_expression e) (needs_no_temporary (type_of a u.ty) e) b in one_does e parts.0 i.1 parts.1 i.0
     initial_does (Some (several list)) b i = absurd (false≢true b)
 
-  pub declaration_does : (d : DeclarationForm) (s : State) → Follows types fs f a v s → is_built_declaration a.program.types a.function.locals d ≡ true → IsDeclaration a.program a.function.locals a.function.result d v
+  pub declaration_does : (d : DeclarationForm) (s : State) → Follows types f a v s → is_built_declaration a.program.types a.function.locals d ≡ true → IsDeclaration a.program a.function.locals a.function.result d v
       → Does types texts fs f a (with_next v) in_loop s (declared a d s)
   declaration_does d s h b here = go (slice_get a.function.locals d.local) refl b here.1
     where

@@ -9,14 +9,14 @@ use Rattle.life_types.specs.declared.ty.TyId.{TyId}
 use Rattle.life_built.specs.Built.{is_built_variable}
 use Rattle.life_typed.specs.declared.typed_program.TypedLocal.{TypedLocal}
 use Rattle.life_core.specs.Function.{Function}
-use Rattle.life_core.specs.Holdings.{AnObject, APointer, held_by, held_if, sort_of}
+use Rattle.life_core.specs.Holdings.{held_by, held_if, sort_of}
 use Rattle.life_core.specs.Tree.{Tree, trees}
 use Rattle.life_core.specs.declared.program.Local.{Local}
 use Rattle.life_core.specs.declared.program.LocalKind.{LocalKind}
 use Rattle.life_proper.specs.declared.known.Known.{Known}
 use Rattle.life_proper.specs.declared.known.Known.TheVariants as known
 use Rattle.life_proper.specs.Checking.{flow}
-use Rattle.life_proper.specs.Knowing.{State as Knowing, known_as, known_at}
+use Rattle.life_proper.specs.Knowing.{State as Knowing, known_at}
 use Rattle.life_proper.specs.ResultsKnown.{ReturnsKnown}
 use Rattle.life_well_typed.specs.Visible.{Visible, with_next}
 use Rattle.life_writer.specs.Around.{Around, result_local}
@@ -26,7 +26,7 @@ use Rattle.life_elab_laws.proofs.Among.{Among, among_either, among_left, among_r
 use Rattle.life_elab_laws.proofs.Doing.{Acting, Does}
 use Rattle.life_elab_laws.proofs.Exits.{Knows, Leaves, knows_written, leaves_falling, leaves_may}
 use Rattle.life_elab_laws.proofs.Falling.{Falls, falls_append}
-use Rattle.life_elab_laws.proofs.Following.{Adds, Follows, IsLiving, adds_then, begins_added, follows_below, follows_grown, follows_named, grows_adds, knows_alive, same_variable}
+use Rattle.life_elab_laws.proofs.Following.{Adds, Follows, IsLiving, is_variable_sort, adds_then, begins_added, follows_below, follows_grown, follows_named, grows_adds, knows_alive, same_variable}
 use Rattle.life_elab_laws.proofs.Fronts.{IsFront, front_append, front_itself, front_then, last_there}
 use Rattle.life_elab_laws.proofs.GivingBack.{fine_known, known_append}
 use Rattle.life_elab_laws.proofs.Growing.{Begins}
@@ -50,8 +50,8 @@ its_local a u = record { named = refl; typed = refl; kind = refl }
 abbrev pub with_new : Local → State → State
 with_new l s = (with_variable l s).state
 
-module _ (types : Types) (fs : List Function) (f : Function) (a : Around) (front : IsFront a.program.types.types types.types) where
-  module _ (v : Visible) (u : TypedLocal) (l : Local) (of : IsLocalOf a u l) (s : State) (h : Follows types fs f a v s) (at : slice_get a.function.locals v.declared ≡ Some u) (built : is_built_variable a.program.types u.ty ≡ true) where
+module _ (types : Types) (f : Function) (a : Around) (front : IsFront a.program.types.types types.types) where
+  module _ (v : Visible) (u : TypedLocal) (l : Local) (of : IsLocalOf a u l) (s : State) (h : Follows types f a v s) (at : slice_get a.function.locals v.declared ≡ Some u) (built : is_built_variable a.program.types u.ty ≡ true) where
     pub new_at : slice_get (with_new l s).locals (length s.locals) ≡ Some l
     new_at = last_there s.locals l
 
@@ -74,13 +74,13 @@ module _ (types : Types) (fs : List Function) (f : Function) (a : Around) (front
         ∙ ap (λ (k : LocalKind). held_if (class (Some t)) k (Some t)) of.kind
         ∙ ap (λ (o : Option Ty). held_if (class (Some t)) (kind (class o)) (Some t)) is
 
-    pub new_ends : Begins types f (with_new l s) → (sort_of types f (length s.locals) ≡ AnObject) ⊎ (sort_of types f (length s.locals) ≡ APointer)
+    pub new_ends : Begins types f (with_new l s) → is_variable_sort (sort_of types f (length s.locals)) ≡ true
     new_ends b = go (variable_type a.program.types u.ty built)
       where
-        go : IsVariableType a.program.types u.ty → (sort_of types f (length s.locals) ≡ AnObject) ⊎ (sort_of types f (length s.locals) ≡ APointer)
-        go (a_value t is e) = inl (new_sort b t is ∙ value_held t e)
-        go (a_raw target constant is) = inr (new_sort b (ty.Raw target constant) is)
-        go (a_reference target constant is e) = inr (new_sort b (ty.Reference target constant) is)
+        go : IsVariableType a.program.types u.ty → is_variable_sort (sort_of types f (length s.locals)) ≡ true
+        go (a_value t is e) = ap is_variable_sort (new_sort b t is ∙ value_held t e)
+        go (a_raw target constant is) = ap is_variable_sort (new_sort b (ty.Raw target constant) is)
+        go (a_reference target constant is e) = ap is_variable_sort (new_sort b (ty.Reference target constant) is)
 
     -- ---- the state
 
@@ -103,7 +103,7 @@ module _ (types : Types) (fs : List Function) (f : Function) (a : Around) (front
     }
       where
         same : variable (with_new l s) x ≡ variable s x
-        same = same_variable types fs f s (with_new l s) x (front_append s.variables (length s.locals ∷ [])) (omega (arith, lt, h.count))
+        same = same_variable types f s (with_new l s) x (front_append s.variables (length s.locals ∷ [])) (omega (arith, lt, h.count))
 
     fresh : (x : ℕ) (w : TypedLocal) → v.declared ≡ x → slice_get a.function.locals x ≡ Some w → IsVariableAt a (with_new l s) x w
     fresh x w e there = record {
@@ -132,12 +132,12 @@ module _ (types : Types) (fs : List Function) (f : Function) (a : Around) (front
     }
     lives y (inr (inr none)) = absurd none
 
-    can_end : Begins types f (with_new l s) → (y : ℕ) → Among y s.living ⊎ Among y (length s.locals ∷ []) → (sort_of types f y ≡ AnObject) ⊎ (sort_of types f y ≡ APointer)
-    can_end b y (inl m) = h.sorts (begins_old b) y m
-    can_end b y (inr (inl e)) = subst (λ (z : ℕ). (sort_of types f z ≡ AnObject) ⊎ (sort_of types f z ≡ APointer)) e (new_ends b)
-    can_end b y (inr (inr none)) = absurd none
+    sorted : Begins types f (with_new l s) → (y : ℕ) → Among y s.living ⊎ Among y (length s.locals ∷ []) → is_variable_sort (sort_of types f y) ≡ true
+    sorted b y (inl m) = h.sorts (begins_old b) y m
+    sorted b y (inr (inl e)) = subst (λ (z : ℕ). is_variable_sort (sort_of types f z) ≡ true) e (new_ends b)
+    sorted b y (inr (inr none)) = absurd none
 
-    pub follows_new : Follows types fs f a (with_next v) (with_new l s)
+    pub follows_new : Follows types f a (with_next v) (with_new l s)
     follows_new = record {
       count = omega (arith, length-append s.variables (length s.locals ∷ []), h.count);
       visible = λ x c. elim (Contains-push_cases v.visible v.declared x c) [ inl old ↦ omega (arith, h.visible x old) | inr e ↦ omega (arith, e) ];
@@ -146,16 +146,16 @@ module _ (types : Types) (fs : List Function) (f : Function) (a : Around) (front
         opened = opened;
         seen = λ x w c there. elim (Contains-push_cases v.visible v.declared x c) [ inl old ↦ moved x w (h.visible x old) (h.stands.seen x w old there) | inr e ↦ fresh x w e there ];
       };
-      ascend = ascend_more 0 s.living (length s.locals) h.ascend (omega arith) (λ y m. follows_below types fs f a v s h y m);
+      ascend = ascend_more 0 s.living (length s.locals) h.ascend (omega arith) (λ y m. follows_below types f a v s h y m);
       outside = omega (arith, length-append s.living (length s.locals ∷ []), h.outside);
       living = λ y m. lives y (among_either s.living (length s.locals ∷ []) y m);
-      sorts = λ b y m. can_end b y (among_either s.living (length s.locals ∷ []) y m);
+      sorts = λ b y m. sorted b y (among_either s.living (length s.locals ∷ []) y m);
     }
 
     its_type : is_built_variable types l.ty ≡ true
     its_type = ap (is_built_variable types) of.typed ∙ variable_later a.program.types types front u.ty built
 
-    pub adds_new : Adds types fs f s (with_new l s)
+    pub adds_new : Adds types f s (with_new l s)
     adds_new = record {
       locals = front_append s.locals (l ∷ []);
       table = front_itself s.types.types;
@@ -167,83 +167,80 @@ module _ (types : Types) (fs : List Function) (f : Function) (a : Around) (front
 
     -- ---- what is known
 
-    pub blank_new : Begins types f (with_new l s) → (k : List Known) → Knows types fs f s.living k → known_at k (length s.locals) ≡ known.Blank
+    pub blank_new : Begins types f (with_new l s) → (k : List Known) → Knows f s.living k → known_at k (length s.locals) ≡ known.Blank
     blank_new b k knows =
         knows.blank (length s.locals) l u.name (b.locals (length s.locals) l new_at) of.named
-        (λ m. let below = follows_below types fs f a v s h (length s.locals) m in omega (arith, below))
+        (λ m. let below = follows_below types f a v s h (length s.locals) m in omega (arith, below))
 
-    pub knows_new : Begins types f (with_new l s) → (k : List Known) → Knows types fs f s.living k
-        → Knows types fs f (s.living ++ length s.locals ∷ []) (slice_set k (length s.locals) (known_as (sort_of types f (length s.locals))))
+    pub knows_new : Begins types f (with_new l s) → (k : List Known) → Knows f s.living k
+        → Knows f (s.living ++ length s.locals ∷ []) (slice_set k (length s.locals) known.Ready)
     knows_new b k knows = record {
-      sized = set_length k (length s.locals) now ∙ knows.sized;
+      sized = set_length k (length s.locals) known.Ready ∙ knows.sized;
       alive = λ y m. alive y (among_either s.living (length s.locals ∷ []) y m);
       blank = λ y z name there named no.
-          beside_set k (length s.locals) y now (λ e. no (among_right s.living (length s.locals ∷ []) y (inl e)))
+          beside_set k (length s.locals) y known.Ready (λ e. no (among_right s.living (length s.locals ∷ []) y (inl e)))
           ∙ knows.blank y z name there named (λ m. no (among_left s.living (length s.locals ∷ []) y m));
     }
       where
-        now : Known
-        now = known_as (sort_of types f (length s.locals))
-
         lt : length s.locals < length k
         lt = omega (arith, knows.sized, new_below b)
 
-        alive : (y : ℕ) → Among y s.living ⊎ Among y (length s.locals ∷ []) → known_at (slice_set k (length s.locals) now) y ≡ known_as (sort_of types f y)
+        alive : (y : ℕ) → Among y s.living ⊎ Among y (length s.locals ∷ []) → known_at (slice_set k (length s.locals) known.Ready) y ≡ known.Ready
         alive y (inl m) =
-            beside_set k (length s.locals) y now (λ e. let below = follows_below types fs f a v s h y m in omega (arith, e, below)) ∙ knows.alive y m
-        alive y (inr (inl e)) = subst (λ (z : ℕ). known_at (slice_set k (length s.locals) now) z ≡ known_as (sort_of types f z)) e (at_set k (length s.locals) now lt)
+            beside_set k (length s.locals) y known.Ready (λ e. let below = follows_below types f a v s h y m in omega (arith, e, below)) ∙ knows.alive y m
+        alive y (inr (inl e)) = subst (λ (z : ℕ). known_at (slice_set k (length s.locals) known.Ready) z ≡ known.Ready) e (at_set k (length s.locals) known.Ready lt)
         alive y (inr (inr none)) = absurd none
 
 -- ---- the whole: what computes what it is given, the variable, and what gives it that
 
 module _ (types : Types) (texts : ℕ) (fs : List Function) (f : Function) (a : Around) (front : IsFront a.program.types.types types.types) where
   module _ {A : Type 0} (v : Visible) (in_loop : Bool) (u : TypedLocal) (s : State) (w : Gives A) (Q : Gift types texts fs f A) (code : List Tree)
-      (h : Follows types fs f a v s) (at : slice_get a.function.locals v.declared ≡ Some u) (built : is_built_variable a.program.types u.ty ≡ true)
+      (h : Follows types f a v s) (at : slice_get a.function.locals v.declared ≡ Some u) (built : is_built_variable a.program.types u.ty ≡ true)
       (made : Makes types texts fs f None s w Q)
       (fine : Begins types f (with_new (variable_local a u) w.state) → Q.typed w.given → IsFine types texts fs f code)
       (falls : Begins types f (with_new (variable_local a u) w.state) → (k : List Known) → length k ≡ length f.locals → Q.ready w.given (length w.state.locals) k → known_at k (length w.state.locals) ≡ known.Blank
-      → Falls types fs f code k (slice_set k (length w.state.locals) (known_as (sort_of types f (length w.state.locals))))) where
-    later : Follows types fs f a v w.state
-    later = follows_grown types fs f a v s w.state made.grown h
+      → Falls types f code k (slice_set k (length w.state.locals) known.Ready)) where
+    later : Follows types f a v w.state
+    later = follows_grown types f a v s w.state made.grown h
 
-    adds : Adds types fs f s (with_new (variable_local a u) w.state)
-    adds = adds_then types fs f s w.state (with_new (variable_local a u) w.state) (grows_adds types fs f s w.state made.grown) (adds_new types fs f a front v u (variable_local a u) (its_local a u) w.state later at built)
+    adds : Adds types f s (with_new (variable_local a u) w.state)
+    adds = adds_then types f s w.state (with_new (variable_local a u) w.state) (grows_adds types f s w.state made.grown) (adds_new types f a front v u (variable_local a u) (its_local a u) w.state later at built)
 
     abbrev done : State
     done = with_code (w.state.code ++ code) (with_new (variable_local a u) w.state)
 
     -- nothing returns there
-    no_returns : Begins types f (with_new (variable_local a u) w.state) → (o : Knowing) → ReturnsKnown types fs f (result_local a) (trees (made.code ++ code)) o
+    no_returns : Begins types f (with_new (variable_local a u) w.state) → (o : Knowing) → ReturnsKnown types f (result_local a) (trees (made.code ++ code)) o
     no_returns b o =
-        let first = made.runs (begins_old types fs f a front v u (variable_local a u) (its_local a u) w.state later at built b) tt in
-        known_append types fs f (result_local a) made.code code o (fine_known types fs f (result_local a) texts made.code first.fine o)
-        (fine_known types fs f (result_local a) texts code (fine b first.typed) (flow types fs f (trees made.code) o).next)
+        let first = made.runs (begins_old types f a front v u (variable_local a u) (its_local a u) w.state later at built b) tt in
+        known_append types f (result_local a) made.code code o (fine_known types f (result_local a) texts fs made.code first.fine o)
+        (fine_known types f (result_local a) texts fs code (fine b first.typed) (flow types f (trees made.code) o).next)
 
     acting : Begins types f (with_new (variable_local a u) w.state) → Acting types texts fs f in_loop s done (made.code ++ code)
     acting b = record {
       stated = stated_append types texts fs f in_loop made.code code (part.fine.stated in_loop) ((fine b part.typed).stated in_loop);
-      ways = leaves_may types fs f in_loop s.living (w.state.living ++ length w.state.locals ∷ []) (take s.outside s.living) (trees (made.code ++ code)) went;
+      ways = leaves_may types f in_loop s.living (w.state.living ++ length w.state.locals ∷ []) (take s.outside s.living) (trees (made.code ++ code)) went;
     }
       where
         before : Begins types f w.state
-        before = begins_old types fs f a front v u (variable_local a u) (its_local a u) w.state later at built b
+        before = begins_old types f a front v u (variable_local a u) (its_local a u) w.state later at built b
 
         part : Runs types texts fs f (nothing types texts fs f) tt None s w Q made.code
         part = made.runs before tt
 
         first : Begins types f s
-        first = begins_added types fs f s w.state (grows_adds types fs f s w.state made.grown) before
+        first = begins_added types f s w.state (grows_adds types f s w.state made.grown) before
 
-        went : (k : List Known) → Knows types fs f s.living k
-            → Leaves types fs f in_loop (w.state.living ++ length w.state.locals ∷ []) (take s.outside s.living) (flow types fs f (trees (made.code ++ code)) (Some k))
+        went : (k : List Known) → Knows f s.living k
+            → Leaves f in_loop (w.state.living ++ length w.state.locals ∷ []) (take s.outside s.living) (flow types f (trees (made.code ++ code)) (Some k))
         went k knows =
-            let g = part.goes k (knows_alive types fs f a v s k knows) tt in
-            let mid : Knows types fs f w.state.living g.after =
-            subst (λ (ys : List ℕ). Knows types fs f ys g.after) (sym made.grown.living) (knows_written types fs f s.living (length s.locals) None k g.after (follows_named types fs f a v s h first) knows g.keeps) in
-            let after : List Known = slice_set g.after (length w.state.locals) (known_as (sort_of types f (length w.state.locals))) in
-            subst (Leaves types fs f in_loop (w.state.living ++ length w.state.locals ∷ []) (take s.outside s.living))
-            (sym (falls_append types fs f made.code code k g.after after g.falls (falls b g.after mid.sized g.gives (blank_new types fs f a front v u (variable_local a u) (its_local a u) w.state later at built b g.after mid))))
-            (leaves_falling types fs f in_loop (w.state.living ++ length w.state.locals ∷ []) (take s.outside s.living) after (knows_new types fs f a front v u (variable_local a u) (its_local a u) w.state later at built b g.after mid))
+            let g = part.goes k (knows_alive types f a v s k knows) tt in
+            let mid : Knows f w.state.living g.after =
+            subst (λ (ys : List ℕ). Knows f ys g.after) (sym made.grown.living) (knows_written f s.living (length s.locals) None k g.after (follows_named types f a v s h first) knows g.keeps) in
+            let after : List Known = slice_set g.after (length w.state.locals) known.Ready in
+            subst (Leaves f in_loop (w.state.living ++ length w.state.locals ∷ []) (take s.outside s.living))
+            (sym (falls_append types f made.code code k g.after after g.falls (falls b g.after mid.sized g.gives (blank_new types f a front v u (variable_local a u) (its_local a u) w.state later at built b g.after mid))))
+            (leaves_falling f in_loop (w.state.living ++ length w.state.locals ∷ []) (take s.outside s.living) after (knows_new types f a front v u (variable_local a u) (its_local a u) w.state later at built b g.after mid))
 
     pub declared_does : Does types texts fs f a (with_next v) in_loop s done
     declared_does = record {
@@ -252,7 +249,7 @@ module _ (types : Types) (texts : ℕ) (fs : List Function) (f : Function) (a : 
           own_added types a w.state (variable_local a u) (record { number = v.declared; variable = u; there = at; of = its_local a u })
           (locals_added types a s w.state made.grown.types made.registers are);
       order = made.registers.1;
-      follows = follows_new types fs f a front v u (variable_local a u) (its_local a u) w.state later at built;
+      follows = follows_new types f a front v u (variable_local a u) (its_local a u) w.state later at built;
       code = made.code ++ code;
       written = ap (λ (c : List Tree). c ++ code) made.written ∙ append_assoc s.code made.code code;
       acts = acting;

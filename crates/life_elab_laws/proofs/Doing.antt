@@ -24,25 +24,25 @@ use Rattle.life_elab_laws.proofs.WrittenLocals.{AreWrittenLocals, locals_added}
 module _ (types : Types) (texts : ℕ) (fs : List Function) (f : Function) where
   pub record Acting (in_loop : Bool) (s s' : State) (code : List Tree) : Type 0 where
     pub stated : IsStated types texts fs f in_loop (trees code)
-    pub ways : (o : Knowing) → MayKnow types fs f s.living o → Leaves types fs f in_loop s'.living (take s.outside s.living) (flow types fs f (trees code) o)
+    pub ways : (o : Knowing) → MayKnow f s.living o → Leaves f in_loop s'.living (take s.outside s.living) (flow types f (trees code) o)
 
   pub record Does (a : Around) (v : Visible) (in_loop : Bool) (s s' : State) : Type 0 where
-    pub adds : Adds types fs f s s'
+    pub adds : Adds types f s s'
     pub locals : AreWrittenLocals types a s → AreWrittenLocals types a s'
     pub order : KeepsOrder s.types s'.types
-    pub follows : Follows types fs f a v s'
+    pub follows : Follows types f a v s'
     pub code : List Tree
     pub written : s'.code ≡ s.code ++ code
     pub acts : Begins types f s' → Acting in_loop s s' code
     -- where a value must be given back, each return stands behind it
-    pub returns : Begins types f s' → GivesValue a → (o : Knowing) → MayKnow types fs f s.living o → ReturnsKnown types fs f (result_local a) (trees code) o
+    pub returns : Begins types f s' → GivesValue a → (o : Knowing) → MayKnow f s.living o → ReturnsKnown types f (result_local a) (trees code) o
 
   -- what stays outside of the innermost loop is the same
   take_less : (n m : ℕ) (xs ys : List ℕ) → n ≤ m → take m ys ≡ take m xs → take n ys ≡ take n xs
-  take_less n m xs ys h e = sym (take_front types fs f n m ys h) ∙ ap (take n) e ∙ take_front types fs f n m xs h
+  take_less n m xs ys h e = sym (take_front n m ys h) ∙ ap (take n) e ∙ take_front n m xs h
 
-  pub outside_stays : (s s' : State) → Adds types fs f s s' → s.outside ≤ length s.living → take s'.outside s'.living ≡ take s.outside s.living
-  outside_stays s s' g h = ap (λ (n : ℕ). take n s'.living) g.outside ∙ take_less s.outside (length s.living) s.living s'.living h (g.living ∙ sym (take_itself types fs f s.living))
+  pub outside_stays : (s s' : State) → Adds types f s s' → s.outside ≤ length s.living → take s'.outside s'.living ≡ take s.outside s.living
+  outside_stays s s' g h = ap (λ (n : ℕ). take n s'.living) g.outside ∙ take_less s.outside (length s.living) s.living s'.living h (g.living ∙ sym (take_itself s.living))
 
   -- what lives is the same behind it
   pub record DoesLevel (a : Around) (v : Visible) (in_loop : Bool) (s s' : State) : Type 0 where
@@ -50,76 +50,76 @@ module _ (types : Types) (texts : ℕ) (fs : List Function) (f : Function) where
     pub level : s'.living ≡ s.living
 
   -- nothing
-  pub does_nothing : (a : Around) (v : Visible) (in_loop : Bool) (s : State) → Follows types fs f a v s → Does a v in_loop s s
+  pub does_nothing : (a : Around) (v : Visible) (in_loop : Bool) (s : State) → Follows types f a v s → Does a v in_loop s s
   does_nothing a v in_loop s h = record {
-    adds = adds_none types fs f s;
+    adds = adds_none types f s;
     locals = λ are. are;
     order = order_none s.types;
     follows = h;
     code = [];
     written = sym (append-nil s.code);
-    acts = λ b. record { stated = stated_none types texts fs f in_loop; ways = λ o k. record { fine = refl; next = k; on_break = none_leaves types fs f in_loop (take s.outside s.living); on_continue = none_leaves types fs f in_loop (take s.outside s.living); on_true = refl; on_false = refl } };
+    acts = λ b. record { stated = stated_none types texts fs f in_loop; ways = λ o k. record { fine = refl; next = k; on_break = none_leaves f in_loop (take s.outside s.living); on_continue = none_leaves f in_loop (take s.outside s.living); on_true = refl; on_false = refl } };
     returns = λ b gives o k. tt;
   }
 
-  pub acts_then : (in_loop : Bool) (s t r : State) (c d : List Tree) → s.outside ≤ length s.living → Adds types fs f s t → Acting in_loop s t c → Acting in_loop t r d → Acting in_loop s r (c ++ d)
+  pub acts_then : (in_loop : Bool) (s t r : State) (c d : List Tree) → s.outside ≤ length s.living → Adds types f s t → Acting in_loop s t c → Acting in_loop t r d → Acting in_loop s r (c ++ d)
   acts_then in_loop s t r c d h adds p q = record {
     stated = stated_append types texts fs f in_loop c d p.stated q.stated;
     ways = λ o k.
         let w = p.ways o k in
-        subst (λ (x : Flow). Leaves types fs f in_loop r.living (take s.outside s.living) x) (sym (flow_append types fs f c d o))
-        (leaves_then types fs f in_loop t.living r.living (take s.outside s.living) (flow types fs f (trees c) o) (flow types fs f (trees d) (flow types fs f (trees c) o).next) w
-        (subst (λ (ys : List ℕ). Leaves types fs f in_loop r.living ys (flow types fs f (trees d) (flow types fs f (trees c) o).next)) (outside_stays s t adds h) (q.ways (flow types fs f (trees c) o).next w.next)));
+        subst (λ (x : Flow). Leaves f in_loop r.living (take s.outside s.living) x) (sym (flow_append types f c d o))
+        (leaves_then f in_loop t.living r.living (take s.outside s.living) (flow types f (trees c) o) (flow types f (trees d) (flow types f (trees c) o).next) w
+        (subst (λ (ys : List ℕ). Leaves f in_loop r.living ys (flow types f (trees d) (flow types f (trees c) o).next)) (outside_stays s t adds h) (q.ways (flow types f (trees c) o).next w.next)));
   }
 
   -- one and then another
   pub does_then : (a : Around) (v u : Visible) (in_loop : Bool) (s t r : State) → s.outside ≤ length s.living → Does a v in_loop s t → Does a u in_loop t r → Does a u in_loop s r
   does_then a v u in_loop s t r h first second = record {
-    adds = adds_then types fs f s t r first.adds second.adds;
+    adds = adds_then types f s t r first.adds second.adds;
     locals = λ are. second.locals (first.locals are);
     order = order_then s.types t.types r.types first.order second.order;
     follows = second.follows;
     code = first.code ++ second.code;
     written = second.written ∙ ap (λ (c : List Tree). c ++ second.code) first.written ∙ append_assoc s.code first.code second.code;
-    acts = λ b. acts_then in_loop s t r first.code second.code h first.adds (first.acts (begins_added types fs f t r second.adds b)) (second.acts b);
+    acts = λ b. acts_then in_loop s t r first.code second.code h first.adds (first.acts (begins_added types f t r second.adds b)) (second.acts b);
     returns = λ b gives o k.
-        let before = begins_added types fs f t r second.adds b in
-        known_append types fs f (result_local a) first.code second.code o (first.returns before gives o k)
-        (second.returns b gives (flow types fs f (trees first.code) o).next ((first.acts before).ways o k).next);
+        let before = begins_added types f t r second.adds b in
+        known_append types f (result_local a) first.code second.code o (first.returns before gives o k)
+        (second.returns b gives (flow types f (trees first.code) o).next ((first.acts before).ways o k).next);
   }
 
   -- ---- what an expression writes, as a statement
 
-  module _ {A : Type 0} (a : Around) (v : Visible) (in_loop : Bool) (into : Option ℕ) (s : State) (w : Gives A) (Q : Gift types texts fs f A) (h : Follows types fs f a v s) (made : Makes types texts fs f into s w Q) where
+  module _ {A : Type 0} (a : Around) (v : Visible) (in_loop : Bool) (into : Option ℕ) (s : State) (w : Gives A) (Q : Gift types texts fs f A) (h : Follows types f a v s) (made : Makes types texts fs f into s w Q) where
     begun : Begins types f w.state → Begins types f s
-    begun b = begins_added types fs f s w.state (grows_adds types fs f s w.state made.grown) b
+    begun b = begins_added types f s w.state (grows_adds types f s w.state made.grown) b
 
     -- behind it the same variables live
-    pub made_knows : Begins types f w.state → (k : List Known) → Knows types fs f s.living k → (g : Goes types texts fs f into s w Q made.code k) → Knows types fs f w.state.living g.after
+    pub made_knows : Begins types f w.state → (k : List Known) → Knows f s.living k → (g : Goes types texts fs f into s w Q made.code k) → Knows f w.state.living g.after
     made_knows b k known g =
-        subst (λ (ys : List ℕ). Knows types fs f ys g.after) (sym made.grown.living)
-        (knows_written types fs f s.living (length s.locals) into k g.after (follows_named types fs f a v s h (begun b)) known g.keeps)
+        subst (λ (ys : List ℕ). Knows f ys g.after) (sym made.grown.living)
+        (knows_written f s.living (length s.locals) into k g.after (follows_named types f a v s h (begun b)) known g.keeps)
 
     pub made_acts : Begins types f w.state → Acting in_loop s w.state made.code
     made_acts b = record {
       stated = (made.runs b tt).fine.stated in_loop;
-      ways = leaves_may types fs f in_loop s.living w.state.living (take s.outside s.living) (trees made.code) went;
+      ways = leaves_may types f in_loop s.living w.state.living (take s.outside s.living) (trees made.code) went;
     }
       where
-        went : (k : List Known) → Knows types fs f s.living k → Leaves types fs f in_loop w.state.living (take s.outside s.living) (flow types fs f (trees made.code) (Some k))
+        went : (k : List Known) → Knows f s.living k → Leaves f in_loop w.state.living (take s.outside s.living) (flow types f (trees made.code) (Some k))
         went k known =
-            let g = (made.runs b tt).goes k (knows_alive types fs f a v s k known) tt in
-            subst (Leaves types fs f in_loop w.state.living (take s.outside s.living)) (sym g.falls)
-            (leaves_falling types fs f in_loop w.state.living (take s.outside s.living) g.after (made_knows b k known g))
+            let g = (made.runs b tt).goes k (knows_alive types f a v s k known) tt in
+            subst (Leaves f in_loop w.state.living (take s.outside s.living)) (sym g.falls)
+            (leaves_falling f in_loop w.state.living (take s.outside s.living) g.after (made_knows b k known g))
 
-  pub does_made : {A : Type 0} (a : Around) (v : Visible) (in_loop : Bool) (into : Option ℕ) (s : State) (w : Gives A) (Q : Gift types texts fs f A) → Follows types fs f a v s → Makes types texts fs f into s w Q → Does a v in_loop s w.state
+  pub does_made : {A : Type 0} (a : Around) (v : Visible) (in_loop : Bool) (into : Option ℕ) (s : State) (w : Gives A) (Q : Gift types texts fs f A) → Follows types f a v s → Makes types texts fs f into s w Q → Does a v in_loop s w.state
   does_made a v in_loop into s w Q h made = record {
-    adds = grows_adds types fs f s w.state made.grown;
+    adds = grows_adds types f s w.state made.grown;
     locals = locals_added types a s w.state made.grown.types made.registers;
     order = made.registers.1;
-    follows = follows_grown types fs f a v s w.state made.grown h;
+    follows = follows_grown types f a v s w.state made.grown h;
     code = made.code;
     written = made.written;
     acts = made_acts a v in_loop into s w Q h made;
-    returns = λ b gives o k. fine_known types fs f (result_local a) texts made.code (made.runs b tt).fine o;
+    returns = λ b gives o k. fine_known types f (result_local a) texts fs made.code (made.runs b tt).fine o;
   }

@@ -1,31 +1,33 @@
 -- Where variables end: each is there, and none of them is known behind.
-use Rattle.std.proofs.Common.{◌≡◌, ◌<◌, ◌⊎◌, inl, inr, ℕ, true, ◌||◌, List, [], ◌∷◌, drop, length, reverse, slice_get, slice_set, Some, take, refl, sym, ap, ◌∙◌, subst, arith}
-use Rattle.std.proofs.lemmas.Bool.{and_from, cases_eq, or_left, or_right}
+use Rattle.std.proofs.Common.{◌≡◌, ◌<◌, ◌⊎◌, inl, inr, ℕ, true, List, [], ◌∷◌, drop, length, reverse, slice_get, slice_set, Some, take, refl, sym, ◌∙◌, subst, arith}
+use Rattle.std.proofs.lemmas.Bool.{and_from, cases_eq}
 use Rattle.std.proofs.lemmas.Option.{slice_get_within}
-use Rattle.life_types.specs.Types.{Types}
 use Rattle.life_types.specs.declared.ty.NameId.{NameId}
 use Rattle.life_core.specs.Function.{Function}
-use Rattle.life_core.specs.Holdings.{AnObject, APointer, sort_of}
 use Rattle.life_core.specs.declared.program.Local.{Local}
 use Rattle.life_proper.specs.declared.known.Known.{Known}
 use Rattle.life_proper.specs.declared.known.Known.TheVariants as known
-use Rattle.life_proper.specs.Knowing.{known_as, known_at, same}
-use Rattle.life_proper.specs.ReadyKnown.{can_end, has_end, holds, known_blank}
+use Rattle.life_proper.specs.Knowing.{known_at}
+use Rattle.life_proper.specs.ReadyKnown.{can_leave, is_known, set_known}
 use Rattle.life_elab_laws.proofs.Among.{Among, Apart, Ascend, among_drop, among_or, among_parts, among_reverse, among_take, apart_reverse, ascend_apart, ascend_drop, parts_apart, reverse_among}
 use Rattle.life_elab_laws.proofs.Exits.{Knows}
+use Rattle.life_elab_laws.proofs.Held.{ready_there}
 use Rattle.life_elab_laws.proofs.Knowledge.{at_set, beside_set, set_length}
 
 -- ---- what is known behind
 
-pub blank_length : (xs : List ℕ) (k : List Known) → length (known_blank xs k) ≡ length k
+abbrev pub set_blank : List ℕ → List Known → List Known
+set_blank xs k = set_known known.Blank xs k
+
+pub blank_length : (xs : List ℕ) (k : List Known) → length (set_blank xs k) ≡ length k
 blank_length [] k = refl
 blank_length (x ∷ xs) k = blank_length xs (slice_set k x known.Blank) ∙ set_length k x known.Blank
 
-pub blank_beside : (xs : List ℕ) (k : List Known) (y : ℕ) → (Among y xs → ⊥) → known_at (known_blank xs k) y ≡ known_at k y
+pub blank_beside : (xs : List ℕ) (k : List Known) (y : ℕ) → (Among y xs → ⊥) → known_at (set_blank xs k) y ≡ known_at k y
 blank_beside [] k y h = refl
 blank_beside (x ∷ xs) k y h = blank_beside xs (slice_set k x known.Blank) y (λ m. h (inr m)) ∙ beside_set k x y known.Blank (λ e. h (inl e))
 
-blank_stays : (xs : List ℕ) (k : List Known) (y : ℕ) → y < length k → known_at k y ≡ known.Blank → known_at (known_blank xs k) y ≡ known.Blank
+blank_stays : (xs : List ℕ) (k : List Known) (y : ℕ) → y < length k → known_at k y ≡ known.Blank → known_at (set_blank xs k) y ≡ known.Blank
 blank_stays [] k y lt e = e
 blank_stays (x ∷ xs) k y lt e = blank_stays xs (slice_set k x known.Blank) y (omega (arith, lt, set_length k x known.Blank)) (go (cases_eq x y))
   where
@@ -33,7 +35,7 @@ blank_stays (x ∷ xs) k y lt e = blank_stays xs (slice_set k x known.Blank) y (
     go (inl same) = subst (λ (z : ℕ). known_at (slice_set k x known.Blank) z ≡ known.Blank) same (at_set k x known.Blank (omega (arith, lt, same)))
     go (inr other) = beside_set k x y known.Blank other ∙ e
 
-pub blank_in : (xs : List ℕ) (k : List Known) (y : ℕ) → y < length k → Among y xs → known_at (known_blank xs k) y ≡ known.Blank
+pub blank_in : (xs : List ℕ) (k : List Known) (y : ℕ) → y < length k → Among y xs → known_at (set_blank xs k) y ≡ known.Blank
 blank_in [] k y lt h = absurd h
 blank_in (x ∷ xs) k y lt (inl e) =
     blank_stays xs (slice_set k x known.Blank) y (omega (arith, lt, set_length k x known.Blank))
@@ -42,48 +44,36 @@ blank_in (x ∷ xs) k y lt (inr h) = blank_in xs (slice_set k x known.Blank) y (
 
 -- ---- whether they can end
 
-ends_there : (xs : List ℕ) (k : List Known) → Apart xs → ((y : ℕ) → Among y xs → has_end k y ≡ true) → can_end k xs ≡ true
+ends_there : (xs : List ℕ) (k : List Known) → Apart xs → ((y : ℕ) → Among y xs → known_at k y ≡ known.Ready) → can_leave k xs ≡ true
 ends_there [] k a h = refl
 ends_there (x ∷ xs) k a h =
-    and_from (has_end k x) (can_end (slice_set k x known.Blank) xs) (h x (inl refl))
-    (ends_there xs (slice_set k x known.Blank) a.1 (λ y m. same_end y (beside_set k x y known.Blank (λ e. a.0 (subst (λ z. Among z xs) (sym e) m))) ∙ h y (inr m)))
-  where
-    same_end : (y : ℕ) → known_at (slice_set k x known.Blank) y ≡ known_at k y → has_end (slice_set k x known.Blank) y ≡ has_end k y
-    same_end y e = ap (λ (b : Known). same b known.Object || (same b known.Pointer || same b known.View)) e
+    and_from (is_known known.Ready k x) (can_leave (slice_set k x known.Blank) xs) (ready_there k x (h x (inl refl)))
+    (ends_there xs (slice_set k x known.Blank) a.1 (λ y m. beside_set k x y known.Blank (λ e. a.0 (subst (λ z. Among z xs) (sym e) m)) ∙ h y (inr m)))
 
-module _ (types : Types) (fs : List Function) (f : Function) where
-  -- a living variable is an object or a pointer
-  abbrev pub CanEnd : List ℕ → Type 0
-  CanEnd living = (y : ℕ) → Among y living → (sort_of types f y ≡ AnObject) ⊎ (sort_of types f y ≡ APointer)
+-- those past the first so many end
+module _ (f : Function) (living : List ℕ) (n low : ℕ) (ascend : Ascend low living) (k : List Known) (h : Knows f living k) where
+  pub end_ready : can_leave k (reverse (drop n living)) ≡ true
+  end_ready =
+      ends_there (reverse (drop n living)) k (apart_reverse (drop n living) (ascend_apart low (drop n living) (ascend_drop n low living ascend)))
+      (λ y m. h.alive y (among_drop n living y (reverse_among (drop n living) y m)))
 
-  -- those past the first so many end
-  module _ (living : List ℕ) (n low : ℕ) (ascend : Ascend low living) (k : List Known) (h : Knows types fs f living k) (sorts : CanEnd living) (below : (y : ℕ) → Among y living → y < length f.locals) where
-    pub end_ready : can_end k (reverse (drop n living)) ≡ true
-    end_ready =
-        ends_there (reverse (drop n living)) k (apart_reverse (drop n living) (ascend_apart low (drop n living) (ascend_drop n low living ascend)))
-        (λ y m. let there = among_drop n living y (reverse_among (drop n living) y m) in go y (h.alive y there) (sorts y there))
-      where
-        go : (y : ℕ) → known_at k y ≡ known_as (sort_of types f y) → ((sort_of types f y ≡ AnObject) ⊎ (sort_of types f y ≡ APointer)) → has_end k y ≡ true
-        go y at (inl e) = or_left (holds k y AnObject) _ (ap (λ (a : Known). same a known.Object) (at ∙ ap known_as e))
-        go y at (inr e) = or_right (holds k y AnObject) _ (or_left (holds k y APointer) _ (ap (λ (a : Known). same a known.Pointer) (at ∙ ap known_as e)))
+  pub end_knows : Knows f (take n living) (set_blank (reverse (drop n living)) k)
+  end_knows = record {
+    sized = blank_length (reverse (drop n living)) k ∙ h.sized;
+    alive = λ y m.
+        blank_beside (reverse (drop n living)) k y (λ g. parts_apart n low living y ascend m (reverse_among (drop n living) y g))
+        ∙ h.alive y (among_take n living y m);
+    blank = λ y l name there named m. dead y l name there named m;
+  }
+    where
+      dead : (y : ℕ) (l : Local) (name : NameId) → slice_get f.locals y ≡ Some l → l.name ≡ Some name → (Among y (take n living) → ⊥) → known_at (set_blank (reverse (drop n living)) k) y ≡ known.Blank
+      dead y l name there named m = go (among_or y (drop n living))
+        where
+          lt : y < length k
+          lt = omega (arith, h.sized, slice_get_within f.locals y l there)
 
-    pub end_knows : Knows types fs f (take n living) (known_blank (reverse (drop n living)) k)
-    end_knows = record {
-      sized = blank_length (reverse (drop n living)) k ∙ h.sized;
-      alive = λ y m.
-          blank_beside (reverse (drop n living)) k y (λ g. parts_apart n low living y ascend m (reverse_among (drop n living) y g))
-          ∙ h.alive y (among_take n living y m);
-      blank = λ y l name there named m. dead y l name there named m;
-    }
-      where
-        dead : (y : ℕ) (l : Local) (name : NameId) → slice_get f.locals y ≡ Some l → l.name ≡ Some name → (Among y (take n living) → ⊥) → known_at (known_blank (reverse (drop n living)) k) y ≡ known.Blank
-        dead y l name there named m = go (among_or y (drop n living))
-          where
-            lt : y < length k
-            lt = omega (arith, h.sized, slice_get_within f.locals y l there)
-
-            go : Among y (drop n living) ⊎ (Among y (drop n living) → ⊥) → known_at (known_blank (reverse (drop n living)) k) y ≡ known.Blank
-            go (inl d) = blank_in (reverse (drop n living)) k y lt (among_reverse (drop n living) y d)
-            go (inr d) =
-                blank_beside (reverse (drop n living)) k y (λ g. d (reverse_among (drop n living) y g))
-                ∙ h.blank y l name there named (λ g. elim (among_parts n living y g) [ inl a ↦ m a | inr b ↦ d b ])
+          go : Among y (drop n living) ⊎ (Among y (drop n living) → ⊥) → known_at (set_blank (reverse (drop n living)) k) y ≡ known.Blank
+          go (inl d) = blank_in (reverse (drop n living)) k y lt (among_reverse (drop n living) y d)
+          go (inr d) =
+              blank_beside (reverse (drop n living)) k y (λ g. d (reverse_among (drop n living) y g))
+              ∙ h.blank y l name there named (λ g. elim (among_parts n living y g) [ inl a ↦ m a | inr b ↦ d b ])

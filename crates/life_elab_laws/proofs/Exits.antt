@@ -4,24 +4,24 @@ use Rattle.std.proofs.lemmas.Bool.{and_from}
 use Rattle.life_types.specs.Types.{Types}
 use Rattle.life_types.specs.declared.ty.NameId.{NameId}
 use Rattle.life_core.specs.Function.{Function}
-use Rattle.life_core.specs.Holdings.{sort_of}
+use Rattle.life_core.specs.Kinds.{is_register}
 use Rattle.life_core.specs.Tree.{Tree}
 use Rattle.life_core.specs.declared.program.Local.{Local}
 use Rattle.life_proper.specs.declared.known.Known.{Known}
 use Rattle.life_proper.specs.declared.known.Known.TheVariants as known
 use Rattle.life_proper.specs.Checking.{Flow, before_next, flow, joined}
-use Rattle.life_proper.specs.Knowing.{State, agreed_all, are_implied, forgotten, is_implied, is_intermediate, known_as, known_at, met, same, is_blank, is_forgotten, is_register}
+use Rattle.life_proper.specs.Knowing.{State, agreed_all, are_implied, forgotten, is_implied, is_intermediate, known_at, met, is_blank, is_forgotten}
 use Rattle.life_elab_laws.proofs.Among.{Among}
 use Rattle.life_elab_laws.proofs.Falling.{falling}
 use Rattle.life_elab_laws.proofs.Knowledge.{agreed_length, at_agreed}
 use Rattle.life_elab_laws.proofs.Making.{Keeps}
 use Rattle.life_elab_laws.proofs.Nowhere.{IsNowhere, none_met, nowhere_flows}
 
-module _ (types : Types) (fs : List Function) (f : Function) where
+module _ (f : Function) where
   -- these variables live, and no other one does
   pub record Knows (living : List ℕ) (k : List Known) : Type 0 where
     pub sized : length k ≡ length f.locals
-    pub alive : (y : ℕ) → Among y living → known_at k y ≡ known_as (sort_of types f y)
+    pub alive : (y : ℕ) → Among y living → known_at k y ≡ known.Ready
     pub blank : (y : ℕ) (l : Local) (name : NameId) → slice_get f.locals y ≡ Some l → l.name ≡ Some name → (Among y living → ⊥) → known_at k y ≡ known.Blank
 
   -- .. where some way comes
@@ -52,7 +52,7 @@ module _ (types : Types) (fs : List Function) (f : Function) where
 
   -- ---- behind an expression, also one that goes to a register that was there
 
-  pub knows_written : (living : List ℕ) (n : ℕ) (into : Option ℕ) (k j : List Known) → AreNamed living → Knows living k → Keeps types fs f n into k j → Knows living j
+  pub knows_written : (living : List ℕ) (n : ℕ) (into : Option ℕ) (k j : List Known) → AreNamed living → Knows living k → Keeps f n into k j → Knows living j
   knows_written living n into k j names a keeps = record {
     sized = keeps.sized ∙ a.sized;
     alive = λ y c. let is = names y c in keeps.named y is.0 is.1 is.2 is.3 ∙ a.alive y c;
@@ -121,48 +121,37 @@ module _ (types : Types) (fs : List Function) (f : Function) where
   pub leaves_falling : (in_loop : Bool) (living outside : List ℕ) (k : List Known) → Knows living k → Leaves in_loop living outside (falling k)
   leaves_falling in_loop living outside k h = record { fine = refl; next = h; on_break = none_leaves in_loop outside; on_continue = none_leaves in_loop outside; on_true = refl; on_false = refl }
 
-  -- control that comes or not
-  pub leaves_may : (in_loop : Bool) (before after outside : List ℕ) (t : Tree) → ((k : List Known) → Knows before k → Leaves in_loop after outside (flow types fs f t (Some k)))
-      → (o : State) → MayKnow before o → Leaves in_loop after outside (flow types fs f t o)
-  leaves_may in_loop before after outside t some None h = leaves_nowhere in_loop after outside (flow types fs f t None) (nowhere_flows types fs f t None refl)
-  leaves_may in_loop before after outside t some (Some k) h = some k h
+-- control that comes or not
+pub leaves_may : (types : Types) (f : Function) (in_loop : Bool) (before after outside : List ℕ) (t : Tree) → ((k : List Known) → Knows f before k → Leaves f in_loop after outside (flow types f t (Some k)))
+    → (o : State) → MayKnow f before o → Leaves f in_loop after outside (flow types f t o)
+leaves_may types f in_loop before after outside t some None h = leaves_nowhere f in_loop after outside (flow types f t None) (nowhere_flows types f t None refl)
+leaves_may types f in_loop before after outside t some (Some k) h = some k h
 
-  -- ---- loops
+-- ---- loops
 
-  implied_itself : (a b : Known) → b ≡ a → (same a a ≡ true) → is_implied a b ≡ true
-  implied_itself known.Unknown b e s = refl
-  implied_itself known.Blank b e s = subst (λ (c : Known). is_implied known.Blank c ≡ true) (sym e) refl
-  implied_itself known.Object b e s = subst (λ (c : Known). is_implied known.Object c ≡ true) (sym e) refl
-  implied_itself known.Number b e s = subst (λ (c : Known). is_implied known.Number c ≡ true) (sym e) refl
-  implied_itself known.Pointer b e s = subst (λ (c : Known). is_implied known.Pointer c ≡ true) (sym e) refl
-  implied_itself known.View b e s = subst (λ (c : Known). is_implied known.View c ≡ true) (sym e) refl
+implied_same : (a b : Known) → b ≡ a → is_implied a b ≡ true
+implied_same known.Unknown b e = refl
+implied_same known.Blank b e = subst (λ (c : Known). is_implied known.Blank c ≡ true) (sym e) refl
+implied_same known.Ready b e = subst (λ (c : Known). is_implied known.Ready c ≡ true) (sym e) refl
 
-  implied_same : (a b : Known) → b ≡ a → is_implied a b ≡ true
-  implied_same known.Unknown b e = refl
-  implied_same known.Blank b e = implied_itself known.Blank b e refl
-  implied_same known.Object b e = implied_itself known.Object b e refl
-  implied_same known.Number b e = implied_itself known.Number b e refl
-  implied_same known.Pointer b e = implied_itself known.Pointer b e refl
-  implied_same known.View b e = implied_itself known.View b e refl
+-- what is kept at the head of a loop is no intermediate register
+kept_there : (l : Local) (a : Known) → is_forgotten l a ≡ false → is_intermediate l ≡ false
+kept_there l a e = go (is_register l.kind) (is_none l.name) (is_blank a) e
+  where
+    go : (register nameless blank : Bool) → (nameless && (register || blank)) ≡ false → (register && nameless) ≡ false
+    go true true blank h = h
+    go true false blank h = refl
+    go false nameless blank h = refl
 
-  -- what is kept at the head of a loop is no intermediate register
-  kept_there : (l : Local) (a : Known) → is_forgotten l a ≡ false → is_intermediate l ≡ false
-  kept_there l a e = go (is_register l.kind) (is_none l.name) (is_blank a) e
-    where
-      go : (register nameless blank : Bool) → (nameless && (register || blank)) ≡ false → (register && nameless) ≡ false
-      go true true blank h = h
-      go true false blank h = refl
-      go false nameless blank h = refl
-
-  -- what is known at the head is known on the way back, where both know the same of all but intermediate registers
-  pub forgotten_implied : (ls : List Local) (k j : List Known) → length k ≡ length ls → length j ≡ length ls
-      → ((y : ℕ) (l : Local) → slice_get ls y ≡ Some l → is_intermediate l ≡ false → known_at j y ≡ known_at k y) → are_implied (forgotten ls k) j ≡ true
-  forgotten_implied [] [] j a b h = refl
-  forgotten_implied [] (x ∷ k) j a b h = absurd (omega (arith, a))
-  forgotten_implied (l ∷ ls) [] j a b h = refl
-  forgotten_implied (l ∷ ls) (x ∷ k) [] a b h = absurd (omega (arith, b))
-  forgotten_implied (l ∷ ls) (x ∷ k) (y ∷ j) a b h = go (is_forgotten l x) refl (forgotten_implied ls k j (omega (arith, a)) (omega (arith, b)) (λ n. h (suc n)))
-    where
-      go : (m : Bool) → is_forgotten l x ≡ m → are_implied (forgotten ls k) j ≡ true → are_implied (forgotten (l ∷ ls) (x ∷ k)) (y ∷ j) ≡ true
-      go true e rest = rw e rest
-      go false e rest = rw e (and_from (is_implied x y) (are_implied (forgotten ls k) j) (implied_same x y (h zero l refl (kept_there l x e))) rest)
+-- what is known at the head is known on the way back, where both know the same of all but intermediate registers
+pub forgotten_implied : (ls : List Local) (k j : List Known) → length k ≡ length ls → length j ≡ length ls
+    → ((y : ℕ) (l : Local) → slice_get ls y ≡ Some l → is_intermediate l ≡ false → known_at j y ≡ known_at k y) → are_implied (forgotten ls k) j ≡ true
+forgotten_implied [] [] j a b h = refl
+forgotten_implied [] (x ∷ k) j a b h = absurd (omega (arith, a))
+forgotten_implied (l ∷ ls) [] j a b h = refl
+forgotten_implied (l ∷ ls) (x ∷ k) [] a b h = absurd (omega (arith, b))
+forgotten_implied (l ∷ ls) (x ∷ k) (y ∷ j) a b h = go (is_forgotten l x) refl (forgotten_implied ls k j (omega (arith, a)) (omega (arith, b)) (λ n. h (suc n)))
+  where
+    go : (m : Bool) → is_forgotten l x ≡ m → are_implied (forgotten ls k) j ≡ true → are_implied (forgotten (l ∷ ls) (x ∷ k)) (y ∷ j) ≡ true
+    go true e rest = rw e rest
+    go false e rest = rw e (and_from (is_implied x y) (are_implied (forgotten ls k) j) (implied_same x y (h zero l refl (kept_there l x e))) rest)

@@ -44,7 +44,7 @@ use Rattle.life_elab_laws.proofs.WrittenLocals.{fits_below, fits_later, fits_reg
 
 module _ (a : Around) (visible : List ℕ) (types : Types) (texts : ℕ) (fs : List Function) (f : Function) (setting : Setting a types fs f) where
   abbrev pub Standing : State → Type 0
-  Standing s = Stands types fs f a visible s
+  Standing s = Stands a visible s
 
   abbrev pub Valued : Ty → Option ℕ → State → Gives ℕ → Type 0
   Valued t into s w = Makes types texts fs f into s w (a_number types texts fs f t)
@@ -71,7 +71,6 @@ module _ (a : Around) (visible : List ℕ) (types : Types) (texts : ℕ) (fs : L
     pub of : FunctionForm
     pub there : slice_get a.program.functions c.function ≡ Some of
     pub kind : (t ≡ Of ty.Void) ⊎ (is_number t ≡ true)
-    pub worth : is_number t ≡ true → is_value (type_at a.program.types of.result) ≡ true
     pub own : t ≡ Of (type_at a.program.types of.result)
     pub hands : (s : State) → Standing s → Hands of s (handed_over a c.arguments (around.parameter_types a c.function) s)
 

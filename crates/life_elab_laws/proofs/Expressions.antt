@@ -48,7 +48,6 @@ use Rattle.life_elab_laws.proofs.Gifts.{IsGivenAs, a_number, a_place, a_pointer,
 use Rattle.life_elab_laws.proofs.Gifts as gifts
 use Rattle.life_elab_laws.proofs.GivenKinds.{given_number}
 use Rattle.life_elab_laws.proofs.Instructions.{IsIntoOf, constant_part, input_part, negated_part, operated_part}
-use Rattle.life_elab_laws.proofs.Making.{a_target}
 use Rattle.life_elab_laws.proofs.OperandsThere.{value_either, value_same}
 use Rattle.life_elab_laws.proofs.OperatorTypes.{number_answer, promoted_is}
 use Rattle.life_elab_laws.proofs.Parts.{Makes, leaf_part, seen_part}
@@ -58,7 +57,7 @@ use Rattle.life_elab_laws.proofs.VariablePlaces.{Stands, named_raw, pointer_ther
 
 module _ (a : Around) (visible : List ℕ) (types : Types) (texts : ℕ) (fs : List Function) (f : Function) (setting : Setting a types fs f) where
   abbrev pub Standing : State → Type 0
-  Standing s = Stands types fs f a visible s
+  Standing s = Stands a visible s
 
   abbrev pub Valued : Ty → Option ℕ → State → Gives ℕ → Type 0
   Valued t into s w = Makes types texts fs f into s w (a_number types texts fs f t)
@@ -90,7 +89,7 @@ module _ (a : Around) (visible : List ℕ) (types : Types) (texts : ℕ) (fs : L
           let built = variable_built a.program.types a.function.locals x l setting.variables found in
           leaf_part types texts fs f (variable_place s x) s (a_place types texts fs f (type_at a.program.types id) constant)
           (λ b. variable_formed types texts fs f a setting.front s b x l (stands.seen x l c found) e (local x) built h id constant at v)
-          (λ b k alive. variable_there types fs f a setting.front s b x l (stands.seen x l c found) built k alive)
+          (λ b k alive. variable_there a s x l (stands.seen x l c found) f k alive)
 
   raw_found : (l : TypedLocal) (target : TyId) (constant : Bool) → type_at a.program.types l.ty ≡ ty.Raw target constant → slice_get a.program.types.types l.ty.0 ≡ Some (ty.Raw target constant)
   raw_found l target constant e = go (slice_get a.program.types.types l.ty.0) refl e
@@ -113,7 +112,7 @@ module _ (a : Around) (visible : List ℕ) (types : Types) (texts : ℕ) (fs : L
           leaf_part types texts fs f (As (whole (variable s x))) s (a_pointing types texts fs f e.ty)
           (λ b. subst (λ (u : ExprType). IsGivenAs types texts fs f u (As (whole (variable s x)))) (sym own)
           (pointer_formed types texts fs f a setting.front s b x l (stands.seen x l c found) n.0 n.1 (raw_found l n.0 n.1 n.2)))
-          (λ b k alive. pointer_there types fs f a setting.front s b x l (stands.seen x l c found) n.0 n.1 n.2 k alive)
+          (λ b k alive. pointer_there a s x l (stands.seen x l c found) f k alive)
 
   -- it is a place
   variable_no_value : (x : ℕ) (e : Typed) → IsVariable a.program.types x (slice_get a.function.locals x) e → e.category ≡ category.Value → ⊥
@@ -173,14 +172,13 @@ module _ (a : Around) (visible : List ℕ) (types : Types) (texts : ℕ) (fs : L
             of = of;
             there = at;
             kind = k.0;
-            worth = k.1;
             own = k.2;
             hands = λ s stands. subst (λ (ids : List TyId). Hands of s (handed_over a given ids s)) (sym (ap parameters_of at)) (hands of at s stands);
           } in
           record {
             kind = kind_of_result a.program.types e (type_at a.program.types of.result) built h;
             computes = λ c n place none into s wanted stands.
-                call_part types texts fs f a.program.types g of into (own_type e.ty) place s (handed_over a given (around.parameter_types a g) s) (setting.callees g of at) (k.1 n) (result_later g of at ∙ sym (ap own_type k.2))
+                call_part types texts fs f g of into (own_type e.ty) place s (handed_over a given (around.parameter_types a g) s) (setting.callees g of at) (result_later g of at ∙ sym (ap own_type k.2))
                 (own_value e.ty n) wanted stands.opened (is.hands s stands);
             lands = λ c n place none r s. refl;
             names = no_place a visible types texts fs f setting (call g given closing) e (result_value (type_at a.program.types of.result) a.program.types e built h);
@@ -214,7 +212,7 @@ module _ (a : Around) (visible : List ℕ) (types : Types) (texts : ℕ) (fs : L
           (is.pointers u d.pointer refl s stands)
           (λ b h. behind_place types texts fs f (pointer a inner s).given u d.target d.constant (type_at a.program.types id) h refl refl refl
           (type_later a.program.types types setting.front d.target d.value ∙ ap (type_at a.program.types) (place_same d.target id d.constant constant same)) v)
-          (λ n k q. a_target q.local (ap (λ (m : Location). Through m []) q.is) q.below q.held))
+          (λ n k q. record { local = q.local; uses = ap (λ (m : Location). m.local ∷ []) q.is; below = q.below; held = q.held }))
 
   address_form : (inner : Form) (e : Typed) → (d : IsAddressed a.program.types (typed_in inner) e) → IsWhole a visible types texts fs f setting inner → IsForm a visible types texts fs f setting (address_of inner) e
   address_form inner e d is =
@@ -223,8 +221,12 @@ module _ (a : Around) (visible : List ℕ) (types : Types) (texts : ℕ) (fs : L
       (seen_part types texts fs f (gifts.nothing types texts fs f) tt None s (operand a inner s) (a_place types texts fs f (type_at a.program.types d.target) d.constant) (λ o. At (Aimed o)) (a_pointing types texts fs f (Of (ty.Raw d.target d.constant)))
       (is.names d.target d.constant d.place d.worth s stands)
       (λ b h. let later = type_later a.program.types types setting.front d.target d.worth in
-      and_from (aims_at types (ty.Raw d.target d.constant) (placed.type_of types f (operand a inner s).given)) (keeps_const d.constant (is_const_place types f (operand a inner s).given))
-      (ap (aims_at types (ty.Raw d.target d.constant)) (h.typed ∙ sym later) ∙ value_same (shapes.ty_of types d.target) (ap operands.is_value later ∙ value_either (type_at a.program.types d.target) d.worth)) h.held)
+      record {
+        fits =
+            and_from (aims_at types (ty.Raw d.target d.constant) (placed.type_of types f (operand a inner s).given)) (keeps_const d.constant (is_const_place types f (operand a inner s).given))
+            (ap (aims_at types (ty.Raw d.target d.constant)) (h.typed ∙ sym later) ∙ value_same (shapes.ty_of types d.target) (ap operands.is_value later ∙ value_either (type_at a.program.types d.target) d.worth)) h.held;
+        served = h.served;
+      })
       (λ n k q. q)))
     where
       own : e.ty ≡ Of (ty.Raw d.target d.constant)
@@ -262,7 +264,7 @@ module _ (a : Around) (visible : List ℕ) (types : Types) (texts : ℕ) (fs : L
           let t = common left right in
           let w = promoted_value (around.type_in left) (around.type_in right) in
           let first = l.valued both.0 t w None s tt stands in
-          let later = stands_later types fs f a visible s (value a left t None s).state first.grown stands in
+          let later = stands_later a visible s (value a left t None s).state first.grown stands in
           let own : c.ty ≡ answer_of (values.operator_of o) t =
           number_answer o (typed_in left).ty (typed_in right).ty c.ty both.0 both.1 never.0 never.1 c.answer
           ∙ sym (ap (λ (x : Ty). answer_of (values.operator_of o) (promoted x (around.type_in right))) (type_in_own left) ∙ ap (λ (x : Ty). answer_of (values.operator_of o) (promoted (own_type (typed_in left).ty) x)) (type_in_own right)) in
@@ -330,5 +332,5 @@ module _ (a : Around) (visible : List ℕ) (types : Types) (texts : ℕ) (fs : L
         let worth = v zero id refl in
         let first = (whole_expression e parts.0 h.0).valued (given_number a.program.types t (typed_in e) worth given.0) t worth None s tt stands in
         handed_part types texts fs f id t ids (value a e t None) (handed_over a es ids) s (type_later a.program.types types setting.front id worth) stands.opened first
-        (handed es parts.1 h.1 ids given.1 (λ n. v (suc n)) (value a e t None s).state (stands_later types fs f a visible s (value a e t None s).state first.grown stands))
+        (handed es parts.1 h.1 ids given.1 (λ n. v (suc n)) (value a e t None s).state (stands_later a visible s (value a e t None s).state first.grown stands))
     handed _ b h ids g v s stands = absurd h

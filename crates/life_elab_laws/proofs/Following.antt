@@ -1,11 +1,12 @@
 -- What has been written of a function and what is visible, between statements.
-use Rattle.std.proofs.Common.{◌≡◌, ◌<◌, ◌≤◌, ℕ, zero, suc, true, List, [], ◌∷◌, Contains, length, slice_get, take, Option, Some, None, refl, sym, ap, ◌∙◌, subst, unwrap_or, arith}
+use Rattle.std.proofs.Common.{◌≡◌, ◌<◌, ◌≤◌, ℕ, zero, suc, Bool, true, false, List, [], ◌∷◌, Contains, length, slice_get, take, Option, Some, None, refl, sym, ap, ◌∙◌, subst, unwrap_or, arith}
 use Rattle.std.proofs.lemmas.Option.{none-some, slice_get_within}
 use Rattle.life_types.specs.Types.{Types}
 use Rattle.life_types.specs.declared.ty.NameId.{NameId}
 use Rattle.life_typed.specs.BaseTypes.{is_value, type_at}
 use Rattle.life_typed.specs.declared.typed_program.TypedLocal.{TypedLocal}
 use Rattle.life_core.specs.Function.{Function}
+use Rattle.life_core.specs.Holdings.{APointer, AnObject, Holding, sort_of}
 use Rattle.life_core.specs.declared.program.Local.{Local}
 use Rattle.life_proper.specs.declared.known.Known.{Known}
 use Rattle.life_well_typed.specs.Visible.{Visible, behind}
@@ -14,7 +15,6 @@ use Rattle.life_writer.specs.Variables.{variable}
 use Rattle.life_writer.specs.Writing.{State}
 use Rattle.life_elab_laws.proofs.Among.{Among, Ascend, contains_among}
 use Rattle.life_elab_laws.proofs.Emitting.{IsWanted}
-use Rattle.life_elab_laws.proofs.Ending.{CanEnd}
 use Rattle.life_elab_laws.proofs.Exits.{AreNamed, Knows}
 use Rattle.life_elab_laws.proofs.Fronts.{IsFront, front_itself, front_length, front_then}
 use Rattle.life_elab_laws.proofs.Growing.{Begins, Grows, bare}
@@ -50,24 +50,44 @@ register_later a s s' locals table h worth = let is = (h worth).0 in (
   (h worth).1,
 )
 
-module _ (types : Types) (fs : List Function) (f : Function) where
+-- what a variable holds: it is an object or a pointer
+abbrev pub is_variable_sort : Holding → Bool
+is_variable_sort AnObject = true
+is_variable_sort APointer = true
+is_variable_sort _ = false
+
+-- ---- lists
+
+pub take_itself : (xs : List ℕ) → take (length xs) xs ≡ xs
+take_itself [] = refl
+take_itself (x ∷ xs) = ap (λ (ys : List ℕ). x ∷ ys) (take_itself xs)
+
+pub take_front : (n m : ℕ) (xs : List ℕ) → n ≤ m → take n (take m xs) ≡ take n xs
+take_front zero m xs h = refl
+take_front (suc n) zero xs h = absurd (omega (arith, h))
+take_front (suc n) (suc m) [] h = refl
+take_front (suc n) (suc m) (x ∷ xs) h = ap (λ (ys : List ℕ). x ∷ ys) (take_front n m xs (omega (arith, h)))
+
+-- ---- between statements
+
+module _ (types : Types) (f : Function) where
   pub record FollowsBare (a : Around) (v : Visible) (s : State) : Type 0 where
     pub count : length s.variables ≡ v.declared
     pub visible : (x : ℕ) → Contains v.visible x → x < v.declared
-    pub stands : Stands types fs f a v.visible s
+    pub stands : Stands a v.visible s
     pub ascend : Ascend 0 s.living
     pub outside : s.outside ≤ length s.living
     pub living : (y : ℕ) → Among y s.living → IsLiving s y
-    pub sorts : Begins types f s → CanEnd types fs f s.living
+    pub sorts : Begins types f s → (y : ℕ) → Among y s.living → is_variable_sort (sort_of types f y) ≡ true
 
   abbrev pub Follows : Around → Visible → State → Type 0
   Follows a v s = FollowsBare a v (bare s)
 
   -- between statements all that is asked of expressions is there
-  pub knows_alive : (a : Around) (v : Visible) (s : State) (k : List Known) → Knows types fs f s.living k → Alive types fs f s k
+  pub knows_alive : (a : Around) (v : Visible) (s : State) (k : List Known) → Knows f s.living k → Alive f s k
   knows_alive a v s k h = record { sized = h.sized; living = λ y c. h.alive y (contains_among s.living y c) }
 
-  pub follows_named : (a : Around) (v : Visible) (s : State) → Follows a v s → Begins types f s → AreNamed types fs f s.living
+  pub follows_named : (a : Around) (v : Visible) (s : State) → Follows a v s → Begins types f s → AreNamed f s.living
   follows_named a v s h b y m = let is = h.living y m in (is.local, is.name, b.locals y is.local is.there, is.named)
 
   pub follows_below : (a : Around) (v : Visible) (s : State) → Follows a v s → (y : ℕ) → Among y s.living → y < length s.locals
@@ -85,16 +105,6 @@ module _ (types : Types) (fs : List Function) (f : Function) where
 
   abbrev pub Adds : State → State → Type 0
   Adds s s' = AddsBare (bare s) (bare s')
-
-  pub take_itself : (xs : List ℕ) → take (length xs) xs ≡ xs
-  take_itself [] = refl
-  take_itself (x ∷ xs) = ap (λ (ys : List ℕ). x ∷ ys) (take_itself xs)
-
-  pub take_front : (n m : ℕ) (xs : List ℕ) → n ≤ m → take n (take m xs) ≡ take n xs
-  take_front zero m xs h = refl
-  take_front (suc n) zero xs h = absurd (omega (arith, h))
-  take_front (suc n) (suc m) [] h = refl
-  take_front (suc n) (suc m) (x ∷ xs) h = ap (λ (ys : List ℕ). x ∷ ys) (take_front n m xs (omega (arith, h)))
 
   length_front : (xs ys : List ℕ) → take (length xs) ys ≡ xs → length xs ≤ length ys
   length_front [] ys e = omega arith

@@ -1,5 +1,5 @@
 -- What ends is an object or a pointer, and neither the result nor a slot.
-use Rattle.std.proofs.Common.{◌≡◌, ◌⊎◌, inl, inr, ℕ, Bool, true, false, ◌&&◌, ◌||◌, not, List, [], ◌∷◌, nat_eq, slice_get, Option, Some, None, is_none, refl, sym, ap, ◌∙◌, subst, arith}
+use Rattle.std.proofs.Common.{◌≡◌, inl, inr, ℕ, Bool, true, false, ◌&&◌, ◌||◌, not, List, [], ◌∷◌, nat_eq, slice_get, Option, Some, None, is_none, refl, sym, ap, ◌∙◌, subst, arith}
 use Rattle.std.specs.List.{list_all}
 use Rattle.std.proofs.lemmas.Bool.{and_from, false≢true, or_left, or_right}
 use Rattle.std.proofs.lemmas.Bool.Decides.{nat_tests}
@@ -12,16 +12,16 @@ use Rattle.life_types.specs.declared.ty.Ty.TheVariants as ty
 use Rattle.life_types.specs.declared.ty.TyId.{TyId}
 use Rattle.life_typed.specs.BaseTypes.{is_value, type_at}
 use Rattle.life_core.specs.Function.{Function}
-use Rattle.life_core.specs.Holdings.{Holding, AnObject, APointer, held_by, held_if, sort_of}
+use Rattle.life_core.specs.Holdings.{Holding, held_by, held_if, sort_of}
+use Rattle.life_core.specs.Kinds.{is_register}
 use Rattle.life_core.specs.declared.program.Local.{Local}
 use Rattle.life_core.specs.declared.program.LocalKind.{LocalKind}
 use Rattle.life_core.specs.declared.program.LocalKind.TheVariants.{Object, Register, Range}
 use Rattle.life_pset.specs.Shapes as shapes
-use Rattle.life_proper.specs.Knowing.{is_register}
-use Rattle.life_proper.specs.ReadyKnown.{is_sort}
 use Rattle.life_elab_laws.proofs.Among.{Among}
 use Rattle.life_elab_laws.proofs.Shaped.{AreShaped, shaped_at}
-use Rattle.life_elab_laws.proofs.Types.{object_or_pointer, value_class}
+use Rattle.life_elab_laws.proofs.Following.{is_variable_sort}
+use Rattle.life_elab_laws.proofs.Types.{value_class}
 use Rattle.life_elab_laws.proofs.VariablePlaces.{IsVariableType, a_raw, a_reference, a_value, variable_type}
 use Rattle.life_proper.specs.OperandTypes.{is_void}
 use Rattle.life_proper.specs.Placed.{is_slot_local, object_at, result_at, slot_at}
@@ -47,18 +47,17 @@ value_no_slot : (types : Types) (t : Ty) → is_value t ≡ true → is_slot_typ
 value_no_slot types (ty.Reference target constant) v = absurd (false≢true v)
 value_no_slot types _ v = refl
 
-reference_no_slot : (types : Types) (target : TyId) (constant : Bool) → is_value (type_at types target) ≡ true → is_slot_type types (Some (ty.Reference target constant)) ≡ false
+pub reference_no_slot : (types : Types) (target : TyId) (constant : Bool) → is_value (type_at types target) ≡ true → is_slot_type types (Some (ty.Reference target constant)) ≡ false
 reference_no_slot types target true v = refl
 reference_no_slot types target false v = ap is_slot_target (type_found types types (λ n x e. e) target v) ∙ value_no_target (type_at types target) v
 
 -- ---- kinds
 
 -- a value that is an object or a pointer is an object
-value_object : (t : Ty) (k : LocalKind) → is_value t ≡ true → (held_if (class (Some t)) k (Some t) ≡ AnObject) ⊎ (held_if (class (Some t)) k (Some t) ≡ APointer) → k ≡ Object
-value_object t k v h =
-    go k (ap (λ (c : Class). is_sort (held_if c k (Some t)) AnObject || is_sort (held_if c k (Some t)) APointer) (sym (value_class t v)) ∙ object_or_pointer (held_if (class (Some t)) k (Some t)) h)
+value_object : (t : Ty) (k : LocalKind) → is_value t ≡ true → is_variable_sort (held_if (class (Some t)) k (Some t)) ≡ true → k ≡ Object
+value_object t k v h = go k (subst (λ (c : Class). is_variable_sort (held_if c k (Some t)) ≡ true) (value_class t v) h)
   where
-    go : (k : LocalKind) → (is_sort (held_if Value k (Some t)) AnObject || is_sort (held_if Value k (Some t)) APointer) ≡ true → k ≡ Object
+    go : (k : LocalKind) → is_variable_sort (held_if Value k (Some t)) ≡ true → k ≡ Object
     go Object e = refl
     go Register e = absurd (false≢true e)
     go Range e = absurd (false≢true e)
@@ -79,7 +78,7 @@ module _ (types : Types) (texts : ℕ) (fs : List Function) (f : Function) (shap
           absurd (false≢true (sym named ∙ ap is_none (nameless l (ap (slice_get f.locals) (sym (one y f.parameters es)) ∙ at) vs)))
 
   -- a variable
-  pub variable_ends : (y : ℕ) (l : Local) → slice_get f.locals y ≡ Some l → is_none l.name ≡ false → (sort_of types f y ≡ AnObject) ⊎ (sort_of types f y ≡ APointer) → can_end types texts fs f y ≡ true
+  pub variable_ends : (y : ℕ) (l : Local) → slice_get f.locals y ≡ Some l → is_none l.name ≡ false → is_variable_sort (sort_of types f y) ≡ true → can_end types texts fs f y ≡ true
   variable_ends y l at named sorts =
       go (variable_type types l.ty (shaped_at types f.locals y l shaped at (only_named l.kind l.name named)).built)
     where
@@ -95,7 +94,7 @@ module _ (types : Types) (texts : ℕ) (fs : List Function) (f : Function) (shap
 
       go : IsVariableType types l.ty → can_end types texts fs f y ≡ true
       go (a_value t found v) =
-          let kind = value_object t l.kind v (subst (λ (h : Holding). (h ≡ AnObject) ⊎ (h ≡ APointer)) (ap (held_by types) at ∙ ap (λ (o : Option Ty). held_if (class o) l.kind o) found) sorts) in
+          let kind = value_object t l.kind v (subst (λ (h : Holding). is_variable_sort h ≡ true) (ap (held_by types) at ∙ ap (λ (o : Option Ty). held_if (class o) l.kind o) found) sorts) in
           both (or_left (object_at types f y) _ (object_there types f y l at kind)) (ap (is_slot_type types) found ∙ value_no_slot types t v)
       go (a_raw target constant found) =
           both (or_right (object_at types f y) _ (ap shapes.is_pointer (type_there types f y l (ty.Raw target constant) at found refl))) (ap (is_slot_type types) found)

@@ -28,7 +28,7 @@ use Rattle.life_elab_laws.proofs.Values.{by_values}
 use Rattle.life_elab_laws.proofs.VariablePlaces.{IsVariableAt, IsVariableType, a_raw, a_reference, a_value, kind_is, place_is, variable_type}
 use Rattle.life_proper.specs.OperandTypes.{is_void, keeps_const, pointee}
 use Rattle.life_proper.specs.Placed as placed
-use Rattle.life_elab_laws.proofs.Gifts.{IsPlaceOf}
+use Rattle.life_elab_laws.proofs.Gifts.{IsAt, IsPlaceOf}
 use Rattle.life_elab_laws.proofs.OperandsThere.{object_there, type_there, value_either, value_no_reference}
 
 keeps_all : (to : Bool) → keeps_const to false ≡ true
@@ -90,18 +90,20 @@ module _ (types : Types) (texts : ℕ) (fs : List Function) (f : Function) where
   object_place y t c there typed = record {
     typed = ap (λ (b : Bool). if b then placed.type_at types f y else ty.Void) there ∙ typed;
     held = keeps_all c;
+    served = refl;
   }
 
   -- what a pointer of this type points to
-  pub behind_place : (q : Location) (u : Ty) (target : TyId) (c : Bool) (t : Ty) → placed.type_in types f q ≡ u → pointee types u ≡ ty_of types target → target_of u ≡ Some target → is_constant u ≡ c
+  pub behind_place : (q : Location) (u : Ty) (target : TyId) (c : Bool) (t : Ty) → IsAt types texts fs f u q → pointee types u ≡ ty_of types target → target_of u ≡ Some target → is_constant u ≡ c
       → ty_of types target ≡ t → is_value t ≡ true → IsPlaceOf types texts fs f t c (Through q [])
   behind_place q u target c t at object has const typed v = record {
     typed =
-        ap (λ (w : Ty). if not (is_void (pointee types w)) then ty_if types (target_of w) else ty.Void) at
+        ap (λ (w : Ty). if not (is_void (pointee types w)) then ty_if types (target_of w) else ty.Void) at.typed
         ∙ ap (λ (o : Option TyId). if not (is_void (pointee types u)) then ty_if types o else ty.Void) has
         ∙ ap (λ (b : Bool). if b then ty_of types target else ty.Void) (ap (λ (w : Ty). not (is_void w)) (object ∙ typed) ∙ value_no_void t v)
         ∙ typed;
-    held = ap (λ (w : Ty). keeps_const c (is_constant w)) at ∙ ap (keeps_const c) const ∙ keeps_same c;
+    held = ap (λ (w : Ty). keeps_const c (is_constant w)) at.typed ∙ ap (keeps_const c) const ∙ keeps_same c;
+    served = at.served;
   }
 
   module _ (a : Around) (front : IsFront a.program.types.types types.types) (s : State) (b : Begins types f s) (x : ℕ) (v : TypedLocal) (h : IsVariableAt a s x v) where
@@ -128,8 +130,8 @@ module _ (types : Types) (texts : ℕ) (fs : List Function) (f : Function) where
         object t found w is =
             let one : v.ty ≡ id = place_same v.ty id v.constant constant (own v.ty v.constant is) in
             let here : type_at a.program.types id ≡ t = ap (type_at a.program.types) (sym one) ∙ ap (λ (o : Option Ty). unwrap_or o ty.Void) found in
-            subst (IsPlaceOf types texts fs f (type_at a.program.types id) constant) (sym (place_is types fs f a front s b x v h Object (kind_is types fs f a front s b x v h t found ∙ value_kind t w)))
-            (object_place (variable s x) (type_at a.program.types id) constant (object_there types f (variable s x) h.local there (kind_is types fs f a front s b x v h t found ∙ value_kind t w))
+            subst (IsPlaceOf types texts fs f (type_at a.program.types id) constant) (sym (place_is a s x v h Object (kind_is a s x v h t found ∙ value_kind t w)))
+            (object_place (variable s x) (type_at a.program.types id) constant (object_there types f (variable s x) h.local there (kind_is a s x v h t found ∙ value_kind t w))
             (type_there types f (variable s x) h.local t there (typed_as t found) (value_no_reference t (value_either t w)) ∙ sym here))
 
         go : IsVariableType a.program.types v.ty → IsPlaceOf types texts fs f (type_at a.program.types id) constant (variable_place s x)
@@ -145,11 +147,11 @@ module _ (types : Types) (texts : ℕ) (fs : List Function) (f : Function) where
             let same = own target c (named (ty.Reference target c) found) in
             let later : ty_of types target ≡ type_at a.program.types target = type_later a.program.types types front target w in
             let here : ty_of types target ≡ type_at a.program.types id = later ∙ ap (type_at a.program.types) (place_same target id c constant same) in
-            subst (IsPlaceOf types texts fs f (type_at a.program.types id) constant) (sym (place_is types fs f a front s b x v h Register (kind_is types fs f a front s b x v h (ty.Reference target c) found)))
+            subst (IsPlaceOf types texts fs f (type_at a.program.types id) constant) (sym (place_is a s x v h Register (kind_is a s x v h (ty.Reference target c) found)))
             (subst (λ (d : Bool). IsPlaceOf types texts fs f (type_at a.program.types id) d (behind (variable s x))) (const_same target id c constant same)
             (behind_place (whole (variable s x)) (ty.Reference target c) target c (type_at a.program.types id)
-            (reference_there types f (variable s x) h.local target c there (typed_as (ty.Reference target c) found) (ap is_value later ∙ w)) refl refl refl here value))
+            (record { typed = reference_there types f (variable s x) h.local target c there (typed_as (ty.Reference target c) found) (ap is_value later ∙ w); served = refl }) refl refl refl here value))
 
     -- a raw pointer variable has its type
-    pub pointer_formed : (target : TyId) (constant : Bool) → slice_get a.program.types.types v.ty.0 ≡ Some (ty.Raw target constant) → placed.type_in types f (whole (variable s x)) ≡ ty.Raw target constant
-    pointer_formed target constant found = type_there types f (variable s x) h.local (ty.Raw target constant) there (typed_as (ty.Raw target constant) found) refl
+    pub pointer_formed : (target : TyId) (constant : Bool) → slice_get a.program.types.types v.ty.0 ≡ Some (ty.Raw target constant) → IsAt types texts fs f (ty.Raw target constant) (whole (variable s x))
+    pointer_formed target constant found = record { typed = type_there types f (variable s x) h.local (ty.Raw target constant) there (typed_as (ty.Raw target constant) found) refl; served = refl }

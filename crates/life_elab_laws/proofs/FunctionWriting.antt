@@ -37,10 +37,10 @@ use Rattle.life_elab_laws.proofs.Stopping.{stops, stops_next, stops_right}
 
 -- what is asked of the body of a function
 pub record IsProperBody (a : Around) (types : Types) (texts : ℕ) (fs : List Function) (f : Function) : Type 0 where
-  pub checked : is_checked types fs f ≡ true
+  pub checked : is_checked types f ≡ true
   pub stated : IsStated types texts fs f false f.body
   -- where it gives a value back and control doesn't run past its text, each return stands behind that
-  pub returns : GivesValue a → ReturnsKnown types fs f f.parameters f.body (Some (entry_known types f))
+  pub returns : GivesValue a → ReturnsKnown types f f.parameters f.body (Some (entry_known f))
 
 -- what endl writes stands behind the texts
 text_there : (p : ProgramForm) (f : FunctionForm) → nat_lt (end_line (around p f)) (length (texts_of p)) ≡ true
@@ -59,7 +59,7 @@ module _ (p : ProgramForm) (form : FunctionForm) (T types : Types) (fs : List Fu
     pub does : Does types texts fs f (around p form) behind false s s'
     pub stopped : stops (trees s'.code) ≡ true
 
-  finished : (it : StmtForm) (s : State) → ends form.body ≡ ends it → IsBody p form it → is_built_statement p.types form.locals it ≡ true → Follows types fs f (around p form) (with_parameters (length form.parameters)) s → HasRegister (around p form) s
+  finished : (it : StmtForm) (s : State) → ends form.body ≡ ends it → IsBody p form it → is_built_statement p.types form.locals it ≡ true → Follows types f (around p form) (with_parameters (length form.parameters)) s → HasRegister (around p form) s
       → IsFinished s (body (around p form) it s)
   finished (block items closing) s same h b follows register = go (ends (block items closing)) refl
     where
@@ -83,7 +83,7 @@ module _ (p : ProgramForm) (form : FunctionForm) (T types : Types) (fs : List Fu
     pub function_finished : IsFinished (first_state (around p form) T) (written (around p form) T)
     function_finished =
         finished form.body (first_state (around p form) T) refl is.typed.body is.built.body
-        (first_follows (around p form) T is.typed.parameters table types fs f setting.front is.built.variables) (register_there (around p form) T is.typed.parameters table is.ty is.result)
+        (first_follows (around p form) T is.typed.parameters table types f setting.front is.built.variables) (register_there (around p form) T is.typed.parameters table is.ty is.result)
 
     -- ---- in the finished function
 
@@ -98,13 +98,13 @@ module _ (p : ProgramForm) (form : FunctionForm) (T types : Types) (fs : List Fu
       acting = function_finished.does.acts begins
 
       abbrev ways : Flow
-      ways = flow types fs f (trees function_finished.does.code) (Some (entry_known types f))
+      ways = flow types f (trees function_finished.does.code) (Some (entry_known f))
 
-      leaves : Leaves types fs f false (written (around p form) T).living (take (first_state (around p form) T).outside (first_state (around p form) T).living) ways
-      leaves = acting.ways (Some (entry_known types f)) (entry_knows (around p form) T is.typed.parameters table types fs f setting.front is.built.variables begun.count begun.locals)
+      leaves : Leaves f false (written (around p form) T).living (take (first_state (around p form) T).outside (first_state (around p form) T).living) ways
+      leaves = acting.ways (Some (entry_known f)) (entry_knows (around p form) T is.typed.parameters table types f setting.front is.built.variables begun.count begun.locals)
 
       ended : ways.next ≡ None
-      ended = stops_next types fs f (trees function_finished.does.code) acting.stated.statement (ap (λ (c : List Tree). stops (trees c)) (sym code_is) ∙ function_finished.stopped) (Some (entry_known types f))
+      ended = stops_next types f (trees function_finished.does.code) acting.stated.statement (ap (λ (c : List Tree). stops (trees c)) (sym code_is) ∙ function_finished.stopped) (Some (entry_known f))
 
       none : (o : Knowing) → o ≡ None → is_none o ≡ true
       none o e = ap is_none e
@@ -124,11 +124,11 @@ module _ (p : ProgramForm) (form : FunctionForm) (T types : Types) (fs : List Fu
       function_proper = record {
         checked =
             and_from (is_statement f.body) _ stated.statement
-            (and_from (tests_straight f.body) (is_over (body_flow types fs f)) stated.tests
-            (ap (λ (t : Tree). is_over (flow types fs f t (Some (entry_known types f)))) body_is ∙ over));
+            (and_from (tests_straight f.body) (is_over (body_flow types f)) stated.tests
+            (ap (λ (t : Tree). is_over (flow types f t (Some (entry_known f)))) body_is ∙ over));
         stated = stated;
         returns = λ gives.
-            subst (λ (r : ℕ). ReturnsKnown types fs f r f.body (Some (entry_known types f))) (sym begun.count)
-            (subst (λ (t : Tree). ReturnsKnown types fs f (length form.parameters) t (Some (entry_known types f))) (sym body_is)
-            (function_finished.does.returns begins gives (Some (entry_known types f)) (entry_knows (around p form) T is.typed.parameters table types fs f setting.front is.built.variables begun.count begun.locals)));
+            subst (λ (r : ℕ). ReturnsKnown types f r f.body (Some (entry_known f))) (sym begun.count)
+            (subst (λ (t : Tree). ReturnsKnown types f (length form.parameters) t (Some (entry_known f))) (sym body_is)
+            (function_finished.does.returns begins gives (Some (entry_known f)) (entry_knows (around p form) T is.typed.parameters table types f setting.front is.built.variables begun.count begun.locals)));
       }

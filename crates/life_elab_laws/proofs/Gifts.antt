@@ -1,5 +1,6 @@
 -- What a part of an expression gives: which type it has in the finished function, and what is known of it where so many locals are there.
 use Rattle.std.proofs.Common.{◌≡◌, ◌≤◌, ◌&&◌, ℕ, Bool, true, List, [], ◌∷◌, None, ◌∙◌, arith}
+use Rattle.std.specs.List.{list_all}
 use Rattle.life_types.specs.Types.{Types}
 use Rattle.life_types.specs.declared.ty.Ty.{Ty}
 use Rattle.life_types.specs.declared.ty.TyId.{TyId}
@@ -7,18 +8,19 @@ use Rattle.life_typed.specs.declared.typed_expr.ExprType.{ExprType}
 use Rattle.life_typed.specs.declared.typed_expr.ExprType.TheVariants.{NullPointer, Of, TextLiteral}
 use Rattle.life_core.specs.Function.{Function}
 use Rattle.life_core.specs.Operands.{Argument, Location, Null, Operand, Place as Aimed, Value}
+use Rattle.life_core.specs.Served.{is_served_argument, is_served_location, is_served_operand}
 use Rattle.life_pset.specs.Shapes.{is_constant}
 use Rattle.life_proper.specs.OperandTypes.{aims_at, keeps_const}
 use Rattle.life_proper.specs.Placed.{is_const_place, is_number_of, type_in, type_of}
 use Rattle.life_proper.specs.WellFormed.{are_arguments_for, have_own_slots}
 use Rattle.life_proper.specs.declared.known.Known.{Known}
 use Rattle.life_writer.specs.Pointers.{As, At, Pointing}
-use Rattle.life_elab_laws.proofs.Making.{IsNumber, IsPlace, IsPointer, IsPointing, Keeps, a_target as to_target, an_object}
+use Rattle.life_elab_laws.proofs.Making.{IsHeld, IsPlace, IsPointer, IsPointing, Keeps}
 
 -- a number in a register for each of these
 abbrev pub AreNumbersFor : List TyId → List Argument → ℕ → List Known → Type 0
 AreNumbersFor [] [] n k = Unit {0}
-AreNumbersFor (id ∷ ids) (Value r ∷ xs) n k = IsNumber r n k × AreNumbersFor ids xs n k
+AreNumbersFor (id ∷ ids) (Value r ∷ xs) n k = IsHeld r n k × AreNumbersFor ids xs n k
 AreNumbersFor _ _ n k = ⊥
 
 module _ (types : Types) (texts : ℕ) (fs : List Function) (f : Function) where
@@ -26,7 +28,7 @@ module _ (types : Types) (texts : ℕ) (fs : List Function) (f : Function) where
   pub record Gift (A : Type 0) : Type 1 where
     pub typed : A → Type 0
     pub ready : A → ℕ → List Known → Type 0
-    pub stays : (x : A) (n m : ℕ) (k j : List Known) → n ≤ m → ready x n k → Keeps types fs f n None k j → ready x m j
+    pub stays : (x : A) (n m : ℕ) (k j : List Known) → n ≤ m → ready x n k → Keeps f n None k j → ready x m j
 
   abbrev pub nothing : Gift (Unit {0})
   nothing = record { typed = λ x. Unit {0}; ready = λ x n k. Unit {0}; stays = λ x n m k j h p keeps. tt }
@@ -44,41 +46,47 @@ module _ (types : Types) (texts : ℕ) (fs : List Function) (f : Function) where
   abbrev pub IsNumberOf : Ty → ℕ → Type 0
   IsNumberOf t r = is_number_of types f t r ≡ true
 
-  pub number_stays : (r n m : ℕ) (k j : List Known) → n ≤ m → IsNumber r n k → Keeps types fs f n None k j → IsNumber r m j
-  number_stays r n m k j h p keeps = (omega (arith, h, p.0), keeps.below r p.0 tt ∙ p.1)
+  pub held_stays : (r n m : ℕ) (k j : List Known) → n ≤ m → IsHeld r n k → Keeps f n None k j → IsHeld r m j
+  held_stays r n m k j h p keeps = (omega (arith, h, p.0), keeps.below r p.0 tt ∙ p.1)
 
   abbrev pub a_number : Ty → Gift ℕ
-  a_number t = record { typed = IsNumberOf t; ready = IsNumber; stays = number_stays }
+  a_number t = record { typed = IsNumberOf t; ready = IsHeld; stays = held_stays }
 
   -- ---- a place of a type, which is const only where this is
 
   pub record IsPlaceOf (t : Ty) (constant : Bool) (o : Operand) : Type 0 where
     pub typed : type_of types f o ≡ t
     pub held : keeps_const constant (is_const_place types f o) ≡ true
+    pub served : is_served_operand o ≡ true
 
-  pub place_stays : (o : Operand) (n m : ℕ) (k j : List Known) → n ≤ m → IsPlace o n k → Keeps types fs f n None k j → IsPlace o m j
-  place_stays o n m k j h (an_object x is lt at) keeps = an_object x is (omega (arith, lt, h)) (keeps.below x lt tt ∙ at)
-  place_stays o n m k j h (to_target x is lt at) keeps = to_target x is (omega (arith, lt, h)) (keeps.below x lt tt ∙ at)
+  pub place_stays : (o : Operand) (n m : ℕ) (k j : List Known) → n ≤ m → IsPlace o n k → Keeps f n None k j → IsPlace o m j
+  place_stays o n m k j h p keeps = record { local = p.local; uses = p.uses; below = omega (arith, p.below, h); held = keeps.below p.local p.below tt ∙ p.held }
 
   abbrev pub a_place : Ty → Bool → Gift Operand
   a_place t constant = record { typed = IsPlaceOf t constant; ready = IsPlace; stays = place_stays }
 
   -- ---- a location that holds a pointer of a type
 
-  abbrev pub IsAt : Ty → Location → Type 0
-  IsAt t l = type_in types f l ≡ t
+  pub record IsAt (t : Ty) (l : Location) : Type 0 where
+    pub typed : type_in types f l ≡ t
+    pub served : is_served_location l ≡ true
 
-  pub pointer_stays : (l : Location) (n m : ℕ) (k j : List Known) → n ≤ m → IsPointer types f l n k → Keeps types fs f n None k j → IsPointer types f l m j
-  pointer_stays l n m k j h p keeps = record { local = p.local; is = p.is; below = omega (arith, p.below, h); held = keeps.below p.local p.below tt ∙ p.held; sort = p.sort }
+  pub pointer_stays : (l : Location) (n m : ℕ) (k j : List Known) → n ≤ m → IsPointer l n k → Keeps f n None k j → IsPointer l m j
+  pointer_stays l n m k j h p keeps = record { local = p.local; is = p.is; below = omega (arith, p.below, h); held = keeps.below p.local p.below tt ∙ p.held }
 
   abbrev pub a_pointer : Ty → Gift Location
-  a_pointer t = record { typed = IsAt t; ready = IsPointer types f; stays = pointer_stays }
+  a_pointer t = record { typed = IsAt t; ready = IsPointer; stays = pointer_stays }
 
   -- ---- what is given to a pointer of a type
 
+  -- a place that it may be aimed at
+  pub record IsAimedAt (t : Ty) (o : Operand) : Type 0 where
+    pub fits : (aims_at types t (type_of types f o) && keeps_const (is_constant t) (is_const_place types f o)) ≡ true
+    pub served : is_served_operand o ≡ true
+
   abbrev pub IsGivenTo : Ty → Pointing → Type 0
   IsGivenTo t (At Null) = Unit {0}
-  IsGivenTo t (At (Aimed o)) = (aims_at types t (type_of types f o) && keeps_const (is_constant t) (is_const_place types f o)) ≡ true
+  IsGivenTo t (At (Aimed o)) = IsAimedAt t o
   IsGivenTo t (At _) = ⊥
   IsGivenTo t (As l) = IsAt t l
 
@@ -88,24 +96,25 @@ module _ (types : Types) (texts : ℕ) (fs : List Function) (f : Function) where
   IsGivenAs NullPointer p = p ≡ At Null
   IsGivenAs TextLiteral p = ⊥
 
-  pub pointing_stays : (p : Pointing) (n m : ℕ) (k j : List Known) → n ≤ m → IsPointing types f p n k → Keeps types fs f n None k j → IsPointing types f p m j
+  pub pointing_stays : (p : Pointing) (n m : ℕ) (k j : List Known) → n ≤ m → IsPointing p n k → Keeps f n None k j → IsPointing p m j
   pointing_stays (At Null) n m k j h p keeps = tt
   pointing_stays (At (Aimed o)) n m k j h p keeps = place_stays o n m k j h p keeps
   pointing_stays (At _) n m k j h p keeps = absurd p
   pointing_stays (As l) n m k j h p keeps = pointer_stays l n m k j h p keeps
 
   abbrev pub a_pointing : ExprType → Gift Pointing
-  a_pointing t = record { typed = IsGivenAs t; ready = IsPointing types f; stays = pointing_stays }
+  a_pointing t = record { typed = IsGivenAs t; ready = IsPointing; stays = pointing_stays }
 
   -- ---- values in registers, for parameters of these types
 
   pub record AreHanded (ids : List TyId) (xs : List Argument) : Type 0 where
     pub fit : are_arguments_for types texts fs f ids xs ≡ true
     pub own : have_own_slots types texts fs f xs ≡ true
+    pub served : list_all is_served_argument xs ≡ true
 
-  pub numbers_stay : (ids : List TyId) (xs : List Argument) (n m : ℕ) (k j : List Known) → n ≤ m → AreNumbersFor ids xs n k → Keeps types fs f n None k j → AreNumbersFor ids xs m j
+  pub numbers_stay : (ids : List TyId) (xs : List Argument) (n m : ℕ) (k j : List Known) → n ≤ m → AreNumbersFor ids xs n k → Keeps f n None k j → AreNumbersFor ids xs m j
   numbers_stay [] [] n m k j h p keeps = tt
-  numbers_stay (id ∷ ids) (Value r ∷ xs) n m k j h p keeps = (number_stays r n m k j h p.0 keeps, numbers_stay ids xs n m k j h p.1 keeps)
+  numbers_stay (id ∷ ids) (Value r ∷ xs) n m k j h p keeps = (held_stays r n m k j h p.0 keeps, numbers_stay ids xs n m k j h p.1 keeps)
   numbers_stay _ _ n m k j h p keeps = absurd p
 
   abbrev pub arguments : List TyId → Gift (List Argument)

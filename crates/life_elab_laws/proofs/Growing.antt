@@ -1,17 +1,15 @@
 -- How what has been written grows, and what the finished function has of it.
-use Rattle.std.proofs.Common.{◌≡◌, ◌<◌, ◌≤◌, ℕ, List, [], ◌∷◌, length, slice_get, Option, Some, None, refl, ap, ◌∙◌, arith, length-append, true≢false}
-use Rattle.life_types.specs.Types.{Types, class}
+use Rattle.std.proofs.Common.{◌≡◌, ◌<◌, ◌≤◌, List, [], ◌∷◌, length, refl, ◌∙◌, arith, length-append, true≢false}
+use Rattle.life_types.specs.Types.{Types}
 use Rattle.life_types.specs.declared.place.Place.{Place}
 use Rattle.life_types.specs.declared.ty.Ty.{Ty}
 use Rattle.life_core.specs.Function.{Function}
-use Rattle.life_core.specs.Holdings.{held_by, held_if, sort_of}
 use Rattle.life_core.specs.declared.program.Local.{Local}
-use Rattle.life_core.specs.declared.program.LocalKind.TheVariants.{Register}
 use Rattle.life_writer.specs.Registers.{nameless, new_register, type_number, typed_with}
 use Rattle.life_writer.specs.Writing.{State, with_code}
-use Rattle.life_elab_laws.proofs.Fronts.{IsFront, front_append, front_itself, front_then, last_there}
+use Rattle.life_elab_laws.proofs.Fronts.{IsFront, front_append, front_itself, front_then}
 use Rattle.life_elab_laws.proofs.Shaped.{AreShaped, shaped_more}
-use Rattle.life_elab_laws.proofs.Types.{type_added, types_before}
+use Rattle.life_elab_laws.proofs.Types.{types_before}
 
 -- without the list of statements that is being written: what is told of the rest holds whatever list that is
 abbrev pub bare : State → State
@@ -68,12 +66,6 @@ begins_before types f s s' g b = record {
   table = front_then s.types.types s'.types.types types.types g.types b.table;
 }
 
--- what a local that stands there holds
-pub sort_there : (types : Types) (f : Function) (s : State) (x : ℕ) (l : Local) (t : Ty) → Begins types f s → slice_get s.locals x ≡ Some l → slice_get s.types.types l.ty.0 ≡ Some t
-    → sort_of types f x ≡ held_if (class (Some t)) l.kind (Some t)
-sort_there types f s x l t b there is =
-    ap (held_by types) (b.locals x l there) ∙ ap (λ (o : Option Ty). held_if (class o) l.kind o) (b.table l.ty.0 t is)
-
 -- ---- a new register
 
 -- the local that is added
@@ -93,13 +85,3 @@ register_grows place t s = record {
 
 pub register_below : (place : Place) (t : Ty) (s : State) → length s.locals < length (new_register place t s).state.locals
 register_below place t s = omega (arith, length-append s.locals (added place t s ∷ []))
-
--- .. it has no name, and holds what a register of its type holds
-pub register_there : (place : Place) (t : Ty) (s : State) (types : Types) (f : Function) → Begins types f (new_register place t s).state
-    → (l : Local) × (slice_get f.locals (length s.locals) ≡ Some l) × (l.name ≡ None)
-register_there place t s types f b = (added place t s, b.locals (length s.locals) (added place t s) (last_there s.locals (added place t s)), refl)
-
-pub register_sort : (place : Place) (t : Ty) (s : State) (types : Types) (f : Function) → Begins types f (new_register place t s).state
-    → sort_of types f (length s.locals) ≡ held_if (class (Some t)) Register (Some t)
-register_sort place t s types f b =
-    sort_there types f (new_register place t s).state (length s.locals) (added place t s) t b (last_there s.locals (added place t s)) (type_added s.types.types t)

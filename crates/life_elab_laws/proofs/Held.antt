@@ -1,25 +1,28 @@
--- What is held is ready.
-use Rattle.std.proofs.Common.{◌≡◌, ℕ, true, List, ap, ◌∙◌}
-use Rattle.life_core.specs.Holdings.{ANumber, APointer, AnObject, Holding}
+-- What is known to be there is ready.
+use Rattle.std.proofs.Common.{◌≡◌, ℕ, true, List, [], ◌∷◌, ap, ◌∙◌}
 use Rattle.life_core.specs.Operands.{Operand}
+use Rattle.life_core.specs.Touched.{place_uses}
 use Rattle.life_proper.specs.Knowing.{known_at, same}
-use Rattle.life_proper.specs.ReadyKnown.{holds, is_operand_ready, is_sort}
+use Rattle.life_proper.specs.ReadyKnown.{are_known, is_known}
 use Rattle.life_proper.specs.declared.known.Known.{Known}
 use Rattle.life_proper.specs.declared.known.Known.TheVariants as known
-use Rattle.life_elab_laws.proofs.Making.{IsPlace, a_target, an_object}
+use Rattle.life_proper.proofs.ReadyTests.{both_known, one_known}
+use Rattle.life_elab_laws.proofs.Making.{IsPlace}
 
-pub number_held : (k : List Known) (r : ℕ) → known_at k r ≡ known.Number → holds k r ANumber ≡ true
-number_held k r e = ap (λ (a : Known). same a known.Number) e
+pub ready_there : (k : List Known) (x : ℕ) → known_at k x ≡ known.Ready → is_known known.Ready k x ≡ true
+ready_there k x e = ap (λ (a : Known). same a known.Ready) e
 
-pub object_held : (k : List Known) (x : ℕ) → known_at k x ≡ known.Object → holds k x AnObject ≡ true
-object_held k x e = ap (λ (a : Known). same a known.Object) e
+pub blank_there : (k : List Known) (x : ℕ) → known_at k x ≡ known.Blank → is_known known.Blank k x ≡ true
+blank_there k x e = ap (λ (a : Known). same a known.Blank) e
 
-pub pointer_held : (k : List Known) (x : ℕ) → known_at k x ≡ known.Pointer → holds k x APointer ≡ true
-pointer_held k x e = ap (λ (a : Known). same a known.Pointer) e
+-- ---- lists of them
 
-pub place_ready : (o : Operand) (n : ℕ) (k : List Known) → IsPlace o n k → is_operand_ready k o ≡ true
-place_ready o n k (an_object x is lt h) = ap (is_operand_ready k) is ∙ object_held k x h
-place_ready o n k (a_target x is lt h) = ap (is_operand_ready k) is ∙ pointer_held k x h
+pub one_there : (k : List Known) (x : ℕ) → known_at k x ≡ known.Ready → are_known known.Ready k (x ∷ []) ≡ true
+one_there k x e = one_known known.Ready k x (ready_there k x e)
 
-pub number_sort : (h : Holding) → h ≡ ANumber → is_sort h ANumber ≡ true
-number_sort h e = ap (λ (g : Holding). is_sort g ANumber) e
+pub two_there : (k : List Known) (x y : ℕ) → known_at k x ≡ known.Ready → known_at k y ≡ known.Ready → are_known known.Ready k (x ∷ y ∷ []) ≡ true
+two_there k x y e h = both_known known.Ready k (x ∷ []) (y ∷ []) (one_there k x e) (one_there k y h)
+
+-- a place: what it names is there
+pub place_there : (o : Operand) (n : ℕ) (k : List Known) → IsPlace o n k → are_known known.Ready k (place_uses o) ≡ true
+place_there o n k h = ap (are_known known.Ready k) h.uses ∙ one_there k h.local h.held

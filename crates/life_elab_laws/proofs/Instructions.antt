@@ -11,40 +11,41 @@ use Rattle.life_types.specs.declared.ty.Ty.{Ty}
 use Rattle.life_types.specs.declared.ty.Ty.TheVariants as ty
 use Rattle.life_typed.specs.BaseTypes.{is_raw, is_value}
 use Rattle.life_typed.specs.declared.typed_expr.ExprType.TheVariants.{Of}
-use Rattle.life_core.specs.ByValue.{is_by_value}
 use Rattle.life_core.specs.Function.{Function}
-use Rattle.life_core.specs.Holdings.{ANumber, APointer, Holding, sort_of}
+use Rattle.life_core.specs.Kinds.{is_register_at}
 use Rattle.life_core.specs.Operands.{Null, Operand, Place as Aimed, Source, whole}
 use Rattle.life_core.specs.Step.{Aim, Step}
+use Rattle.life_core.specs.Touched.{operation_uses, place_uses, touched_by}
 use Rattle.life_core.specs.Tree.{Acts}
 use Rattle.life_core.specs.declared.operation.Operation.{Operation}
 use Rattle.life_core.specs.declared.operation.Operation.TheVariants as operation
 use Rattle.life_core.specs.declared.operation.Operator.{Operator}
 use Rattle.life_pset.specs.Shapes as shapes
-use Rattle.life_proper.specs.Knowing.{known_as, known_at}
+use Rattle.life_proper.specs.Knowing.{known_at}
 use Rattle.life_proper.specs.OperandTypes.{is_promoted}
 use Rattle.life_proper.specs.OperandTypes as operands
 use Rattle.life_proper.specs.Placed.{is_number, is_number_of, type_at}
-use Rattle.life_proper.specs.ReadyKnown.{holds, is_operand_ready, is_operation_ready, is_sort, is_source_ready, is_step_ready, known_after}
-use Rattle.life_proper.specs.WellFormed.{answer_of, is_operation_of, is_source_of, is_well_formed_step}
+use Rattle.life_proper.specs.ReadyKnown.{are_known, are_ready, known_after}
+use Rattle.life_proper.specs.WellFormed.{answer_of, is_operation_of, is_source_of}
 use Rattle.life_proper.specs.declared.known.Known.{Known}
 use Rattle.life_proper.specs.declared.known.Known.TheVariants as known
+use Rattle.life_proper.proofs.ReadyTests.{both_known, uses_ready}
 use Rattle.life_writer.specs.Pointers.{As, At, Pointing, located}
 use Rattle.life_writer.specs.Registers.{as_type, computed, constant, conversion, converted, eval, load, new_register, target}
 use Rattle.life_writer.specs.Values as values
 use Rattle.life_writer.specs.Writing.{Gives, State, emit, gives}
-use Rattle.life_elab_laws.proofs.Emitting.{IsInto, IsNameless, IsWanted, Targets, keeps_set, new_targeted, targeted}
-use Rattle.life_elab_laws.proofs.Falling.{falling, falls_acts}
+use Rattle.life_elab_laws.proofs.Emitting.{IsInto, IsNameless, IsWanted, Targets, keeps_set, nameless_register, new_targeted, targeted}
+use Rattle.life_elab_laws.proofs.Falling.{Fills, falls_acts, falls_filling}
 use Rattle.life_elab_laws.proofs.Fronts.{last_there}
 use Rattle.life_elab_laws.proofs.Gifts.{Gift, IsAt, IsGivenTo, a_number, a_place, a_pointer, a_pointing, both, nothing}
 use Rattle.life_elab_laws.proofs.Growing.{Begins, Grows, added, grows_none}
-use Rattle.life_elab_laws.proofs.Held.{number_held, number_sort, place_ready}
+use Rattle.life_elab_laws.proofs.Held.{one_there, place_there, two_there}
 use Rattle.life_elab_laws.proofs.Knowledge.{at_set}
 use Rattle.life_elab_laws.proofs.Making.{IsOpen, IsPointing, Keeps}
 use Rattle.life_elab_laws.proofs.OperandsThere.{number_any, number_there, number_typed, type_there, value_either, value_same}
 use Rattle.life_elab_laws.proofs.Parts.{Makes, Part, Runs, and_part, gives_part, then_part}
-use Rattle.life_elab_laws.proofs.Shaping.{fine_acts}
-use Rattle.life_elab_laws.proofs.Types.{raw_register, same_types, type_added}
+use Rattle.life_elab_laws.proofs.Shaping.{IsFineStep, fine_acts}
+use Rattle.life_elab_laws.proofs.Types.{same_types, type_added}
 use Rattle.life_elab_laws.proofs.WrittenLocals.{fits_register, registers_none}
 
 -- ---- the register that is written
@@ -78,21 +79,28 @@ pub raw_either : (t : Ty) → is_raw t ≡ true → shapes.is_raw t ≡ true
 raw_either (ty.Raw target constant) e = refl
 raw_either _ e = absurd (false≢true e)
 
+-- a pointer is aimed at nothing, or at a place that is there
+pub aimed_fills : (f : Function) (x n : ℕ) (source : Source) (k : List Known) → IsPointing (At source) n k → Fills f k (Aim (whole x) source) x
+aimed_fills f x n Null k p = record { ready = refl; after = refl }
+aimed_fills f x n (Aimed o) k p = record {
+  ready = uses_ready k (place_uses o ++ []) (x ∷ []) (both_known known.Ready k (place_uses o) [] (place_there o n k p) refl);
+  after = refl;
+}
+aimed_fills f x n _ k p = absurd p
+
 module _ (types : Types) (texts : ℕ) (fs : List Function) (f : Function) where
   abbrev G : Type 0 → Type 1
   G A = Gift types texts fs f A
 
   -- ---- an instruction that writes a register, behind what gave x
 
-  pub emit_part : {A C : Type 0} (P : G A) (x : A) (into : Option ℕ) (s : State) (w : Gives ℕ) (h : Holding) (place : Place) (step : ℕ → Step) (y : C) (O : G C)
-      → Targets types fs f h into s w
-      → (Begins types f w.state → P.typed x → (is_well_formed_step types texts fs f (step w.given) ≡ true) × O.typed y)
-      → ((r n : ℕ) (k : List Known) → sort_of types f r ≡ h → P.ready x n k → is_step_ready types fs f k (step r) ≡ true)
-      → ((r : ℕ) (k : List Known) → sort_of types f r ≡ h → known_after types f (step r) k ≡ slice_set k r (known_as h))
-      → ((r : ℕ) → sort_of types f r ≡ h → is_by_value types fs f (step r) ≡ true)
-      → ((k : List Known) → w.given < length w.state.locals → known_at k w.given ≡ known_as h → sort_of types f w.given ≡ h → O.ready y (length w.state.locals) k)
+  pub emit_part : {A C : Type 0} (P : G A) (x : A) (into : Option ℕ) (s : State) (w : Gives ℕ) (place : Place) (step : ℕ → Step) (y : C) (O : G C)
+      → Targets types f into s w
+      → (Begins types f w.state → P.typed x → IsFineStep types texts fs f (step w.given) × O.typed y)
+      → ((r n : ℕ) (k : List Known) → is_register_at f r ≡ true → P.ready x n k → Fills f k (step r) r)
+      → ((k : List Known) → w.given < length w.state.locals → known_at k w.given ≡ known.Ready → O.ready y (length w.state.locals) k)
       → Part types texts fs f P x into s (gives y (emit place (step w.given) w.state)) O
-  emit_part P x into s w h place step y O t typed ready after plain given = record {
+  emit_part P x into s w place step y O t typed fills given = record {
     grown = t.grown;
     registers = t.registers;
     code = Acts place (step w.given) ∷ [];
@@ -100,15 +108,15 @@ module _ (types : Types) (texts : ℕ) (fs : List Function) (f : Function) where
     runs = λ b p. runs (t.there b) (typed b p);
   }
     where
-      runs : IsNameless types fs f h w.given → (is_well_formed_step types texts fs f (step w.given) ≡ true) × O.typed y → Runs types texts fs f P x into s (gives y (emit place (step w.given) w.state)) O (Acts place (step w.given) ∷ [])
-      runs is wf = record {
-        fine = fine_acts types texts fs f place (step w.given) (plain w.given is.sort) wf.0;
-        typed = wf.1;
+      runs : IsNameless f w.given → IsFineStep types texts fs f (step w.given) × O.typed y → Runs types texts fs f P x into s (gives y (emit place (step w.given) w.state)) O (Acts place (step w.given) ∷ [])
+      runs is fine = record {
+        fine = fine_acts types texts fs f place (step w.given) fine.0;
+        typed = fine.1;
         goes = λ k alive p. record {
-          after = slice_set k w.given (known_as h);
-          falls = falls_acts types fs f place (step w.given) k (ready w.given (length s.locals) k is.sort p) ∙ ap falling (after w.given k is.sort);
-          keeps = keeps_set types fs f (length s.locals) into h w.given (known_as h) k is t.beside;
-          gives = given (slice_set k w.given (known_as h)) t.below (at_set k w.given (known_as h) (omega (arith, alive.sized, slice_get_within f.locals w.given is.local is.there))) is.sort;
+          after = slice_set k w.given known.Ready;
+          falls = falls_filling types f place (step w.given) w.given k (fills w.given (length s.locals) k (nameless_register f w.given is) p);
+          keeps = keeps_set f (length s.locals) into w.given known.Ready k is t.beside;
+          gives = given (slice_set k w.given known.Ready) t.below (at_set k w.given known.Ready (omega (arith, alive.sized, slice_get_within f.locals w.given is.local is.there)));
         };
       }
 
@@ -116,10 +124,8 @@ module _ (types : Types) (texts : ℕ) (fs : List Function) (f : Function) where
 
   -- what is asked of an instruction that computes a number of a type from what gave x
   pub record Computes {A : Type 0} (P : G A) (x : A) (t : Ty) (step : ℕ → Step) : Type 0 where
-    pub ready : (r n : ℕ) (k : List Known) → sort_of types f r ≡ ANumber → P.ready x n k → is_step_ready types fs f k (step r) ≡ true
-    pub after : (r : ℕ) (k : List Known) → sort_of types f r ≡ ANumber → known_after types f (step r) k ≡ slice_set k r known.Number
-    pub plain : (r : ℕ) → sort_of types f r ≡ ANumber → is_by_value types fs f (step r) ≡ true
-    pub formed : (r : ℕ) → is_number_of types f t r ≡ true → P.typed x → is_well_formed_step types texts fs f (step r) ≡ true
+    pub fills : (r n : ℕ) (k : List Known) → is_register_at f r ≡ true → P.ready x n k → Fills f k (step r) r
+    pub fine : (r : ℕ) → is_number_of types f t r ≡ true → P.typed x → IsFineStep types texts fs f (step r)
 
   pub target_number : (place : Place) (into : Option ℕ) (t : Ty) (s : State) → is_value t ≡ true → IsIntoOf t s into → Begins types f (target place into t s).state → is_number_of types f t (target place into t s).given ≡ true
   target_number place None t s v wanted b =
@@ -133,20 +139,22 @@ module _ (types : Types) (texts : ℕ) (fs : List Function) (f : Function) where
       → Part types texts fs f P x into s (computed into t place step s) (a_number types texts fs f t)
   computed_part P x into t place step s v wanted is =
       let w = target place into t s in
-      emit_part P x into s w ANumber place step w.given (a_number types texts fs f t) (targeted types fs f place t s into v (is_into t s into wanted))
-      (λ b p. let here = target_number place into t s v wanted b in (is.formed w.given here p, here))
-      is.ready is.after is.plain (λ k lt e sort. (lt, e))
+      emit_part P x into s w place step w.given (a_number types texts fs f t) (targeted types f place t s into v (is_into t s into wanted))
+      (λ b p. let here = target_number place into t s v wanted b in (is.fine w.given here p, here))
+      is.fills (λ k lt e. (lt, e))
 
   -- an operation between registers
-  pub evaluates : {A : Type 0} (P : G A) (x : A) (t : Ty) (o : Operation) → ((n : ℕ) (k : List Known) → P.ready x n k → is_operation_ready k o ≡ true) → (P.typed x → is_operation_of types texts fs f t o ≡ true)
+  pub evaluates : {A : Type 0} (P : G A) (x : A) (t : Ty) (o : Operation) → ((n : ℕ) (k : List Known) → P.ready x n k → are_known known.Ready k (operation_uses o) ≡ true) → (P.typed x → is_operation_of types texts fs f t o ≡ true)
       → Computes P x t (eval o)
   evaluates P x t o ready formed = record {
-    ready = λ r n k e p. and_from (is_sort (sort_of types f r) ANumber) (is_operation_ready k o) (number_sort (sort_of types f r) e) (ready n k p);
-    after = λ r k e. refl;
-    plain = λ r e. refl;
-    formed = λ r e p.
-        and_from (is_number types f r) (is_operation_of types texts fs f (type_at types f r) o) (number_any types f t r e)
-        (subst (λ (u : Ty). is_operation_of types texts fs f u o ≡ true) (number_typed types f t r e) (formed p));
+    fills = λ r n k e p. record { ready = uses_ready k (operation_uses o) (r ∷ []) (ready n k p); after = refl };
+    fine = λ r e p. record {
+      plain = refl;
+      formed =
+          and_from (is_number types f r) (is_operation_of types texts fs f (type_at types f r) o) (number_any types f t r e)
+          (subst (λ (u : Ty). is_operation_of types texts fs f u o ≡ true) (number_typed types f t r e) (formed p));
+      served = refl;
+    };
   }
 
   pub is_constant : {A : Type 0} (P : G A) (x : A) (t : Ty) (n : ℤ) → Computes P x t (constant n)
@@ -161,10 +169,8 @@ module _ (types : Types) (texts : ℕ) (fs : List Function) (f : Function) where
   input_part into t place s long wanted =
       computed_part (nothing types texts fs f) tt into t place values.input s (ap is_value long) wanted
       (record {
-        ready = λ r n k e p. number_sort (sort_of types f r) e;
-        after = λ r k e. refl;
-        plain = λ r e. refl;
-        formed = λ r e p. subst (λ (u : Ty). is_number_of types f u r ≡ true) long e;
+        fills = λ r n k e p. record { ready = refl; after = refl };
+        fine = λ r e p. record { plain = refl; formed = subst (λ (u : Ty). is_number_of types f u r ≡ true) long e; served = refl };
       })
 
   -- ---- from one register
@@ -173,13 +179,13 @@ module _ (types : Types) (texts : ℕ) (fs : List Function) (f : Function) where
       → Part types texts fs f (a_number types texts fs f t) from into s (computed into t place (values.negated from) s) (a_number types texts fs f t)
   negation_part into t place from s v p wanted =
       computed_part (a_number types texts fs f t) from into t place (values.negated from) s v wanted
-      (evaluates (a_number types texts fs f t) from t (operation.Negate from) (λ n k h. number_held k from h.1) (λ h. and_from (is_promoted t) (is_number_of types f t from) p h))
+      (evaluates (a_number types texts fs f t) from t (operation.Negate from) (λ n k h. one_there k from h.1) (λ h. and_from (is_promoted t) (is_number_of types f t from) p h))
 
   pub conversion_part : (into : Option ℕ) (u t : Ty) (place : Place) (from : ℕ) (s : State) → is_value t ≡ true → IsIntoOf t s into
       → Part types texts fs f (a_number types texts fs f u) from into s (computed into t place (conversion from) s) (a_number types texts fs f t)
   conversion_part into u t place from s v wanted =
       computed_part (a_number types texts fs f u) from into t place (conversion from) s v wanted
-      (evaluates (a_number types texts fs f u) from t (operation.Convert from) (λ n k h. number_held k from h.1) (λ h. number_any types f u from h))
+      (evaluates (a_number types texts fs f u) from t (operation.Convert from) (λ n k h. one_there k from h.1) (λ h. number_any types f u from h))
 
   -- .. from two of one type
 
@@ -198,7 +204,7 @@ module _ (types : Types) (texts : ℕ) (fs : List Function) (f : Function) where
       let P = both types texts fs f (a_number types texts fs f u) (a_number types texts fs f u) in
       computed_part P x into t place (values.binary o x.0 x.1) s v wanted
       (evaluates P x t (operation.Binary o x.0 x.1)
-      (λ n k h. and_from (holds k x.0 ANumber) (holds k x.1 ANumber) (number_held k x.0 h.0.1) (number_held k x.1 h.1.1))
+      (λ n k h. two_there k x.0 x.1 h.0.1 h.1.1)
       (λ h. subst (λ (a : Ty). is_operation_of types texts fs f a (operation.Binary o x.0 x.1) ≡ true) answers
       (operator_formed u o x.0 x.1 p (value_either (answer_of o u) (ap is_value answers ∙ v)) h.0 h.1)))
 
@@ -209,30 +215,28 @@ module _ (types : Types) (texts : ℕ) (fs : List Function) (f : Function) where
   load_part into t constant place o s v wanted =
       computed_part (a_place types texts fs f t constant) o into t place (load o) s v wanted
       (record {
-        ready = λ r n k e p. and_from (is_sort (sort_of types f r) ANumber) (is_operand_ready k o) (number_sort (sort_of types f r) e) (place_ready o n k p);
-        after = λ r k e. refl;
-        plain = λ r e. refl;
-        formed = λ r e h. subst (λ (u : Ty). is_number_of types f u r ≡ true) (sym h.typed) e;
+        fills = λ r n k e p. record { ready = uses_ready k (place_uses o) (r ∷ []) (place_there o n k p); after = refl };
+        fine = λ r e h. record { plain = refl; formed = subst (λ (u : Ty). is_number_of types f u r ≡ true) (sym h.typed) e; served = h.served };
       })
 
   -- ---- behind other parts
 
   -- what is read from a place
-  pub read_part : (t : Ty) (constant : Bool) (place : Place) (at : State → Gives Operand) (into : Option ℕ) (s : State) → is_value t ≡ true → IsIntoOf t s into → IsOpen types fs f s
+  pub read_part : (t : Ty) (constant : Bool) (place : Place) (at : State → Gives Operand) (into : Option ℕ) (s : State) → is_value t ≡ true → IsIntoOf t s into → IsOpen s
       → Makes types texts fs f None s (at s) (a_place types texts fs f t constant) → Makes types texts fs f into s (values.read t place at into s) (a_number types texts fs f t)
   read_part t constant place at into s v wanted opened first =
       then_part types texts fs f (nothing types texts fs f) tt into s (at s) _ (a_place types texts fs f t constant) (a_number types texts fs f t) opened first
       (load_part into t constant place (at s).given (at s).state v (into_of_later t s (at s).state into first.grown wanted))
 
   -- one operand and an operation
-  pub negated_part : (t : Ty) (place : Place) (value : State → Gives ℕ) (into : Option ℕ) (s : State) → is_value t ≡ true → is_promoted t ≡ true → IsIntoOf t s into → IsOpen types fs f s
+  pub negated_part : (t : Ty) (place : Place) (value : State → Gives ℕ) (into : Option ℕ) (s : State) → is_value t ≡ true → is_promoted t ≡ true → IsIntoOf t s into → IsOpen s
       → Makes types texts fs f None s (value s) (a_number types texts fs f t) → Makes types texts fs f into s (computed into t place (values.negated (value s).given) (value s).state) (a_number types texts fs f t)
   negated_part t place value into s v p wanted opened first =
       then_part types texts fs f (nothing types texts fs f) tt into s (value s) _ (a_number types texts fs f t) (a_number types texts fs f t) opened first
       (negation_part into t place (value s).given (value s).state v p (into_of_later t s (value s).state into first.grown wanted))
 
   -- a value as one of another type
-  pub as_type_part : {A : Type 0} (P : G A) (x : A) (from to : Ty) (place : Place) (given : Option ℕ → State → Gives ℕ) (into : Option ℕ) (s : State) → is_value to ≡ true → IsIntoOf to s into → IsOpen types fs f s
+  pub as_type_part : {A : Type 0} (P : G A) (x : A) (from to : Ty) (place : Place) (given : Option ℕ → State → Gives ℕ) (into : Option ℕ) (s : State) → is_value to ≡ true → IsIntoOf to s into → IsOpen s
       → ((into : Option ℕ) → IsIntoOf from s into → Part types texts fs f P x into s (given into s) (a_number types texts fs f from))
       → Part types texts fs f P x into s (as_type from to place given into s) (a_number types texts fs f to)
   as_type_part P x from to place given into s v wanted opened value = go (compared.eq from to) refl
@@ -250,7 +254,7 @@ module _ (types : Types) (texts : ℕ) (fs : List Function) (f : Function) where
       go false e = other
 
   -- .. that is there already
-  pub converted_part : (from to : Ty) (place : Place) (r : ℕ) (s : State) → is_value to ≡ true → IsOpen types fs f s
+  pub converted_part : (from to : Ty) (place : Place) (r : ℕ) (s : State) → is_value to ≡ true → IsOpen s
       → Part types texts fs f (a_number types texts fs f from) r None s (converted from to place r s) (a_number types texts fs f to)
   converted_part from to place r s v opened = as_type_part (a_number types texts fs f from) r from to place there None s v tt opened (λ into h. stays into h)
     where
@@ -261,7 +265,7 @@ module _ (types : Types) (texts : ℕ) (fs : List Function) (f : Function) where
       stays into h = gives_part types texts fs f (a_number types texts fs f from) r into r s (a_number types texts fs f from) (λ b e. e) (λ b k alive e. e)
 
   -- an operator between two
-  pub operated_part : (into : Option ℕ) (u t : Ty) (place : Place) (o : Operator) (left right : State → Gives ℕ) (s : State) → is_promoted u ≡ true → answer_of o u ≡ t → is_value t ≡ true → IsIntoOf t s into → IsOpen types fs f s
+  pub operated_part : (into : Option ℕ) (u t : Ty) (place : Place) (o : Operator) (left right : State → Gives ℕ) (s : State) → is_promoted u ≡ true → answer_of o u ≡ t → is_value t ≡ true → IsIntoOf t s into → IsOpen s
       → (first : Makes types texts fs f None s (left s) (a_number types texts fs f u)) → Makes types texts fs f None (left s).state (right (left s).state) (a_number types texts fs f u)
       → Makes types texts fs f into s (values.operated into t place o left right s) (a_number types texts fs f t)
   operated_part into u t place o left right s p answers v wanted opened first second =
@@ -274,24 +278,17 @@ module _ (types : Types) (texts : ℕ) (fs : List Function) (f : Function) where
 
   -- ---- pointers
 
-  aimed_formed : (t : Ty) (source : Source) → is_raw t ≡ true → IsGivenTo types texts fs f t (At source) → is_source_of types texts fs f t source ≡ true
-  aimed_formed t Null raw h = raw_either t raw
-  aimed_formed t (Aimed o) raw h = h
-  aimed_formed t _ raw h = absurd h
-
-  aimed_ready : (k : List Known) (h : Holding) (source : Source) (n : ℕ) → h ≡ APointer → IsPointing types f (At source) n k → is_source_ready k (known_as h) source ≡ true
-  aimed_ready k h source n e p = ap (λ (g : Holding). is_source_ready k (known_as g) source) e ∙ go source p
-    where
-      go : (source : Source) → IsPointing types f (At source) n k → is_source_ready k known.Pointer source ≡ true
-      go Null p = refl
-      go (Aimed o) p = place_ready o n k p
-      go _ p = absurd p
+  -- it is aimed at nothing, or at a place that it may be aimed at
+  aimed_fine : (r : ℕ) (t : Ty) (source : Source) → is_raw t ≡ true → IsAt types texts fs f t (whole r) → IsGivenTo types texts fs f t (At source) → IsFineStep types texts fs f (Aim (whole r) source)
+  aimed_fine r t Null raw at h = record { plain = refl; formed = ap (λ (u : Ty). is_source_of types texts fs f u Null) at.typed ∙ raw_either t raw; served = refl }
+  aimed_fine r t (Aimed o) raw at h = record { plain = refl; formed = ap (λ (u : Ty). is_source_of types texts fs f u (Aimed o)) at.typed ∙ h.fits; served = h.served }
+  aimed_fine r t _ raw at h = absurd h
 
   raw_at : (place : Place) (t : Ty) (s : State) → is_raw t ≡ true → Begins types f (new_register place t s).state → IsAt types texts fs f t (whole (new_register place t s).given)
   raw_at place (ty.Raw target constant) s raw b =
       let t : Ty = ty.Raw target constant in
       let l = added place t s in
-      type_there types f _ l t (b.locals _ l (last_there s.locals l)) (b.table l.ty.0 t (type_added s.types.types t)) refl
+      record { typed = type_there types f _ l t (b.locals _ l (last_there s.locals l)) (b.table l.ty.0 t (type_added s.types.types t)) refl; served = refl }
   raw_at place _ s raw b = absurd (false≢true raw)
 
   -- a variable is where it is, and anything else comes into a register
@@ -301,30 +298,28 @@ module _ (types : Types) (texts : ℕ) (fs : List Function) (f : Function) where
       gives_part types texts fs f (a_pointing types texts fs f (Of t)) (As l) None l s (a_pointer types texts fs f t) (λ b h. h) (λ b k alive h. h)
   located_part (At source) t place s raw fits below =
       let w = new_register place t s in
-      emit_part (a_pointing types texts fs f (Of t)) (At source) None s w APointer place (λ r. Aim (whole r) source) (whole w.given) (a_pointer types texts fs f t)
-      (new_targeted types fs f place t APointer s (raw_register t raw) fits below)
-      (λ b h. let at = raw_at place t s raw b in (ap (λ (u : Ty). is_source_of types texts fs f u source) at ∙ aimed_formed t source raw h, at))
-      (λ r n k e h. aimed_ready k (sort_of types f r) source n e h)
-      (λ r k e. ap (λ (h : Holding). slice_set k r (known_as h)) e)
-      (λ r e. refl)
-      (λ k lt e sort. record { local = w.given; is = refl; below = lt; held = e; sort = sort })
+      emit_part (a_pointing types texts fs f (Of t)) (At source) None s w place (λ r. Aim (whole r) source) (whole w.given) (a_pointer types texts fs f t)
+      (new_targeted types f place t s fits below)
+      (λ b h. let at = raw_at place t s raw b in (aimed_fine w.given t source raw at h, at))
+      (λ r n k e h. aimed_fills f r n source k h)
+      (λ k lt e. record { local = w.given; is = refl; below = lt; held = e })
 
   -- ---- an instruction that leaves all that is known
 
-  pub acted_part : {A : Type 0} (P : G A) (x : A) (place : Place) (i : Step) (s : State) → (P.typed x → is_well_formed_step types texts fs f i ≡ true) → ((n : ℕ) (k : List Known) → P.ready x n k → is_step_ready types fs f k i ≡ true)
-      → ((n m : ℕ) (k : List Known) → P.ready x n k → Keeps types fs f m None k (known_after types f i k)) → is_by_value types fs f i ≡ true
+  pub acted_part : {A : Type 0} (P : G A) (x : A) (place : Place) (i : Step) (s : State) → (P.typed x → IsFineStep types texts fs f i) → ((n : ℕ) (k : List Known) → P.ready x n k → are_ready k (touched_by f i) ≡ true)
+      → ((n m : ℕ) (k : List Known) → P.ready x n k → Keeps f m None k (known_after (touched_by f i) k))
       → Part types texts fs f P x None s (gives tt (emit place i s)) (nothing types texts fs f)
-  acted_part P x place i s formed ready after plain = record {
+  acted_part P x place i s fine ready after = record {
     grown = grows_none s;
     registers = registers_none types s;
     code = Acts place i ∷ [];
     written = refl;
     runs = λ b p. record {
-      fine = fine_acts types texts fs f place i plain (formed p);
+      fine = fine_acts types texts fs f place i (fine p);
       typed = tt;
       goes = λ k alive p. record {
-        after = known_after types f i k;
-        falls = falls_acts types fs f place i k (ready (length s.locals) k p);
+        after = known_after (touched_by f i) k;
+        falls = falls_acts types f place i k (ready (length s.locals) k p);
         keeps = after (length s.locals) (length s.locals) k p;
         gives = tt;
       };

@@ -24,22 +24,19 @@ beside_set (b ∷ k) (suc x) zero a ne = refl
 beside_set (b ∷ k) (suc x) (suc y) a ne = beside_set k x y a (λ e. ne (ap suc e))
 
 -- .. to what was known
-pub set_known : (k : List Known) (x : ℕ) (a : Known) (y : ℕ) → known_at k x ≡ a → known_at (slice_set k x a) y ≡ known_at k y
-set_known [] x a y e = refl
-set_known (b ∷ k) zero a zero e = sym e
-set_known (b ∷ k) zero a (suc y) e = refl
-set_known (b ∷ k) (suc x) a zero e = refl
-set_known (b ∷ k) (suc x) a (suc y) e = set_known k x a y e
+pub set_same : (k : List Known) (x : ℕ) (a : Known) (y : ℕ) → known_at k x ≡ a → known_at (slice_set k x a) y ≡ known_at k y
+set_same [] x a y e = refl
+set_same (b ∷ k) zero a zero e = sym e
+set_same (b ∷ k) zero a (suc y) e = refl
+set_same (b ∷ k) (suc x) a zero e = refl
+set_same (b ∷ k) (suc x) a (suc y) e = set_same k x a y e
 
 -- ---- two ways meet
 
 agreed_itself : (a : Known) → agreed a a ≡ a
 agreed_itself known.Unknown = refl
 agreed_itself known.Blank = refl
-agreed_itself known.Object = refl
-agreed_itself known.Number = refl
-agreed_itself known.Pointer = refl
-agreed_itself known.View = refl
+agreed_itself known.Ready = refl
 
 agreed_same : (a b : Known) → a ≡ b → agreed a b ≡ a
 agreed_same a b e = subst (λ (c : Known). agreed a c ≡ a) e (agreed_itself a)

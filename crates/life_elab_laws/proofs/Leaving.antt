@@ -1,19 +1,20 @@
 -- Where variables end: at the end of a block, and before control goes elsewhere.
-use Rattle.std.proofs.Common.{◌≡◌, ◌<◌, ℕ, Bool, true, List, [], ◌∷◌, ◌++◌, drop, length, reverse, take, Option, Some, is_none, refl, sym, ap, ◌∙◌, subst, arith, append_assoc, append-nil}
-use Rattle.std.proofs.lemmas.Option.{slice_get_within}
+use Rattle.std.proofs.Common.{◌≡◌, ℕ, Bool, true, List, [], ◌∷◌, ◌++◌, drop, length, reverse, take, Option, Some, is_none, refl, sym, ap, ◌∙◌, subst, arith, append_assoc, append-nil}
 use Rattle.std.specs.List.{list_all}
 use Rattle.life_types.specs.Types.{Types}
 use Rattle.life_types.specs.declared.place.Place.{Place}
 use Rattle.life_types.specs.declared.ty.NameId.{NameId}
 use Rattle.life_core.specs.Function.{Function}
 use Rattle.life_core.specs.Step.{End}
+use Rattle.life_core.specs.Touched.{touched_by}
 use Rattle.life_core.specs.Tree.{Tree, Acts, trees}
 use Rattle.life_proper.specs.declared.known.Known.{Known}
 use Rattle.life_proper.specs.Checking.{Flow, before_next, flow, joined}
 use Rattle.life_proper.specs.Knowing.{State as Knowing}
-use Rattle.life_proper.specs.ReadyKnown.{can_end, known_blank}
+use Rattle.life_proper.specs.ReadyKnown.{can_leave}
 use Rattle.life_proper.specs.ResultsKnown.{ReturnsKnown}
-use Rattle.life_proper.specs.WellFormed.{can_end as may_end}
+use Rattle.life_proper.proofs.ReadyTests.{all_ready}
+use Rattle.life_proper.specs.WellFormed.{can_end}
 use Rattle.life_well_typed.specs.Visible.{Visible, behind}
 use Rattle.life_writer.specs.Around.{Around, result_local}
 use Rattle.life_writer.specs.Variables.{end, end_since, with_living_of}
@@ -21,7 +22,7 @@ use Rattle.life_writer.specs.Writing.{State, with_code, write}
 use Rattle.life_elab.specs.Statements.{left}
 use Rattle.life_elab_laws.proofs.Among.{Among, among_drop, reverse_among}
 use Rattle.life_elab_laws.proofs.Doing.{Acting, Does}
-use Rattle.life_elab_laws.proofs.Ending.{end_knows, end_ready}
+use Rattle.life_elab_laws.proofs.Ending.{end_knows, end_ready, set_blank}
 use Rattle.life_elab_laws.proofs.Exits.{Knows, Leaves, MayKnow, leaves_falling, leaves_may, leaves_then}
 use Rattle.life_elab_laws.proofs.Falling.{Falls, falling, falls_acts, flow_append}
 use Rattle.life_elab_laws.proofs.Following.{Follows, adds_none, follows_again, take_itself}
@@ -39,8 +40,8 @@ module _ (types : Types) (texts : ℕ) (fs : List Function) (f : Function) where
   pub record IsEnded (xs : List ℕ) (place : Place) (s : State) : Type 0 where
     pub code : List Tree
     pub written : end xs place s ≡ with_code (s.code ++ code) s
-    pub fine : list_all (may_end types texts fs f) xs ≡ true → IsFine types texts fs f code
-    pub falls : (k : List Known) → can_end k xs ≡ true → Falls types fs f code k (known_blank xs k)
+    pub fine : list_all (can_end types texts fs f) xs ≡ true → IsFine types texts fs f code
+    pub falls : (k : List Known) → can_leave k xs ≡ true → Falls types f code k (set_blank xs k)
 
   pub ended : (xs : List ℕ) (place : Place) (s : State) → IsEnded xs place s
   ended [] place s = record {
@@ -52,8 +53,8 @@ module _ (types : Types) (texts : ℕ) (fs : List Function) (f : Function) where
   ended (x ∷ xs) place s = record {
     code = Acts place (End (x ∷ xs)) ∷ [];
     written = refl;
-    fine = λ ends. fine_acts types texts fs f place (End (x ∷ xs)) refl ends;
-    falls = λ k ready. falls_acts types fs f place (End (x ∷ xs)) k ready;
+    fine = λ ends. fine_acts types texts fs f place (End (x ∷ xs)) (record { plain = refl; formed = ends; served = refl });
+    falls = λ k ready. falls_acts types f place (End (x ∷ xs)) k (all_ready k (touched_by f (End (x ∷ xs))) refl ready refl);
   }
 
   end_living : (xs : List ℕ) (place : Place) (s : State) → (end xs place s).living ≡ s.living
@@ -61,29 +62,20 @@ module _ (types : Types) (texts : ℕ) (fs : List Function) (f : Function) where
   end_living (x ∷ xs) place s = refl
 
   -- all past so many
-  module _ (a : Around) (setting : Setting a types fs f) (v : Visible) (s : State) (h : Follows types fs f a v s) (b : Begins types f s) (n : ℕ) where
-    below : (y : ℕ) → Among y s.living → y < length f.locals
-    below y m = let is = h.living y m in slice_get_within f.locals y is.local (b.locals y is.local is.there)
-
+  module _ (a : Around) (setting : Setting a types fs f) (v : Visible) (s : State) (h : Follows types f a v s) (b : Begins types f s) (n : ℕ) where
     -- .. each is a variable, so it can end
     pub past_fine : (place : Place) (e : IsEnded (reverse (drop n s.living)) place s) → IsFine types texts fs f e.code
     past_fine place e = e.fine (all_end types texts fs f setting.shaped setting.nameless (reverse (drop n s.living)) (λ y m. one y (among_drop n s.living y (reverse_among (drop n s.living) y m))))
       where
-        one : (y : ℕ) → Among y s.living → may_end types texts fs f y ≡ true
+        one : (y : ℕ) → Among y s.living → can_end types texts fs f y ≡ true
         one y m =
             let is = h.living y m in
             variable_ends types texts fs f setting.shaped setting.nameless y is.local (b.locals y is.local is.there) (ap (λ (o : Option NameId). is_none o) is.named) (h.sorts b y m)
 
-    pub past_ready : (k : List Known) → Knows types fs f s.living k → can_end k (reverse (drop n s.living)) ≡ true
-    past_ready k knows = end_ready types fs f s.living n 0 h.ascend k knows (h.sorts b) below
-
-    pub past_knows : (k : List Known) → Knows types fs f s.living k → Knows types fs f (take n s.living) (known_blank (reverse (drop n s.living)) k)
-    past_knows k knows = end_knows types fs f s.living n 0 h.ascend k knows (h.sorts b) below
-
   -- ---- the end of a block
 
   -- what was visible before it is visible again, and only what lived before lives
-  module _ (a : Around) (setting : Setting a types fs f) (v u : Visible) (in_loop : Bool) (s t : State) (h : Follows types fs f a v s) (inner : Does types texts fs f a u in_loop s t) (place : Place) where
+  module _ (a : Around) (setting : Setting a types fs f) (v u : Visible) (in_loop : Bool) (s t : State) (h : Follows types f a v s) (inner : Does types texts fs f a u in_loop s t) (place : Place) where
     is : IsEnded (reverse (drop (length s.living) t.living)) place t
     is = ended (reverse (drop (length s.living) t.living)) place t
 
@@ -96,20 +88,20 @@ module _ (types : Types) (texts : ℕ) (fs : List Function) (f : Function) where
       ways = ways;
     }
       where
-        last : (k : List Known) → Knows types fs f t.living k
-            → Leaves types fs f in_loop (take (length s.living) t.living) (take s.outside s.living) (flow types fs f (trees e.code) (Some k))
+        last : (k : List Known) → Knows f t.living k
+            → Leaves f in_loop (take (length s.living) t.living) (take s.outside s.living) (flow types f (trees e.code) (Some k))
         last k knows =
-            subst (Leaves types fs f in_loop (take (length s.living) t.living) (take s.outside s.living)) (sym (e.falls k (past_ready a setting u t inner.follows b (length s.living) k knows)))
-            (leaves_falling types fs f in_loop (take (length s.living) t.living) (take s.outside s.living) (known_blank (reverse (drop (length s.living) t.living)) k)
-            (past_knows a setting u t inner.follows b (length s.living) k knows))
+            subst (Leaves f in_loop (take (length s.living) t.living) (take s.outside s.living)) (sym (e.falls k (end_ready f t.living (length s.living) 0 inner.follows.ascend k knows)))
+            (leaves_falling f in_loop (take (length s.living) t.living) (take s.outside s.living) (set_blank (reverse (drop (length s.living) t.living)) k)
+            (end_knows f t.living (length s.living) 0 inner.follows.ascend k knows))
 
-        ways : (o : Knowing) → MayKnow types fs f s.living o → Leaves types fs f in_loop (take (length s.living) t.living) (take s.outside s.living) (flow types fs f (trees (inner.code ++ e.code)) o)
+        ways : (o : Knowing) → MayKnow f s.living o → Leaves f in_loop (take (length s.living) t.living) (take s.outside s.living) (flow types f (trees (inner.code ++ e.code)) o)
         ways o knows =
             let w = (inner.acts b).ways o knows in
-            let between : Knowing = (flow types fs f (trees inner.code) o).next in
-            subst (Leaves types fs f in_loop (take (length s.living) t.living) (take s.outside s.living)) (sym (flow_append types fs f inner.code e.code o))
-            (leaves_then types fs f in_loop t.living (take (length s.living) t.living) (take s.outside s.living) (flow types fs f (trees inner.code) o) (flow types fs f (trees e.code) between) w
-            (leaves_may types fs f in_loop t.living (take (length s.living) t.living) (take s.outside s.living) (trees e.code) last between w.next))
+            let between : Knowing = (flow types f (trees inner.code) o).next in
+            subst (Leaves f in_loop (take (length s.living) t.living) (take s.outside s.living)) (sym (flow_append types f inner.code e.code o))
+            (leaves_then f in_loop t.living (take (length s.living) t.living) (take s.outside s.living) (flow types f (trees inner.code) o) (flow types f (trees e.code) between) w
+            (leaves_may types f in_loop t.living (take (length s.living) t.living) (take s.outside s.living) (trees e.code) last between w.next))
 
     ended_does : (e : IsEnded (reverse (drop (length s.living) t.living)) place t) → Does types texts fs f a (behind v u) in_loop s (behind_block e.code)
     ended_does e = record {
@@ -117,21 +109,21 @@ module _ (types : Types) (texts : ℕ) (fs : List Function) (f : Function) where
         locals = inner.adds.locals;
         table = inner.adds.table;
         variables = inner.adds.variables;
-        living = ap (take (length s.living)) inner.adds.living ∙ take_itself types fs f s.living;
+        living = ap (take (length s.living)) inner.adds.living ∙ take_itself s.living;
         outside = inner.adds.outside;
         shaped = inner.adds.shaped;
       };
       locals = inner.locals;
       order = inner.order;
-      follows = follows_again types fs f a v s (behind_block e.code) u.declared h inner.adds.locals inner.adds.table inner.adds.variables inner.adds.living
+      follows = follows_again types f a v s (behind_block e.code) u.declared h inner.adds.locals inner.adds.table inner.adds.variables inner.adds.living
           (omega (arith, inner.adds.outside, ap length inner.adds.living, h.outside)) inner.follows.count
           (omega (arith, h.count, inner.follows.count, front_length s.variables t.variables inner.adds.variables));
       code = inner.code ++ e.code;
       written = ap (λ (c : List Tree). c ++ e.code) inner.written ∙ append_assoc s.code inner.code e.code;
       acts = ended_acts e;
       returns = λ b gives o k.
-          known_append types fs f (result_local a) inner.code e.code o (inner.returns b gives o k)
-          (fine_known types fs f (result_local a) texts e.code (past_fine a setting u t inner.follows b (length s.living) place e) (flow types fs f (trees inner.code) o).next);
+          known_append types f (result_local a) inner.code e.code o (inner.returns b gives o k)
+          (fine_known types f (result_local a) texts fs e.code (past_fine a setting u t inner.follows b (length s.living) place e) (flow types f (trees inner.code) o).next);
     }
 
     pub block_does : Does types texts fs f a (behind v u) in_loop s (end_since place (length s.living) t)
@@ -142,28 +134,28 @@ module _ (types : Types) (texts : ℕ) (fs : List Function) (f : Function) where
 
   -- ---- control goes elsewhere
 
-  module _ (a : Around) (setting : Setting a types fs f) (v : Visible) (in_loop : Bool) (s : State) (h : Follows types fs f a v s) (n : ℕ) (place : Place) (t : Tree) (stated : IsStated types texts fs f in_loop t)
-      (leaves : (k : List Known) → Knows types fs f (take n s.living) k → Leaves types fs f in_loop s.living (take s.outside s.living) (flow types fs f (trees (t ∷ [])) (Some k))) where
+  module _ (a : Around) (setting : Setting a types fs f) (v : Visible) (in_loop : Bool) (s : State) (h : Follows types f a v s) (n : ℕ) (place : Place) (t : Tree) (stated : IsStated types texts fs f in_loop t)
+      (leaves : (k : List Known) → Knows f (take n s.living) k → Leaves f in_loop s.living (take s.outside s.living) (flow types f (trees (t ∷ [])) (Some k))) where
     pub left_acts : (e : IsEnded (reverse (drop n s.living)) place s) → Begins types f s → Acting types texts fs f in_loop s (write t (with_code (s.code ++ e.code) s)) (e.code ++ t ∷ [])
     left_acts e b = record {
       stated = stated_append types texts fs f in_loop e.code (t ∷ []) ((past_fine a setting v s h b n place e).stated in_loop) (stated_alone types texts fs f in_loop t stated);
-      ways = leaves_may types fs f in_loop s.living s.living (take s.outside s.living) (trees (e.code ++ t ∷ [])) went;
+      ways = leaves_may types f in_loop s.living s.living (take s.outside s.living) (trees (e.code ++ t ∷ [])) went;
     }
       where
-        went : (k : List Known) → Knows types fs f s.living k → Leaves types fs f in_loop s.living (take s.outside s.living) (flow types fs f (trees (e.code ++ t ∷ [])) (Some k))
+        went : (k : List Known) → Knows f s.living k → Leaves f in_loop s.living (take s.outside s.living) (flow types f (trees (e.code ++ t ∷ [])) (Some k))
         went k knows =
-            let j : List Known = known_blank (reverse (drop n s.living)) k in
-            let ends : Knows types fs f (take n s.living) j = past_knows a setting v s h b n k knows in
-            subst (Leaves types fs f in_loop s.living (take s.outside s.living))
-            (sym (flow_append types fs f e.code (t ∷ []) (Some k) ∙ ap (λ (w : Flow). joined (before_next w) (flow types fs f (trees (t ∷ [])) w.next)) (e.falls k (past_ready a setting v s h b n k knows))))
-            (leaves_then types fs f in_loop (take n s.living) s.living (take s.outside s.living) (falling j) (flow types fs f (trees (t ∷ [])) (Some j))
-            (leaves_falling types fs f in_loop (take n s.living) (take s.outside s.living) j ends) (leaves j ends))
+            let j : List Known = set_blank (reverse (drop n s.living)) k in
+            let ends : Knows f (take n s.living) j = end_knows f s.living n 0 h.ascend k knows in
+            subst (Leaves f in_loop s.living (take s.outside s.living))
+            (sym (flow_append types f e.code (t ∷ []) (Some k) ∙ ap (λ (w : Flow). joined (before_next w) (flow types f (trees (t ∷ [])) w.next)) (e.falls k (end_ready f s.living n 0 h.ascend k knows))))
+            (leaves_then f in_loop (take n s.living) s.living (take s.outside s.living) (falling j) (flow types f (trees (t ∷ [])) (Some j))
+            (leaves_falling f in_loop (take n s.living) (take s.outside s.living) j ends) (leaves j ends))
 
     -- .. and where that is a return, no value has to be given back
-    left_from : (GivesValue a → (o : Knowing) → ReturnsKnown types fs f (result_local a) (trees (t ∷ [])) o) → (e : IsEnded (reverse (drop n s.living)) place s)
+    left_from : (GivesValue a → (o : Knowing) → ReturnsKnown types f (result_local a) (trees (t ∷ [])) o) → (e : IsEnded (reverse (drop n s.living)) place s)
         → Does types texts fs f a v in_loop s (write t (with_code (s.code ++ e.code) s))
     left_from back e = record {
-      adds = adds_none types fs f s;
+      adds = adds_none types f s;
       locals = λ are. are;
       order = order_none s.types;
       follows = h;
@@ -171,11 +163,11 @@ module _ (types : Types) (texts : ℕ) (fs : List Function) (f : Function) where
       written = append_assoc s.code e.code (t ∷ []);
       acts = left_acts e;
       returns = λ b gives o k.
-          let ends : Knowing = (flow types fs f (trees e.code) o).next in
-          known_append types fs f (result_local a) e.code (t ∷ []) o (fine_known types fs f (result_local a) texts e.code (past_fine a setting v s h b n place e) o) (back gives ends);
+          let ends : Knowing = (flow types f (trees e.code) o).next in
+          known_append types f (result_local a) e.code (t ∷ []) o (fine_known types f (result_local a) texts fs e.code (past_fine a setting v s h b n place e) o) (back gives ends);
     }
 
-    pub left_does : (GivesValue a → (o : Knowing) → ReturnsKnown types fs f (result_local a) (trees (t ∷ [])) o) → Does types texts fs f a v in_loop s (left n place t s)
+    pub left_does : (GivesValue a → (o : Knowing) → ReturnsKnown types f (result_local a) (trees (t ∷ [])) o) → Does types texts fs f a v in_loop s (left n place t s)
     left_does back = subst (λ (r : State). Does types texts fs f a v in_loop s (write t r)) (sym (ended (reverse (drop n s.living)) place s).written) (left_from back (ended (reverse (drop n s.living)) place s))
 
   pub left_level : (s : State) (n : ℕ) (place : Place) (t : Tree) → (left n place t s).living ≡ s.living

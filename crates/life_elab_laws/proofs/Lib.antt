@@ -42,11 +42,13 @@ pub mod Nowhere
 pub mod OperandsThere
 pub mod OperatorTypes
 pub mod OrderedTypes
+pub mod Outputs
 pub mod Parts
 pub mod ProgramNames
 pub mod Programs
 pub mod ProperTranslations
 pub mod Returning
+pub mod ServedLocals
 pub mod Setting
 pub mod Shaped
 pub mod Shaping

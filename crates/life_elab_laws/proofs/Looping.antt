@@ -7,9 +7,10 @@ use Rattle.life_types.specs.declared.ty.NameId.{NameId}
 use Rattle.life_core.specs.Function.{Function}
 use Rattle.life_core.specs.Tree.{Tree, Turns, trees}
 use Rattle.life_core.specs.declared.program.Local.{Local}
+use Rattle.life_core.specs.Kinds.{is_register}
 use Rattle.life_proper.specs.declared.known.Known.{Known}
 use Rattle.life_proper.specs.Checking.{Flow, flow, joined, of_body, of_step, of_test}
-use Rattle.life_proper.specs.Knowing.{State as Knowing, are_implied, comes_back, forgotten, is_intermediate, is_register, known_at, met, is_blank, is_forgotten}
+use Rattle.life_proper.specs.Knowing.{State as Knowing, are_implied, comes_back, forgotten, is_intermediate, known_at, met, is_blank, is_forgotten}
 use Rattle.life_proper.specs.ResultsKnown.{ReturnsKnown}
 use Rattle.life_proper.proofs.Joining.{joined_end}
 use Rattle.life_well_typed.specs.Visible.{Visible, behind}
@@ -51,7 +52,7 @@ forgotten_at (u ∷ ls) (x ∷ k) zero l at e = rw here refl
 forgotten_at (u ∷ ls) (x ∷ k) (suc y) l at e = forgotten_at ls k y l at e
 
 module _ (types : Types) (texts : ℕ) (fs : List Function) (f : Function) where
-  knows_forgotten : (living : List ℕ) (k : List Known) → AreNamed types fs f living → Knows types fs f living k → Knows types fs f living (forgotten f.locals k)
+  knows_forgotten : (living : List ℕ) (k : List Known) → AreNamed f living → Knows f living k → Knows f living (forgotten f.locals k)
   knows_forgotten living k names knows = record {
     sized = forgotten_length f.locals k ∙ knows.sized;
     alive = λ y m. let is = names y m in forgotten_at f.locals k y is.0 is.2 (named_stays is.0 is.1 is.3) ∙ knows.alive y m;
@@ -59,8 +60,8 @@ module _ (types : Types) (texts : ℕ) (fs : List Function) (f : Function) where
   }
 
   -- control comes back with what is known at the head
-  known_again : (living : List ℕ) (k j : List Known) → AreShaped types f.locals → Knows types fs f living k → Knows types fs f living j → are_implied (forgotten f.locals k) j ≡ true
-  known_again living k j shaped a b = forgotten_implied types fs f f.locals k j a.sized b.sized same
+  known_again : (living : List ℕ) (k j : List Known) → AreShaped types f.locals → Knows f living k → Knows f living j → are_implied (forgotten f.locals k) j ≡ true
+  known_again living k j shaped a b = forgotten_implied f.locals k j a.sized b.sized same
     where
       same : (y : ℕ) (l : Local) → slice_get f.locals y ≡ Some l → is_intermediate l ≡ false → known_at j y ≡ known_at k y
       same y l there e = go (among_or y living)
@@ -72,20 +73,20 @@ module _ (types : Types) (texts : ℕ) (fs : List Function) (f : Function) where
           go (inl m) = b.alive y m ∙ sym (a.alive y m)
           go (inr none) = b.blank y l named.name there named.named none ∙ sym (a.blank y l named.name there named.named none)
 
-  comes : (living : List ℕ) (k : List Known) (o : Knowing) → AreShaped types f.locals → Knows types fs f living k → MayKnow types fs f living o → comes_back (Some (forgotten f.locals k)) o ≡ true
+  comes : (living : List ℕ) (k : List Known) (o : Knowing) → AreShaped types f.locals → Knows f living k → MayKnow f living o → comes_back (Some (forgotten f.locals k)) o ≡ true
   comes living k None shaped a b = refl
   comes living k (Some j) shaped a b = known_again living k j shaped a b
 
   -- ---- the ways out of a loop
 
   module _ (in_loop : Bool) (living outside : List ℕ) where
-    test_leaves : (off : List Known) → Knows types fs f living off → (on : List Known) → Leaves types fs f in_loop living outside (of_test (deciding on off))
-    test_leaves off knows on = record { fine = refl; next = knows; on_break = none_leaves types fs f in_loop outside; on_continue = none_leaves types fs f in_loop outside; on_true = refl; on_false = refl }
+    test_leaves : (off : List Known) → Knows f living off → (on : List Known) → Leaves f in_loop living outside (of_test (deciding on off))
+    test_leaves off knows on = record { fine = refl; next = knows; on_break = none_leaves f in_loop outside; on_continue = none_leaves f in_loop outside; on_true = refl; on_false = refl }
 
-    body_leaves : (w : Flow) → Leaves types fs f true living living w → Leaves types fs f in_loop living outside (of_body w)
-    body_leaves w h = record { fine = h.fine; next = h.on_break; on_break = none_leaves types fs f in_loop outside; on_continue = none_leaves types fs f in_loop outside; on_true = h.on_true; on_false = h.on_false }
+    body_leaves : (w : Flow) → Leaves f true living living w → Leaves f in_loop living outside (of_body w)
+    body_leaves w h = record { fine = h.fine; next = h.on_break; on_break = none_leaves f in_loop outside; on_continue = none_leaves f in_loop outside; on_true = h.on_true; on_false = h.on_false }
 
-    step_leaves : (k : List Known) (w : Flow) → AreShaped types f.locals → Knows types fs f living k → Leaves types fs f false living outside w → Leaves types fs f in_loop living outside (of_step (Some (forgotten f.locals k)) w)
+    step_leaves : (k : List Known) (w : Flow) → AreShaped types f.locals → Knows f living k → Leaves f false living outside w → Leaves f in_loop living outside (of_step (Some (forgotten f.locals k)) w)
     step_leaves k w shaped knows h = record {
       fine = and_from w.fine (comes_back (Some (forgotten f.locals k)) w.next) h.fine (comes living k w.next shaped knows h.next);
       next = tt;
@@ -95,12 +96,12 @@ module _ (types : Types) (texts : ℕ) (fs : List Function) (f : Function) where
       on_false = h.on_false;
     }
       where
-        never : (b : Bool) (o : Knowing) → o ≡ None → MayLeave types fs f b outside o
-        never b o e = subst (MayLeave types fs f b outside) (sym e) (none_leaves types fs f b outside)
+        never : (b : Bool) (o : Knowing) → o ≡ None → MayLeave f b outside o
+        never b o e = subst (MayLeave f b outside) (sym e) (none_leaves f b outside)
 
   -- ---- the whole loop
 
-  module _ (a : Around) (v : Visible) (in_loop : Bool) (s : State) (w : Gives Tree) (h : Follows types fs f a v s) (test : Tests types texts fs f s w) (shaped : AreShaped types f.locals) where
+  module _ (a : Around) (v : Visible) (in_loop : Bool) (s : State) (w : Gives Tree) (h : Follows types f a v s) (test : Tests types texts fs f s w) (shaped : AreShaped types f.locals) where
     -- the body is written where all that lives stays outside of the loop
     abbrev pub inside : State
     inside = with_outside (length w.state.living) (with_code [] w.state)
@@ -108,16 +109,16 @@ module _ (types : Types) (texts : ℕ) (fs : List Function) (f : Function) where
     abbrev pub past : State → State
     past t = with_outside w.state.outside t
 
-    pub inside_follows : Follows types fs f a v inside
+    pub inside_follows : Follows types f a v inside
     inside_follows =
-        let later = follows_grown types fs f a v s w.state test.grown h in
-        follows_again types fs f a v w.state inside v.declared later (front_itself w.state.locals) (front_itself w.state.types.types) (front_itself w.state.variables) refl (omega arith) later.count (omega arith)
+        let later = follows_grown types f a v s w.state test.grown h in
+        follows_again types f a v w.state inside v.declared later (front_itself w.state.locals) (front_itself w.state.types.types) (front_itself w.state.variables) refl (omega arith) later.count (omega arith)
 
     -- .. and the step where what was visible before the body is again
-    pub step_follows : (u : Visible) (t : State) → DoesLevel types texts fs f a u true inside t → Follows types fs f a (behind v u) (with_code [] (past t))
+    pub step_follows : (u : Visible) (t : State) → DoesLevel types texts fs f a u true inside t → Follows types f a (behind v u) (with_code [] (past t))
     step_follows u t body =
-        let again = visible_again types fs f a v u inside t inside_follows body.does.adds body.does.follows body.level in
-        follows_again types fs f a (behind v u) t (with_code [] (past t)) u.declared again (front_itself t.locals) (front_itself t.types.types) (front_itself t.variables) refl
+        let again = visible_again types f a v u inside t inside_follows body.does.adds body.does.follows body.level in
+        follows_again types f a (behind v u) t (with_code [] (past t)) u.declared again (front_itself t.locals) (front_itself t.types.types) (front_itself t.variables) refl
         (omega (arith, test.grown.outside, h.outside, ap length body.level, ap length test.grown.living)) again.count (omega arith)
 
     module _ (u x : Visible) (t r : State) (body : DoesLevel types texts fs f a u true inside t) (step : DoesLevel types texts fs f a x false (with_code [] (past t)) r) where
@@ -127,7 +128,7 @@ module _ (types : Types) (texts : ℕ) (fs : List Function) (f : Function) where
       abbrev turns : Tree
       turns = Turns w.given (trees body.does.code) (trees step.does.code)
 
-      to_body : Adds types fs f w.state (past t)
+      to_body : Adds types f w.state (past t)
       to_body = record {
         locals = body.does.adds.locals;
         table = body.does.adds.table;
@@ -139,10 +140,10 @@ module _ (types : Types) (texts : ℕ) (fs : List Function) (f : Function) where
 
       module _ (b : Begins types f r) where
         begun : Begins types f (past t)
-        begun = begins_added types fs f (past t) r step.does.adds b
+        begun = begins_added types f (past t) r step.does.adds b
 
         tested : Begins types f w.state
-        tested = begins_added types fs f w.state (past t) to_body begun
+        tested = begins_added types f w.state (past t) to_body begun
 
         asks : AsksAll types texts fs f s w.given
         asks = test.runs tested
@@ -160,84 +161,84 @@ module _ (types : Types) (texts : ℕ) (fs : List Function) (f : Function) where
         step_living = step.level ∙ body_living
 
         body_outside : take (length w.state.living) w.state.living ≡ s.living
-        body_outside = take_itself types fs f w.state.living ∙ test.grown.living
+        body_outside = take_itself w.state.living ∙ test.grown.living
 
         step_outside : take w.state.outside t.living ≡ take s.outside s.living
         step_outside = ap (take w.state.outside) body_living ∙ ap (λ (n : ℕ). take n s.living) test.grown.outside
 
-        names : AreNamed types fs f s.living
-        names = follows_named types fs f a v s h (begins_added types fs f s w.state (grows_adds types fs f s w.state test.grown) tested)
+        names : AreNamed f s.living
+        names = follows_named types f a v s h (begins_added types f s w.state (grows_adds types f s w.state test.grown) tested)
 
         -- what is known at the head, in the body and in the step
-        module _ (k : List Known) (knows : Knows types fs f s.living k) where
+        module _ (k : List Known) (knows : Knows f s.living k) where
           abbrev head : List Known
           head = forgotten f.locals k
 
-          at_head : Knows types fs f s.living head
+          at_head : Knows f s.living head
           at_head = knows_forgotten s.living k names knows
 
           abbrev g : Asked types texts fs f s w.given head
-          g = asks.goes head (knows_alive types fs f a v s head at_head)
+          g = asks.goes head (knows_alive types f a v s head at_head)
 
-          both : Knows types fs f s.living g.on × Knows types fs f s.living g.off
+          both : Knows f s.living g.on × Knows f s.living g.off
           both = known_behind types texts fs f a v in_loop s w h test tested head g at_head
 
-          known_on : Knows types fs f w.state.living g.on
-          known_on = subst (λ (xs : List ℕ). Knows types fs f xs g.on) (sym test.grown.living) both.0
+          known_on : Knows f w.state.living g.on
+          known_on = subst (λ (xs : List ℕ). Knows f xs g.on) (sym test.grown.living) both.0
 
           abbrev inner : Flow
-          inner = flow types fs f (trees body.does.code) (Some g.on)
+          inner = flow types f (trees body.does.code) (Some g.on)
 
-          on : Leaves types fs f true s.living s.living inner
-          on = leaves_same types fs f true t.living s.living (take (length w.state.living) w.state.living) s.living inner body_living body_outside (one.ways (Some g.on) known_on)
+          on : Leaves f true s.living s.living inner
+          on = leaves_same f true t.living s.living (take (length w.state.living) w.state.living) s.living inner body_living body_outside (one.ways (Some g.on) known_on)
 
           abbrev back : Knowing
           back = met inner.next inner.on_continue
 
-          known_back : MayKnow types fs f t.living back
-          known_back = subst (λ (xs : List ℕ). MayKnow types fs f xs back) (sym body_living) (may_met types fs f s.living inner.next inner.on_continue on.next on.on_continue)
+          known_back : MayKnow f t.living back
+          known_back = subst (λ (xs : List ℕ). MayKnow f xs back) (sym body_living) (may_met f s.living inner.next inner.on_continue on.next on.on_continue)
 
-          went : Leaves types fs f in_loop r.living (take s.outside s.living) (flow types fs f (trees (turns ∷ [])) (Some k))
+          went : Leaves f in_loop r.living (take s.outside s.living) (flow types f (trees (turns ∷ [])) (Some k))
           went =
-              let last : Flow = flow types fs f (trees step.does.code) back in
-              let stepped = leaves_same types fs f false r.living s.living (take w.state.outside t.living) (take s.outside s.living) last step_living step_outside (other.ways back known_back) in
-              let out = leaves_joined types fs f in_loop s.living (take s.outside s.living) (of_test (deciding g.on g.off)) (joined (of_body inner) (of_step (Some head) last))
+              let last : Flow = flow types f (trees step.does.code) back in
+              let stepped = leaves_same f false r.living s.living (take w.state.outside t.living) (take s.outside s.living) last step_living step_outside (other.ways back known_back) in
+              let out = leaves_joined f in_loop s.living (take s.outside s.living) (of_test (deciding g.on g.off)) (joined (of_body inner) (of_step (Some head) last))
               (test_leaves in_loop s.living (take s.outside s.living) g.off both.1 g.on)
-              (leaves_joined types fs f in_loop s.living (take s.outside s.living) (of_body inner) (of_step (Some head) last)
+              (leaves_joined f in_loop s.living (take s.outside s.living) (of_body inner) (of_step (Some head) last)
               (body_leaves in_loop s.living (take s.outside s.living) inner on)
               (step_leaves in_loop s.living (take s.outside s.living) k last shaped knows stepped)) in
-              leaves_same types fs f in_loop s.living r.living (take s.outside s.living) (take s.outside s.living) (flow types fs f (trees (turns ∷ [])) (Some k)) (sym step_living) refl
-              (subst (Leaves types fs f in_loop s.living (take s.outside s.living)) (sym (joined_end (flow types fs f turns (Some k)) ∙ ap ways_of g.decides)) out)
+              leaves_same f in_loop s.living r.living (take s.outside s.living) (take s.outside s.living) (flow types f (trees (turns ∷ [])) (Some k)) (sym step_living) refl
+              (subst (Leaves f in_loop s.living (take s.outside s.living)) (sym (joined_end (flow types f turns (Some k)) ∙ ap ways_of g.decides)) out)
             where
               ways_of : Flow → Flow
               ways_of q =
-                  let v = flow types fs f (trees body.does.code) q.on_true in
-                  joined (of_test q) (joined (of_body v) (of_step (Some head) (flow types fs f (trees step.does.code) (met v.next v.on_continue))))
+                  let v = flow types f (trees body.does.code) q.on_true in
+                  joined (of_test q) (joined (of_body v) (of_step (Some head) (flow types f (trees step.does.code) (met v.next v.on_continue))))
 
           abbrev ReturnBehind : Flow → Type 0
           ReturnBehind q =
-              let v = flow types fs f (trees body.does.code) q.on_true in
-              ReturnsKnown types fs f (result_local a) (trees body.does.code) q.on_true × ReturnsKnown types fs f (result_local a) (trees step.does.code) (met v.next v.on_continue)
+              let v = flow types f (trees body.does.code) q.on_true in
+              ReturnsKnown types f (result_local a) (trees body.does.code) q.on_true × ReturnsKnown types f (result_local a) (trees step.does.code) (met v.next v.on_continue)
 
-          returned : GivesValue a → ReturnsKnown types fs f (result_local a) (trees (turns ∷ [])) (Some k)
+          returned : GivesValue a → ReturnsKnown types f (result_local a) (trees (turns ∷ [])) (Some k)
           returned gives =
               let behind = subst ReturnBehind (sym g.decides) (body.does.returns begun gives (Some g.on) known_on, step.does.returns b gives back known_back) in
-              ((asks_known types fs f (result_local a) texts w.given asks.fine (Some head), behind), tt)
+              ((asks_known types f (result_local a) texts fs w.given asks.fine (Some head), behind), tt)
 
         loop_acts : Acting types texts fs f in_loop s whole (turns ∷ [])
         loop_acts = record {
           stated =
               stated_alone types texts fs f in_loop turns (stated_turns types texts fs f in_loop w.given (trees body.does.code) (trees step.does.code) asks.fine one.stated other.stated);
-          ways = leaves_may types fs f in_loop s.living r.living (take s.outside s.living) (trees (turns ∷ [])) went;
+          ways = leaves_may types f in_loop s.living r.living (take s.outside s.living) (trees (turns ∷ [])) went;
         }
 
-        loop_returns : GivesValue a → (o : Knowing) → MayKnow types fs f s.living o → ReturnsKnown types fs f (result_local a) (trees (turns ∷ [])) o
-        loop_returns gives = known_may types fs f (result_local a) s.living (trees (turns ∷ [])) (λ k knows. returned k knows gives)
+        loop_returns : GivesValue a → (o : Knowing) → MayKnow f s.living o → ReturnsKnown types f (result_local a) (trees (turns ∷ [])) o
+        loop_returns gives = known_may types f (result_local a) s.living (trees (turns ∷ [])) (λ k knows. returned k knows gives)
 
       pub loop_does : DoesLevel types texts fs f a x in_loop s whole
       loop_does = record {
         does = record {
-          adds = adds_then types fs f s (past t) r (adds_then types fs f s w.state (past t) (grows_adds types fs f s w.state test.grown) to_body) step.does.adds;
+          adds = adds_then types f s (past t) r (adds_then types f s w.state (past t) (grows_adds types f s w.state test.grown) to_body) step.does.adds;
           locals = λ are. step.does.locals (body.does.locals (locals_added types a s w.state test.grown.types test.registers are));
           order = order_then s.types w.state.types r.types test.registers.1 (order_then w.state.types t.types r.types body.does.order step.does.order);
           follows = step.does.follows;

@@ -1,43 +1,49 @@
 -- What a part of an expression gives where so much is known, where it begins, and what of that it keeps.
-use Rattle.std.proofs.Common.{◌≡◌, ◌<◌, ◌≤◌, ℕ, List, Contains, length, slice_get, Option, Some, None, refl, ◌∙◌, subst, arith}
-use Rattle.life_types.specs.Types.{Types}
+use Rattle.std.proofs.Common.{◌≡◌, ◌<◌, ◌≤◌, ℕ, List, [], ◌∷◌, Contains, length, slice_get, Option, Some, None, refl, ◌∙◌, subst, arith}
 use Rattle.life_types.specs.declared.ty.NameId.{NameId}
 use Rattle.life_core.specs.Function.{Function}
-use Rattle.life_core.specs.Operands.{Location, Operand, Null, Place as Aimed, behind, object_named, whole}
-use Rattle.life_core.specs.Holdings.{APointer, sort_of}
+use Rattle.life_core.specs.Operands.{Location, Operand, Null, Place as Aimed, whole}
+use Rattle.life_core.specs.Touched.{place_uses}
 use Rattle.life_core.specs.declared.program.Local.{Local}
 use Rattle.life_proper.specs.declared.known.Known.{Known}
 use Rattle.life_proper.specs.declared.known.Known.TheVariants as known
-use Rattle.life_proper.specs.Knowing.{known_as, known_at}
+use Rattle.life_proper.specs.Knowing.{known_at}
 use Rattle.life_writer.specs.Pointers.{Pointing, At, As}
 use Rattle.life_writer.specs.Writing.{State}
 use Rattle.life_elab_laws.proofs.Growing.{Grows, bare}
 
 -- ---- what a part gives
 
--- a number in a register among so many locals
-abbrev pub IsNumber : ℕ → ℕ → List Known → Type 0
-IsNumber r n k = (r < n) × (known_at k r ≡ known.Number)
+-- one of so many locals, which is there
+abbrev pub IsHeld : ℕ → ℕ → List Known → Type 0
+IsHeld r n k = (r < n) × (known_at k r ≡ known.Ready)
 
 -- a pointer or a reference
-pub record IsPointer (types : Types) (f : Function) (l : Location) (n : ℕ) (k : List Known) : Type 0 where
+pub record IsPointer (l : Location) (n : ℕ) (k : List Known) : Type 0 where
   pub local : ℕ
   pub is : l ≡ whole local
   pub below : local < n
-  pub held : known_at k local ≡ known.Pointer
-  pub sort : sort_of types f local ≡ APointer
+  pub held : known_at k local ≡ known.Ready
 
 -- a place: an object itself, or what a pointer points to
-pub data IsPlace (o : Operand) (n : ℕ) (k : List Known) : Type 0 where
-  an_object : (x : ℕ) → o ≡ object_named x → x < n → known_at k x ≡ known.Object → IsPlace o n k
-  a_target : (x : ℕ) → o ≡ behind x → x < n → known_at k x ≡ known.Pointer → IsPlace o n k
+pub record IsPlace (o : Operand) (n : ℕ) (k : List Known) : Type 0 where
+  pub local : ℕ
+  pub uses : place_uses o ≡ local ∷ []
+  pub below : local < n
+  pub held : known_at k local ≡ known.Ready
 
 -- what a pointer may be given
-abbrev pub IsPointing : Types → Function → Pointing → ℕ → List Known → Type 0
-IsPointing types f (At Null) n k = Unit {0}
-IsPointing types f (At (Aimed o)) n k = IsPlace o n k
-IsPointing types f (At _) n k = ⊥
-IsPointing types f (As l) n k = IsPointer types f l n k
+abbrev pub IsPointing : Pointing → ℕ → List Known → Type 0
+IsPointing (At Null) n k = Unit {0}
+IsPointing (At (Aimed o)) n k = IsPlace o n k
+IsPointing (At _) n k = ⊥
+IsPointing (As l) n k = IsPointer l n k
+
+-- ---- where a part begins
+
+-- what lives is among the locals so far
+abbrev pub IsOpen : State → Type 0
+IsOpen s = (y : ℕ) → Contains s.living y → y < length s.locals
 
 -- ---- what stays
 
@@ -46,7 +52,7 @@ abbrev pub IsBeside : Option ℕ → ℕ → Type 0
 IsBeside None y = Unit {0}
 IsBeside (Some r) y = r ≡ y → ⊥
 
-module _ (types : Types) (fs : List Function) (f : Function) where
+module _ (f : Function) where
   -- of the first so many locals, and of all that have names
   pub record Keeps (n : ℕ) (into : Option ℕ) (k j : List Known) : Type 0 where
     pub sized : length j ≡ length k
@@ -63,18 +69,15 @@ module _ (types : Types) (fs : List Function) (f : Function) where
     named = λ y u name there is. second.named y u name there is ∙ first.named y u name there is;
   }
 
-  -- ---- where a part begins
+  -- ---- what is there where it begins
 
   -- the living variables are there, in a table of the right size
   pub record AliveBare (s : State) (k : List Known) : Type 0 where
     pub sized : length k ≡ length f.locals
-    pub living : (y : ℕ) → Contains s.living y → known_at k y ≡ known_as (sort_of types f y)
+    pub living : (y : ℕ) → Contains s.living y → known_at k y ≡ known.Ready
 
   abbrev pub Alive : State → List Known → Type 0
   Alive s k = AliveBare (bare s) k
-
-  abbrev pub IsOpen : State → Type 0
-  IsOpen s = (y : ℕ) → Contains s.living y → y < length s.locals
 
   pub alive_later : (s s' : State) (k j : List Known) → IsOpen s → Grows s s' → Alive s k → Keeps (length s.locals) None k j → Alive s' j
   alive_later s s' k j below g alive keeps = record {

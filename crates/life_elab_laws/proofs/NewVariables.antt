@@ -17,7 +17,7 @@ use Rattle.life_proper.specs.OperandTypes.{is_reference, keeps_const, same}
 use Rattle.life_proper.specs.OperandTypes as operands
 use Rattle.life_proper.specs.Placed.{is_const_place, is_number_of, object_at, register_at, type_in}
 use Rattle.life_proper.specs.Placed as placed
-use Rattle.life_proper.specs.WellFormed.{can_live, goes_to, is_well_formed_step}
+use Rattle.life_proper.specs.WellFormed.{can_live, goes_to}
 use Rattle.life_writer.specs.Around.{Around}
 use Rattle.life_writer.specs.Pointers.{At}
 use Rattle.life_writer.specs.Variables.{kind, variable_local}
@@ -27,9 +27,10 @@ use Rattle.life_elab_laws.proofs.CallParts.{goes_object}
 use Rattle.life_elab_laws.proofs.Declaring.{with_new}
 use Rattle.life_elab_laws.proofs.FormedVariables.{object_place, reference_there, type_found, type_later}
 use Rattle.life_elab_laws.proofs.Fronts.{IsFront, front_itself, last_there}
-use Rattle.life_elab_laws.proofs.Gifts.{IsGivenAs, IsPlaceOf}
+use Rattle.life_elab_laws.proofs.Gifts.{IsAt, IsGivenAs, IsPlaceOf}
 use Rattle.life_elab_laws.proofs.Growing.{Begins}
 use Rattle.life_elab_laws.proofs.OperandsThere.{object_there, register_there, type_there, value_either, value_no_reference, value_same}
+use Rattle.life_elab_laws.proofs.Shaping.{IsFineStep}
 use Rattle.life_elab_laws.proofs.Types.{value_kind}
 
 module _ (a : Around) (types : Types) (texts : ℕ) (fs : List Function) (f : Function) (front : IsFront a.program.types.types types.types) where
@@ -38,9 +39,13 @@ module _ (a : Around) (types : Types) (texts : ℕ) (fs : List Function) (f : Fu
       → IsPlaceOf types texts fs f (type_at a.program.types target) held o → IsGivenAs types texts fs f (Of (ty.Reference target constant)) (At (Aimed o))
   bound_given target constant held o worth kept place =
       let later = type_later a.program.types types front target worth in
-      and_from (same (shapes.ty_of types target) (placed.type_of types f o)) (keeps_const constant (is_const_place types f o))
-      (ap (same (shapes.ty_of types target)) (place.typed ∙ sym later) ∙ value_same (shapes.ty_of types target) (ap operands.is_value later ∙ value_either (type_at a.program.types target) worth))
-      (keeps_further constant held (is_const_place types f o) kept place.held)
+      record {
+        fits =
+            and_from (same (shapes.ty_of types target) (placed.type_of types f o)) (keeps_const constant (is_const_place types f o))
+            (ap (same (shapes.ty_of types target)) (place.typed ∙ sym later) ∙ value_same (shapes.ty_of types target) (ap operands.is_value later ∙ value_either (type_at a.program.types target) worth))
+            (keeps_further constant held (is_const_place types f o) kept place.held);
+        served = place.served;
+      }
 
   module _ (v : TypedLocal) (s : State) (b : Begins types f (with_new (variable_local a v) s)) where
     there : slice_get f.locals (length s.locals) ≡ Some (variable_local a v)
@@ -62,10 +67,14 @@ module _ (a : Around) (types : Types) (texts : ℕ) (fs : List Function) (f : Fu
       pub value_lives : can_live types texts fs f (length s.locals) ≡ true
       value_lives = or_left (object_at types f (length s.locals)) _ object_declared
 
-      pub value_saved : (r : ℕ) → is_number_of types f (type_at a.program.types v.ty) r ≡ true → is_well_formed_step types texts fs f (Save (object_named (length s.locals)) r) ≡ true
-      value_saved r h =
-          and_from (is_number_of types f (placed.type_of types f (object_named (length s.locals))) r) true
-          (ap (λ (t : Ty). is_number_of types f t r) (object_place types texts fs f (length s.locals) (type_at a.program.types v.ty) false object_declared type_declared).typed ∙ h) refl
+      pub value_saved : (r : ℕ) → is_number_of types f (type_at a.program.types v.ty) r ≡ true → IsFineStep types texts fs f (Save (object_named (length s.locals)) r)
+      value_saved r h = record {
+        plain = refl;
+        formed =
+            and_from (is_number_of types f (placed.type_of types f (object_named (length s.locals))) r) true
+            (ap (λ (t : Ty). is_number_of types f t r) (object_place types texts fs f (length s.locals) (type_at a.program.types v.ty) false object_declared type_declared).typed ∙ h) refl;
+        served = refl;
+      }
 
       -- a call brings it to life
       pub value_goes : goes_to types texts fs f (type_at a.program.types v.ty) (Some (whole (length s.locals))) ≡ true
@@ -73,14 +82,14 @@ module _ (a : Around) (types : Types) (texts : ℕ) (fs : List Function) (f : Fu
 
     -- of a raw pointer type
     module _ (target : TyId) (constant : Bool) (found : slice_get a.program.types.types v.ty.0 ≡ Some (ty.Raw target constant)) where
-      pub raw_declared : type_in types f (whole (length s.locals)) ≡ ty.Raw target constant
-      raw_declared = type_there types f (length s.locals) (variable_local a v) (ty.Raw target constant) there (front v.ty.0 (ty.Raw target constant) found) refl
+      pub raw_declared : IsAt types texts fs f (ty.Raw target constant) (whole (length s.locals))
+      raw_declared = record { typed = type_there types f (length s.locals) (variable_local a v) (ty.Raw target constant) there (front v.ty.0 (ty.Raw target constant) found) refl; served = refl }
 
       pub raw_lives : can_live types texts fs f (length s.locals) ≡ true
       raw_lives =
           or_right (object_at types f (length s.locals)) _
           (and_from (register_at types f (length s.locals)) _ (register_there types f (length s.locals) (variable_local a v) there (ap (λ (o : Option Ty). kind (class o)) found))
-          (and_from (shapes.is_pointer (placed.type_at types f (length s.locals))) (not (is_reference (placed.type_at types f (length s.locals)))) (ap shapes.is_pointer raw_declared) (ap (λ (t : Ty). not (is_reference t)) raw_declared)))
+          (and_from (shapes.is_pointer (placed.type_at types f (length s.locals))) (not (is_reference (placed.type_at types f (length s.locals)))) (ap shapes.is_pointer raw_declared.typed) (ap (λ (t : Ty). not (is_reference t)) raw_declared.typed)))
 
     -- of a reference type
     module _ (target : TyId) (constant : Bool) (found : slice_get a.program.types.types v.ty.0 ≡ Some (ty.Reference target constant)) (worth : is_value (type_at a.program.types target) ≡ true) where

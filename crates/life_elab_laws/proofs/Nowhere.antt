@@ -1,5 +1,5 @@
 -- Where no way comes in, none goes out, and all is ready.
-use Rattle.std.proofs.Common.{◌≡◌, true, List, None, refl, sym, ap, ◌∙◌, subst}
+use Rattle.std.proofs.Common.{◌≡◌, true, None, refl, sym, ap, ◌∙◌, subst}
 use Rattle.std.proofs.lemmas.Bool.{and_from}
 use Rattle.life_types.specs.Types.{Types}
 use Rattle.life_core.specs.Function.{Function}
@@ -59,40 +59,40 @@ nowhere_step head w a = record {
   on_false = a.on_false;
 }
 
-module _ (types : Types) (fs : List Function) (f : Function) where
-  pub nowhere_flows : (t : Tree) (s : State) → s ≡ None → IsNowhere (flow types fs f t s)
+module _ (types : Types) (f : Function) where
+  pub nowhere_flows : (t : Tree) (s : State) → s ≡ None → IsNowhere (flow types f t s)
   nowhere_flows Skip s e = record { fine = refl; next = e; on_break = refl; on_continue = refl; on_true = refl; on_false = refl }
   nowhere_flows (Then a b) s e =
       let w = nowhere_flows a s e in
-      nowhere_joined (before_next (flow types fs f a s)) (flow types fs f b (flow types fs f a s).next) (nowhere_next (flow types fs f a s) w) (nowhere_flows b (flow types fs f a s).next w.next)
-  nowhere_flows (Acts place i) s e = subst (λ (u : State). IsNowhere (flow types fs f (Acts place i) u)) (sym e) (record { fine = refl; next = refl; on_break = refl; on_continue = refl; on_true = refl; on_false = refl })
-  nowhere_flows (Asks place t) s e = subst (λ (u : State). IsNowhere (flow types fs f (Asks place t) u)) (sym e) (record { fine = refl; next = refl; on_break = refl; on_continue = refl; on_true = refl; on_false = refl })
+      nowhere_joined (before_next (flow types f a s)) (flow types f b (flow types f a s).next) (nowhere_next (flow types f a s) w) (nowhere_flows b (flow types f a s).next w.next)
+  nowhere_flows (Acts place i) s e = subst (λ (u : State). IsNowhere (flow types f (Acts place i) u)) (sym e) (record { fine = refl; next = refl; on_break = refl; on_continue = refl; on_true = refl; on_false = refl })
+  nowhere_flows (Asks place t) s e = subst (λ (u : State). IsNowhere (flow types f (Asks place t) u)) (sym e) (record { fine = refl; next = refl; on_break = refl; on_continue = refl; on_true = refl; on_false = refl })
   nowhere_flows (Both a b) s e =
       let w = nowhere_flows a s e in
-      nowhere_joined (before_true (flow types fs f a s)) (flow types fs f b (flow types fs f a s).on_true) (nowhere_true (flow types fs f a s) w) (nowhere_flows b (flow types fs f a s).on_true w.on_true)
+      nowhere_joined (before_true (flow types f a s)) (flow types f b (flow types f a s).on_true) (nowhere_true (flow types f a s) w) (nowhere_flows b (flow types f a s).on_true w.on_true)
   nowhere_flows (Either a b) s e =
       let w = nowhere_flows a s e in
-      nowhere_joined (before_false (flow types fs f a s)) (flow types fs f b (flow types fs f a s).on_false) (nowhere_false (flow types fs f a s) w) (nowhere_flows b (flow types fs f a s).on_false w.on_false)
-  nowhere_flows (Negated a) s e = nowhere_turned (flow types fs f a s) (nowhere_flows a s e)
+      nowhere_joined (before_false (flow types f a s)) (flow types f b (flow types f a s).on_false) (nowhere_false (flow types f a s) w) (nowhere_flows b (flow types f a s).on_false w.on_false)
+  nowhere_flows (Negated a) s e = nowhere_turned (flow types f a s) (nowhere_flows a s e)
   nowhere_flows (Choice t a b) s e =
-      let w = flow types fs f t s in
+      let w = flow types f t s in
       let h = nowhere_flows t s e in
-      nowhere_joined (before_both w) (joined (flow types fs f a w.on_true) (flow types fs f b w.on_false)) (nowhere_both w h)
-      (nowhere_joined (flow types fs f a w.on_true) (flow types fs f b w.on_false) (nowhere_flows a w.on_true h.on_true) (nowhere_flows b w.on_false h.on_false))
+      nowhere_joined (before_both w) (joined (flow types f a w.on_true) (flow types f b w.on_false)) (nowhere_both w h)
+      (nowhere_joined (flow types f a w.on_true) (flow types f b w.on_false) (nowhere_flows a w.on_true h.on_true) (nowhere_flows b w.on_false h.on_false))
   nowhere_flows (Turns t body step) s e = turns (at_head f.locals s) (ap (at_head f.locals) e) (nowhere_flows t) (nowhere_flows body) (nowhere_flows step)
     where
-      turns : (head : State) → head ≡ None → ((s : State) → s ≡ None → IsNowhere (flow types fs f t s)) → ((s : State) → s ≡ None → IsNowhere (flow types fs f body s)) → ((s : State) → s ≡ None → IsNowhere (flow types fs f step s))
-          → IsNowhere (joined (of_test (flow types fs f t head)) (joined (of_body (flow types fs f body (flow types fs f t head).on_true))
-          (of_step head (flow types fs f step (met (flow types fs f body (flow types fs f t head).on_true).next (flow types fs f body (flow types fs f t head).on_true).on_continue)))))
+      turns : (head : State) → head ≡ None → ((s : State) → s ≡ None → IsNowhere (flow types f t s)) → ((s : State) → s ≡ None → IsNowhere (flow types f body s)) → ((s : State) → s ≡ None → IsNowhere (flow types f step s))
+          → IsNowhere (joined (of_test (flow types f t head)) (joined (of_body (flow types f body (flow types f t head).on_true))
+          (of_step head (flow types f step (met (flow types f body (flow types f t head).on_true).next (flow types f body (flow types f t head).on_true).on_continue)))))
       turns head none test inner after =
-          let w = flow types fs f t head in
+          let w = flow types f t head in
           let h = test head none in
-          let v = flow types fs f body w.on_true in
+          let v = flow types f body w.on_true in
           let g = inner w.on_true h.on_true in
-          let u = flow types fs f step (met v.next v.on_continue) in
+          let u = flow types f step (met v.next v.on_continue) in
           nowhere_joined (of_test w) (joined (of_body v) (of_step head u)) (nowhere_test w h)
           (nowhere_joined (of_body v) (of_step head u) (nowhere_body v g) (nowhere_step head u (after (met v.next v.on_continue) (none_met v.next v.on_continue g.next g.on_continue))))
   nowhere_flows Breaks s e = record { fine = refl; next = refl; on_break = e; on_continue = refl; on_true = refl; on_false = refl }
   nowhere_flows Continues s e = record { fine = refl; next = refl; on_break = refl; on_continue = e; on_true = refl; on_false = refl }
-  nowhere_flows (Returns place) s e = subst (λ (u : State). IsNowhere (flow types fs f (Returns place) u)) (sym e) (record { fine = refl; next = refl; on_break = refl; on_continue = refl; on_true = refl; on_false = refl })
+  nowhere_flows (Returns place) s e = subst (λ (u : State). IsNowhere (flow types f (Returns place) u)) (sym e) (record { fine = refl; next = refl; on_break = refl; on_continue = refl; on_true = refl; on_false = refl })
   nowhere_flows (Stops place) s e = record { fine = refl; next = refl; on_break = refl; on_continue = refl; on_true = refl; on_false = refl }

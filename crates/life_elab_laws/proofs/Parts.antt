@@ -19,14 +19,14 @@ module _ (types : Types) (texts : ℕ) (fs : List Function) (f : Function) where
   -- the way through its code
   pub record Goes {B : Type 0} (into : Option ℕ) (s : State) (w : Gives B) (Q : Gift types texts fs f B) (code : List Tree) (k : List Known) : Type 0 where
     pub after : List Known
-    pub falls : Falls types fs f code k after
-    pub keeps : Keeps types fs f (length s.locals) into k after
+    pub falls : Falls types f code k after
+    pub keeps : Keeps f (length s.locals) into k after
     pub gives : Q.ready w.given (length w.state.locals) after
 
   pub record Runs {A B : Type 0} (P : Gift types texts fs f A) (x : A) (into : Option ℕ) (s : State) (w : Gives B) (Q : Gift types texts fs f B) (code : List Tree) : Type 0 where
     pub fine : IsFine types texts fs f code
     pub typed : Q.typed w.given
-    pub goes : (k : List Known) → Alive types fs f s k → P.ready x (length s.locals) k → Goes into s w Q code k
+    pub goes : (k : List Known) → Alive f s k → P.ready x (length s.locals) k → Goes into s w Q code k
 
   -- behind what gave x
   pub record Part {A B : Type 0} (P : Gift types texts fs f A) (x : A) (into : Option ℕ) (s : State) (w : Gives B) (Q : Gift types texts fs f B) : Type 0 where
@@ -44,7 +44,7 @@ module _ (types : Types) (texts : ℕ) (fs : List Function) (f : Function) where
 
   -- nothing is written
   pub gives_part : {A B : Type 0} (P : Gift types texts fs f A) (x : A) (into : Option ℕ) (y : B) (s : State) (Q : Gift types texts fs f B) → (Begins types f s → P.typed x → Q.typed y)
-      → (Begins types f s → (k : List Known) → Alive types fs f s k → P.ready x (length s.locals) k → Q.ready y (length s.locals) k) → Part P x into s (gives y s) Q
+      → (Begins types f s → (k : List Known) → Alive f s k → P.ready x (length s.locals) k → Q.ready y (length s.locals) k) → Part P x into s (gives y s) Q
   gives_part P x into y s Q typed ready = record {
     grown = grows_none s;
     registers = registers_none types s;
@@ -53,11 +53,11 @@ module _ (types : Types) (texts : ℕ) (fs : List Function) (f : Function) where
     runs = λ b p. record {
       fine = fine_none types texts fs f;
       typed = typed b p;
-      goes = λ k alive q. record { after = k; falls = refl; keeps = keeps_all types fs f (length s.locals) into k; gives = ready b k alive q };
+      goes = λ k alive q. record { after = k; falls = refl; keeps = keeps_all f (length s.locals) into k; gives = ready b k alive q };
     };
   }
 
-  pub leaf_part : {B : Type 0} (y : B) (s : State) (Q : Gift types texts fs f B) → (Begins types f s → Q.typed y) → (Begins types f s → (k : List Known) → Alive types fs f s k → Q.ready y (length s.locals) k)
+  pub leaf_part : {B : Type 0} (y : B) (s : State) (Q : Gift types texts fs f B) → (Begins types f s → Q.typed y) → (Begins types f s → (k : List Known) → Alive f s k → Q.ready y (length s.locals) k)
       → Makes None s (gives y s) Q
   leaf_part y s Q typed ready = gives_part (nothing types texts fs f) tt None y s Q (λ b p. typed b) (λ b k alive p. ready b k alive)
 
@@ -93,12 +93,12 @@ module _ (types : Types) (texts : ℕ) (fs : List Function) (f : Function) where
 
   -- one and then another, behind what the first gives; what the first gives stays, or not
   module _ {A B C : Type 0} (P : Gift types texts fs f A) (x : A) (into : Option ℕ) (s : State) (w : Gives B) (v : Gives C) (Q : Gift types texts fs f B) (O : Gift types texts fs f C)
-      (opened : IsOpen types fs f s) (first : Part P x None s w Q) (second : Part Q w.given into w.state v O) where
+      (opened : IsOpen s) (first : Part P x None s w Q) (second : Part Q w.given into w.state v O) where
     before : Begins types f v.state → Begins types f w.state
     before b = begins_before types f w.state v.state second.grown b
 
-    next : (k : List Known) → Alive types fs f s k → (g : Goes None s w Q first.code k) → (r : Runs Q w.given into w.state v O second.code) → Goes into w.state v O second.code g.after
-    next k alive g r = r.goes g.after (alive_later types fs f s w.state k g.after opened first.grown alive g.keeps) g.gives
+    next : (k : List Known) → Alive f s k → (g : Goes None s w Q first.code k) → (r : Runs Q w.given into w.state v O second.code) → Goes into w.state v O second.code g.after
+    next k alive g r = r.goes g.after (alive_later f s w.state k g.after opened first.grown alive g.keeps) g.gives
 
     pub then_part : Part P x into s v O
     then_part = record {
@@ -111,15 +111,15 @@ module _ (types : Types) (texts : ℕ) (fs : List Function) (f : Function) where
         typed = r.typed;
         goes = λ k alive given. let g = q.goes k alive given in let h = next k alive g r in record {
           after = h.after;
-          falls = falls_append types fs f first.code second.code k g.after h.after g.falls h.falls;
-          keeps = keeps_then types fs f (length s.locals) (length w.state.locals) into k g.after h.after first.grown.count g.keeps h.keeps;
+          falls = falls_append types f first.code second.code k g.after h.after g.falls h.falls;
+          keeps = keeps_then f (length s.locals) (length w.state.locals) into k g.after h.after first.grown.count g.keeps h.keeps;
           gives = h.gives;
         };
       };
     }
 
   module _ {A B C : Type 0} (P : Gift types texts fs f A) (x : A) (s : State) (w : Gives B) (v : Gives C) (Q : Gift types texts fs f B) (O : Gift types texts fs f C)
-      (opened : IsOpen types fs f s) (first : Part P x None s w Q) where
+      (opened : IsOpen s) (first : Part P x None s w Q) where
     -- what the first gave, where the second has been written too
     beside : Part Q w.given None w.state v O → Part Q w.given None w.state (gives (w.given, v.given) v.state) (both types texts fs f Q O)
     beside second = record {

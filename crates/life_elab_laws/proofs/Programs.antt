@@ -7,11 +7,10 @@ use Rattle.life_types.specs.Types.{Types}
 use Rattle.life_types.specs.declared.ty.Ty.{Ty}
 use Rattle.life_types.specs.declared.ty.TyId.{TyId}
 use Rattle.life_built.specs.Built.{are_built_functions, has_built_types, has_no_structs, is_built}
-use Rattle.life_typed.specs.BaseTypes.{is_value, type_at}
+use Rattle.life_typed.specs.BaseTypes.{type_at}
 use Rattle.life_typed.specs.Programs.{FunctionForm, ProgramForm}
 use Rattle.life_core.specs.Function.{Function}
-use Rattle.life_core.specs.Holdings.{ANumber, result_sort}
-use Rattle.life_proper.specs.Checking.{are_checked, checked, is_checked}
+use Rattle.life_proper.specs.Checking.{checked, is_checked}
 use Rattle.life_proper.specs.ProperPrograms.{has_own_breaks, have_own_breaks}
 use Rattle.life_proper.specs.Plain.{are_plain, is_plain, is_plain_tree}
 use Rattle.life_pset.specs.Elements.{AreShort, elements_of}
@@ -22,7 +21,7 @@ use Rattle.life_elab.specs.Programs.{Functions, all_functions, around, core_prog
 use Rattle.life_well_typed.specs.Names.{HasNames, is_function_named}
 use Rattle.life_well_typed.specs.Results.{HasResults, HaveResults}
 use Rattle.life_elab_laws.proofs.Beginning.{first_locals, first_shaped, first_types}
-use Rattle.life_elab_laws.proofs.Callees.{IsBegun, IsFunctionOf, built_parts, callee_from, gives_from, gives_number, result_nameless, takes_values, type_found, values_at}
+use Rattle.life_elab_laws.proofs.Callees.{IsBegun, IsFunctionOf, built_parts, callee_from, gives_from, result_nameless, takes_values, type_found, values_at}
 use Rattle.life_elab_laws.proofs.Calls.{IsCallee}
 use Rattle.life_elab_laws.proofs.ExpressionKinds.{function_built}
 use Rattle.life_elab_laws.proofs.FormedLocals.{HasFormedHead, head_formed}
@@ -101,7 +100,7 @@ module _ (p : ProgramForm) (typed : IsWellTyped p) (built : are_built_functions 
       record { typed = each_at (IsWellTypedFunction p) (AreWellTyped p) (λ g gs h. h) p.functions n f typed at; built = built_parts p.types f (function_built p.types p.functions n f built at); ty = t.0; result = t.1 }
 
   setting_of : (T types : Types) (fs : List Function) (f : FunctionForm) (core : Function) (n : ℕ) → slice_get p.functions n ≡ Some f → IsBegun p f T types core
-      → ((g : ℕ) (of : FunctionForm) → slice_get p.functions g ≡ Some of → IsCallee p.types types fs g of) → AreShaped types core.locals → Setting (around p f) types fs core
+      → ((g : ℕ) (of : FunctionForm) → slice_get p.functions g ≡ Some of → IsCallee types fs g of) → AreShaped types core.locals → Setting (around p f) types fs core
   setting_of T types fs f core n at begun callees shaped = let is = of_program n f at in record {
     front = front_then p.types.types T.types types.types begun.table begun.later;
     variables = is.built.variables;
@@ -110,9 +109,9 @@ module _ (p : ProgramForm) (typed : IsWellTyped p) (built : are_built_functions 
     taken = λ g of there m id at. values_at p.types (take (length of.parameters) of.locals) (of_program g of there).built.parameters m id at;
     callees = callees;
     results = λ g of there. result_at p.types p.functions g of results there;
-    gives = gives_from p f T types fs core is begun;
+    gives = gives_from p f T types core is begun;
     shaped = shaped;
-    nameless = result_nameless p f T types fs core is begun;
+    nameless = result_nameless p f T types core is begun;
   }
 
   -- ---- what is written grows: shown with functions that only begin
@@ -126,8 +125,8 @@ module _ (p : ProgramForm) (typed : IsWellTyped p) (built : are_built_functions 
   begun_so : (f : FunctionForm) → IsBegun p f p.types p.types (begun f)
   begun_so f = record { table = front_itself p.types.types; later = front_itself p.types.types; count = refl; same = refl; locals = front_itself (first_state (around p f) p.types).locals }
 
-  begun_callee : (g : ℕ) (of : FunctionForm) → slice_get p.functions g ≡ Some of → IsCallee p.types p.types (map begun p.functions) g of
-  begun_callee g of at = callee_from p of p.types p.types (map begun p.functions) (begun of) (of_program g of at) (begun_so of) g (begun_there g of at)
+  begun_callee : (g : ℕ) (of : FunctionForm) → slice_get p.functions g ≡ Some of → IsCallee p.types (map begun p.functions) g of
+  begun_callee g of at = callee_from p of p.types p.types (begun of) (of_program g of at) (begun_so of) (map begun p.functions) g (begun_there g of at)
 
   begun_setting : (n : ℕ) (f : FunctionForm) → slice_get p.functions n ≡ Some f → Setting (around p f) p.types (map begun p.functions) (begun f)
   begun_setting n f at =
@@ -178,9 +177,6 @@ module _ (p : ProgramForm) (typed : IsWellTyped p) (built : are_built_functions 
     shaped : AreShaped whole.types core.locals
     shaped = shaped_later p.types whole.types front core.locals (subst (λ (c : Function). AreShaped p.types c.locals) (sym w.is) (grows n f at w.before w.table).shaped)
 
-    pub written_number : is_value (type_at p.types f.result) ≡ true → result_sort whole.types core ≡ ANumber
-    written_number = gives_number p f w.before whole.types whole.functions core (of_program n f at) as_begun
-
     -- the type of what it gives back
     pub written_result : slice_get whole.types.types core.result.0 ≡ Some (type_at p.types f.result)
     written_result =
@@ -193,10 +189,10 @@ module _ (p : ProgramForm) (typed : IsWellTyped p) (built : are_built_functions 
       table = w.later;
     }
 
-  callee : (g : ℕ) (of : FunctionForm) → slice_get p.functions g ≡ Some of → IsCallee p.types whole.types whole.functions g of
+  callee : (g : ℕ) (of : FunctionForm) → slice_get p.functions g ≡ Some of → IsCallee whole.types whole.functions g of
   callee g of at =
       let found = written_at p whole.types p.functions whole.functions g of each_written at in
-      callee_from p of found.2.before whole.types whole.functions found.0 (of_program g of at) (as_begun g of at found.0 found.2) g found.1
+      callee_from p of found.2.before whole.types found.0 (of_program g of at) (as_begun g of at found.0 found.2) whole.functions g found.1
 
   -- ---- one function
 
@@ -210,7 +206,7 @@ module _ (p : ProgramForm) (typed : IsWellTyped p) (built : are_built_functions 
         function_proper p f w.before whole.types whole.functions core setting is w.table (as_begun n f at core w) (written_begins n f at core w) (ap (λ (c : Function). c.body) w.is)
 
     one_short : AreShort (elements_of whole.types core)
-    one_short = short_function whole.types core (shaped n f at core w) (takes_values p f w.before whole.types whole.functions core is (as_begun n f at core w))
+    one_short = short_function whole.types core (shaped n f at core w) (takes_values p f w.before whole.types core is (as_begun n f at core w))
 
     -- the locals are well formed, and what else stands beside the body
     pub one_head : HasNames p → HasFormedHead whole.types (length p.names) core
@@ -239,7 +235,7 @@ module _ (p : ProgramForm) (typed : IsWellTyped p) (built : are_built_functions 
       of_all (λ core. test core ≡ true) (λ cores. all cores ≡ true) none (λ core cores one others. more core cores ∙ and_from (test core) (all cores) one others) each
 
   pub program_checked : checked (core_program p) ≡ true
-  program_checked = passed_by_all (is_checked whole.types whole.functions) (are_checked whole.types whole.functions) refl (λ core cores. refl) (λ n f at core w. (one_body n f at core w).checked)
+  program_checked = passed_by_all (is_checked whole.types) (list_all (is_checked whole.types)) refl (λ core cores. refl) (λ n f at core w. (one_body n f at core w).checked)
 
   pub program_plain : is_plain (core_program p) ≡ true
   program_plain = passed_by_all (λ core. is_plain_tree whole.types whole.functions core core.body) (are_plain whole.types whole.functions) refl (λ core cores. refl) (λ n f at core w. (one_body n f at core w).stated.plain)

@@ -1,9 +1,10 @@
 -- break, continue and return.
-use Rattle.std.proofs.Common.{◌≡◌, ◌⊎◌, inl, inr, Bool, true, false, ◌||◌, ℕ, List, [], ◌∷◌, ◌++◌, drop, reverse, take, Option, Some, None, refl, sym, ap, ◌∙◌, subst, append_assoc}
+use Rattle.std.proofs.Common.{◌≡◌, Bool, true, false, ◌||◌, ℕ, List, [], ◌∷◌, ◌++◌, drop, reverse, take, Option, Some, None, refl, sym, ap, ◌∙◌, subst, append_assoc}
 use Rattle.std.proofs.lemmas.Bool.{and_from, false≢true}
 use Rattle.std.proofs.lemmas.Option.{none-some, same_Some}
 use Rattle.life_types.specs.Types.{Types}
 use Rattle.life_types.specs.declared.place.Place.{Place}
+use Rattle.life_types.specs.declared.ty.Class.{Class}
 use Rattle.life_types.specs.declared.ty.NameId.{NameId}
 use Rattle.life_types.specs.declared.ty.Ty.{Ty}
 use Rattle.life_types.specs.declared.ty.Ty.TheVariants as ty
@@ -12,14 +13,14 @@ use Rattle.life_typed.specs.BaseTypes.{is_value, type_at}
 use Rattle.life_typed.specs.TypedForm.{Typed, whole as whole_form}
 use Rattle.life_type_stmt.specs.Returns as typing
 use Rattle.life_core.specs.Function.{Function}
-use Rattle.life_core.specs.Holdings.{ANumber, Blank, Holding, result_sort}
-use Rattle.life_core.specs.Tree.{Tree, Breaks, Continues, Returns, trees}
+use Rattle.life_core.specs.Touched.{nothing, result_uses}
+use Rattle.life_core.specs.Tree.{Tree, Breaks, Continues, Return, Returns, trees}
 use Rattle.life_core.specs.declared.program.Local.{Local}
 use Rattle.life_proper.specs.declared.known.Known.{Known}
 use Rattle.life_proper.specs.Checking.{Flow, flow}
-use Rattle.life_proper.specs.Knowing.{State as Knowing, known_as, known_at}
-use Rattle.life_proper.specs.ReadyKnown.{is_result_ready}
-use Rattle.life_proper.specs.ResultsKnown.{IsKnownNumber}
+use Rattle.life_proper.specs.Knowing.{State as Knowing, known_at}
+use Rattle.life_proper.specs.ReadyKnown.{are_ready, is_node_ready}
+use Rattle.life_proper.specs.ResultsKnown.{IsKnownReady}
 use Rattle.life_well_typed.specs.Statements.{IsReturned}
 use Rattle.life_well_typed.specs.Visible.{Visible}
 use Rattle.life_writer.specs.Around.{Around, result_local}
@@ -28,16 +29,16 @@ use Rattle.life_writer.specs.Writing.{State, Gives, with_code, write}
 use Rattle.life_elab.specs.Statements.{left, result_given}
 use Rattle.life_elab_laws.proofs.Among.{Among, among_drop, reverse_among}
 use Rattle.life_elab_laws.proofs.Doing.{Acting, Does, DoesLevel, acts_then, made_acts, made_knows}
-use Rattle.life_elab_laws.proofs.Ending.{blank_beside}
+use Rattle.life_elab_laws.proofs.Ending.{blank_beside, end_ready}
 use Rattle.life_elab_laws.proofs.Exits.{Leaves, MayKnow, MayLeave, none_leaves}
 use Rattle.life_elab_laws.proofs.ExpressionForms.{IsWhole}
 use Rattle.life_elab_laws.proofs.Expressions.{whole_expression}
 use Rattle.life_elab_laws.proofs.GivenKinds.{given_number}
-use Rattle.life_elab_laws.proofs.GivingBack.{GivesValue, fine_known, known_append, nowhere_number}
+use Rattle.life_elab_laws.proofs.GivingBack.{GivesValue, fine_known, known_append, nowhere_ready}
 use Rattle.life_elab_laws.proofs.Growing.{Begins}
 use Rattle.life_elab_laws.proofs.Following.{Follows, HasRegister, IsLiving, follows_grown, grows_adds, knows_alive}
 use Rattle.life_elab_laws.proofs.Gifts.{a_number}
-use Rattle.life_elab_laws.proofs.Leaving.{IsEnded, ended, left_acts, left_does, left_level, past_fine, past_ready}
+use Rattle.life_elab_laws.proofs.Leaving.{IsEnded, ended, left_acts, left_does, left_level, past_fine}
 use Rattle.life_elab_laws.proofs.Nowhere.{nowhere_flows}
 use Rattle.life_elab_laws.proofs.Parts.{Makes}
 use Rattle.life_elab_laws.proofs.Setting.{Setting}
@@ -48,33 +49,30 @@ pub not_void : (t : Ty) → (is_void t || is_value t) ≡ true → typing.is_voi
 not_void = by_results (λ t. typing.is_void t ≡ false → is_value t ≡ true) (λ e. absurd (false≢true (sym e))) (λ t v e. v)
 
 module _ (a : Around) (types : Types) (texts : ℕ) (fs : List Function) (f : Function) (setting : Setting a types fs f) (v : Visible) (in_loop : Bool) where
-  result_ready : (k : List Known) → is_result_ready k f.parameters (known_as (result_sort types f)) ≡ true
-  result_ready k = go setting.gives
-    where
-      go : (result_sort types f ≡ Blank) ⊎ (result_sort types f ≡ ANumber) → is_result_ready k f.parameters (known_as (result_sort types f)) ≡ true
-      go (inl e) = ap (λ (g : Holding). is_result_ready k f.parameters (known_as g)) e
-      go (inr e) = ap (λ (g : Holding). is_result_ready k f.parameters (known_as g)) e
+  -- a value that is given back may be left unwritten
+  result_ready : (k : List Known) → is_node_ready types f k Return ≡ true
+  result_ready k = ap (λ (c : Class). are_ready k (record nothing { uses = result_uses c f.parameters })) setting.gives
 
   -- control returns
-  return_leaves : (s : State) (keyword : Place) (k : List Known) → Leaves types fs f in_loop s.living (take s.outside s.living) (flow types fs f (trees (Returns keyword ∷ [])) (Some k))
+  return_leaves : (s : State) (keyword : Place) (k : List Known) → Leaves f in_loop s.living (take s.outside s.living) (flow types f (trees (Returns keyword ∷ [])) (Some k))
   return_leaves s keyword k = record {
-    fine = and_from (is_result_ready k f.parameters (known_as (result_sort types f))) true (result_ready k) refl;
+    fine = and_from (is_node_ready types f k Return) true (result_ready k) refl;
     next = tt;
-    on_break = none_leaves types fs f in_loop (take s.outside s.living);
-    on_continue = none_leaves types fs f in_loop (take s.outside s.living);
+    on_break = none_leaves f in_loop (take s.outside s.living);
+    on_continue = none_leaves f in_loop (take s.outside s.living);
     on_true = refl;
     on_false = refl;
   }
 
-  module _ (s : State) (h : Follows types fs f a v s) where
+  module _ (s : State) (h : Follows types f a v s) where
     pub break_does : in_loop ≡ true → (keyword : Place) → DoesLevel types texts fs f a v in_loop s (left s.outside keyword Breaks s)
     break_does e keyword = record {
-      does = left_does types texts fs f a setting v in_loop s h s.outside keyword Breaks (record { statement = refl; tests = refl; breaks = e; plain = refl; formed = refl })
+      does = left_does types texts fs f a setting v in_loop s h s.outside keyword Breaks (record { statement = refl; tests = refl; breaks = e; plain = refl; formed = refl; served = refl })
           (λ k knows. record {
             fine = refl;
             next = tt;
-            on_break = subst (λ (b : Bool). MayLeave types fs f b (take s.outside s.living) (Some k)) (sym e) knows;
-            on_continue = none_leaves types fs f in_loop (take s.outside s.living);
+            on_break = subst (λ (b : Bool). MayLeave f b (take s.outside s.living) (Some k)) (sym e) knows;
+            on_continue = none_leaves f in_loop (take s.outside s.living);
             on_true = refl;
             on_false = refl;
           })
@@ -84,12 +82,12 @@ module _ (a : Around) (types : Types) (texts : ℕ) (fs : List Function) (f : Fu
 
     pub continue_does : in_loop ≡ true → (keyword : Place) → DoesLevel types texts fs f a v in_loop s (left s.outside keyword Continues s)
     continue_does e keyword = record {
-      does = left_does types texts fs f a setting v in_loop s h s.outside keyword Continues (record { statement = refl; tests = refl; breaks = e; plain = refl; formed = refl })
+      does = left_does types texts fs f a setting v in_loop s h s.outside keyword Continues (record { statement = refl; tests = refl; breaks = e; plain = refl; formed = refl; served = refl })
           (λ k knows. record {
             fine = refl;
             next = tt;
-            on_break = none_leaves types fs f in_loop (take s.outside s.living);
-            on_continue = subst (λ (b : Bool). MayLeave types fs f b (take s.outside s.living) (Some k)) (sym e) knows;
+            on_break = none_leaves f in_loop (take s.outside s.living);
+            on_continue = subst (λ (b : Bool). MayLeave f b (take s.outside s.living) (Some k)) (sym e) knows;
             on_true = refl;
             on_false = refl;
           })
@@ -100,7 +98,7 @@ module _ (a : Around) (types : Types) (texts : ℕ) (fs : List Function) (f : Fu
     -- control returns where no value has to be given back
     pub return_does : (GivesValue a → ⊥) → (keyword : Place) → DoesLevel types texts fs f a v in_loop s (left 0 keyword (Returns keyword) s)
     return_does never keyword = record {
-      does = left_does types texts fs f a setting v in_loop s h 0 keyword (Returns keyword) (record { statement = refl; tests = refl; breaks = refl; plain = refl; formed = refl }) (λ k knows. return_leaves s keyword k) (λ gives o. absurd (never gives));
+      does = left_does types texts fs f a setting v in_loop s h 0 keyword (Returns keyword) (record { statement = refl; tests = refl; breaks = refl; plain = refl; formed = refl; served = refl }) (λ k knows. return_leaves s keyword k) (λ gives o. absurd (never gives));
       level = left_level types texts fs f s 0 keyword (Returns keyword);
     }
 
@@ -121,8 +119,8 @@ module _ (a : Around) (types : Types) (texts : ℕ) (fs : List Function) (f : Fu
       made : Makes types texts fs f (Some (result_local a)) s w (a_number types texts fs f t)
       made = whole_is.valued (given_number a.program.types t e worth r.1) t worth (Some (result_local a)) s (register worth) h.stands
 
-      later : Follows types fs f a v w.state
-      later = follows_grown types fs f a v s w.state made.grown h
+      later : Follows types f a v w.state
+      later = follows_grown types f a v s w.state made.grown h
 
       abbrev ending : List ℕ
       ending = reverse (drop 0 w.state.living)
@@ -145,22 +143,22 @@ module _ (a : Around) (types : Types) (texts : ℕ) (fs : List Function) (f : Fu
         behind = write (Returns keyword) (with_code (w.state.code ++ d.code) w.state)
 
         -- what is known where control returns
-        known_there : Begins types f w.state → (o : Knowing) → MayKnow types fs f s.living o → IsKnownNumber (result_local a) (flow types fs f (trees d.code) (flow types fs f (trees made.code) o).next).next
+        known_there : Begins types f w.state → (o : Knowing) → MayKnow f s.living o → IsKnownReady (result_local a) (flow types f (trees d.code) (flow types f (trees made.code) o).next).next
         known_there b None known =
-            nowhere_number (result_local a) (flow types fs f (trees d.code) (flow types fs f (trees made.code) None).next).next
-            (nowhere_flows types fs f (trees d.code) (flow types fs f (trees made.code) None).next (nowhere_flows types fs f (trees made.code) None refl).next).next
+            nowhere_ready (result_local a) (flow types f (trees d.code) (flow types f (trees made.code) None).next).next
+            (nowhere_flows types f (trees d.code) (flow types f (trees made.code) None).next (nowhere_flows types f (trees made.code) None refl).next).next
         known_there b (Some k) known =
-            let g = (made.runs b tt).goes k (knows_alive types fs f a v s k known) tt in
+            let g = (made.runs b tt).goes k (knows_alive types f a v s k known) tt in
             let mid = made_knows types texts fs f a v in_loop (Some (result_local a)) s w (a_number types texts fs f t) h made b k known g in
-            subst (λ (q : Flow). IsKnownNumber (result_local a) (flow types fs f (trees d.code) q.next).next) (sym g.falls)
-            (subst (λ (q : Flow). IsKnownNumber (result_local a) q.next) (sym (d.falls g.after (past_ready types texts fs f a setting v w.state later b 0 g.after mid)))
+            subst (λ (q : Flow). IsKnownReady (result_local a) (flow types f (trees d.code) q.next).next) (sym g.falls)
+            (subst (λ (q : Flow). IsKnownReady (result_local a) q.next) (sym (d.falls g.after (end_ready f w.state.living 0 0 later.ascend g.after mid)))
             (blank_beside ending g.after (result_local a) not_ending
             ∙ ap (known_at g.after) (sym (whole_is.lands (given_number a.program.types t e worth r.1) t (result_local a) s))
             ∙ g.gives.1))
 
         returned_from : Does types texts fs f a v in_loop s behind
         returned_from = record {
-          adds = grows_adds types fs f s w.state made.grown;
+          adds = grows_adds types f s w.state made.grown;
           locals = locals_added types a s w.state made.grown.types made.registers;
           order = made.registers.1;
           follows = later;
@@ -171,17 +169,17 @@ module _ (a : Around) (types : Types) (texts : ℕ) (fs : List Function) (f : Fu
               ∙ append_assoc s.code made.code back;
           acts = acting;
           returns = λ b gives o known.
-              let between : Knowing = (flow types fs f (trees made.code) o).next in
-              known_append types fs f (result_local a) made.code back o (fine_known types fs f (result_local a) texts made.code (made.runs b tt).fine o)
-              (known_append types fs f (result_local a) d.code (Returns keyword ∷ []) between (fine_known types fs f (result_local a) texts d.code (past_fine types texts fs f a setting v w.state later b 0 keyword d) between)
+              let between : Knowing = (flow types f (trees made.code) o).next in
+              known_append types f (result_local a) made.code back o (fine_known types f (result_local a) texts fs made.code (made.runs b tt).fine o)
+              (known_append types f (result_local a) d.code (Returns keyword ∷ []) between (fine_known types f (result_local a) texts fs d.code (past_fine types texts fs f a setting v w.state later b 0 keyword d) between)
               (known_there b o known, tt));
         }
           where
             acting : Begins types f w.state → Acting types texts fs f in_loop s behind (made.code ++ back)
             acting b =
-                acts_then types texts fs f in_loop s w.state behind made.code back h.outside (grows_adds types fs f s w.state made.grown)
+                acts_then types texts fs f in_loop s w.state behind made.code back h.outside (grows_adds types f s w.state made.grown)
                 (made_acts types texts fs f a v in_loop (Some (result_local a)) s w (a_number types texts fs f t) h made b)
-                (left_acts types texts fs f a setting v in_loop w.state later 0 keyword (Returns keyword) (record { statement = refl; tests = refl; breaks = refl; plain = refl; formed = refl }) (λ k knows. return_leaves w.state keyword k) d b)
+                (left_acts types texts fs f a setting v in_loop w.state later 0 keyword (Returns keyword) (record { statement = refl; tests = refl; breaks = refl; plain = refl; formed = refl; served = refl }) (λ k knows. return_leaves w.state keyword k) d b)
 
       pub value_returned : DoesLevel types texts fs f a v in_loop s (left 0 keyword (Returns keyword) w.state)
       value_returned =

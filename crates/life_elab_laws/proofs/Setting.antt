@@ -1,13 +1,13 @@
 -- Where a function is written: in a program that is built, whose core functions take and give what they should.
-use Rattle.std.proofs.Common.{◌≡◌, ◌⊎◌, ℕ, true, false, List, None, Some, slice_get}
-use Rattle.life_types.specs.Types.{Types}
+use Rattle.std.proofs.Common.{◌≡◌, ℕ, true, false, List, None, Some, slice_get}
+use Rattle.life_types.specs.Types.{Types, class_at}
+use Rattle.life_types.specs.declared.ty.Class.TheVariants.{Value}
 use Rattle.life_types.specs.declared.ty.Ty.{Ty}
 use Rattle.life_types.specs.declared.ty.TyId.{TyId}
 use Rattle.life_built.specs.Built.{are_built_functions, are_built_variables, is_built_result}
 use Rattle.life_typed.specs.BaseTypes.{is_value, type_at}
 use Rattle.life_typed.specs.Programs.{FunctionForm}
 use Rattle.life_core.specs.Function.{Function}
-use Rattle.life_core.specs.Holdings.{ANumber, Blank, result_sort}
 use Rattle.life_core.specs.declared.program.Local.{Local}
 use Rattle.life_pset.specs.Shapes.{ty_of}
 use Rattle.life_proper.specs.OperandTypes.{is_void}
@@ -23,11 +23,11 @@ pub record Setting (a : Around) (types : Types) (fs : List Function) (f : Functi
   pub functions : are_built_functions a.program.types a.program.functions ≡ true
   pub result : is_built_result a.program.types a.function.result ≡ true
   pub taken : (g : ℕ) (of : FunctionForm) → slice_get a.program.functions g ≡ Some of → (n : ℕ) (id : TyId) → slice_get (parameter_types (Some of)) n ≡ Some id → is_value (type_at a.program.types id) ≡ true
-  pub callees : (g : ℕ) (of : FunctionForm) → slice_get a.program.functions g ≡ Some of → IsCallee a.program.types types fs g of
+  pub callees : (g : ℕ) (of : FunctionForm) → slice_get a.program.functions g ≡ Some of → IsCallee types fs g of
   -- .. and the table has the types of what they give back
   pub results : (g : ℕ) (of : FunctionForm) → slice_get a.program.functions g ≡ Some of → (t : Ty) × (slice_get a.program.types.types of.result.0 ≡ Some t)
   -- the function itself gives a value back, or nothing; its locals without names are registers, and the others variables
-  pub gives : (result_sort types f ≡ Blank) ⊎ (result_sort types f ≡ ANumber)
+  pub gives : class_at types f.result ≡ Value
   pub shaped : AreShaped types f.locals
   -- .. and that of the result has none
   pub nameless : (l : Local) → slice_get f.locals f.parameters ≡ Some l → is_void (ty_of types f.result) ≡ false → l.name ≡ None

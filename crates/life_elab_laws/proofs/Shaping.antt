@@ -1,16 +1,20 @@
 -- The shape of what is written: statements and conditions where they belong, straight before tests, with no break or continue outside of a loop,
--- plain, and well formed.
+-- plain, well formed, and served so far.
 use Rattle.std.proofs.Common.{◌≡◌, ℕ, Bool, true, false, ◌&&◌, List, [], ◌∷◌, ◌++◌, refl, sym, ◌∙◌}
 use Rattle.std.proofs.lemmas.Bool.{and_from, and_parts, false≢true}
+use Rattle.std.proofs.lemmas.List.Folds.{list_all-append}
+use Rattle.std.specs.List.{list_all}
 use Rattle.life_types.specs.Types.{Types}
 use Rattle.life_types.specs.declared.place.Place.{Place}
 use Rattle.life_core.specs.ByValue.{is_by_value}
 use Rattle.life_core.specs.Function.{Function}
+use Rattle.life_core.specs.Served.{is_served_spot, is_served_step, is_served_test}
 use Rattle.life_core.specs.Shape.{breaks_inside, is_condition, is_statement, is_straight, test_straight, tests_straight}
 use Rattle.life_core.specs.Step.{Step, Test}
-use Rattle.life_core.specs.Tree.{Tree, Skip, Then, Acts, Asks, Both, Either, Negated, Choice, Turns, Breaks, Continues, Returns, Stops, trees}
+use Rattle.life_core.specs.Tree.{Tree, Skip, Then, Acts, Asks, Both, Either, Negated, Choice, Turns, Breaks, Continues, Returns, Stops, spots, trees}
 use Rattle.life_proper.specs.Plain.{is_plain_tree}
 use Rattle.life_proper.specs.WellFormed.{is_well_formed_step, is_well_formed_test, is_well_formed_tree}
+use Rattle.life_proper.proofs.SpotTests.{three_parts, two_parts}
 
 -- a test that holds of two parts where it holds of both
 module _ (P : Tree → Bool) (skip : P Skip ≡ true) (both : (a b : Tree) → P (Then a b) ≡ (P a && P b)) where
@@ -57,6 +61,16 @@ module _ (types : Types) (texts : ℕ) (fs : List Function) (f : Function) where
   abbrev is_formed : Tree → Bool
   is_formed t = is_well_formed_tree types texts fs f t
 
+  -- each point is served
+  abbrev pub is_served_tree : Tree → Bool
+  is_served_tree t = list_all (is_served_spot types f) (spots t)
+
+  served_both : (a b : Tree) → is_served_tree a ≡ true → is_served_tree b ≡ true → is_served_tree (Then a b) ≡ true
+  served_both a b first second = two_parts (is_served_spot types f) (spots a) (spots b) true true first second
+
+  served_all : (a b c : Tree) → is_served_tree a ≡ true → is_served_tree b ≡ true → is_served_tree c ≡ true → is_served_tree (Choice a b c) ≡ true
+  served_all a b c first second third = three_parts (is_served_spot types f) (spots a) (spots b) (spots c) true true true first second third
+
   -- ---- conditions
 
   pub record IsFineTest (t : Tree) : Type 0 where
@@ -65,9 +79,10 @@ module _ (types : Types) (texts : ℕ) (fs : List Function) (f : Function) where
     pub breaks : (in_loop : Bool) → breaks_inside in_loop t ≡ true
     pub plain : is_plain_tree types fs f t ≡ true
     pub formed : is_well_formed_tree types texts fs f t ≡ true
+    pub served : is_served_tree t ≡ true
 
-  pub fine_asks : (place : Place) (t : Test) → is_well_formed_test types texts fs f t ≡ true → IsFineTest (Asks place t)
-  fine_asks place t e = record { condition = refl; straight = refl; breaks = λ in_loop. refl; plain = refl; formed = e }
+  pub fine_asks : (place : Place) (t : Test) → is_well_formed_test types texts fs f t ≡ true → is_served_test types f t ≡ true → IsFineTest (Asks place t)
+  fine_asks place t e g = record { condition = refl; straight = refl; breaks = λ in_loop. refl; plain = refl; formed = e; served = and_from (is_served_test types f t) true g refl }
 
   pub fine_both : (a b : Tree) → IsFineTest a → IsFineTest b → IsFineTest (Both a b)
   fine_both a b first second = record {
@@ -76,6 +91,7 @@ module _ (types : Types) (texts : ℕ) (fs : List Function) (f : Function) where
     breaks = λ in_loop. and_from (breaks_inside in_loop a) (breaks_inside in_loop b) (first.breaks in_loop) (second.breaks in_loop);
     plain = and_from (is_plain a) (is_plain b) first.plain second.plain;
     formed = and_from (is_formed a) (is_formed b) first.formed second.formed;
+    served = served_both a b first.served second.served;
   }
 
   pub fine_either : (a b : Tree) → IsFineTest a → IsFineTest b → IsFineTest (Either a b)
@@ -85,10 +101,11 @@ module _ (types : Types) (texts : ℕ) (fs : List Function) (f : Function) where
     breaks = λ in_loop. and_from (breaks_inside in_loop a) (breaks_inside in_loop b) (first.breaks in_loop) (second.breaks in_loop);
     plain = and_from (is_plain a) (is_plain b) first.plain second.plain;
     formed = and_from (is_formed a) (is_formed b) first.formed second.formed;
+    served = served_both a b first.served second.served;
   }
 
   pub fine_negated : (a : Tree) → IsFineTest a → IsFineTest (Negated a)
-  fine_negated a h = record { condition = h.condition; straight = h.straight; breaks = h.breaks; plain = h.plain; formed = h.formed }
+  fine_negated a h = record { condition = h.condition; straight = h.straight; breaks = h.breaks; plain = h.plain; formed = h.formed; served = h.served }
 
   -- ---- statements, in a loop or outside
 
@@ -98,9 +115,10 @@ module _ (types : Types) (texts : ℕ) (fs : List Function) (f : Function) where
     pub breaks : breaks_inside in_loop t ≡ true
     pub plain : is_plain_tree types fs f t ≡ true
     pub formed : is_well_formed_tree types texts fs f t ≡ true
+    pub served : is_served_tree t ≡ true
 
   pub stated_none : (in_loop : Bool) → IsStated in_loop Skip
-  stated_none in_loop = record { statement = refl; tests = refl; breaks = refl; plain = refl; formed = refl }
+  stated_none in_loop = record { statement = refl; tests = refl; breaks = refl; plain = refl; formed = refl; served = refl }
 
   pub stated_alone : (in_loop : Bool) (t : Tree) → IsStated in_loop t → IsStated in_loop (trees (t ∷ []))
   stated_alone in_loop t h = record {
@@ -109,6 +127,7 @@ module _ (types : Types) (texts : ℕ) (fs : List Function) (f : Function) where
     breaks = and_from (breaks_inside in_loop t) true h.breaks refl;
     plain = and_from (is_plain t) true h.plain refl;
     formed = and_from (is_formed t) true h.formed refl;
+    served = served_both t Skip h.served refl;
   }
 
   pub stated_append : (in_loop : Bool) (c d : List Tree) → IsStated in_loop (trees c) → IsStated in_loop (trees d) → IsStated in_loop (trees (c ++ d))
@@ -118,6 +137,7 @@ module _ (types : Types) (texts : ℕ) (fs : List Function) (f : Function) where
     breaks = all_append (breaks_inside in_loop) refl (λ a b. refl) c d first.breaks second.breaks;
     plain = all_append (is_plain_tree types fs f) refl (λ a b. refl) c d first.plain second.plain;
     formed = all_append (is_well_formed_tree types texts fs f) refl (λ a b. refl) c d first.formed second.formed;
+    served = all_append is_served_tree refl (λ a b. list_all-append (is_served_spot types f) (spots a) (spots b)) c d first.served second.served;
   }
 
   pub stated_choice : (in_loop : Bool) (t a b : Tree) → IsFineTest t → IsStated in_loop a → IsStated in_loop b → IsStated in_loop (Choice t a b)
@@ -127,6 +147,7 @@ module _ (types : Types) (texts : ℕ) (fs : List Function) (f : Function) where
     breaks = and_from (breaks_inside in_loop t) _ (test.breaks in_loop) (and_from (breaks_inside in_loop a) (breaks_inside in_loop b) first.breaks second.breaks);
     plain = and_from (is_plain t) _ test.plain (and_from (is_plain a) (is_plain b) first.plain second.plain);
     formed = and_from (is_formed t) _ test.formed (and_from (is_formed a) (is_formed b) first.formed second.formed);
+    served = served_all t a b test.served first.served second.served;
   }
 
   pub stated_turns : (in_loop : Bool) (t body step : Tree) → IsFineTest t → IsStated true body → IsStated false step → IsStated in_loop (Turns t body step)
@@ -137,6 +158,7 @@ module _ (types : Types) (texts : ℕ) (fs : List Function) (f : Function) where
         (and_from (breaks_inside true body) (breaks_inside in_loop step) first.breaks (breaks_anywhere in_loop step second.breaks));
     plain = and_from (is_plain t) _ test.plain (and_from (is_plain body) (is_plain step) first.plain second.plain);
     formed = and_from (is_formed t) _ test.formed (and_from (is_formed body) (is_formed step) first.formed second.formed);
+    served = served_all t body step test.served first.served second.served;
   }
 
   -- ---- code of an expression
@@ -154,10 +176,17 @@ module _ (types : Types) (texts : ℕ) (fs : List Function) (f : Function) where
     stated = λ in_loop. stated_append in_loop c d (first.stated in_loop) (second.stated in_loop);
   }
 
-  pub fine_acts : (place : Place) (i : Step) → is_by_value types fs f i ≡ true → is_well_formed_step types texts fs f i ≡ true → IsFine (Acts place i ∷ [])
-  fine_acts place i e g = record {
+  -- an instruction by itself
+  pub record IsFineStep (i : Step) : Type 0 where
+    pub plain : is_by_value types fs f i ≡ true
+    pub formed : is_well_formed_step types texts fs f i ≡ true
+    pub served : is_served_step types f i ≡ true
+
+  pub fine_acts : (place : Place) (i : Step) → IsFineStep i → IsFine (Acts place i ∷ [])
+  fine_acts place i is = record {
     straight = refl;
-    stated = λ in_loop. stated_alone in_loop (Acts place i) (record { statement = refl; tests = refl; breaks = refl; plain = e; formed = g });
+    stated = λ in_loop. stated_alone in_loop (Acts place i)
+        (record { statement = refl; tests = refl; breaks = refl; plain = is.plain; formed = is.formed; served = and_from (is_served_step types f i) true is.served refl });
   }
 
   -- a branch whose branches are straight
@@ -175,4 +204,5 @@ module _ (types : Types) (texts : ℕ) (fs : List Function) (f : Function) where
     breaks = λ in_loop. and_from (breaks_inside in_loop (trees c)) (breaks_inside in_loop t) (first.stated in_loop).breaks (second.breaks in_loop);
     plain = and_from (is_plain (trees c)) (is_plain t) one.plain second.plain;
     formed = and_from (is_formed (trees c)) (is_formed t) one.formed second.formed;
+    served = served_both (trees c) t one.served second.served;
   }

@@ -17,7 +17,7 @@ use Rattle.life_core.specs.Tree.{Node, Action, Question, Return, Stop}
 use Rattle.life_core.specs.declared.program.Local.{Local}
 use Rattle.life_core.specs.declared.program.LocalKind.{LocalKind}
 use Rattle.life_core.specs.declared.program.LocalKind.TheVariants.{Object, Register, Range}
-use Rattle.life_proper.specs.Knowing.{is_register}
+use Rattle.life_core.specs.Kinds.{is_register}
 use Rattle.life_pset.specs.Elements.{AreShort, causes_of_end, caused_at, caused_elements, elements_of, end_elements, input_places, inputs_among, inputs_from, inputs_of, local_inputs, local_place, locations_in, node_elements, object_places, objects_from, places_in, pointers_in, step_elements}
 use Rattle.life_pset.specs.Shapes.{is_variable, or_void, referred, shape, shape_if, ty_of, unslotted}
 use Rattle.life_pset.specs.declared.element.AbsPlace.{AbsPlace}

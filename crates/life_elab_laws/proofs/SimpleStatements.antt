@@ -16,21 +16,22 @@ use Rattle.life_elab_laws.proofs.Following.{Follows}
 use Rattle.life_elab_laws.proofs.Gifts.{nothing}
 use Rattle.life_elab_laws.proofs.Parts.{leaf_part, then_part}
 use Rattle.life_elab_laws.proofs.Setting.{Setting}
-use Rattle.life_elab_laws.proofs.Simples.{Acts, item_part, simple_part}
+use Rattle.life_elab_laws.proofs.Outputs.{item_part}
+use Rattle.life_elab_laws.proofs.Simples.{Acts, simple_part}
 use Rattle.life_elab_laws.proofs.VariablePlaces.{Stands, stands_later}
 
 module _ (a : Around) (types : Types) (texts : ℕ) (fs : List Function) (f : Function) (setting : Setting a types fs f) (v : Visible) (in_loop : Bool) where
-  acts_does : (s s' : State) → Follows types fs f a v s → Acts a v.visible types texts fs f setting s s' → DoesLevel types texts fs f a v in_loop s s'
+  acts_does : (s s' : State) → Follows types f a v s → Acts a v.visible types texts fs f setting s s' → DoesLevel types texts fs f a v in_loop s s'
   acts_does s s' follows part = record { does = does_made types texts fs f a v in_loop None s (gives tt s') (nothing types texts fs f) follows part; level = part.grown.living }
 
-  pub simple_does : (it : SimpleForm) (s : State) → is_built_simple it ≡ true → IsSimple a.program a.function.locals a.function.result v.visible it → Follows types fs f a v s → DoesLevel types texts fs f a v in_loop s (simple a it s)
+  pub simple_does : (it : SimpleForm) (s : State) → is_built_simple it ≡ true → IsSimple a.program a.function.locals a.function.result v.visible it → Follows types f a v s → DoesLevel types texts fs f a v in_loop s (simple a it s)
   simple_does it s b h follows = acts_does s (simple a it s) follows (simple_part a v.visible types texts fs f setting it s b h follows.stands)
 
-  pub items_do : nat_lt (end_line a) texts ≡ true → (these : List ItemForm) (s : State) → are_built_items these ≡ true → AreItems a.program a.function.locals a.function.result v.visible these → Follows types fs f a v s
+  pub items_do : nat_lt (end_line a) texts ≡ true → (these : List ItemForm) (s : State) → are_built_items these ≡ true → AreItems a.program a.function.locals a.function.result v.visible these → Follows types f a v s
       → DoesLevel types texts fs f a v in_loop s (items a these s)
   items_do lines these s b h follows = acts_does s (items a these s) follows (go these s b h follows.stands)
     where
-      go : (these : List ItemForm) (s : State) → are_built_items these ≡ true → AreItems a.program a.function.locals a.function.result v.visible these → Stands types fs f a v.visible s
+      go : (these : List ItemForm) (s : State) → are_built_items these ≡ true → AreItems a.program a.function.locals a.function.result v.visible these → Stands a v.visible s
           → Acts a v.visible types texts fs f setting s (items a these s)
       go [] s b h stands = leaf_part types texts fs f tt s (nothing types texts fs f) (λ b. tt) (λ b k alive. tt)
       go (i ∷ others) s b h stands =
@@ -38,4 +39,4 @@ module _ (a : Around) (types : Types) (texts : ℕ) (fs : List Function) (f : Fu
           let first = item_part a v.visible types texts fs f setting lines i s parts.0 h.0 stands in
           let none = nothing types texts fs f in
           then_part types texts fs f none tt None s (gives tt (item a i s)) (gives tt (items a others (item a i s))) none none stands.opened first
-          (go others (item a i s) parts.1 h.1 (stands_later types fs f a v.visible s (item a i s) first.grown stands))
+          (go others (item a i s) parts.1 h.1 (stands_later a v.visible s (item a i s) first.grown stands))

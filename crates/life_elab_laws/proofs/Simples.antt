@@ -1,5 +1,5 @@
--- Assignments, steps, calls that stand alone, and output.
-use Rattle.std.proofs.Common.{◌≡◌, ◌⊎◌, inl, inr, ◌<◌, ℕ, Bool, true, false, List, Contains, cond, length, nat_lt, not, slice_set, Option, Some, None, refl, sym, ap, ◌∙◌, subst, arith}
+-- Assignments, steps, and calls that stand alone.
+use Rattle.std.proofs.Common.{◌≡◌, ◌⊎◌, inl, inr, ℕ, Bool, true, false, List, [], ◌∷◌, Contains, cond, not, Option, Some, None, refl, sym, ap, ◌∙◌, subst, arith}
 use Rattle.std.proofs.lemmas.Bool.{and_from, and_parts, false≢true}
 use Rattle.std.specs.Prelude.{pos}
 use Rattle.life_types.specs.Types.{Types}
@@ -9,64 +9,59 @@ use Rattle.life_types.specs.declared.ty.Ty.TheVariants as ty
 use Rattle.life_types.specs.declared.ty.TyId.{TyId}
 use Rattle.life_tree.specs.declared.operator.CompoundOperator.{CompoundOperator}
 use Rattle.life_tree.specs.declared.operator.StepOperator.{StepOperator}
-use Rattle.life_built.specs.Built.{is_built_expression, is_built_item, is_built_simple}
+use Rattle.life_built.specs.Built.{is_built_expression, is_built_simple}
 use Rattle.life_typed.specs.BaseTypes.{is_raw, is_value, type_at}
 use Rattle.life_typed.specs.Operators.{promoted}
 use Rattle.life_typed.specs.Statements.{can_step, compounded}
 use Rattle.life_typed.specs.TypedForm.{Typed, whole as whole_form}
-use Rattle.life_typed.specs.TypedStatement.{ItemForm, SimpleForm, assign, compound, discarded, line_end, one, printed, several, step}
+use Rattle.life_typed.specs.TypedStatement.{SimpleForm, assign, compound, discarded, one, several, step}
 use Rattle.life_typed.specs.declared.typed_expr.ExprType.{ExprType}
 use Rattle.life_typed.specs.declared.typed_expr.ExprType.TheVariants.{Of}
 use Rattle.life_type_expr.specs.Lists.{fits_at_all}
 use Rattle.life_core.specs.Function.{Function}
-use Rattle.life_core.specs.Holdings.{ANumber, AView, Holding}
-use Rattle.life_core.specs.Operands.{Operand, Text, whole as whole_local}
-use Rattle.life_core.specs.Step.{Aim, Ports, Save, Writes, WritesView}
+use Rattle.life_core.specs.Operands.{Operand}
+use Rattle.life_core.specs.Step.{Save}
+use Rattle.life_core.specs.Touched.{place_uses}
 use Rattle.life_core.specs.declared.operation.Operation.TheVariants as operation
 use Rattle.life_core.specs.declared.operation.Operator.{Operator}
-use Rattle.life_proper.specs.Knowing.{known_as, known_at, same}
-use Rattle.life_proper.specs.OperandTypes.{is_promoted, is_view}
-use Rattle.life_proper.specs.Placed.{is_const_place, is_number_of, type_in, type_of}
-use Rattle.life_proper.specs.ReadyKnown.{holds, is_operand_ready, is_source_ready}
-use Rattle.life_proper.specs.WellFormed.{answer_of, is_source_of}
+use Rattle.life_proper.specs.OperandTypes.{is_promoted}
+use Rattle.life_proper.specs.Placed.{is_const_place, is_number_of, type_of}
+use Rattle.life_proper.specs.ReadyKnown.{are_known, is_known}
+use Rattle.life_proper.specs.WellFormed.{answer_of}
 use Rattle.life_proper.specs.declared.known.Known.{Known}
 use Rattle.life_proper.specs.declared.known.Known.TheVariants as known
 use Rattle.life_well_typed.specs.Expressions.{IsExpression, parameter_types}
 use Rattle.life_well_typed.specs.Given.{is_given, is_number}
-use Rattle.life_well_typed.specs.Statements.{IsItem, IsSimple, ends_in_arguments}
+use Rattle.life_well_typed.specs.Statements.{IsSimple, ends_in_arguments}
+use Rattle.life_proper.proofs.ReadyTests.{uses_ready}
 use Rattle.life_writer.specs.Around.{Around, own_type}
 use Rattle.life_writer.specs.Around as around
 use Rattle.life_writer.specs.Calls.{Called, call_of, called_alone}
 use Rattle.life_writer.specs.Expressions.{handed_over, operand, pointer, pointing, value}
 use Rattle.life_writer.specs.Pointers.{pointed}
-use Rattle.life_writer.specs.Registers.{computed, constant as constant_step, converted, new_register}
+use Rattle.life_writer.specs.Registers.{computed, constant as constant_step, converted}
 use Rattle.life_writer.specs.Values.{read}
 use Rattle.life_writer.specs.Values as values
 use Rattle.life_writer.specs.Writing.{State, emit, gives}
 use Rattle.life_elab.specs.Simples.{assigned, called_for_nothing, combined, compound_operator, discarded as written_alone, discarded_as, held, pointer_assigned, put_back, simple, step_operator, stepped, value_assigned}
-use Rattle.life_elab.specs.Statements.{end_line, item}
-use Rattle.life_elab_laws.proofs.Aiming.{pointed_formed, pointed_keeps, pointed_plain, pointed_ready}
-use Rattle.life_elab_laws.proofs.CallParts.{alone_formed}
-use Rattle.life_elab_laws.proofs.Calls.{alone_plain, alone_ready}
-use Rattle.life_elab_laws.proofs.Emitting.{new_targeted}
+use Rattle.life_elab_laws.proofs.Aiming.{pointed_fine, pointed_keeps, pointed_ready}
+use Rattle.life_elab_laws.proofs.CallParts.{alone_fine}
+use Rattle.life_elab_laws.proofs.Calls.{alone_after, alone_ready}
 use Rattle.life_elab_laws.proofs.ExpressionTypes.{own_value, value_no_raw}
 use Rattle.life_elab_laws.proofs.ExpressionForms.{IsCall, IsForm, IsWhole}
 use Rattle.life_elab_laws.proofs.Expressions.{expression, result_later, whole_expression}
 use Rattle.life_elab_laws.proofs.FormedFits.{given_raw}
-use Rattle.life_elab_laws.proofs.Fronts.{last_there}
 use Rattle.life_elab_laws.proofs.Gifts.{Gift, IsPlaceOf, a_number, a_place, a_pointer, a_pointing, arguments, both, nothing}
 use Rattle.life_elab_laws.proofs.GivenKinds.{given_number, given_pointer}
-use Rattle.life_elab_laws.proofs.Growing.{Begins, Grows, added}
-use Rattle.life_elab_laws.proofs.Held.{number_held, place_ready}
-use Rattle.life_elab_laws.proofs.Instructions.{acted_part, as_type_part, constant_part, converted_part, emit_part, load_part, operator_part}
-use Rattle.life_elab_laws.proofs.Making.{IsNumber, IsOpen, IsPlace, keeps_all}
-use Rattle.life_elab_laws.proofs.OperandsThere.{number_any, type_there}
+use Rattle.life_elab_laws.proofs.Growing.{Grows}
+use Rattle.life_elab_laws.proofs.Held.{place_there, ready_there}
+use Rattle.life_elab_laws.proofs.Instructions.{acted_part, as_type_part, constant_part, converted_part, load_part, operator_part}
+use Rattle.life_elab_laws.proofs.Making.{IsHeld, IsOpen, IsPlace, Keeps, keeps_all}
 use Rattle.life_elab_laws.proofs.OperatorTypes.{promoted_is}
 use Rattle.life_elab_laws.proofs.Parts.{Makes, Part, and_part, gives_part, keep_part, seen_part, then_part, under_part}
 use Rattle.life_elab_laws.proofs.Setting.{Setting}
-use Rattle.life_elab_laws.proofs.SimpleTypes.{IsFree, compound_answer, compounded_numbers, free_place, own_counts, own_plain, own_same, printed_number, step_answer, step_value}
+use Rattle.life_elab_laws.proofs.SimpleTypes.{IsFree, compound_answer, compounded_numbers, free_place, own_counts, own_plain, own_same, step_answer, step_value}
 use Rattle.life_elab_laws.proofs.TypedKinds.{HasKind, a_null, a_number as of_number, a_pointer as of_pointer, no_value, operand_kind, promoted_value, value_place}
-use Rattle.life_elab_laws.proofs.Types.{type_added}
 use Rattle.life_elab_laws.proofs.Values.{by_values}
 use Rattle.life_elab_laws.proofs.VariablePlaces.{Stands, stands_later}
 
@@ -75,7 +70,7 @@ module _ (a : Around) (visible : List ℕ) (types : Types) (texts : ℕ) (fs : L
   Whole e = IsExpression a.program a.function.locals visible (whole_form e)
 
   abbrev Standing : State → Type 0
-  Standing s = Stands types fs f a visible s
+  Standing s = Stands a visible s
 
   abbrev Giving : Type 0 → Type 1
   Giving A = Gift types texts fs f A
@@ -99,17 +94,22 @@ module _ (a : Around) (visible : List ℕ) (types : Types) (texts : ℕ) (fs : L
   abbrev whole : (e : Typed) → is_built_expression e ≡ true → Whole e → IsWhole a visible types texts fs f setting (whole_form e)
   whole e b h = whole_expression a visible types texts fs f setting (whole_form e) b h
 
-  opened_later : (s s' : State) → IsOpen types fs f s → Grows s s' → IsOpen types fs f s'
+  opened_later : (s s' : State) → IsOpen s → Grows s s' → IsOpen s'
   opened_later s s' h g y c = omega (arith, h y (subst (λ (ys : List ℕ). Contains ys y) g.living c), g.count)
 
   -- a number is saved at a place
   saved_part : {A : Type 0} (P : Giving A) (x : A) (t : Ty) (r : ℕ) (o : Operand) (place : Place) (s : State) → (P.typed x → is_number_of types f t r ≡ true) → (P.typed x → IsPlaceOf types texts fs f t false o)
-      → ((n : ℕ) (k : List Known) → P.ready x n k → IsNumber r n k × IsPlace o n k) → Part types texts fs f P x None s (gives tt (emit place (Save o r) s)) no_gift
+      → ((n : ℕ) (k : List Known) → P.ready x n k → IsHeld r n k × IsPlace o n k) → Part types texts fs f P x None s (gives tt (emit place (Save o r) s)) no_gift
   saved_part P x t r o place s number at ready =
       acted_part types texts fs f P x place (Save o r) s
-      (λ h. and_from (is_number_of types f (type_of types f o) r) (not (is_const_place types f o)) (ap (λ (u : Ty). is_number_of types f u r) (at h).typed ∙ number h) (at h).held)
-      (λ n k p. let is = ready n k p in and_from (holds k r ANumber) (is_operand_ready k o) (number_held k r is.0.1) (place_ready o n k is.1))
-      (λ n m k p. keeps_all types fs f m None k) refl
+      (λ h. record {
+        plain = refl;
+        formed = and_from (is_number_of types f (type_of types f o) r) (not (is_const_place types f o)) (ap (λ (u : Ty). is_number_of types f u r) (at h).typed ∙ number h) (at h).held;
+        served = (at h).served;
+      })
+      (λ n k p. let is = ready n k p in
+      uses_ready k (r ∷ place_uses o) [] (and_from (is_known known.Ready k r) (are_known known.Ready k (place_uses o)) (ready_there k r is.0.1) (place_there o n k is.1)))
+      (λ n m k p. keeps_all f m None k)
 
   -- what is written is a place of its own type that isn't const
   free_target : (target : Typed) (at : IsFree a.program.types target) → IsWhole a visible types texts fs f setting (whole_form target) → is_value (own_type target.ty) ≡ true → (s : State) → Standing s
@@ -127,7 +127,7 @@ module _ (a : Around) (visible : List ℕ) (types : Types) (texts : ℕ) (fs : L
       let w = value a (whole_form e) t None s in
       let u = operand a (whole_form target) w.state in
       let first = from.valued (given_number a.program.types t e v given) t v None s tt stands in
-      let second = free_target target at to v w.state (stands_later types fs f a visible s w.state first.grown stands) in
+      let second = free_target target at to v w.state (stands_later a visible s w.state first.grown stands) in
       then_part types texts fs f no_gift tt None s (gives (w.given, u.given) u.state) _ (both_of (a_value t) (a_target t)) no_gift stands.opened
       (and_part types texts fs f no_gift tt s w u (a_value t) (a_target t) stands.opened first second)
       (saved_part (both_of (a_value t) (a_target t)) (w.given, u.given) t w.given u.given equals u.state (λ h. h.0) (λ h. h.1) (λ n k p. p))
@@ -141,14 +141,13 @@ module _ (a : Around) (visible : List ℕ) (types : Types) (texts : ℕ) (fs : L
       let P = a_pointing types texts fs f e.ty in
       let Q = a_pointer types texts fs f u in
       let first = from.points (given_pointer a.program.types u e refl given) s stands in
-      let second = at.pointers u is refl w.state (stands_later types fs f a visible s w.state first.grown stands) in
+      let second = at.pointers u is refl w.state (stands_later a visible s w.state first.grown stands) in
       then_part types texts fs f no_gift tt None s (gives (w.given, l.given) l.state) _ (both_of P Q) no_gift stands.opened
       (and_part types texts fs f no_gift tt s w l P Q stands.opened first second)
       (acted_part types texts fs f (both_of P Q) (w.given, l.given) e.place (pointed l.given w.given) l.state
-      (λ h. pointed_formed types texts fs f l.given u e.ty w.given refl h.1 (given_raw a.program.types types setting.front to constant worth e given) h.0)
-      (λ n k p. pointed_ready types texts fs f l.given n n w.given k p.1 p.0)
-      (λ n m k p. pointed_keeps types texts fs f l.given n m w.given k p.1)
-      (pointed_plain types texts fs f l.given w.given))
+      (λ h. pointed_fine types texts fs f l.given u e.ty w.given refl h.1 (given_raw a.program.types types setting.front to constant worth e given) h.0)
+      (λ n k p. pointed_ready f l.given n n w.given k p.1 p.0)
+      (λ n m k p. pointed_keeps f l.given n n m w.given k p.1 p.0))
 
   assigned_part : (target e : Typed) (equals : Place) (s : State) → (bt : is_built_expression target ≡ true) → (be : is_built_expression e ≡ true) → IsSimple a.program a.function.locals a.function.result visible (assign target equals (one e)) → Standing s
       → Acts s (assigned a target equals (one e) s)
@@ -177,13 +176,13 @@ module _ (a : Around) (visible : List ℕ) (types : Types) (texts : ℕ) (fs : L
   -- ---- assignments that compute, and steps
 
   -- what a place holds, as a value of a type
-  held_part : (target : Typed) (o : Operand) (t : Ty) (s : State) → is_value (own_type target.ty) ≡ true → is_value t ≡ true → IsOpen types fs f s → Part types texts fs f (a_target (own_type target.ty)) o None s (held target o t s) (a_value t)
+  held_part : (target : Typed) (o : Operand) (t : Ty) (s : State) → is_value (own_type target.ty) ≡ true → is_value t ≡ true → IsOpen s → Part types texts fs f (a_target (own_type target.ty)) o None s (held target o t s) (a_value t)
   held_part target o t s v w opened =
       as_type_part types texts fs f (a_target (own_type target.ty)) o (own_type target.ty) t target.place (read (own_type target.ty) target.place (gives o)) None s w tt opened
       (λ into wanted. load_part types texts fs f into (own_type target.ty) false target.place o s v wanted)
 
   -- the answer goes back
-  put_back_part : (target : Typed) (x : (ℕ × ℕ) × Operand) (t : Ty) (place : Place) (o : Operator) (s : State) → is_value (own_type target.ty) ≡ true → is_value t ≡ true → is_promoted t ≡ true → answer_of o t ≡ t → IsOpen types fs f s
+  put_back_part : (target : Typed) (x : (ℕ × ℕ) × Operand) (t : Ty) (place : Place) (o : Operator) (s : State) → is_value (own_type target.ty) ≡ true → is_value t ≡ true → is_promoted t ≡ true → answer_of o t ≡ t → IsOpen s
       → Part types texts fs f (both_of (both_of (a_value t) (a_value t)) (a_target (own_type target.ty))) x None s (gives tt (put_back target x.1 t place (operation.Binary o x.0.0 x.0.1) s)) no_gift
   put_back_part target x t place o s v w p answers opened =
       let u = own_type target.ty in
@@ -209,7 +208,7 @@ module _ (a : Around) (visible : List ℕ) (types : Types) (texts : ℕ) (fs : L
       let l = operand a (whole_form target) r.state in
       let h = held target l.given t l.state in
       let first = from.valued m t w None s tt stands in
-      let second = free_target target at to v r.state (stands_later types fs f a visible s r.state first.grown stands) in
+      let second = free_target target at to v r.state (stands_later a visible s r.state first.grown stands) in
       let P = both_of (a_value t) (a_target u) in
       let Q = both_of P (a_value t) in
       let R = both_of (both_of (a_value t) (a_value t)) (a_target u) in
@@ -257,10 +256,9 @@ module _ (a : Around) (visible : List ℕ) (types : Types) (texts : ℕ) (fs : L
       let callee = setting.callees c.function is.of is.there in
       then_part types texts fs f no_gift tt None s w _ P no_gift stands.opened (is.hands s stands)
       (acted_part types texts fs f P w.given e.place (called_alone c.function w.given) w.state
-      (λ h. alone_formed types texts fs f a.program.types c.function w.given is.of callee h (result_later a visible types texts fs f setting c.function is.of is.there ∙ sym (ap own_type is.own) ∙ ap own_type void))
-      (λ n k p. alone_ready types fs f c.function w.given n a.program.types is.of k callee p)
-      (λ n m k p. keeps_all types fs f m None k)
-      (alone_plain types fs f c.function w.given a.program.types is.of callee))
+      (λ h. alone_fine types texts fs f c.function w.given is.of callee h (result_later a visible types texts fs f setting c.function is.of is.there ∙ sym (ap own_type is.own) ∙ ap own_type void))
+      (λ n k p. alone_ready f c.function (parameter_types (Some is.of)) w.given n k p)
+      (λ n m k p. subst (Keeps f m None k) (sym (alone_after f c.function (parameter_types (Some is.of)) w.given n k p)) (keeps_all f m None k)))
 
   not_void : (e : Typed) (c : Called) (t : Ty) (s : State) → is_value t ≡ true → discarded_as a e (Some c) t s ≡ (value a (whole_form e) t None s).state
   not_void e c t s = by_values (λ t. discarded_as a e (Some c) t s ≡ (value a (whole_form e) t None s).state) refl refl refl refl refl t
@@ -305,46 +303,3 @@ module _ (a : Around) (visible : List ℕ) (types : Types) (texts : ℕ) (fs : L
       stepped_part target o place (promoted (own_type target.ty) (own_type target.ty)) s is (free_place a.program.types target is.kind h.1.0) (own_counts target.ty n)
       (promoted_value (own_type target.ty) (own_type target.ty)) (promoted_is (own_type target.ty) (own_type target.ty)) stands
   simple_part (discarded e) s b h stands = discarded_part e s b h.1 h.0 stands
-
-  -- ---- output
-
-  -- a view in a register
-  abbrev a_view : Giving ℕ
-  a_view = record {
-    typed = λ r. is_view (type_in types f (whole_local r)) ≡ true;
-    ready = λ r n k. (r < n) × (known_at k r ≡ known.View);
-    stays = λ r n m k j h p keeps. (omega (arith, h, p.0), keeps.below r p.0 tt ∙ p.1);
-  }
-
-  -- the end of a line is the last text
-  line_part : (place : Place) (s : State) → nat_lt (end_line a) texts ≡ true → Standing s → Acts s (item a (line_end place) s)
-  line_part place s few stands =
-      let w = new_register place ty.View s in
-      let aimed : State = emit place (Aim (whole_local w.given) (Text (end_line a))) w.state in
-      then_part types texts fs f no_gift tt None s (gives w.given aimed) _ a_view no_gift stands.opened
-      (emit_part types texts fs f no_gift tt None s w AView place (λ r. Aim (whole_local r) (Text (end_line a))) w.given a_view
-      (new_targeted types fs f place ty.View AView s refl refl tt)
-      (λ b p. (ap (λ (t : Ty). is_source_of types texts fs f t (Text (end_line a))) (at_view b) ∙ and_from true (nat_lt (end_line a) texts) refl few, ap is_view (at_view b)))
-      (λ r n k e p. ap (λ (h : Holding). is_source_ready k (known_as h) (Text (end_line a))) e)
-      (λ r k e. ap (λ (h : Holding). slice_set k r (known_as h)) e)
-      (λ r e. refl)
-      (λ k lt e sort. (lt, e)))
-      (acted_part types texts fs f a_view w.given place (Ports (WritesView (whole_local w.given))) aimed (λ h. h)
-      (λ n k p. ap (λ (b : Known). same b known.View) p.1)
-      (λ n m k p. keeps_all types fs f m None k) refl)
-    where
-      at_view : Begins types f (new_register place ty.View s).state → type_in types f (whole_local (length s.locals)) ≡ ty.View
-      at_view b =
-          type_there types f (length s.locals) (added place ty.View s) ty.View (b.locals (length s.locals) (added place ty.View s) (last_there s.locals (added place ty.View s)))
-          (b.table (added place ty.View s).ty.0 ty.View (type_added s.types.types ty.View)) refl
-
-  printed_part : (e : Typed) (s : State) → IsWhole a visible types texts fs f setting (whole_form e) → is_number e.ty ≡ true → Standing s → Acts s (item a (printed e) s)
-  printed_part e s is n stands =
-      let t = own_type e.ty in
-      let w = value a (whole_form e) t None s in
-      then_part types texts fs f no_gift tt None s w _ (a_value t) no_gift stands.opened (is.valued n t (own_value e.ty n) None s tt stands)
-      (acted_part types texts fs f (a_value t) w.given e.place (Ports (Writes w.given)) w.state (λ h. number_any types f t w.given h) (λ n k p. number_held k w.given p.1) (λ n m k p. keeps_all types fs f m None k) refl)
-
-  pub item_part : nat_lt (end_line a) texts ≡ true → (i : ItemForm) (s : State) → is_built_item i ≡ true → IsItem a.program a.function.locals a.function.result visible i → Standing s → Acts s (item a i s)
-  item_part lines (printed e) s b h stands = let is = whole e b h.1 in printed_part e s is (printed_number a.program.types e is.kind.kind h.0) stands
-  item_part lines (line_end place) s b h stands = line_part place s lines stands

@@ -71,28 +71,28 @@ module _ (a : Around) (types : Types) (texts : ℕ) (fs : List Function) (f : Fu
 
   -- ---- the parts of loops
 
-  pub decided : (v : Visible) (e : Typed) (s : State) → is_built_expression e ≡ true → Decides a.program a.function.locals a.function.result v.visible e → Follows types fs f a v s → Tests types texts fs f s (condition a (whole_form e) s)
+  pub decided : (v : Visible) (e : Typed) (s : State) → is_built_expression e ≡ true → Decides a.program a.function.locals a.function.result v.visible e → Follows types f a v s → Tests types texts fs f s (condition a (whole_form e) s)
   decided v e s b h follows = (whole_expression a v.visible types texts fs f setting (whole_form e) b h.1).conditions h.0 s follows.stands
 
-  pub decided_or_true : (v : Visible) (keyword : Place) (e : Option Typed) (s : State) → is_built_if_any e ≡ true → DecidesIfAny a.program a.function.locals a.function.result v.visible e → Follows types fs f a v s
+  pub decided_or_true : (v : Visible) (keyword : Place) (e : Option Typed) (s : State) → is_built_if_any e ≡ true → DecidesIfAny a.program a.function.locals a.function.result v.visible e → Follows types f a v s
       → Tests types texts fs f s (condition_or_true a keyword e s)
   decided_or_true v keyword None s b h follows =
       non_zero_part types texts fs f keyword ty.Bool (computed None ty.Bool keyword (constant (pos 1))) s (constant_part types texts fs f None ty.Bool keyword (pos 1) (with_code [] s) refl tt)
   decided_or_true v keyword (Some e) s b h follows = decided v e s b h follows
 
-  pub stepped : (v : Visible) (it : Option SimpleForm) (s : State) → is_built_step it ≡ true → IsSimpleIfAny a.program a.function.locals a.function.result v.visible it → Follows types fs f a v s → DoesLevel types texts fs f a v false s (simple_if a it s)
+  pub stepped : (v : Visible) (it : Option SimpleForm) (s : State) → is_built_step it ≡ true → IsSimpleIfAny a.program a.function.locals a.function.result v.visible it → Follows types f a v s → DoesLevel types texts fs f a v false s (simple_if a it s)
   stepped v None s b h follows = record { does = does_nothing types texts fs f a v false s follows; level = refl }
   stepped v (Some it) s b h follows = simple_does a types texts fs f setting v false it s b h follows
 
-  pub begun : (v : Visible) (in_loop : Bool) (start : Option ForStartForm) (s : State) → is_built_start a.program.types a.function.locals start ≡ true → IsStart a.program a.function.locals a.function.result start v → Follows types fs f a v s
+  pub begun : (v : Visible) (in_loop : Bool) (start : Option ForStartForm) (s : State) → is_built_start a.program.types a.function.locals start ≡ true → IsStart a.program a.function.locals a.function.result start v → Follows types f a v s
       → Does types texts fs f a (after_start start v) in_loop s (started a start s)
   begun v in_loop None s b h follows = does_nothing types texts fs f a v in_loop s follows
   begun v in_loop (Some (declared_first d)) s b h follows = declaration_does a types texts fs f setting v in_loop d s follows b h
   begun v in_loop (Some (done_first it)) s b h follows = (simple_does a types texts fs f setting v in_loop it s b h follows).does
 
   -- a loop whose body and step are done
-  pub loop_done : (v u : Visible) (in_loop : Bool) (test : State → Gives Tree) (body step : State → State) (s : State) → Follows types fs f a v s → HasRegister a s → (h : Tests types texts fs f s (test s))
-      → ((s : State) → Follows types fs f a v s → HasRegister a s → DoesLevel types texts fs f a u true s (body s)) → ((s : State) → Follows types fs f a (behind v u) s → DoesLevel types texts fs f a (behind v u) false s (step s))
+  pub loop_done : (v u : Visible) (in_loop : Bool) (test : State → Gives Tree) (body step : State → State) (s : State) → Follows types f a v s → HasRegister a s → (h : Tests types texts fs f s (test s))
+      → ((s : State) → Follows types f a v s → HasRegister a s → DoesLevel types texts fs f a u true s (body s)) → ((s : State) → Follows types f a (behind v u) s → DoesLevel types texts fs f a (behind v u) false s (step s))
       → DoesLevel types texts fs f a (behind v u) in_loop s (looped test body step s)
   loop_done v u in_loop test body step s follows register h inner last =
       let w = test s in
@@ -105,7 +105,7 @@ module _ (a : Around) (types : Types) (texts : ℕ) (fs : List Function) (f : Fu
   -- ---- any statement
 
   mutual
-    pub statement_does : (form : StmtForm) (in_loop : Bool) (v : Visible) (s : State) → is_built_statement a.program.types a.function.locals form ≡ true → IsTyped form in_loop v → Follows types fs f a v s → HasRegister a s → IsDone form in_loop v s
+    pub statement_does : (form : StmtForm) (in_loop : Bool) (v : Visible) (s : State) → is_built_statement a.program.types a.function.locals form ≡ true → IsTyped form in_loop v → Follows types f a v s → HasRegister a s → IsDone form in_loop v s
     statement_does (block items closing) in_loop v s b h follows register =
         let inner = statement_does items in_loop v s b h follows register in
         let t = statement a items s in
@@ -196,8 +196,8 @@ module _ (a : Around) (types : Types) (texts : ℕ) (fs : List Function) (f : Fu
 
     -- the branches of an `if`, with what is done where no condition holds
     pub branches_do : (branches : StmtForm) (in_loop : Bool) (v : Visible) (s : State) → is_built_statement a.program.types a.function.locals branches ≡ true → AreBranches a.program a.function.locals a.function.result branches in_loop v
-        → Follows types fs f a v s → HasRegister a s → (last : State → State) (x : Visible) (over : Bool)
-        → ((t : State) → Follows types fs f a (after branches v) t → HasRegister a t → DoesOver x in_loop over t (last t)) → DoesOver x in_loop (all_end branches && over) s (branches_of a branches last s)
+        → Follows types f a v s → HasRegister a s → (last : State → State) (x : Visible) (over : Bool)
+        → ((t : State) → Follows types f a (after branches v) t → HasRegister a t → DoesOver x in_loop over t (last t)) → DoesOver x in_loop (all_end branches && over) s (branches_of a branches last s)
     branches_do (chain (branch keyword decides closing body) others) in_loop v s b h follows register last x over end =
         let parts = and_parts (is_built_expression decides && is_built_statement a.program.types a.function.locals body) (is_built_statement a.program.types a.function.locals others) b in
         let inner = and_parts (is_built_expression decides) (is_built_statement a.program.types a.function.locals body) parts.0 in
@@ -209,7 +209,7 @@ module _ (a : Around) (types : Types) (texts : ℕ) (fs : List Function) (f : Fu
         let first = level_of body in_loop v (with_code [] w.state) one h.1 in
         let t = statement a body (with_code [] w.state) in
         let u = behind v (after body v) in
-        let again = visible_again types fs f a v (after body v) (with_code [] w.state) t ready first.does.adds first.does.follows first.level in
+        let again = visible_again types f a v (after body v) (with_code [] w.state) t ready first.does.adds first.does.follows first.level in
         let rest = branches_do others in_loop u (with_code [] t) parts.1 h.3 again (register_later a (with_code [] w.state) (with_code [] t) first.does.adds.locals first.does.adds.table there) last x over end in
         let r = branches_of a others last (with_code [] t) in
         record {

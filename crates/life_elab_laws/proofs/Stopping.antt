@@ -40,37 +40,37 @@ stops_end (x ∷ xs) place s h = stops_left s.code _ h
 pub still_stops : (types : Types) (texts : ℕ) (fs : List Function) (f : Function) (a : Around) (v : Visible) (in_loop : Bool) (s s' : State) → Does types texts fs f a v in_loop s s' → stops (trees s.code) ≡ true → stops (trees s'.code) ≡ true
 still_stops types texts fs f a v in_loop s s' does h = subst (λ (c : List Tree). stops (trees c) ≡ true) (sym does.written) (stops_left s.code does.code h)
 
-module _ (types : Types) (fs : List Function) (f : Function) where
+module _ (types : Types) (f : Function) where
   -- ---- no way comes to its end
 
-  condition_next : (t : Tree) → is_condition t ≡ true → (o : Knowing) → (flow types fs f t o).next ≡ None
-  condition_next (Then a b) h o = condition_next b (and_parts (is_statement a) (is_condition b) h).1 (flow types fs f a o).next
+  condition_next : (t : Tree) → is_condition t ≡ true → (o : Knowing) → (flow types f t o).next ≡ None
+  condition_next (Then a b) h o = condition_next b (and_parts (is_statement a) (is_condition b) h).1 (flow types f a o).next
   condition_next (Asks place t) h o = refl
   condition_next (Both a b) h o =
       let parts = and_parts (is_condition a) (is_condition b) h in
-      none_met (flow types fs f a o).next (flow types fs f b (flow types fs f a o).on_true).next (condition_next a parts.0 o) (condition_next b parts.1 (flow types fs f a o).on_true)
+      none_met (flow types f a o).next (flow types f b (flow types f a o).on_true).next (condition_next a parts.0 o) (condition_next b parts.1 (flow types f a o).on_true)
   condition_next (Either a b) h o =
       let parts = and_parts (is_condition a) (is_condition b) h in
-      none_met (flow types fs f a o).next (flow types fs f b (flow types fs f a o).on_false).next (condition_next a parts.0 o) (condition_next b parts.1 (flow types fs f a o).on_false)
+      none_met (flow types f a o).next (flow types f b (flow types f a o).on_false).next (condition_next a parts.0 o) (condition_next b parts.1 (flow types f a o).on_false)
   condition_next (Negated a) h o = condition_next a h o
   condition_next _ h o = absurd (false≢true h)
 
-  pub stops_next : (t : Tree) → is_statement t ≡ true → stops t ≡ true → (o : Knowing) → (flow types fs f t o).next ≡ None
+  pub stops_next : (t : Tree) → is_statement t ≡ true → stops t ≡ true → (o : Knowing) → (flow types f t o).next ≡ None
   stops_next (Then a b) s h o = go (or_cases (stops a) (stops b) h) (stops_next a parts.0) (stops_next b parts.1)
     where
       parts : (is_statement a ≡ true) × (is_statement b ≡ true)
       parts = and_parts (is_statement a) (is_statement b) s
 
-      go : (stops a ≡ true) ⊎ (stops b ≡ true) → (stops a ≡ true → (o : Knowing) → (flow types fs f a o).next ≡ None) → (stops b ≡ true → (o : Knowing) → (flow types fs f b o).next ≡ None) → (flow types fs f b (flow types fs f a o).next).next ≡ None
-      go (inl e) first second = (nowhere_flows types fs f b (flow types fs f a o).next (first e o)).next
-      go (inr e) first second = second e (flow types fs f a o).next
+      go : (stops a ≡ true) ⊎ (stops b ≡ true) → (stops a ≡ true → (o : Knowing) → (flow types f a o).next ≡ None) → (stops b ≡ true → (o : Knowing) → (flow types f b o).next ≡ None) → (flow types f b (flow types f a o).next).next ≡ None
+      go (inl e) first second = (nowhere_flows types f b (flow types f a o).next (first e o)).next
+      go (inr e) first second = second e (flow types f a o).next
   stops_next (Choice t a b) s h o =
       let parts = and_parts (is_condition t) (is_statement a && is_statement b) s in
       let both = and_parts (is_statement a) (is_statement b) parts.1 in
       let over = and_parts (stops a) (stops b) h in
-      let w = flow types fs f t o in
-      let first = flow types fs f a w.on_true in
-      let second = flow types fs f b w.on_false in
+      let w = flow types f t o in
+      let first = flow types f a w.on_true in
+      let second = flow types f b w.on_false in
       none_met w.next _ (condition_next t parts.0 o) (none_met first.next second.next (stops_next a both.0 over.0 w.on_true) (stops_next b both.1 over.1 w.on_false))
   stops_next (Returns place) s h o = refl
   stops_next _ s h o = absurd (false≢true h)

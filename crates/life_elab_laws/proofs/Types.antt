@@ -1,5 +1,5 @@
 -- The number of a type in a table that it was added to, and what a local of a type holds.
-use Rattle.std.proofs.Common.{◌≡◌, ◌⊎◌, inl, inr, Bool, true, false, ◌||◌, List, [], ◌∷◌, ◌++◌, if◌then◌else◌, slice_get, Some, refl, sym, ap, rules}
+use Rattle.std.proofs.Common.{◌≡◌, Bool, true, false, List, [], ◌∷◌, ◌++◌, if◌then◌else◌, slice_get, Some, refl, sym, ap, rules}
 use Rattle.std.specs.List.{list_any}
 use Rattle.std.proofs.lemmas.Bool.{false≢true}
 use Rattle.life_types.specs.Types.{class, with_type}
@@ -7,11 +7,9 @@ use Rattle.life_types.specs.contracts.ty.TyPartialEq.TheImpl.{ghosts as compared
 use Rattle.life_types.specs.declared.ty.Class.{Class}
 use Rattle.life_types.specs.declared.ty.Class.TheVariants.{Value}
 use Rattle.life_types.specs.declared.ty.Ty.{Ty}
-use Rattle.life_types.specs.declared.ty.Ty.TheVariants as ty
-use Rattle.life_core.specs.Holdings.{ANumber, APointer, AnObject, Holding, held_if}
-use Rattle.life_core.specs.declared.program.LocalKind.TheVariants.{Object, Register}
-use Rattle.life_typed.specs.BaseTypes.{is_raw, is_value}
-use Rattle.life_proper.specs.ReadyKnown.{is_sort}
+use Rattle.life_core.specs.Holdings.{AnObject, held_if}
+use Rattle.life_core.specs.declared.program.LocalKind.TheVariants.{Object}
+use Rattle.life_typed.specs.BaseTypes.{is_value}
 use Rattle.life_writer.specs.Registers.{number_of}
 use Rattle.life_writer.specs.Variables.{kind}
 use Rattle.life_elab_laws.proofs.Fronts.{IsFront, front_append, front_itself}
@@ -66,15 +64,3 @@ value_kind t e = ap kind (value_class t e)
 
 pub value_held : (t : Ty) → is_value t ≡ true → held_if (class (Some t)) (kind (class (Some t))) (Some t) ≡ AnObject
 value_held t e = ap (λ (c : Class). held_if c (kind c) (Some t)) (value_class t e)
-
-pub value_register : (t : Ty) → is_value t ≡ true → held_if (class (Some t)) Register (Some t) ≡ ANumber
-value_register t e = ap (λ (c : Class). held_if c Register (Some t)) (value_class t e)
-
-pub raw_register : (t : Ty) → is_raw t ≡ true → held_if (class (Some t)) Register (Some t) ≡ APointer
-raw_register (ty.Raw target constant) e = refl
-raw_register _ e = absurd (false≢true e)
-
--- what a variable holds
-pub object_or_pointer : (h : Holding) → (h ≡ AnObject) ⊎ (h ≡ APointer) → (is_sort h AnObject || is_sort h APointer) ≡ true
-object_or_pointer h (inl e) = ap (λ (g : Holding). is_sort g AnObject || is_sort g APointer) e
-object_or_pointer h (inr e) = ap (λ (g : Holding). is_sort g AnObject || is_sort g APointer) e

@@ -1,5 +1,5 @@
 -- Where the visible variables of a function lie while it is written.
-use Rattle.std.proofs.Common.{◌≡◌, ◌<◌, ℕ, Bool, true, false, ◌||◌, List, Contains, length, slice_get, Option, Some, None, refl, sym, ap, ◌∙◌, subst, unwrap_or, arith}
+use Rattle.std.proofs.Common.{◌≡◌, ◌<◌, ℕ, Bool, true, false, ◌||◌, List, [], ◌∷◌, Contains, length, slice_get, Option, Some, None, refl, sym, ap, ◌∙◌, subst, unwrap_or, arith}
 use Rattle.std.proofs.lemmas.Bool.{false≢true}
 use Rattle.std.proofs.lemmas.Option.{slice_get_within}
 use Rattle.life_types.specs.Types.{Types, class, class_at}
@@ -14,19 +14,17 @@ use Rattle.life_typed.specs.declared.typed_program.TypedLocal.{TypedLocal}
 use Rattle.life_type_expr.specs.Operands.{variable_of}
 use Rattle.life_core.specs.Function.{Function}
 use Rattle.life_core.specs.Operands.{whole}
-use Rattle.life_core.specs.Holdings.{held_by, held_if, sort_of}
+use Rattle.life_core.specs.Touched.{place_uses}
 use Rattle.life_core.specs.declared.program.Local.{Local}
 use Rattle.life_core.specs.declared.program.LocalKind.{LocalKind}
-use Rattle.life_core.specs.declared.program.LocalKind.TheVariants.{Object, Register}
+use Rattle.life_core.specs.declared.program.LocalKind.TheVariants.{Object, Range, Register}
 use Rattle.life_proper.specs.declared.known.Known.{Known}
-use Rattle.life_proper.specs.Knowing.{known_as}
 use Rattle.life_writer.specs.Around.{Around}
 use Rattle.life_writer.specs.Variables.{kind, place_of, place_of_kind, variable, variable_place}
 use Rattle.life_writer.specs.Writing.{State}
 use Rattle.life_elab_laws.proofs.Fronts.{IsFront, front_then}
-use Rattle.life_elab_laws.proofs.Growing.{Begins, Grows, bare}
-use Rattle.life_elab_laws.proofs.Making.{Alive, IsOpen, IsPlace, IsPointer, a_target, an_object}
-use Rattle.life_elab_laws.proofs.Types.{value_held, value_kind}
+use Rattle.life_elab_laws.proofs.Growing.{Grows, bare}
+use Rattle.life_elab_laws.proofs.Making.{Alive, IsOpen, IsPlace, IsPointer}
 use Rattle.life_elab_laws.proofs.Values.{by_values}
 
 -- ---- what a variable is
@@ -63,84 +61,63 @@ pub record IsVariableAtBare (a : Around) (s : State) (x : ℕ) (v : TypedLocal) 
 abbrev pub IsVariableAt : Around → State → ℕ → TypedLocal → Type 0
 IsVariableAt a s x v = IsVariableAtBare a (bare s) x v
 
-module _ (types : Types) (fs : List Function) (f : Function) where
-  -- the table has the program's types, and the visible variables are there
-  pub record StandsBare (a : Around) (visible : List ℕ) (s : State) : Type 0 where
-    pub table : IsFront a.program.types.types s.types.types
-    pub opened : IsOpen types fs f s
-    pub seen : (x : ℕ) (v : TypedLocal) → Contains visible x → slice_get a.function.locals x ≡ Some v → IsVariableAt a s x v
+-- the table has the program's types, and the visible variables are there
+pub record StandsBare (a : Around) (visible : List ℕ) (s : State) : Type 0 where
+  pub table : IsFront a.program.types.types s.types.types
+  pub opened : IsOpen s
+  pub seen : (x : ℕ) (v : TypedLocal) → Contains visible x → slice_get a.function.locals x ≡ Some v → IsVariableAt a s x v
 
-  abbrev pub Stands : Around → List ℕ → State → Type 0
-  Stands a visible s = StandsBare a visible (bare s)
+abbrev pub Stands : Around → List ℕ → State → Type 0
+Stands a visible s = StandsBare a visible (bare s)
 
-  pub stands_later : (a : Around) (visible : List ℕ) (s s' : State) → Grows s s' → Stands a visible s → Stands a visible s'
-  stands_later a visible s s' g h = record {
-    table = front_then a.program.types.types s.types.types s'.types.types h.table g.types;
-    opened = λ y c. omega (arith, h.opened y (subst (λ (ys : List ℕ). Contains ys y) g.living c), g.count);
-    seen = λ x v c at. moved x v (h.seen x v c at);
-  }
-    where
-      moved : (x : ℕ) (v : TypedLocal) → IsVariableAt a s x v → IsVariableAt a s' x v
-      moved x v there = record {
-        local = there.local;
-        there = ap (slice_get s'.locals) same ∙ g.locals (variable s x) there.local there.there;
-        typed = there.typed;
-        kind = there.kind;
-        lives = subst (λ (ys : List ℕ). Contains ys (variable s' x)) (sym g.living) (subst (λ (y : ℕ). Contains s.living y) (sym same) there.lives);
-      }
-        where
-          same : variable s' x ≡ variable s x
-          same = ap (λ (vs : List ℕ). unwrap_or (slice_get vs x) 0) g.variables
-
-  -- ---- what it holds
-
-  module _ (a : Around) (front : IsFront a.program.types.types types.types) (s : State) (b : Begins types f s) (x : ℕ) (v : TypedLocal) (h : IsVariableAt a s x v) where
-    sort_is : (t : Ty) → slice_get a.program.types.types v.ty.0 ≡ Some t → sort_of types f (variable s x) ≡ held_if (class (Some t)) (kind (class (Some t))) (Some t)
-    sort_is t at =
-        ap (held_by types) (b.locals (variable s x) h.local h.there)
-        ∙ ap (λ (o : Option Ty). held_if (class o) h.local.kind o) (ap (λ (i : TyId). slice_get types.types i.0) h.typed ∙ front v.ty.0 t at)
-        ∙ ap (λ (k : LocalKind). held_if (class (Some t)) k (Some t)) (h.kind ∙ ap (λ (o : Option Ty). kind (class o)) at)
-
-    pub kind_is : (t : Ty) → slice_get a.program.types.types v.ty.0 ≡ Some t → h.local.kind ≡ kind (class (Some t))
-    kind_is t at = h.kind ∙ ap (λ (o : Option Ty). kind (class o)) at
-
-    pub place_is : (k : LocalKind) → h.local.kind ≡ k → variable_place s x ≡ place_of_kind k (variable s x)
-    place_is k e = ap (λ (o : Option Local). place_of o (variable s x)) h.there ∙ ap (λ (c : LocalKind). place_of_kind c (variable s x)) e
-
-    below : variable s x < length s.locals
-    below = slice_get_within s.locals (variable s x) h.local h.there
-
-    -- a variable is a place
-    pub variable_there : is_built_variable a.program.types v.ty ≡ true → (k : List Known) → Alive types fs f s k → IsPlace (variable_place s x) (length s.locals) k
-    variable_there built k alive = go (variable_type a.program.types v.ty built)
-      where
-        go : IsVariableType a.program.types v.ty → IsPlace (variable_place s x) (length s.locals) k
-        go (a_value t at e) =
-            an_object (variable s x) (place_is Object (kind_is t at ∙ value_kind t e)) below
-            (alive.living (variable s x) h.lives ∙ ap known_as (sort_is t at ∙ value_held t e))
-        go (a_raw target constant at) =
-            a_target (variable s x) (place_is Register (kind_is (ty.Raw target constant) at)) below
-            (alive.living (variable s x) h.lives ∙ ap known_as (sort_is (ty.Raw target constant) at))
-        go (a_reference target constant at e) =
-            a_target (variable s x) (place_is Register (kind_is (ty.Reference target constant) at)) below
-            (alive.living (variable s x) h.lives ∙ ap known_as (sort_is (ty.Reference target constant) at))
-
-    -- .. and one of a raw pointer type is a pointer
-    pub pointer_there : (target : TyId) (constant : Bool) → type_at a.program.types v.ty ≡ ty.Raw target constant → (k : List Known) → Alive types fs f s k → IsPointer types f (whole (variable s x)) (length s.locals) k
-    pointer_there target constant at k alive = record {
-      local = variable s x;
-      is = refl;
-      below = below;
-      held = alive.living (variable s x) h.lives ∙ ap known_as (sort_is (ty.Raw target constant) (found (slice_get a.program.types.types v.ty.0) refl at));
-      sort = sort_is (ty.Raw target constant) (found (slice_get a.program.types.types v.ty.0) refl at);
+pub stands_later : (a : Around) (visible : List ℕ) (s s' : State) → Grows s s' → Stands a visible s → Stands a visible s'
+stands_later a visible s s' g h = record {
+  table = front_then a.program.types.types s.types.types s'.types.types h.table g.types;
+  opened = λ y c. omega (arith, h.opened y (subst (λ (ys : List ℕ). Contains ys y) g.living c), g.count);
+  seen = λ x v c at. moved x v (h.seen x v c at);
+}
+  where
+    moved : (x : ℕ) (v : TypedLocal) → IsVariableAt a s x v → IsVariableAt a s' x v
+    moved x v there = record {
+      local = there.local;
+      there = ap (slice_get s'.locals) same ∙ g.locals (variable s x) there.local there.there;
+      typed = there.typed;
+      kind = there.kind;
+      lives = subst (λ (ys : List ℕ). Contains ys (variable s' x)) (sym g.living) (subst (λ (y : ℕ). Contains s.living y) (sym same) there.lives);
     }
       where
-        found : (o : Option Ty) → slice_get a.program.types.types v.ty.0 ≡ o → unwrap_or o ty.Void ≡ ty.Raw target constant → slice_get a.program.types.types v.ty.0 ≡ Some (ty.Raw target constant)
-        found None is e = absurd (clash e)
-          where
-            clash : ty.Void ≡ ty.Raw target constant → ⊥
-            clash e = cc
-        found (Some t) is e = is ∙ ap Some e
+        same : variable s' x ≡ variable s x
+        same = ap (λ (vs : List ℕ). unwrap_or (slice_get vs x) 0) g.variables
+
+-- ---- what is known of it
+
+kind_uses : (k : LocalKind) (x : ℕ) → place_uses (place_of_kind k x) ≡ x ∷ []
+kind_uses Object x = refl
+kind_uses Register x = refl
+kind_uses Range x = refl
+
+module _ (a : Around) (s : State) (x : ℕ) (v : TypedLocal) (h : IsVariableAt a s x v) where
+  pub kind_is : (t : Ty) → slice_get a.program.types.types v.ty.0 ≡ Some t → h.local.kind ≡ kind (class (Some t))
+  kind_is t at = h.kind ∙ ap (λ (o : Option Ty). kind (class o)) at
+
+  pub place_is : (k : LocalKind) → h.local.kind ≡ k → variable_place s x ≡ place_of_kind k (variable s x)
+  place_is k e = ap (λ (o : Option Local). place_of o (variable s x)) h.there ∙ ap (λ (c : LocalKind). place_of_kind c (variable s x)) e
+
+  below : variable s x < length s.locals
+  below = slice_get_within s.locals (variable s x) h.local h.there
+
+  -- a variable is a place
+  pub variable_there : (f : Function) (k : List Known) → Alive f s k → IsPlace (variable_place s x) (length s.locals) k
+  variable_there f k alive = record {
+    local = variable s x;
+    uses = ap place_uses (place_is h.local.kind refl) ∙ kind_uses h.local.kind (variable s x);
+    below = below;
+    held = alive.living (variable s x) h.lives;
+  }
+
+  -- .. and a pointer, where it is one
+  pub pointer_there : (f : Function) (k : List Known) → Alive f s k → IsPointer (whole (variable s x)) (length s.locals) k
+  pointer_there f k alive = record { local = variable s x; is = refl; below = below; held = alive.living (variable s x) h.lives }
 
 -- an expression of a raw pointer type that names a variable names one of that type
 pub named_raw : (types : Types) (e : Typed) (v : TypedLocal) (form : Form) → is_built_variable types v.ty ≡ true → e ≡ variable_of (type_at types v.ty) types v.ty v.constant e.place form

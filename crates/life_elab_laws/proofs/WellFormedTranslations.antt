@@ -1,23 +1,31 @@
--- The core program of a well typed program that is built is well formed, and leaves alone what is given over.
-use Rattle.std.proofs.Common.{◌≡◌, ◌⊎◌, inl, inr, ℕ, true, List, [], length, nat_le, slice_get, Some, refl, sym, ◌∙◌, subst}
+-- The core program of a well typed program that is built is well formed, is served so far, and leaves alone what is given over.
+use Rattle.std.proofs.Common.{◌≡◌, ◌⊎◌, inl, inr, ℕ, true, List, [], length, nat_le, slice_get, Option, Some, refl, sym, ap, ◌∙◌, subst}
 use Rattle.std.specs.List.{list_all}
 use Rattle.std.proofs.lemmas.Bool.{and_from, and_parts}
 use Rattle.life_types.specs.Trees.{IsOrdered}
-use Rattle.life_types.specs.Types.{Types}
+use Rattle.life_types.specs.Types.{Types, class}
+use Rattle.life_types.specs.declared.ty.Ty.{Ty}
 use Rattle.life_types.specs.declared.ty.TyId.{TyId}
 use Rattle.life_built.specs.Built.{are_built_functions, has_built_types, has_no_structs, is_built, is_built_variable}
 use Rattle.life_typed.specs.Programs.{FunctionForm, ProgramForm}
 use Rattle.life_core.specs.Function.{Function}
+use Rattle.life_core.specs.Served.{is_served, is_served_local, is_served_program, is_served_spot}
+use Rattle.life_core.specs.Tree.{spots}
 use Rattle.life_core.specs.declared.program.Local.{Local}
+use Rattle.life_core.specs.declared.program.LocalKind.TheVariants.{Register}
 use Rattle.life_proper.specs.GivenOver.{all_keep_given, keeps_all_given}
 use Rattle.life_proper.specs.WellFormed.{is_well_formed_tree}
 use Rattle.life_proper.specs.WellFormedPrograms.{IsWellFormedProgram, are_well_formed_locals, is_name, is_result_of, is_well_formed_function, names_parameters}
 use Rattle.life_well_typed.specs.Functions.{IsWellTyped}
 use Rattle.life_well_typed.specs.Names.{HasNames}
 use Rattle.life_well_typed.specs.Results.{HasResults}
+use Rattle.life_writer.specs.Variables.{kind}
 use Rattle.life_elab.specs.Functions.{written}
 use Rattle.life_elab.specs.Programs.{around, core_program, texts_of}
 use Rattle.life_elab_laws.proofs.ExpressionKinds.{variable_built}
+use Rattle.life_elab_laws.proofs.FormedLocals.{variable_fits, variable_found}
+use Rattle.life_elab_laws.proofs.Fronts.{IsFront}
+use Rattle.life_elab_laws.proofs.ServedLocals.{all_pass, local_served, register_served, variable_served}
 use Rattle.life_elab_laws.proofs.FlatLocals.{IsLocalType, flat_locals, variable_typed}
 use Rattle.life_elab_laws.proofs.GivenNothing.{gives_nothing, keeps_all}
 use Rattle.life_elab_laws.proofs.ProgramNames.{no_members, own_names}
@@ -52,6 +60,25 @@ module _ (p : ProgramForm) (typed : IsWellTyped p) (built : are_built_functions 
             (variable_later p.types types (front p typed built results n f at core w) l.ty
             (subst (λ (id : TyId). is_built_variable p.types id ≡ true) (sym is.of.typed) (variable_built p.types f.locals is.number is.variable (of_program p typed built results n f at).built.variables is.there)))
 
+    served_local : (x : ℕ) (l : Local) → slice_get core.locals x ≡ Some l → is_served_local types l ≡ true
+    served_local x l there = go ((grows p typed built results n f at w.before w.table).own x l (subst (λ (c : Function). slice_get c.locals x ≡ Some l) w.is there))
+      where
+        front_is : IsFront p.types.types types.types
+        front_is = front p typed built results n f at core w
+
+        go : IsIntermediate p.types (written (around p f) w.before).types l ⊎ IsOwn (around p f) l → is_served_local types l ≡ true
+        go (inl is) = let fits = fits_later p.types types front_is is.ty is.fits in local_served types l Register is.ty is.kind (w.later l.ty.0 is.ty is.typed) fits (register_served types is.ty fits)
+        go (inr is) =
+            let found = variable_found p.types is.variable.ty (variable_built p.types f.locals is.number is.variable (of_program p typed built results n f at).built.variables is.there) in
+            local_served types l (kind (class (Some found.0))) found.0 (is.of.kind ∙ ap (λ (o : Option Ty). kind (class o)) found.1)
+            (ap (λ (id : TyId). slice_get types.types id.0) is.of.typed ∙ front_is is.variable.ty.0 found.0 found.1)
+            (fits_later p.types types front_is found.0 (variable_fits p.types found.0 found.2)) (variable_served p.types found.0 found.2)
+
+    one_served : is_served types core ≡ true
+    one_served =
+        and_from (list_all (is_served_local types) core.locals) (list_all (is_served_spot types core) (spots core.body)) (all_pass (is_served_local types) core.locals served_local)
+        (one_body p typed built results n f at core w).stated.served
+
     body_formed : is_well_formed_tree types texts functions core core.body ≡ true
     body_formed = (one_body p typed built results n f at core w).stated.formed
 
@@ -72,6 +99,9 @@ module _ (p : ProgramForm) (typed : IsWellTyped p) (built : are_built_functions 
   program_keeps : keeps_all_given (core_program p) ≡ true
   program_keeps = passed_by_all p typed built results (all_keep_given types) (list_all (all_keep_given types)) refl (λ core cores. refl) one_keeps
 
+  program_serves : is_served_program (core_program p) ≡ true
+  program_serves = passed_by_all p typed built results (is_served types) (list_all (is_served types)) refl (λ core cores. refl) one_served
+
   program_formed : HasNames p → IsOrdered p.types → p.types.structs ≡ [] → has_no_structs p.structs ≡ true → IsWellFormedProgram (core_program p)
   program_formed named ordered structs none =
       let order = whole_order p typed built results in
@@ -87,6 +117,9 @@ module _ (p : ProgramForm) (typed : IsWellTyped p) (built : are_built_functions 
 pub program_well_formed : (p : ProgramForm) → IsWellTyped p → HasResults p → HasNames p → IsOrdered p.types → p.types.structs ≡ [] → is_built p ≡ true → IsWellFormedProgram (core_program p)
 program_well_formed p typed results named ordered structs b =
     program_formed p typed (functions_built p b) results named ordered structs (and_parts (has_no_structs p.structs) (are_built_functions p.types p.functions) (and_parts (has_built_types p.types) _ b).1).0
+
+pub program_served : (p : ProgramForm) → IsWellTyped p → HasResults p → is_built p ≡ true → is_served_program (core_program p) ≡ true
+program_served p typed results b = program_serves p typed (functions_built p b) results
 
 pub program_keeps_given : (p : ProgramForm) → IsWellTyped p → HasResults p → is_built p ≡ true → keeps_all_given (core_program p) ≡ true
 program_keeps_given p typed results b = program_keeps p typed (functions_built p b) results

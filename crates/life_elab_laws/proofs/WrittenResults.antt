@@ -12,8 +12,6 @@ use Rattle.life_typed.specs.Programs.{FunctionForm, ProgramForm, is_main}
 use Rattle.life_type_stmt.specs.Bodies.{return_fault}
 use Rattle.life_type_stmt.specs.Returns as typing
 use Rattle.life_core.specs.Function.{Function}
-use Rattle.life_core.specs.Holdings.{Holding}
-use Rattle.life_core.specs.Proper.{Holds}
 use Rattle.life_proper.specs.ResultsWritten.{HasResultWritten, HaveResultsWritten, WritesResults, is_written_by, writes_result}
 use Rattle.life_proper.proofs.ResultsFound.{results_found}
 use Rattle.life_well_typed.specs.Functions.{IsWellTyped}
@@ -22,7 +20,7 @@ use Rattle.life_well_typed.specs.Results.{HasResults}
 use Rattle.life_elab.specs.Programs.{around, core_program}
 use Rattle.life_elab_laws.proofs.Fronts.{each_at}
 use Rattle.life_elab_laws.proofs.GivingBack.{GivesValue}
-use Rattle.life_elab_laws.proofs.Programs.{IsWritten, functions_built, of_all, of_program, one_body, whole, written_number, written_result}
+use Rattle.life_elab_laws.proofs.Programs.{IsWritten, functions_built, of_all, of_program, one_body, whole, written_result}
 use Rattle.life_elab_laws.proofs.TypedKinds.{none_some}
 use Rattle.life_elab_laws.proofs.Values.{by_results, by_values}
 
@@ -57,12 +55,10 @@ module _ (p : ProgramForm) (typed : IsWellTyped p) (built : are_built_functions 
         ∙ must)
 
     one_result : HasResultWritten p.names (whole p typed built results).types core
-    one_result must = λ q hs l way here is.
+    one_result must = λ q bits l way here is.
         let g = gives must in
         let body = one_body p typed built results n f at core w in
-        subst (λ (h : Holding). Holds hs core.parameters h) (sym (written_number p typed built results n f at core w g.0))
-        (results_found (whole p typed built results).types (whole p typed built results).functions core body.checked core.parameters
-        (body.returns g) q hs l way here is)
+        results_found (whole p typed built results).types core body.checked core.parameters (body.returns g) q bits l way here is
 
 pub program_writes_results : (p : ProgramForm) → IsWellTyped p → HasResults p → HasIntMain p → is_built p ≡ true → WritesResults (core_program p)
 program_writes_results p typed results mains b =

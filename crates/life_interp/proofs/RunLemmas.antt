@@ -11,6 +11,7 @@ use Rattle.life_core.specs.Function.{Function, Program}
 use Rattle.life_core.specs.Linked.{entry_of, no_exits, target_of}
 use Rattle.life_core.specs.Holdings.{parameter_sorts}
 use Rattle.life_proper.specs.ProperPrograms.{IsProperProgram}
+use Rattle.life_proper.proofs.PointsAsked.{proper_functions}
 use Rattle.life_store.specs.Calls.{entry_arguments, parameters_given}
 use Rattle.life_store.specs.Cells.{at-none, none}
 use Rattle.life_store.specs.Content.{Content, empty_content}
@@ -21,7 +22,7 @@ use Rattle.life_store.specs.State.{State, World}
 use Rattle.life_store.specs.declared.run.FaultKind.{FaultKind}
 use Rattle.life_store.specs.declared.run.TrapKind.{TrapKind}
 use Rattle.life_store.specs.declared.run.TrapKind.TheVariants as trap
-use Rattle.life_store.proofs.CallsReturn.{calls_good, proper_at}
+use Rattle.life_store.proofs.CallsReturn.{calls_good}
 use Rattle.life_store.proofs.NeverLost.{first_housed, first_suited, never_lost}
 use Rattle.life_interp.specs.Cells.{state_of, world_of}
 use Rattle.life_interp.specs.Fits.{IsHoused}
@@ -59,7 +60,7 @@ enters_first entries.Break h = absurd (not_some h)
 enters_first entries.Continue h = absurd (not_some h)
 
 pub all_begin : (p : Program) → IsProperProgram p → AllBegin p.functions
-all_begin p proper n g there = enters_first (entry_of g.body) (proper_at p.types p.functions p.functions n g proper.ready there).begins
+all_begin p proper n g there = enters_first (entry_of g.body) (proper_functions p proper n g there).ready.begins
 
 -- the entry's arguments are numbers
 arguments_first : (types : Types) (f : Function) (x n : ℕ) (input : List ℤ) → AreFirst (entry_arguments types f x n input)
@@ -169,10 +170,12 @@ module _ (given : Given) (p : Program) (entry : ℕ) (f : Function) (input : Lis
       go zero eq l = absurd (omega (arith, l))
       go (suc d) eq l =
           let s = setting_of given p in
-          let one = proper_at p.types p.functions p.functions entry f proper.ready there in
+          let all = proper_functions p proper in
+          let texts = length p.texts in
+          let one = all entry f there in
           let same = ap (run_from f.place first) (called_is d eq ∙ ap (λ x. begun x first (body d)) is) in
-          let stands = enters_standing s p f [] arguments first one (first_suited p f input admitted) (first_housed p.types f f.parameters input) (arguments_first p.types f 0 f.parameters input) st is in
-          let ends = ends_alone s p [] f (calls s p d) (calls_come s p proper.ready d [] (omega (arith, eq))) arguments one (calls_good s p proper.ready d) (λ u left. entry_same p.types f u left.sorted admitted.values) refl n st stands in
+          let stands = enters_standing s p f [] arguments first one.ready (first_suited p f input admitted) (first_housed p.types f f.parameters input) (arguments_first p.types f 0 f.parameters input) st is in
+          let ends = ends_alone s p [] f (calls s p d) (calls_come s p texts all d [] (omega (arith, eq))) arguments texts all one (calls_good s p texts all d) (λ u left. entry_same p.types f u left.leaving.sorted admitted.values) refl n st stands in
           let walked = same_end f.place first (body d st) _ ends (found_as _ same) in
           same
           ∙ ap (run_from f.place first) (sym walked)

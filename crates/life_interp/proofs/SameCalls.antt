@@ -1,5 +1,5 @@
 -- What a call that is ready hands over and gives back, the machine does as the meaning says.
-use Rattle.std.proofs.Common.{◌≡◌, ⊎_elim, inl, inr, append-nil, ℕ, zero, suc, ◌+◌, ◌<◌, ◌≤◌, List, [], ◌∷◌, ◌++◌, take, Option, Some, None, false, cond, refl, sym, ap, subst, ◌∙◌, arith}
+use Rattle.std.proofs.Common.{◌≡◌, inl, inr, append-nil, ℕ, zero, suc, ◌+◌, ◌<◌, ◌≤◌, List, [], ◌∷◌, ◌++◌, map, take, Option, Some, None, false, cond, refl, sym, ap, subst, ◌∙◌, arith}
 use Rattle.std.proofs.lemmas.Option.{none-some, same_Some}
 use Rattle.std.specs.Prelude.{slice_get}
 use Rattle.life_types.specs.Types.{Types, class, is_slot_type, is_slot_at}
@@ -7,18 +7,19 @@ use Rattle.life_types.specs.declared.ty.Ty.{Ty}
 use Rattle.life_types.specs.declared.ty.Ty.TheVariants as variant
 use Rattle.life_core.specs.Function.{Function}
 use Rattle.life_core.specs.Operands.{Argument, Location, Value, PointerOf}
-use Rattle.life_core.specs.Holdings.{Holding, Blank, AnObject, ANumber, APointer, AView, Holdings, held_by, held_if, given_holdings, parameter_sorts, result_if, result_sort, sort_of}
-use Rattle.life_core.specs.Proper.{IsArgumentReady, AreArgumentsReady, IsResultReady, IsTargetReady}
+use Rattle.life_core.specs.Holdings.{Holding, Blank, AnObject, ANumber, APointer, AView, held_by, held_if, parameter_sorts, result_if, result_sort, sort_of, sort_of_local}
+use Rattle.life_core.specs.Ready.{Ready}
 use Rattle.life_core.specs.declared.program.Local.{Local}
 use Rattle.life_core.specs.declared.program.LocalKind.{LocalKind}
+use Rattle.life_proper.proofs.Sorted.{AreArgumentsSorted, IsArgumentSorted, IsResultSorted, IsTargetSorted}
 use Rattle.life_store.specs.Calls as whole
 use Rattle.life_store.specs.Doing.{Setting, cell, on_next}
 use Rattle.life_store.specs.Meaning.{AreObjects, with_world}
-use Rattle.life_store.specs.State.{Static, Pointer, Null, Wild, To, Cell, Empty, Named, Number, Points, World, State, holding_of_pointer, holdings_of}
+use Rattle.life_store.specs.State.{Cell, Empty, Named, Number, Points, World, State, ready_of}
 use Rattle.life_store.proofs.CellLemmas.{pointer_cell, view_cell}
 use Rattle.life_store.proofs.Giving.{Suits, GivesBack}
 use Rattle.life_store.proofs.Handing.{AreSuited, lent_ready, returned_ready}
-use Rattle.life_store.proofs.Sorts.{IsSorted, held, named_sort}
+use Rattle.life_store.proofs.Sorts.{FitsPointer, IsSorted, named_sort}
 use Rattle.life_store.proofs.WholeLocals.{whole_cell}
 use Rattle.life_interp.specs.SoFar as so_far
 use Rattle.life_interp.proofs.SameSteps.{next_same}
@@ -26,13 +27,13 @@ use Rattle.life_interp.proofs.SameSteps.{next_same}
 -- ---- what is handed over
 
 module _ (types : Types) (f : Function) (st : State) where
-  one_handed_same : (sort : Holding) (x : Argument) → IsArgumentReady (holdings_of st) sort x → whole.handed types f st x ≡ so_far.handed st x
+  one_handed_same : (sort : Holding) (x : Argument) → IsArgumentSorted types f (ready_of st) sort x → whole.handed types f st x ≡ so_far.handed st x
   one_handed_same AnObject (Value r) ready = refl
   one_handed_same APointer (PointerOf l) ready = ap whole.pointer_handed (whole_cell types f l st ready.0)
   one_handed_same AView (PointerOf l) ready = ap whole.pointer_handed (whole_cell types f l st ready.0)
   one_handed_same _ _ ready = absurd ready
 
-  pub handed_same : (sorts : List Holding) (xs : List Argument) → AreArgumentsReady (holdings_of st) sorts xs → whole.all_handed types f st xs ≡ so_far.all_handed st xs
+  pub handed_same : (sorts : List Holding) (xs : List Argument) → AreArgumentsSorted types f (ready_of st) sorts xs → whole.all_handed types f st xs ≡ so_far.all_handed st xs
   handed_same [] [] ready = refl
   handed_same (sort ∷ sorts) (x ∷ xs) ready =
       ap (λ o. whole.with_handed o (whole.all_handed types f st xs)) (one_handed_same sort x ready.0) ∙ ap (whole.with_handed (so_far.handed st x)) (handed_same sorts xs ready.1)
@@ -100,45 +101,45 @@ module _ (s : Setting) (types : Types) (f : Function) (st : State) where
   first_same : (sort : Holding) (l : Location) (v u : Cell) → l.members ≡ [] → Suits sort v → v ≡ u → whole.result_given s types f l l.members v st ≡ so_far.given s types f u l.local st
   first_same sort l v u is suits same = ap (λ ms. whole.result_given s types f l ms v st) is ∙ given_same s types f sort v l.local st suits ∙ ap (λ (w : Cell). so_far.given s types f w l.local st) same
 
-  target_same : (hs : Holdings) (sort : Holding) (target : Option Location) (values result : List Cell) → IsTargetReady types f hs sort target → GivesBack st.world.content sort values → IsResult sort values result
+  target_same : (bits : Ready) (sort : Holding) (target : Option Location) (values result : List Cell) → IsTargetSorted types f bits sort target → GivesBack st.world.content sort values → IsResult sort values result
       → whole.target_given s types f target values st ≡ so_far.target_given s types f target result st
-  target_same hs sort None values result ready gives same = refl
-  target_same hs ANumber (Some l) (v ∷ vs) (u ∷ us) (inl ready) gives same = first_same ANumber l v u ready.0 gives.0 same
-  target_same hs ANumber (Some l) (v ∷ vs) (u ∷ us) (inr ready) gives same = first_same ANumber l v u ready.0.0 gives.0 same
-  target_same hs APointer (Some l) (v ∷ vs) (u ∷ us) ready gives same = first_same APointer l v u ready.0 gives.0 same
-  target_same hs AView (Some l) (v ∷ vs) (u ∷ us) ready gives same = first_same AView l v u ready.0 gives.0 same
-  target_same hs ANumber (Some l) [] result ready gives same = absurd gives
-  target_same hs APointer (Some l) [] result ready gives same = absurd gives
-  target_same hs AView (Some l) [] result ready gives same = absurd gives
-  target_same hs ANumber (Some l) (v ∷ vs) [] ready gives same = absurd same
-  target_same hs APointer (Some l) (v ∷ vs) [] ready gives same = absurd same
-  target_same hs AView (Some l) (v ∷ vs) [] ready gives same = absurd same
-  target_same hs Blank (Some l) values result ready gives same = absurd ready
-  target_same hs AnObject (Some l) values result ready gives same = absurd ready
+  target_same bits sort None values result ready gives same = refl
+  target_same bits ANumber (Some l) (v ∷ vs) (u ∷ us) (inl ready) gives same = first_same ANumber l v u ready.0 gives.0 same
+  target_same bits ANumber (Some l) (v ∷ vs) (u ∷ us) (inr ready) gives same = first_same ANumber l v u ready.0.0 gives.0 same
+  target_same bits APointer (Some l) (v ∷ vs) (u ∷ us) ready gives same = first_same APointer l v u ready.0 gives.0 same
+  target_same bits AView (Some l) (v ∷ vs) (u ∷ us) ready gives same = first_same AView l v u ready.0 gives.0 same
+  target_same bits ANumber (Some l) [] result ready gives same = absurd gives
+  target_same bits APointer (Some l) [] result ready gives same = absurd gives
+  target_same bits AView (Some l) [] result ready gives same = absurd gives
+  target_same bits ANumber (Some l) (v ∷ vs) [] ready gives same = absurd same
+  target_same bits APointer (Some l) (v ∷ vs) [] ready gives same = absurd same
+  target_same bits AView (Some l) (v ∷ vs) [] ready gives same = absurd same
+  target_same bits Blank (Some l) values result ready gives same = absurd ready
+  target_same bits AnObject (Some l) values result ready gives same = absurd ready
 
 -- behind a call of a function with this result
 pub taken_same : (s : Setting) (types : Types) (f : Function) (sort : Holding) (sorts : List Holding) (target : Option Location) (xs : List Argument) (values result : List Cell) (st : State) (w : World)
-    → AreArgumentsReady (holdings_of st) sorts xs → IsTargetReady types f (holdings_of st) sort target → GivesBack w.content sort values → IsResult sort values result
+    → AreArgumentsSorted types f (ready_of st) sorts xs → IsTargetSorted types f (ready_of st) sort target → GivesBack w.content sort values → IsResult sort values result
     → whole.taken_back s types f target xs values (with_world w (whole.lent types f xs st)) ≡ so_far.target_given s types f target result (with_world w st)
 taken_same s types f sort sorts target xs values result st w ready to gives same =
-    ap (λ (u : State). whole.taken_back s types f target xs values (with_world w u)) (lent_ready types f (holdings_of st) sorts xs st ready)
-    ∙ ap (λ e. on_next e (whole.target_given s types f target values)) (returned_ready types f (holdings_of st) sorts xs _ (with_world w st) ready)
-    ∙ target_same s types f (with_world w st) (holdings_of st) sort target values result to gives same
+    ap (λ (u : State). whole.taken_back s types f target xs values (with_world w u)) (lent_ready types f (ready_of st) sorts xs st ready)
+    ∙ ap (λ e. on_next e (whole.target_given s types f target values)) (returned_ready types f (ready_of st) sorts xs _ (with_world w st) ready)
+    ∙ target_same s types f (with_world w st) (ready_of st) sort target values result to gives same
 
 -- what a function gives back, with its slots
-module _ (types : Types) (f : Function) (st : State) where
-  back_same : (ty : Option Ty) (x : ℕ) (slots : List Cell) (sort : Holding) → IsResultReady (holdings_of st) x sort → IsResult sort (whole.given_back ty sort (cell st x) ++ slots) (so_far.given_back sort (cell st x))
+module _ (types : Types) (f : Function) (st : State) (sorted : IsSorted types f st.cells) where
+  back_same : (ty : Option Ty) (x : ℕ) (slots : List Cell) (sort : Holding) → IsResultSorted types f (ready_of st) x sort → IsResult sort (whole.given_back ty sort (cell st x) ++ slots) (so_far.given_back sort (cell st x))
   back_same ty x slots ANumber ready = refl
   back_same ty x slots APointer ready =
-      let v = pointer_cell st.cells x ready in
+      let v = pointer_cell types f st.cells sorted x ready in
       subst (λ o. IsSameFirst (whole.pointer_back o ++ slots) (whole.pointer_back o)) (sym v.1) refl
   back_same ty x slots AView ready =
-      let v = view_cell st.cells x ready in
+      let v = view_cell types f st.cells sorted x ready in
       subst (λ o. IsSameFirst (whole.pointer_back o ++ slots) (whole.pointer_back o)) (sym v.1) refl
   back_same ty x slots Blank ready = tt
   back_same ty x slots AnObject ready = tt
 
-  pub result_same : IsResultReady (holdings_of st) f.parameters (result_sort types f) → IsResult (result_sort types f) (whole.results types f st) (so_far.results types f st)
+  pub result_same : IsResultSorted types f (ready_of st) f.parameters (result_sort types f) → IsResult (result_sort types f) (whole.results types f st) (so_far.results types f st)
   result_same ready = back_same (slice_get types.types f.result.0) f.parameters (whole.slots_back types f 0 f.parameters st) (result_sort types f) ready
 
 -- ---- a function whose parameters are values gives back no slot
@@ -154,7 +155,7 @@ module _ (types : Types) where
   no_slot : (l : Local) → held_by types (Some l) ≡ AnObject → is_slot_at types l.ty ≡ false
   no_slot l is = no_slot_type (slice_get types.types l.ty.0) l.kind is
 
-  object_at : (n : ℕ) (ls : List Local) (i : ℕ) (l : Local) → AreObjects (take n (given_holdings types n ls)) → i < n → slice_get ls i ≡ Some l → held_by types (Some l) ≡ AnObject
+  object_at : (n : ℕ) (ls : List Local) (i : ℕ) (l : Local) → AreObjects (map (sort_of_local types) (take n ls)) → i < n → slice_get ls i ≡ Some l → held_by types (Some l) ≡ AnObject
   object_at zero ls i l objects lt e = absurd (omega (arith, lt))
   object_at (suc n) [] i l objects lt e = absurd (none-some l e)
   object_at (suc n) (m ∷ ms) zero l objects lt e = subst (λ (k : Local). held_by types (Some k) ≡ AnObject) (same_Some m l e) objects.0
@@ -173,16 +174,10 @@ module _ (types : Types) where
     slots_none x (suc n) le = ap (λ vs. vs ++ whole.slots_back types f (x + 1) n st) (slot_none x (omega (arith, le))) ∙ slots_none (x + 1) n (omega (arith, le))
 
 -- a local of no sort gives nothing back
-pointer_not_blank : (p : Pointer) → holding_of_pointer p ≡ Blank → ⊥
-pointer_not_blank Null e = cc
-pointer_not_blank Wild e = cc
-pointer_not_blank (To t) e = cc
-pointer_not_blank (Static c) e = cc
-
 blank_named : AnObject ≡ Blank → ⊥
 blank_named e = cc
 
-module _ (types : Types) (f : Function) (st : State) (sorted : IsSorted types f (holdings_of st)) where
+module _ (types : Types) (f : Function) (st : State) (sorted : IsSorted types f st.cells) where
   cell_none : (x : ℕ) → sort_of types f x ≡ Blank → whole.cell_back (cell st x) ≡ []
   cell_none x blank = go (cell st x) refl
     where
@@ -192,7 +187,7 @@ module _ (types : Types) (f : Function) (st : State) (sorted : IsSorted types f 
       go (Some (Number z)) e = refl
       go (Some (Named n)) e = absurd (blank_named (sym (named_sort types f st.cells x n sorted e) ∙ blank))
       go (Some (Points p)) e =
-          absurd (⊎_elim (pointer_not_blank p) (λ is. pointer_not_blank p (is ∙ blank)) (sorted x (holding_of_pointer p) (held types f st.cells x (Points p) e)))
+          absurd (subst (λ (sort : Holding). FitsPointer sort p) blank (sorted x (Points p) e))
 
   other_none : (ty : Option Ty) (sort : Holding) (v : Option Cell) → (sort ≡ Blank → whole.cell_back v ≡ []) → result_if ty sort ≡ Blank → whole.other_back ty v ≡ []
   other_none (Some variant.Void) sort v h is = refl

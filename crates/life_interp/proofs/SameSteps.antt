@@ -7,11 +7,11 @@ use Rattle.life_types.specs.declared.ty.TyId.{TyId}
 use Rattle.life_core.specs.Function.{Function}
 use Rattle.life_core.specs.Operands.{Location, Operand, Name, Through, Source}
 use Rattle.life_core.specs.Operands as source
-use Rattle.life_core.specs.Holdings.{Holding, Blank, AnObject, ANumber, APointer, AView, Holdings, sort_of}
-use Rattle.life_core.specs.Proper.{IsOperandReady, IsSourceReady, IsPortReady, IsStepReady, IsTestReady}
+use Rattle.life_core.specs.Holdings.{Holding, Blank, AnObject, ANumber, APointer, AView, sort_of}
 use Rattle.life_core.specs.Step.{Step, Live, End, Eval, Load, Save, Copy, Move, Aim, Repoint, Element, Cursor, Advance, Cut, Size, Same, Changes, Make, Call, Port, Ports, Writes, WritesView, Takes, Test, NonZero, NotNull}
 use Rattle.life_core.specs.declared.instr.Form.{Form}
 use Rattle.life_core.specs.declared.program.Local.{Local}
+use Rattle.life_proper.proofs.Sorted.{IsOperandSorted, IsPortSorted, IsSourceSorted, IsStepSorted, IsTestSorted}
 use Rattle.life_store.specs.Cells.{at}
 use Rattle.life_store.specs.Content.{Object, Content, word_at}
 use Rattle.life_store.specs.Doing as doing
@@ -20,12 +20,12 @@ use Rattle.life_store.specs.Iterators.{at_index}
 use Rattle.life_store.specs.Meaning as meaning
 use Rattle.life_store.specs.Meaning.{pointer_test, tested, whole_tested}
 use Rattle.life_store.specs.Parts.{Single, local_parts, local_type, location_type, target_type, word_within}
-use Rattle.life_store.specs.State.{Characters, Target, Pointer, Null, Wild, To, Static, Cell, Empty, Named, Number, Points, State, holding_of_pointer, holdings_of}
-use Rattle.life_store.proofs.CellLemmas.{held_is, holdings_set, pointer_cell, view_cell}
+use Rattle.life_store.specs.State.{Characters, Target, Pointer, Null, Wild, To, Static, Cell, Empty, Named, Number, Points, State, ready_of}
+use Rattle.life_store.proofs.CellLemmas.{held_is, pointer_cell, set_sorted, view_cell}
 use Rattle.life_store.proofs.Found.{IsThere, operand_there}
 use Rattle.life_store.proofs.Housing.{Housed, Aims}
 use Rattle.life_store.proofs.Settling.{IsPlain}
-use Rattle.life_store.proofs.Sorts.{IsSorted, blanked_sorted, named_sort}
+use Rattle.life_store.proofs.Sorts.{IsRaw, IsSorted, named_sort}
 use Rattle.life_store.proofs.Waiting.{aims_behind}
 use Rattle.life_store.proofs.WholeLocals.{object_single, whole_cell, whole_pointed}
 use Rattle.life_interp.specs.SoFar as so_far
@@ -49,9 +49,6 @@ fixed_never c Outside go fixed there = refl
 fixed_never c (Wrong kind) go fixed there = refl
 fixed_never c Astray go fixed there = absurd there
 
-view_pointer : AView ≡ APointer → ⊥
-view_pointer e = cc
-
 module _ (c : Content) where
   target_same : (t : Target) → Aims c t → doing.found_if (is_valid c t) c t ≡ so_far.found_if (is_valid c t) c t
   target_same t aims = go (is_valid c t)
@@ -66,21 +63,21 @@ module _ (c : Content) where
       go true = living (at c.objects t.object) refl
       go false = refl
 
-  behind_same : (v : Pointer) → holding_of_pointer v ≡ APointer → ((t : Target) → v ≡ To t → Aims c t) → doing.behind c v ≡ so_far.behind c v
-  behind_same Null kind aims = refl
-  behind_same Wild kind aims = refl
-  behind_same (To t) kind aims = target_same t (aims t refl)
-  behind_same (Static s) kind aims = absurd (view_pointer kind)
+  behind_same : (v : Pointer) → IsRaw v → ((t : Target) → v ≡ To t → Aims c t) → doing.behind c v ≡ so_far.behind c v
+  behind_same Null raw aims = refl
+  behind_same Wild raw aims = refl
+  behind_same (To t) raw aims = target_same t (aims t refl)
+  behind_same (Static s) raw aims = absurd raw
 
-module _ (types : Types) (f : Function) (outer : List Cell) (st : State) (h : Housed st.world.content (outer ++ st.cells)) (first : AreFirst st.cells) where
-  resolve_same : (o : Operand) → IsOperandReady (holdings_of st) o → doing.resolve types f o st ≡ so_far.resolve o st
+module _ (types : Types) (f : Function) (outer : List Cell) (st : State) (sorted : IsSorted types f st.cells) (h : Housed st.world.content (outer ++ st.cells)) (first : AreFirst st.cells) where
+  resolve_same : (o : Operand) → IsOperandSorted types f (ready_of st) o → doing.resolve types f o st ≡ so_far.resolve o st
   resolve_same (Name l) ready = refl
   resolve_same (Through p members) ready =
-      let v = pointer_cell st.cells p.local ready.1.1 in
+      let v = pointer_cell types f st.cells sorted p.local ready.1.1 in
       let c = st.world.content in
-      let kind = held_is st.cells p.local APointer (Points v.0) ready.1.1 v.1 in
+      let raw = held_is types f st.cells sorted p.local APointer (Points v.0) ready.1.1 v.1 in
       ap (doing.behind_cell c) (whole_cell types f p st ready.1.0 ∙ v.1)
-      ∙ behind_same c v.0 kind (λ t e. aims_behind c outer st.cells h p.local t (v.1 ∙ ap (λ u. Some (Points u)) e))
+      ∙ behind_same c v.0 raw (λ t e. aims_behind c outer st.cells h p.local t (v.1 ∙ ap (λ u. Some (Points u)) e))
       ∙ ap (so_far.behind_cell c) (sym v.1)
 
   -- it begins at the first word
@@ -90,19 +87,19 @@ module _ (types : Types) (f : Function) (outer : List Cell) (st : State) (h : Ho
   pointer_word_first (To t) x e = get_first st.cells x (Points (To t)) first e
   pointer_word_first (Static c) x e = refl
 
-  word_first : (o : Operand) → IsOperandReady (holdings_of st) o → operand_word types f o st ≡ 0
+  word_first : (o : Operand) → IsOperandSorted types f (ready_of st) o → operand_word types f o st ≡ 0
   word_first (Name l) ready = ap (word_within types (local_type types f l.local)) ready.0
   word_first (Through p members) ready =
-      let v = pointer_cell st.cells p.local ready.1.1 in
+      let v = pointer_cell types f st.cells sorted p.local ready.1.1 in
       let word = ap pointer_word (whole_cell types f p st ready.1.0 ∙ v.1) ∙ pointer_word_first v.0 p.local v.1 in
       let within = ap (word_within types (target_type types (location_type types f p))) ready.0 in
       omega (arith, word, within)
 
   -- what is done with an operand that is ready
-  place_same : (o : Operand) (go : ℕ → ℕ → ℕ → Object → Effect) (fixed : Characters → Effect) → IsOperandReady (holdings_of st) o
+  place_same : (o : Operand) (go : ℕ → ℕ → ℕ → Object → Effect) (fixed : Characters → Effect) → IsOperandSorted types f (ready_of st) o
       → on_place (doing.resolve types f o st) (go (operand_word types f o st)) fixed ≡ on_found (so_far.resolve o st) (go 0)
   place_same o go fixed ready =
-      fixed_never st.world.content (doing.resolve types f o st) (go (operand_word types f o st)) fixed (operand_there types f outer st o h ready)
+      fixed_never st.world.content (doing.resolve types f o st) (go (operand_word types f o st)) fixed (operand_there types f outer st o sorted h ready)
       ∙ ap (λ w. on_found (doing.resolve types f o st) (go w)) (word_first o ready)
       ∙ ap (λ x. on_found x (go 0)) (resolve_same o ready)
 
@@ -116,6 +113,9 @@ blank_pointer e = cc
 
 view_object : AView ≡ AnObject → ⊥
 view_object e = cc
+
+view_pointer : AView ≡ APointer → ⊥
+view_pointer e = cc
 
 module _ (s : Setting) (types : Types) where
   born_same : (sort : Holding) (ty : TyId) (form : Form) (x : ℕ) (st : State) → (sort ≡ AnObject) ⊎ (sort ≡ APointer) → doing.live_as s types sort ty form x st ≡ so_far.live_as s sort ty form x st
@@ -150,7 +150,7 @@ module _ (types : Types) (f : Function) where
   object_end_same None n x st = refl
   object_end_same (Some o) n x st = refl
 
-  end_same : (x : ℕ) (st : State) → IsSorted types f (holdings_of st) → doing.end_cell (local_parts types f x) (cell st x) x st ≡ so_far.end_cell (cell st x) x st
+  end_same : (x : ℕ) (st : State) → IsSorted types f st.cells → doing.end_cell (local_parts types f x) (cell st x) x st ≡ so_far.end_cell (cell st x) x st
   end_same x st sorted = go (cell st x) refl
     where
       go : (o : Option Cell) → slice_get st.cells x ≡ o → doing.end_cell (local_parts types f x) o x st ≡ so_far.end_cell o x st
@@ -174,23 +174,17 @@ module _ (types : Types) (f : Function) where
       go None e = absurd (strays_on e)
       go (Some o) e = sym (same_cells e)
 
-  ends_same : (xs : List ℕ) (st : State) → IsSorted types f (holdings_of st) → doing.end_locals types f xs st ≡ so_far.end_locals xs st
+  ends_same : (xs : List ℕ) (st : State) → IsSorted types f st.cells → doing.end_locals types f xs st ≡ so_far.end_locals xs st
   ends_same [] st sorted = refl
   ends_same (x ∷ xs) st sorted =
       ap (λ e. on_next e (doing.end_locals types f xs)) (end_same x st sorted)
       ∙ next_same (so_far.end_cell (cell st x) x st) (doing.end_locals types f xs) (so_far.end_locals xs)
-      (λ st' e. ends_same xs st' (subst (λ (hs : Holdings). IsSorted types f hs) (sym (left st' e)) (blanked_sorted types f (x ∷ []) (holdings_of st) sorted)))
-    where
-      left : (st' : State) → so_far.end_cell (cell st x) x st ≡ Next st' → holdings_of st' ≡ slice_set (holdings_of st) x Blank
-      left st' e = ap holdings_in (ended_is x (cell st x) st st' e) ∙ holdings_set st.cells x Empty
-        where
-          holdings_in : List Cell → Holdings
-          holdings_in cells = holdings_of (record { world = st.world; cells = cells })
+      (λ st' e. ends_same xs st' (subst (IsSorted types f) (sym (ended_is x (cell st x) st st' e)) (set_sorted types f st.cells x Empty tt sorted)))
 
 -- ---- the instructions
 
-module _ (s : Setting) (types : Types) (fs : List Function) (f : Function) (outer : List Cell) (st : State) (sorted : IsSorted types f (holdings_of st)) (h : Housed st.world.content (outer ++ st.cells)) (first : AreFirst st.cells) where
-  aim_same : (p : Location) (sort : Holding) (x : Source) → p.members ≡ [] → IsSourceReady (holdings_of st) sort x → doing.aimed s types f p x st ≡ so_far.aimed s p.local x st
+module _ (s : Setting) (types : Types) (fs : List Function) (f : Function) (outer : List Cell) (st : State) (sorted : IsSorted types f st.cells) (h : Housed st.world.content (outer ++ st.cells)) (first : AreFirst st.cells) where
+  aim_same : (p : Location) (sort : Holding) (x : Source) → p.members ≡ [] → IsSourceSorted types f (ready_of st) sort x → doing.aimed s types f p x st ≡ so_far.aimed s p.local x st
   aim_same p sort source.Null whole ready = whole_pointed types f p st whole Null
   aim_same p sort (source.Text n) whole ready = whole_pointed types f p st whole (doing.viewed s.texts n)
   aim_same p sort source.Empty whole ready = absurd ready
@@ -199,7 +193,7 @@ module _ (s : Setting) (types : Types) (fs : List Function) (f : Function) (oute
   aim_same p sort (source.Place o) whole ready =
       ap (λ ms. on_place (doing.resolve types f o st) (λ n i object. member_pointed types f p.local ms (cell st p.local) (doing.pointer_to st.world.content n i (operand_word types f o st)) st)
       (λ c. doing.on_character s.texts c (λ z. member_pointed types f p.local ms (cell st p.local) (whole_at c) st))) whole
-      ∙ place_same types f outer st h first o (λ w n i object. Next (put_cell p.local (Points (doing.pointer_to st.world.content n i w)) st)) _ ready.1
+      ∙ place_same types f outer st sorted h first o (λ w n i object. Next (put_cell p.local (Points (doing.pointer_to st.world.content n i w)) st)) _ ready.1
     where
       whole_at : Characters → Pointer
       whole_at c = at_index 0 c.index (Static c)
@@ -209,19 +203,19 @@ module _ (s : Setting) (types : Types) (fs : List Function) (f : Function) (oute
       ap (λ o. on_pointer o (λ v. member_pointed types f p.local p.members (cell st p.local) v st)) (whole_cell types f q st from)
       ∙ ap (λ ms. on_pointer (cell st q.local) (λ v. member_pointed types f p.local ms (cell st p.local) v st)) whole
 
-  port_same : (p : Port) → IsPortReady types f (holdings_of st) p → doing.port s types f p st ≡ so_far.port s types f p st
+  port_same : (p : Port) → IsPortSorted types f (ready_of st) p → doing.port s types f p st ≡ so_far.port s types f p st
   port_same (Writes r) ready = refl
   port_same (Takes r) ready = refl
   port_same (WritesView l) ready =
-      let v = view_cell st.cells l.local ready.1 in
+      let v = view_cell types f st.cells sorted l.local ready.1 in
       ap (λ o. doing.on_view s st.world.content o (λ text. Next (doing.with_output text st))) (whole_cell types f l st ready.0 ∙ v.1)
       ∙ ap (λ o. so_far.on_view o (λ c. Next (doing.with_output (doing.characters_in s.texts c) st))) (sym v.1)
 
-  pub does_same : (i : Step) → IsPlain i → IsStepReady types fs f (holdings_of st) i → doing.does s types f i st ≡ so_far.does s types f i st
+  pub does_same : (i : Step) → IsPlain i → IsStepSorted types f fs (ready_of st) i → doing.does s types f i st ≡ so_far.does s types f i st
   does_same (Live x form) plain ready = live_same s types f (slice_get f.locals x) form x st ready.1
   does_same (End xs) plain ready = ends_same types f xs st sorted
   does_same (Eval r op) plain ready = refl
-  does_same (Load r o) plain ready = place_same types f outer st h first o (λ w n i object. Next (put_cell r (Number (number_in_word (word_at object i w))) st)) _ ready.1
+  does_same (Load r o) plain ready = place_same types f outer st sorted h first o (λ w n i object. Next (put_cell r (Number (number_in_word (word_at object i w))) st)) _ ready.1
   does_same (Save o r) plain ready = saved_same (cell st r)
     where
       saved_same : (v : Option Cell) → on_number v (λ z. on_found (doing.resolve types f o st) (λ n i object. Next (doing.saved z n i (operand_word types f o st) object st)))
@@ -229,7 +223,7 @@ module _ (s : Setting) (types : Types) (fs : List Function) (f : Function) (oute
       saved_same None = refl
       saved_same (Some Empty) = refl
       saved_same (Some (Named n)) = refl
-      saved_same (Some (Number z)) = place_same types f outer st h first o (λ w n i object. Next (doing.saved z n i w object st)) (λ c. Strays) ready.1
+      saved_same (Some (Number z)) = place_same types f outer st sorted h first o (λ w n i object. Next (doing.saved z n i w object st)) (λ c. Strays) ready.1
       saved_same (Some (Points p)) = refl
   does_same (Aim p x) plain ready = aim_same p (sort_of types f p.local) x ready.0 ready.1
   does_same (Repoint p q) plain (inl ready) = repoint_same p q ready.0.0 ready.1.0
@@ -249,8 +243,8 @@ module _ (s : Setting) (types : Types) (fs : List Function) (f : Function) (oute
 
 -- ---- tests
 
-pub test_same : (types : Types) (f : Function) (t : Test) (n : ℕ) (st : State) → IsTestReady (holdings_of st) t → meaning.test_at types f t n st ≡ so_far.test_at t n st
-test_same types f (NonZero r) n st ready = refl
-test_same types f (NotNull p) n st ready =
-    let v = pointer_cell st.cells p.local ready.1 in
+pub test_same : (types : Types) (f : Function) (t : Test) (n : ℕ) (st : State) → IsSorted types f st.cells → IsTestSorted types f (ready_of st) t → meaning.test_at types f t n st ≡ so_far.test_at t n st
+test_same types f (NonZero r) n st sorted ready = refl
+test_same types f (NotNull p) n st sorted ready =
+    let v = pointer_cell types f st.cells sorted p.local ready.1 in
     ap (λ o. pointer_test o n st) (ap (λ ms. tested types f p ms (cell st p.local) st.world.content) ready.0 ∙ ap (λ o. whole_tested o st.world.content) v.1 ∙ sym v.1)

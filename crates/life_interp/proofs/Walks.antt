@@ -14,16 +14,20 @@ use Rattle.life_core.specs.Step.{Step, Live, End, Eval, Load, Save, Copy, Move, 
 use Rattle.life_core.specs.Tree.{Tree, Skip, Then, Acts, Asks, Both, Either, Negated, Choice, Turns, Breaks, Continues, Returns, Stops, size, Action, Question, Return, Stop as StopHere}
 use Rattle.life_core.proofs.EntryLemmas.{enter_then, enter_same}
 use Rattle.life_core.proofs.SpotLemmas.{linked_length}
-use Rattle.life_core.specs.Holdings.{Holding, entry_holdings, parameter_sorts, result_sort}
-use Rattle.life_core.specs.Proper.{HasReadyWays, IsReadyProgram, IsCallReady, IsStepReady}
+use Rattle.life_core.specs.Holdings.{Holding, parameter_sorts, result_sort}
+use Rattle.life_core.specs.Proper.{HasReadyWays, Reaches}
+use Rattle.life_core.specs.Ready.{entry_ready}
+use Rattle.life_proper.specs.ProperFunctions.{AreProperFunctions, IsProperFunction}
+use Rattle.life_proper.proofs.PointsAsked.{point_sorted}
+use Rattle.life_proper.proofs.Sorted.{IsCallSorted, IsNodeSorted, IsStepSorted}
 use Rattle.life_store.specs.Calls as whole
 use Rattle.life_store.specs.Calls.{lent}
 use Rattle.life_store.specs.Doing as doing
 use Rattle.life_store.specs.Doing.{Setting, Effect, Next, Traps, Faults, Strays, cell}
 use Rattle.life_store.specs.Meaning.{Stop, Trapped, Faulted, Stray, Exhausted, Answer, Normal, Broke, Continued, Returned, Stopped, Verdict, Holds, Fails, Cut, Called, Back, Barred, Quit, Callee, act, begun, call_with, calls, came_back, entered, frame, paid, perform, by_number, by_pointer, number_test, pointer_test, ask, leave, stop_at, then_do, then_ask, choose, decide, after_body, turns, exec, test, finish, with_world}
 use Rattle.life_store.specs.Meaning as meaning
-use Rattle.life_store.specs.State.{Pointer, Null, Wild, To, Static, Cell, Empty, Named, Number, Points, World, State, holdings_of}
-use Rattle.life_store.proofs.CallsReturn.{calls_good, first_stands, proper_at}
+use Rattle.life_store.specs.State.{Pointer, Null, Wild, To, Static, Cell, Empty, Named, Number, Points, World, State, ready_of}
+use Rattle.life_store.proofs.CallsReturn.{calls_good, first_stands}
 use Rattle.life_store.proofs.CodeLemmas.{HasAt, has_front, has_back, has_all}
 use Rattle.life_store.proofs.Entering.{entry_gives}
 use Rattle.life_store.proofs.Giving.{Gives}
@@ -31,7 +35,7 @@ use Rattle.life_store.proofs.Going.{InvAt, GoodAnswer, GoodVerdict, Keeps}
 use Rattle.life_store.proofs.Handing.{AreSuited, HandsAll, hands_all, lent_ready}
 use Rattle.life_store.proofs.Housing.{Housed}
 use Rattle.life_store.proofs.Settling.{IsPlain}
-use Rattle.life_store.proofs.Sorts.{IsSorted, reached_sorted}
+use Rattle.life_store.proofs.Sorts.{IsSorted}
 use Rattle.life_store.proofs.Standing.{Standing, Leaving, IsHeld, GoodCalled, GoodCallee, proper_keeps}
 use Rattle.life_store.proofs.Waiting.{housed_more}
 use Rattle.life_store.specs.declared.run.TrapKind.TheVariants as trap
@@ -77,11 +81,10 @@ Stands types f outer q st = Standing types f outer q st × AreFirst st.cells
 
 pub record IsLeft (types : Types) (f : Function) (outer : List Cell) (st : State) : Type 0 where
   pub leaving : Leaving types f outer st
-  pub sorted : IsSorted types f (holdings_of st)
   pub first : AreFirst st.cells
 
 module _ (s : Setting) (p : Program) (ws : List Waiting) (f : Function) (call : Callee) (come : CallsCome s p ws call)
-    (outer : List Cell) (proper : HasReadyWays p.types p.functions f) (callee : GoodCallee p.types p.functions call) where
+    (outer : List Cell) (texts : ℕ) (all : AreProperFunctions p.types texts p.functions) (proper : IsProperFunction p.types texts p.functions f) (callee : GoodCallee p.types p.functions call) where
   abbrev types : Types
   types = p.types
 
@@ -98,7 +101,11 @@ module _ (s : Setting) (p : Program) (ws : List Waiting) (f : Function) (call : 
   Good = GoodAnswer (Standing types f outer) (Leaving types f outer) IsHeld
 
   keeps : Keeps s types f call (Standing types f outer) (Leaving types f outer) IsHeld
-  keeps = proper_keeps types f outer p.functions s call callee proper
+  keeps = proper_keeps types f outer p.functions s call callee texts all proper
+
+  -- what is asked of the point
+  asked : (q : ℕ) (l : Linked) (st : State) → Reaches types f q (ready_of st) → numbered code q ≡ Some l → IsNodeSorted types f p.functions (ready_of st) l.spot.node
+  asked q l st way here = point_sorted types texts p.functions f all proper q (ready_of st) l way here
 
   -- it stands there, and its pointers point to first words
   at_both : (to : Option ℕ) (st : State) → InvAt (Standing types f outer) to st → AreFirst st.cells → At to st
@@ -149,14 +156,14 @@ module _ (s : Setting) (p : Program) (ws : List Waiting) (f : Function) (call : 
 
   -- ---- instructions of a state that stands at its point
 
-  module _ (st : State) (sorted : IsSorted types f (holdings_of st)) (housed : Housed st.world.content (outer ++ st.cells)) (first : AreFirst st.cells) where
-    own_agrees : (place : Place) (i : Step) (x : Exits) (n : ℕ) → IsPlain i → IsStepReady types p.functions f (holdings_of st) i → Good x (paid place st.world (doing.does s types f i st) n)
+  module _ (st : State) (sorted : IsSorted types f st.cells) (housed : Housed st.world.content (outer ++ st.cells)) (first : AreFirst st.cells) where
+    own_agrees : (place : Place) (i : Step) (x : Exits) (n : ℕ) → IsPlain i → IsStepSorted types f p.functions (ready_of st) i → Good x (paid place st.world (doing.does s types f i st) n)
         → Agree x (suc n) (moved (on n x.next) place st.world (so_far.does s types f i st)) (paid place st.world (doing.does s types f i st) n)
     own_agrees place i x n plain ready good =
         same_agrees place st.world x n (doing.does s types f i st) (so_far.does s types f i st) (does_same s types p.functions f outer st sorted housed first i plain ready) good (does_first s types f i st first)
 
     -- behind a call
-    back_agrees : (place : Place) (k : Function) (target : Option Location) (xs : List Argument) (x : Exits) (n : ℕ) (c r : Called) → IsCallReady types f (holdings_of st) (Some k) target xs
+    back_agrees : (place : Place) (k : Function) (target : Option Location) (xs : List Argument) (x : Exits) (n : ℕ) (c r : Called) → IsCallSorted types f (ready_of st) (Some k) target xs
         → GoodCalled types k (outer ++ st.cells) r → Comes s p ws (record { function = f; cells = st.cells; place = place; to = x.next; target = target }) st.world n (result_sort types k) c r
         → Good x (came_back s types f place target xs st r) → Agree x (suc n) c (came_back s types f place target xs st r)
     back_agrees place k target xs x n c (Back m w values) ready gives h good =
@@ -167,7 +174,7 @@ module _ (s : Setting) (p : Program) (ws : List Waiting) (f : Function) (call : 
     back_agrees place k target xs x n c (Barred kind) ready gives h good = h
     back_agrees place k target xs x n c (Quit stop w) ready gives h good = h
 
-    call_agrees : (place : Place) (target : Option Location) (g : ℕ) (o : Option Function) (xs : List Argument) (x : Exits) (n : ℕ) → slice_get p.functions g ≡ o → IsCallReady types f (holdings_of st) o target xs
+    call_agrees : (place : Place) (target : Option Location) (g : ℕ) (o : Option Function) (xs : List Argument) (x : Exits) (n : ℕ) → slice_get p.functions g ≡ o → IsCallSorted types f (ready_of st) o target xs
         → Good x (came_back s types f place target xs st (call_with call g (whole.all_handed types f st xs) n (lent types f xs st).world))
         → (let v : Waiting = record { function = f; cells = st.cells; place = place; to = x.next; target = target } in
         Agree x (suc n) (called_in s p (walk s p n) ws v st.world (slice_get p.functions g) (so_far.all_handed st xs))
@@ -175,11 +182,11 @@ module _ (s : Setting) (p : Program) (ws : List Waiting) (f : Function) (call : 
     call_agrees place target g None xs x n is ready good = absurd ready
     call_agrees place target g (Some k) xs x n is ready good =
         let v : Waiting = record { function = f; cells = st.cells; place = place; to = x.next; target = target } in
-        let handed : HandsAll types f st (parameter_sorts types k) xs = hands_all types f outer st housed (parameter_sorts types k) xs ready.0 in
+        let handed : HandsAll types f st (parameter_sorts types k) xs = hands_all types f outer st sorted housed (parameter_sorts types k) xs ready.0 in
         let same : so_far.all_handed st xs ≡ Some handed.values = sym (handed_same types f st (parameter_sorts types k) xs ready.0) ∙ handed.are in
         let r = call g handed.values n st.world in
         let back_is : came_back s types f place target xs st (call_with call g (whole.all_handed types f st xs) n (lent types f xs st).world) ≡ came_back s types f place target xs st r =
-        ap (λ (u : State). came_back s types f place target xs st (call_with call g (whole.all_handed types f st xs) n u.world)) (lent_ready types f (holdings_of st) (parameter_sorts types k) xs st ready.0)
+        ap (λ (u : State). came_back s types f place target xs st (call_with call g (whole.all_handed types f st xs) n u.world)) (lent_ready types f (ready_of st) (parameter_sorts types k) xs st ready.0)
         ∙ ap (λ o. came_back s types f place target xs st (call_with call g o n st.world)) handed.are in
         let inside = housed_more st.world.content (outer ++ st.cells) handed.values housed handed.loose in
         let firsts : AreFirst handed.values = subst FirstHanded same (all_handed_first st xs first) in
@@ -189,7 +196,7 @@ module _ (s : Setting) (p : Program) (ws : List Waiting) (f : Function) (call : 
         (agree_from x (suc n) (suc n) _ _ (came_back s types f place target xs st r) (omega arith) (ap (called_in s p (walk s p n) ws v st.world (slice_get p.functions g)) same)
         (back_agrees place k target xs x n _ r ready gives comes (subst (Good x) back_is good)))
 
-    act_agrees : (place : Place) (i : Step) (x : Exits) (n : ℕ) → IsStepReady types p.functions f (holdings_of st) i → Good x (act s types f call place i n st)
+    act_agrees : (place : Place) (i : Step) (x : Exits) (n : ℕ) → IsStepSorted types f p.functions (ready_of st) i → Good x (act s types f call place i n st)
         → Agree x (suc n) (at_action s p (walk s p n) ws f i place x.next st) (act s types f call place i n st)
     act_agrees place (Live y form) x n ready good = own_agrees place (Live y form) x n tt ready good
     act_agrees place (End ys) x n ready good = own_agrees place (End ys) x n tt ready good
@@ -216,7 +223,7 @@ module _ (s : Setting) (p : Program) (ws : List Waiting) (f : Function) (call : 
   acts_agree place i q x h zero st inv = refl
   acts_agree place i q x h (suc n) st inv =
       agree_from x (suc n) (suc n) _ _ (act s types f call place i n st) (omega arith) (step n q st (record { spot = spot_at place (Action i); leads = goes x.next }) h)
-      (act_agrees st (reached_sorted types p.functions f proper inv.0.reached) inv.0.housed inv.1 place i x n (proper.ready q (holdings_of st) _ inv.0.reached h) (keeps.acts q place i x h n st inv.0))
+      (act_agrees st inv.0.sorted inv.0.housed inv.1 place i x n (asked q _ st inv.0.reached h) (keeps.acts q place i x h n st inv.0))
 
   -- ---- tests of a state whose cells point to first words
 
@@ -257,7 +264,7 @@ module _ (s : Setting) (p : Program) (ws : List Waiting) (f : Function) (call : 
       → AgreeTest held failed n (on n (Some q) st) (ask types f t n st)
   asks_agree place t q held failed h zero st inv = refl
   asks_agree place t q held failed h (suc n) st inv =
-      let same = test_same types f t n st (proper.ready q (holdings_of st) _ inv.0.reached h) in
+      let same = test_same types f t n st inv.0.sorted (asked q _ st inv.0.reached h) in
       test_from held failed (suc n) (suc n) _ _ (meaning.test_at types f t n st) (omega arith) (step n q st (record { spot = spot_at place (Question t); leads = parts held failed }) h)
       (subst (AgreeTest held failed (suc n) (chosen (on n) held failed (so_far.test_at t n st))) (sym same)
       (test_at_agrees held failed n st inv.1 t (subst (GoodTest held failed) same (keeps.asks q place t held failed h n st inv.0))))
@@ -267,7 +274,7 @@ module _ (s : Setting) (p : Program) (ws : List Waiting) (f : Function) (call : 
   leave_agrees place q x h (suc n) st inv = (
     omega arith,
     step n q st (record { spot = spot_at place Return; leads = [] }) h,
-    record { leaving = keeps.returns q place h st inv.0; sorted = reached_sorted types p.functions f proper inv.0.reached; first = inv.1 },
+    record { leaving = keeps.returns q place h st inv.0; first = inv.1 },
   )
 
   stop_agrees : (place : Place) (q : ℕ) (x : Exits) → numbered code q ≡ Some (record { spot = spot_at place StopHere; leads = [] }) → (n : ℕ) (st : State) → Agree x n (on n (Some q) st) (stop_at place n st)
@@ -451,12 +458,12 @@ module _ (s : Setting) (p : Program) (ws : List Waiting) (f : Function) (call : 
   finished v vs e before n c (Broke m st) h = tt
   finished v vs e before n c (Continued m st) h = tt
   finished v vs e before n c (Returned m st) h =
-      (h.0, so_far.results types f st, h.1 ∙ ap (λ us. back s p (walk s p m) us m st.world (so_far.results types f st)) e, result_same types f st h.2.leaving.ready, results_first types f st h.2.first)
+      (h.0, so_far.results types f st, h.1 ∙ ap (λ us. back s p (walk s p m) us m st.world (so_far.results types f st)) e, result_same types f st h.2.leaving.sorted h.2.leaving.ready, results_first types f st h.2.first)
   finished v vs e before n c (Stopped stop w) h = h
 
   -- the machine, from where control enters the body on, goes on as the body does
   pub body_agrees : (n : ℕ) (st : State) → InvAt (Stands types f outer) (enter f.body 1 no_exits) st → Agree no_exits n (on n (enter f.body 1 no_exits) st) (exec s types f call f.body n st)
-  body_agrees n st inv = statement_agrees f.body 1 no_exits proper.statement (has_all code) n st inv
+  body_agrees n st inv = statement_agrees f.body 1 no_exits proper.ready.statement (has_all code) n st inv
 
   pub comes_back : (v : Waiting) (vs : List Waiting) → ws ≡ v ∷ vs → (before : World) (n : ℕ) (st : State) → InvAt (Stands types f outer) (enter f.body 1 no_exits) st
       → Comes s p vs v before n (result_sort types f) (on n (enter f.body 1 no_exits) st) (finish types f (exec s types f call f.body n st))
@@ -478,21 +485,21 @@ module _ (s : Setting) (p : Program) (ws : List Waiting) (f : Function) (call : 
 -- ---- calls in calls
 
 -- a frame that is entered stands at the first point
-pub enters_standing : (s : Setting) (p : Program) (k : Function) (outer xs : List Cell) (w : World) → HasReadyWays p.types p.functions k → AreSuited (parameter_sorts p.types k) xs → Housed w.content (outer ++ xs) → AreFirst xs
+pub enters_standing : (s : Setting) (p : Program) (k : Function) (outer xs : List Cell) (w : World) → HasReadyWays p.types k → AreSuited (parameter_sorts p.types k) xs → Housed w.content (outer ++ xs) → AreFirst xs
     → (st : State) → whole.parameters_given s p.types k 0 xs (frame k w) ≡ Next st → InvAt (Stands p.types k (outer ++ xs)) (enter k.body 1 no_exits) st
 enters_standing s p k outer xs w proper suited housed first st e =
-    let gives = subst (Gives (outer ++ xs) (entry_holdings p.types k)) e (entry_gives outer s p.types k xs w housed suited) in
+    let gives = subst (Gives p.types k (outer ++ xs) (entry_ready k)) e (entry_gives outer s p.types k xs w housed suited) in
     let firsts = subst FirstNext (sym (parameters_same s p.types k (parameter_sorts p.types k) xs 0 (frame k w) suited) ∙ e) (parameters_first s p.types k 0 xs (frame k w) (frame_first k w) first) in
-    go (enter k.body 1 no_exits) (first_stands p.types k (outer ++ xs) st (enter k.body 1 no_exits) refl proper.begins gives.0 gives.1) firsts
+    go (enter k.body 1 no_exits) (first_stands p.types k (outer ++ xs) st (enter k.body 1 no_exits) refl proper.begins gives.0 gives.1.0 gives.1.1) firsts
   where
     go : (to : Option ℕ) → InvAt (Standing p.types k (outer ++ xs)) to st → AreFirst st.cells → InvAt (Stands p.types k (outer ++ xs)) to st
     go None g h = g
     go (Some q) g h = (g, h)
 
-module _ (s : Setting) (p : Program) (proper : IsReadyProgram p) (d : ℕ) (ws : List Waiting) (v : Waiting) (come : CallsCome s p (v ∷ ws) (calls s p d)) (n : ℕ) (w : World) where
-  begun_comes : (k : Function) (outer : List Cell) → HasReadyWays p.types p.functions k → (e : Effect) → ((st : State) → e ≡ Next st → InvAt (Stands p.types k outer) (enter k.body 1 no_exits) st)
+module _ (s : Setting) (p : Program) (texts : ℕ) (all : AreProperFunctions p.types texts p.functions) (d : ℕ) (ws : List Waiting) (v : Waiting) (come : CallsCome s p (v ∷ ws) (calls s p d)) (n : ℕ) (w : World) where
+  begun_comes : (k : Function) (outer : List Cell) → IsProperFunction p.types texts p.functions k → (e : Effect) → ((st : State) → e ≡ Next st → InvAt (Stands p.types k outer) (enter k.body 1 no_exits) st)
       → Comes s p ws v w n (result_sort p.types k) (let_in (walk s p n (v ∷ ws) k (enter k.body 1 no_exits)) v.place w e) (begun e w (λ st. finish p.types k (exec s p.types k (calls s p d) k.body n st)))
-  begun_comes k outer one (Next st) stands = comes_back s p (v ∷ ws) k (calls s p d) come outer one (calls_good s p proper d) v ws refl w n st (stands st refl)
+  begun_comes k outer one (Next st) stands = comes_back s p (v ∷ ws) k (calls s p d) come outer texts all one (calls_good s p texts all d) v ws refl w n st (stands st refl)
   begun_comes k outer one (Traps kind) stands = refl
   begun_comes k outer one (Faults kind) stands = tt
   begun_comes k outer one Strays stands = tt
@@ -500,15 +507,15 @@ module _ (s : Setting) (p : Program) (proper : IsReadyProgram p) (d : ℕ) (ws :
   callee_comes : (g : ℕ) (k : Function) (outer xs : List Cell) → slice_get p.functions g ≡ Some k → AreSuited (parameter_sorts p.types k) xs → Housed w.content (outer ++ xs) → AreFirst xs
       → Comes s p ws v w n (result_sort p.types k) (entered_in s p (walk s p n) (v ∷ ws) v.place w (slice_get p.functions g) xs) (entered s p.types (slice_get p.functions g) (calls s p d) xs n w)
   callee_comes g k outer xs is suited housed first =
-      let one = proper_at p.types p.functions p.functions g k proper is in
+      let one = all g k is in
       let e = whole.parameters_given s p.types k 0 xs (frame k w) in
       let same = parameters_same s p.types k (parameter_sorts p.types k) xs 0 (frame k w) suited in
       let body = λ (st : State). finish p.types k (exec s p.types k (calls s p d) k.body n st) in
       subst (λ o. Comes s p ws v w n (result_sort p.types k) (entered_in s p (walk s p n) (v ∷ ws) v.place w o xs) (entered s p.types o (calls s p d) xs n w)) (sym is)
       (subst (λ x. Comes s p ws v w n (result_sort p.types k) (let_in (walk s p n (v ∷ ws) k (enter k.body 1 no_exits)) v.place w x) (begun e w body)) same
-      (begun_comes k (outer ++ xs) one e (enters_standing s p k outer xs w one suited housed first)))
+      (begun_comes k (outer ++ xs) one e (enters_standing s p k outer xs w one.ready suited housed first)))
 
-module _ (s : Setting) (p : Program) (proper : IsReadyProgram p) where
+module _ (s : Setting) (p : Program) (texts : ℕ) (all : AreProperFunctions p.types texts p.functions) where
   -- as many calls may stand in calls as there is room for frames
   pub calls_come : (d : ℕ) (ws : List Waiting) → length ws + 1 + d ≡ s.given.depth → CallsCome s p ws (calls s p d)
   calls_come zero ws room v g k outer xs n w is suited housed first =
@@ -516,4 +523,4 @@ module _ (s : Setting) (p : Program) (proper : IsReadyProgram p) where
   calls_come (suc d) ws room v g k outer xs n w is suited housed first =
       subst (λ b. Comes s p ws v w n (result_sort p.types k) (cond b (entered_in s p (walk s p n) (v ∷ ws) v.place w (slice_get p.functions g) xs) (Quit (Trapped trap.Depth v.place) w)) (calls s p (suc d) g xs n w))
       (sym (lt-ltb (length (v ∷ ws)) s.given.depth (omega (arith, room))))
-      (callee_comes s p proper d ws v (calls_come d (v ∷ ws) (omega (arith, room))) n w g k outer xs is suited housed first)
+      (callee_comes s p texts all d ws v (calls_come d (v ∷ ws) (omega (arith, room))) n w g k outer xs is suited housed first)

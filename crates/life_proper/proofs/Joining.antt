@@ -15,35 +15,11 @@ use Rattle.life_proper.specs.Knowing.{State, agreed, agreed_all, met}
 agreed_assoc : (a b c : Known) → agreed (agreed a b) c ≡ agreed a (agreed b c)
 agreed_assoc known.Unknown b c = refl
 agreed_assoc known.Blank known.Blank known.Unknown = refl
-agreed_assoc known.Blank known.Object known.Unknown = refl
-agreed_assoc known.Blank known.Number known.Unknown = refl
-agreed_assoc known.Blank known.Pointer known.Unknown = refl
-agreed_assoc known.Blank known.View known.Unknown = refl
+agreed_assoc known.Blank known.Ready known.Unknown = refl
 agreed_assoc known.Blank known.Unknown known.Unknown = refl
-agreed_assoc known.Object known.Blank known.Unknown = refl
-agreed_assoc known.Object known.Object known.Unknown = refl
-agreed_assoc known.Object known.Number known.Unknown = refl
-agreed_assoc known.Object known.Pointer known.Unknown = refl
-agreed_assoc known.Object known.View known.Unknown = refl
-agreed_assoc known.Object known.Unknown known.Unknown = refl
-agreed_assoc known.Number known.Blank known.Unknown = refl
-agreed_assoc known.Number known.Object known.Unknown = refl
-agreed_assoc known.Number known.Number known.Unknown = refl
-agreed_assoc known.Number known.Pointer known.Unknown = refl
-agreed_assoc known.Number known.View known.Unknown = refl
-agreed_assoc known.Number known.Unknown known.Unknown = refl
-agreed_assoc known.Pointer known.Blank known.Unknown = refl
-agreed_assoc known.Pointer known.Object known.Unknown = refl
-agreed_assoc known.Pointer known.Number known.Unknown = refl
-agreed_assoc known.Pointer known.Pointer known.Unknown = refl
-agreed_assoc known.Pointer known.View known.Unknown = refl
-agreed_assoc known.Pointer known.Unknown known.Unknown = refl
-agreed_assoc known.View known.Blank known.Unknown = refl
-agreed_assoc known.View known.Object known.Unknown = refl
-agreed_assoc known.View known.Number known.Unknown = refl
-agreed_assoc known.View known.Pointer known.Unknown = refl
-agreed_assoc known.View known.View known.Unknown = refl
-agreed_assoc known.View known.Unknown known.Unknown = refl
+agreed_assoc known.Ready known.Blank known.Unknown = refl
+agreed_assoc known.Ready known.Ready known.Unknown = refl
+agreed_assoc known.Ready known.Unknown known.Unknown = refl
 agreed_assoc _ _ _ = refl
 
 all_assoc : (k j l : List Known) → agreed_all (agreed_all k j) l ≡ agreed_all k (agreed_all j l)
@@ -86,23 +62,23 @@ pub body_is : (s : Stmt) (a : Bool) → (is_statement (tree_of s) && a) ≡ a
 body_is s a = ap (λ (b : Bool). b && a) (tree_is_statement s)
 
 -- one more part
-pub flow_more : (types : Types) (fs : List Function) (f : Function) (w : Flow) (a rest : Tree)
-    → joined (before_next (joined (before_next w) (flow types fs f a w.next))) (flow types fs f rest (flow types fs f a w.next).next)
-    ≡ joined (before_next w) (flow types fs f (Then a rest) w.next)
-flow_more types fs f w a rest = let v = flow types fs f a w.next in joined_assoc (before_next w) (before_next v) (flow types fs f rest v.next)
+pub flow_more : (types : Types) (f : Function) (w : Flow) (a rest : Tree)
+    → joined (before_next (joined (before_next w) (flow types f a w.next))) (flow types f rest (flow types f a w.next).next)
+    ≡ joined (before_next w) (flow types f (Then a rest) w.next)
+flow_more types f w a rest = let v = flow types f a w.next in joined_assoc (before_next w) (before_next v) (flow types f rest v.next)
 
 -- one turn of a loop over statements: the ways so far lose their next, which the item is given
-pub flow_turn : (types : Types) (fs : List Function) (f : Function) (w left v now : Flow) (s : State) (items : List Stmt) (i : ℕ) (x : Stmt) (all : Flow)
-    → i < length items → x ≡ get_or items i x → s ≡ w.next → left ≡ before_next w → v ≡ flow types fs f (tree_of x) s → now ≡ joined left v
-    → joined (before_next w) (flow types fs f (trees (map tree_of (drop i items))) w.next) ≡ all
-    → joined (before_next now) (flow types fs f (trees (map tree_of (drop (i + 1) items))) now.next) ≡ all
-flow_turn types fs f w left v now s items i x all lt is given taken of made so_far =
+pub flow_turn : (types : Types) (f : Function) (w left v now : Flow) (s : State) (items : List Stmt) (i : ℕ) (x : Stmt) (all : Flow)
+    → i < length items → x ≡ get_or items i x → s ≡ w.next → left ≡ before_next w → v ≡ flow types f (tree_of x) s → now ≡ joined left v
+    → joined (before_next w) (flow types f (trees (map tree_of (drop i items))) w.next) ≡ all
+    → joined (before_next now) (flow types f (trees (map tree_of (drop (i + 1) items))) now.next) ≡ all
+flow_turn types f w left v now s items i x all lt is given taken of made so_far =
     let rest = drop (i + 1) items in
     let cut : drop i items ≡ x ∷ rest = drop_more items i x lt ∙ ap (λ (y : Stmt). y ∷ rest) (sym is) in
-    let ways : v ≡ flow types fs f (tree_of x) w.next = of ∙ ap (flow types fs f (tree_of x)) given in
-    let whole : now ≡ joined (before_next w) (flow types fs f (tree_of x) w.next) =
+    let ways : v ≡ flow types f (tree_of x) w.next = of ∙ ap (flow types f (tree_of x)) given in
+    let whole : now ≡ joined (before_next w) (flow types f (tree_of x) w.next) =
     made ∙ ap (λ (u : Flow). joined u v) taken ∙ ap (joined (before_next w)) ways in
-    ap (λ (u : Flow). joined (before_next u) (flow types fs f (trees (map tree_of rest)) u.next)) whole
-    ∙ flow_more types fs f w (tree_of x) (trees (map tree_of rest))
-    ∙ ap (λ (xs : List Stmt). joined (before_next w) (flow types fs f (trees (map tree_of xs)) w.next)) (sym cut)
+    ap (λ (u : Flow). joined (before_next u) (flow types f (trees (map tree_of rest)) u.next)) whole
+    ∙ flow_more types f w (tree_of x) (trees (map tree_of rest))
+    ∙ ap (λ (xs : List Stmt). joined (before_next w) (flow types f (trees (map tree_of xs)) w.next)) (sym cut)
     ∙ so_far

@@ -1,18 +1,13 @@
 -- One turn of a loop over the locals.
-use Rattle.std.proofs.Common.{◌≡◌, ◌+◌, ◌-◌, ◌<◌, ◌≤◌, ◌&&◌, ℕ, zero, suc, Bool, true, false, List, [], ◌∷◌, length, take, drop, map, Some, option_map, slice_get, slice_set, refl, sym, ◌∙◌, ap, arith, add-one, drop_of_length-le, leb, ⊎_elim}
+use Rattle.std.proofs.Common.{◌≡◌, ◌+◌, ◌-◌, ◌<◌, ◌≤◌, ◌&&◌, ℕ, zero, suc, Bool, true, false, List, [], ◌∷◌, ◌++◌, length, take, drop, map, option_map, slice_get, slice_set, refl, sym, ◌∙◌, ap, arith, add-one, append_assoc, drop_of_length-le}
 use Rattle.std.proofs.lemmas.Bool.{and_right}
-use Rattle.std.proofs.lemmas.Bool.Decides.{leb_tells}
-use Rattle.life_types.specs.Types.{Types}
 use Rattle.life_core.specs.declared.program.Local.{Local}
-use Rattle.life_core.specs.declared.operand.Argument.{Argument as HandedOver}
 use Rattle.life_core.specs.declared.program.CoreFn.{CoreFn}
 use Rattle.life_core.specs.Function.{function_of}
-use Rattle.life_core.specs.Operands.{argument_of}
-use Rattle.life_core.specs.Holdings.{given_holdings, held_by}
+use Rattle.life_core.specs.Ready.{given_ready}
 use Rattle.life_proper.specs.declared.known.Known.{Known}
 use Rattle.life_proper.specs.Knowing.{agreed, agreed_all, are_implied, forgotten, is_implied, known_as, known_at}
-use Rattle.life_proper.specs.ReadyKnown.{are_arguments_ready}
-use Rattle.life_proper.specs.Turns.{held_first, kept_by}
+use Rattle.life_proper.specs.Turns.{given_first, kept_by}
 
 -- ---- what two ways agree on, from this local on
 
@@ -94,53 +89,22 @@ forgotten_done ls ks i le = ap (forgotten (drop i ls)) (drop_of_length-le ks {i 
 
 -- ---- what is known at the entry
 
-pub given_step : (types : Types) (n : ℕ) (l : Local) (ls : List Local) → given_holdings types n (l ∷ ls) ≡ held_first types n l ∷ given_holdings types (n - 1) ls
-given_step types zero l ls = refl
-given_step types (suc n) l ls = let e : n ≡ suc n - 1 = omega arith in ap (λ (m : ℕ). held_by types (Some l) ∷ given_holdings types m ls) e
+pub given_step : (n : ℕ) (l : Local) (ls : List Local) → given_ready n (l ∷ ls) ≡ given_first n ∷ given_ready (n - 1) ls
+given_step zero l ls = refl
+given_step (suc n) l ls = let e : n ≡ suc n - 1 = omega arith in ap (λ (m : ℕ). true ∷ given_ready m ls) e
 
--- ---- what a call hands over
+given_next : (n : ℕ) (ls : List Local) (i : ℕ) → i < length ls → given_ready n (drop i ls) ≡ given_first n ∷ given_ready (n - 1) (drop (suc i) ls)
+given_next n [] i lt = absurd (omega (arith, lt))
+given_next n (l ∷ ls) zero lt = given_step n l ls
+given_next n (l ∷ ls) (suc i) lt = given_next n ls i (omega (arith, lt))
 
-abbrev pub sorts_of : Types → ℕ → List Local → List Known
-sorts_of types n ls = map known_as (take n (given_holdings types n ls))
-
-pub sorts_none : (types : Types) (n : ℕ) → sorts_of types n [] ≡ []
-sorts_none types zero = refl
-sorts_none types (suc n) = refl
-
-pub sorts_step : (types : Types) (n m : ℕ) (l : Local) (ls : List Local) → n ≡ suc m → sorts_of types n (l ∷ ls) ≡ known_as (held_by types (Some l)) ∷ sorts_of types m ls
-sorts_step types n m l ls e = ap (λ (c : ℕ). sorts_of types c (l ∷ ls)) e
-
--- .. where no argument is left
-left_over : (types : Types) (k : List Known) (m : ℕ) (ls : List Local) (i : ℕ) → i < length ls → are_arguments_ready k (sorts_of types (suc m) (drop i ls)) [] ≡ false
-left_over types k m [] i lt = absurd (omega (arith, lt))
-left_over types k m (l ∷ ls) zero lt = refl
-left_over types k m (l ∷ ls) (suc i) lt = left_over types k m ls i (omega (arith, lt))
-
-none_over : (types : Types) (k : List Known) (m : ℕ) (ls : List Local) (i : ℕ) → length ls ≤ i → are_arguments_ready k (sorts_of types (suc m) (drop i ls)) [] ≡ true
-none_over types k m [] zero le = refl
-none_over types k m [] (suc i) le = refl
-none_over types k m (l ∷ ls) zero le = absurd (omega (arith, le))
-none_over types k m (l ∷ ls) (suc i) le = none_over types k m ls i (omega (arith, le))
-
-drop_all : {A : Type 0} (xs : List A) (i : ℕ) → i ≡ length xs → drop i xs ≡ []
-drop_all [] zero e = refl
-drop_all [] (suc i) e = refl
-drop_all (x ∷ xs) zero e = absurd (omega (arith, e))
-drop_all (x ∷ xs) (suc i) e = drop_all xs i (omega (arith, e))
-
-over_is : (types : Types) (k : List Known) (n : ℕ) (ls : List Local) (i : ℕ) → 0 < n → leb (length ls) i ≡ are_arguments_ready k (sorts_of types n (drop i ls)) []
-over_is types k zero ls i some = absurd (omega (arith, some))
-over_is types k (suc m) ls i some =
-    ⊎_elim (λ h. h.0 ∙ sym (none_over types k m ls i h.1)) (λ h. h.0 ∙ sym (left_over types k m ls i h.1)) (leb_tells (length ls) i)
-
--- .. nothing may be left of the parameters
-pub arguments_over : (types : Types) (k : List Known) (n : ℕ) (ls : List Local) (xs : List HandedOver) (i : ℕ) (all : Bool) → 0 < n → i ≡ length xs
-    → are_arguments_ready k (sorts_of types n (drop i ls)) (map argument_of (drop i xs)) ≡ all → leb (length ls) (length xs) ≡ all
-arguments_over types k n ls xs i all some e h =
-    ap (leb (length ls)) (sym e)
-    ∙ over_is types k n ls i some
-    ∙ ap (λ (ys : List HandedOver). are_arguments_ready k (sorts_of types n (drop i ls)) (map argument_of ys)) (sym (drop_all xs i e))
-    ∙ h
+-- one turn: a local more is made, and one less is left
+pub given_turn : (made : List Known) (n : ℕ) (ls : List Local) (i : ℕ) → i < length ls
+    → (made ++ known_as (given_first n) ∷ []) ++ map known_as (given_ready (n - 1) (drop (i + 1) ls)) ≡ made ++ map known_as (given_ready n (drop i ls))
+given_turn made n ls i lt =
+    rw (add-one i)
+    (append_assoc made (known_as (given_first n) ∷ []) (map known_as (given_ready (n - 1) (drop (suc i) ls)))
+    ∙ ap (λ (bits : List Bool). made ++ map known_as bits) (sym (given_next n ls i lt)))
 
 -- ---- a function that is called
 

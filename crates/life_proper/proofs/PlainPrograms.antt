@@ -1,43 +1,35 @@
 -- The walk over the trees of a program's functions tests their calls.
-use Rattle.std.proofs.Common.{◌≡◌, Bool, ◌&&◌, List, [], ◌∷◌, ◌++◌, refl, sym, ap, ◌∙◌}
-use Rattle.std.proofs.lemmas.List.Folds.{list_all-append, list_all-map}
+use Rattle.std.proofs.Common.{◌≡◌, Bool, ◌&&◌, List, [], ◌∷◌, refl, ap, ◌∙◌}
 use Rattle.std.specs.List.{list_all}
 use Rattle.life_types.specs.Types.{Types}
 use Rattle.life_core.specs.ByValue.{calls_by_value, calls_in_by_value, is_by_value, node_by_value}
 use Rattle.life_core.specs.Function.{Function, Program}
-use Rattle.life_core.proofs.SpotLemmas.{code_spots}
-use Rattle.life_core.specs.Linked.{code_of, spot_of_linked}
 use Rattle.life_core.specs.Tree.{Tree, Skip, Then, Acts, Asks, Both, Either, Negated, Choice, Turns, Breaks, Continues, Returns, Stops, Spot, spots}
 use Rattle.life_proper.specs.Plain.{are_plain, is_plain, is_plain_tree}
 use Rattle.life_proper.proofs.Joining.{and_true}
+use Rattle.life_proper.proofs.SpotTests.{points_tested, three_parts, two_parts}
 
 module _ (types : Types) (fs : List Function) (f : Function) where
   abbrev spot_here : Spot → Bool
   spot_here s = node_by_value types fs f s.node
 
-  two_parts : (xs ys : List Spot) (a b : Bool) → list_all spot_here xs ≡ a → list_all spot_here ys ≡ b → list_all spot_here (xs ++ ys) ≡ (a && b)
-  two_parts xs ys a b p q = list_all-append spot_here xs ys ∙ ap (λ (c : Bool). c && list_all spot_here ys) p ∙ ap (λ (c : Bool). a && c) q
-
-  three_parts : (xs ys zs : List Spot) (a b c : Bool) → list_all spot_here xs ≡ a → list_all spot_here ys ≡ b → list_all spot_here zs ≡ c → list_all spot_here (xs ++ (ys ++ zs)) ≡ (a && (b && c))
-  three_parts xs ys zs a b c p q r = two_parts xs (ys ++ zs) a (b && c) p (two_parts ys zs b c q r)
-
   tree_spots : (t : Tree) → list_all spot_here (spots t) ≡ is_plain_tree types fs f t
   tree_spots Skip = refl
-  tree_spots (Then a b) = two_parts (spots a) (spots b) _ _ (tree_spots a) (tree_spots b)
+  tree_spots (Then a b) = two_parts spot_here (spots a) (spots b) _ _ (tree_spots a) (tree_spots b)
   tree_spots (Acts place i) = and_true (is_by_value types fs f i)
   tree_spots (Asks place t) = refl
-  tree_spots (Both a b) = two_parts (spots a) (spots b) _ _ (tree_spots a) (tree_spots b)
-  tree_spots (Either a b) = two_parts (spots a) (spots b) _ _ (tree_spots a) (tree_spots b)
+  tree_spots (Both a b) = two_parts spot_here (spots a) (spots b) _ _ (tree_spots a) (tree_spots b)
+  tree_spots (Either a b) = two_parts spot_here (spots a) (spots b) _ _ (tree_spots a) (tree_spots b)
   tree_spots (Negated a) = tree_spots a
-  tree_spots (Choice t a b) = three_parts (spots t) (spots a) (spots b) _ _ _ (tree_spots t) (tree_spots a) (tree_spots b)
-  tree_spots (Turns t body step) = three_parts (spots t) (spots body) (spots step) _ _ _ (tree_spots t) (tree_spots body) (tree_spots step)
+  tree_spots (Choice t a b) = three_parts spot_here (spots t) (spots a) (spots b) _ _ _ (tree_spots t) (tree_spots a) (tree_spots b)
+  tree_spots (Turns t body step) = three_parts spot_here (spots t) (spots body) (spots step) _ _ _ (tree_spots t) (tree_spots body) (tree_spots step)
   tree_spots Breaks = refl
   tree_spots Continues = refl
   tree_spots (Returns place) = refl
   tree_spots (Stops place) = refl
 
   tree_points : calls_in_by_value types fs f ≡ is_plain_tree types fs f f.body
-  tree_points = sym (list_all-map spot_here spot_of_linked (code_of f)) ∙ ap (list_all spot_here) (code_spots f) ∙ tree_spots f.body
+  tree_points = points_tested spot_here f ∙ tree_spots f.body
 
 -- ---- a program
 

@@ -534,3 +534,15 @@ bad_64 = refl
 -- the input is a long
 bad_65 : well_formed (Ports (Takes 3)) ≡ false
 bad_65 = refl
+
+-- too many
+bad_66 : well_formed (Call (Some (whole 3)) (record { 0 = 0 }) (Value 19 ∷ Slot (whole 15) ∷ Value 19 ∷ [])) ≡ false
+bad_66 = refl
+
+-- a pointer as an int
+bad_67 : well_formed (Call (Some (whole 3)) (record { 0 = 0 }) (PointerOf (whole 11) ∷ Slot (whole 15) ∷ [])) ≡ false
+bad_67 = refl
+
+-- nothing comes of it
+bad_68 : well_formed (Call (Some (whole 3)) (record { 0 = 1 }) (GivenOver 17 ∷ PointerOf (whole 11) ∷ PointerOf (whole 18) ∷ [])) ≡ false
+bad_68 = refl

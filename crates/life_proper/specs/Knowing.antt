@@ -1,33 +1,25 @@
 -- What is known of the locals where a point is reached.
 use Rattle.std.specs.Prelude.{ℕ, Bool, true, false, ◌&&◌, ◌||◌, if◌then◌else◌, List, [], ◌∷◌, Option, Some, None, is_none, map, slice_get}
 use Rattle.std.specs.Option.{unwrap_or}
-use Rattle.life_types.specs.Types.{Types}
 use Rattle.life_core.specs.declared.program.Local.{Local}
-use Rattle.life_core.specs.declared.program.LocalKind.{LocalKind}
-use Rattle.life_core.specs.declared.program.LocalKind.TheVariants as kind
 use Rattle.life_core.specs.Function.{Function}
-use Rattle.life_core.specs.Holdings.{Holding, Blank, AnObject, ANumber, APointer, AView, entry_holdings}
+use Rattle.life_core.specs.Kinds.{is_register}
+use Rattle.life_core.specs.Ready.{entry_ready}
 use Rattle.life_proper.specs.declared.known.Known.{Known}
 use Rattle.life_proper.specs.declared.known.Known.TheVariants as known
 
--- of one local, what it holds or nothing; of all, in the order of their numbers
-abbrev pub known_as : Holding → Known
-known_as Blank = known.Blank
-known_as AnObject = known.Object
-known_as ANumber = known.Number
-known_as APointer = known.Pointer
-known_as AView = known.View
+-- of one local, whether it is there; of all, in the order of their numbers
+abbrev pub known_as : Bool → Known
+known_as true = known.Ready
+known_as false = known.Blank
 
 abbrev pub known_at : List Known → ℕ → Known
 known_at k x = unwrap_or (slice_get k x) known.Unknown
 
--- both are known, and to hold the same
+-- both are known, and the same
 abbrev pub same : Known → Known → Bool
 same known.Blank known.Blank = true
-same known.Object known.Object = true
-same known.Number known.Number = true
-same known.Pointer known.Pointer = true
-same known.View known.View = true
+same known.Ready known.Ready = true
 same _ _ = false
 
 -- where two ways meet, what both know
@@ -49,10 +41,6 @@ are_implied (a ∷ more) [] = false
 are_implied (a ∷ more) (b ∷ others) = is_implied a b && are_implied more others
 
 -- a register without a name holds an intermediate value
-abbrev pub is_register : LocalKind → Bool
-is_register kind.Register = true
-is_register _ = false
-
 abbrev pub is_intermediate : Local → Bool
 is_intermediate l = is_register l.kind && is_none l.name
 
@@ -69,8 +57,8 @@ forgotten (l ∷ ls) (a ∷ more) = (if is_forgotten l a then known.Unknown else
 forgotten _ more = more
 
 -- at the entry of a function
-abbrev pub entry_known : Types → Function → List Known
-entry_known types f = map known_as (entry_holdings types f)
+abbrev pub entry_known : Function → List Known
+entry_known f = map known_as (entry_ready f)
 
 -- ---- ways that may not come to a point
 

@@ -4,6 +4,7 @@ pub mod Knowing
 pub mod OperandTypes
 pub mod Placed
 pub mod Plain
+pub mod ProperFunctions
 pub mod ProperPrograms
 pub mod ReadyKnown
 pub mod ResultsKnown

@@ -6,32 +6,21 @@ use Rattle.life_types.specs.declared.ty.Ty.TheVariants as ty
 use Rattle.life_core.specs.declared.operand.Which.{Which}
 use Rattle.life_core.specs.declared.operand.Which.TheVariants as which
 use Rattle.life_core.specs.declared.program.Local.{Local}
-use Rattle.life_core.specs.declared.program.LocalKind.{LocalKind}
-use Rattle.life_core.specs.declared.program.LocalKind.TheVariants.{Object, Register, Range}
 use Rattle.life_core.specs.Function.{Function}
+use Rattle.life_core.specs.Kinds.{is_object_at, is_register_at}
 use Rattle.life_core.specs.Operands.{Location, Operand, Name, Through, Base}
 use Rattle.life_core.specs.Operands as base
-use Rattle.life_proper.specs.Knowing.{is_register}
 use Rattle.life_pset.specs.Shapes.{is_constant, local_type, location_type, operand_type, ty_if, ty_of}
 use Rattle.life_proper.specs.OperandTypes.{is_value, is_void, owned_element, owned_target, pointee, same, seen_element}
-
-abbrev pub is_object : LocalKind → Bool
-is_object Object = true
-is_object Register = false
-is_object Range = false
 
 module _ (types : Types) (f : Function) where
   -- ---- locals
 
-  abbrev pub has_kind : (LocalKind → Bool) → Option Local → Bool
-  has_kind test None = false
-  has_kind test (Some l) = test l.kind
-
   abbrev pub object_at : ℕ → Bool
-  object_at x = has_kind is_object (slice_get f.locals x)
+  object_at x = is_object_at f x
 
   abbrev pub register_at : ℕ → Bool
-  register_at x = has_kind is_register (slice_get f.locals x)
+  register_at x = is_register_at f x
 
   -- a parameter that is a slot
   abbrev pub is_slot_local : Option Local → Bool

@@ -4,6 +4,7 @@ use Rattle.std.specs.List.{list_all}
 use Rattle.life_core.specs.ByValue.{calls_by_value}
 use Rattle.life_core.specs.Function.{Function, Program}
 use Rattle.life_core.specs.Proper.{IsReadyProgram}
+use Rattle.life_core.specs.Served.{is_served_program}
 use Rattle.life_core.specs.Shape.{breaks_inside}
 use Rattle.life_pset.specs.Limits.{IsProgramWithinLimits}
 use Rattle.life_proper.specs.GivenOver.{keeps_all_given}
@@ -17,15 +18,16 @@ has_own_breaks f = breaks_inside false f.body
 abbrev pub have_own_breaks : Program → Bool
 have_own_breaks p = list_all has_own_breaks p.functions
 
--- what isn't proved for every program so far: no raw pointer and no reference goes through a call
+-- what isn't proved for every program so far: no raw pointer and no reference goes through a call, and no step is one that is served later
 pub record IsBuiltSoFar (p : Program) : Type 0 where
   pub by_value : calls_by_value p ≡ true
+  pub serves : is_served_program p ≡ true
 
 pub record IsProperProgram (p : Program) : Type 0 where
   -- each number names something that is there, each operand has a type that its instruction takes, and const stays const
   pub well_formed : IsWellFormedProgram p
-  -- on every way through a function each object is used between its birth and its end, each register is read once it was written, and no
-  -- way runs past the end
+  -- on every way through a function each object is used between its birth and its end, each register is read once it was written, and no way
+  -- runs past the end
   pub ready : IsReadyProgram p
   -- on every way to a return the result was written
   pub results : WritesResults p

@@ -8,8 +8,8 @@ use Rattle.life_types.specs.declared.ty.Ty.{Ty}
 use Rattle.life_types.specs.declared.ty.Ty.TheVariants as ty
 use Rattle.life_core.specs.Function.{Function, Program}
 use Rattle.life_core.specs.Linked.{Linked, code_of, numbered}
-use Rattle.life_core.specs.Holdings.{Holdings, result_sort}
-use Rattle.life_core.specs.Proper.{Holds, Reaches}
+use Rattle.life_core.specs.Proper.{Reaches}
+use Rattle.life_core.specs.Ready.{Ready, IsThere}
 use Rattle.life_core.specs.Tree.{Return}
 
 -- where names have these texts, whether it is `main`
@@ -28,8 +28,8 @@ writes_result names types f = is_written_by (is_main names f.name) (slice_get ty
 abbrev pub HasResultWritten : List (List ℕ) → Types → Function → Type 0
 HasResultWritten names types f =
     IsTrue (writes_result names types f)
-    → (p : ℕ) (hs : Holdings) (l : Linked) → Reaches types f p hs → numbered (code_of f) p ≡ Some l → l.spot.node ≡ Return
-    → Holds hs f.parameters (result_sort types f)
+    → (p : ℕ) (bits : Ready) (l : Linked) → Reaches types f p bits → numbered (code_of f) p ≡ Some l → l.spot.node ≡ Return
+    → IsThere bits f.parameters
 
 abbrev pub HaveResultsWritten : List (List ℕ) → Types → List Function → Type 0
 HaveResultsWritten names types [] = Unit {0}

@@ -18,7 +18,7 @@ use Rattle.life_core.specs.Function.{Function}
 use Rattle.life_core.specs.Operands.{Argument, Value, GivenOver, PointerOf, Slot, Characters, View, Single, Location, Operand, Name, Through, Source}
 use Rattle.life_core.specs.Operands as source
 use Rattle.life_core.specs.Step.{Step, Live, End, Eval, Load, Save, Copy, Move, Aim, Repoint, Element, Cursor, Advance, Cut, Size, Same, Changes, Make, Call, Ports, Change, PushBack, PopBack, Clear, Reserve, Erase, Set, Append, Port, Writes, WritesView, Takes, Test, NonZero, NotNull}
-use Rattle.life_core.specs.Tree.{Tree, Skip, Then, Acts, Asks, Both, Either, Negated, Choice, Turns, Breaks, Continues, Returns, Stops}
+use Rattle.life_core.specs.Tree.{Tree, Skip, Then, Acts, Asks, Both, Either, Negated, Choice, Turns, Breaks, Continues, Returns, Stops, Node, Action, Question, Spot}
 use Rattle.life_pset.specs.Shapes.{is_constant, is_pointer, is_raw, is_unique, operand_type, tree_if, ty_of}
 use Rattle.life_proper.specs.OperandTypes.{aims_at, are_compared, gets, is_composed, is_iterator, is_owner, is_promoted, is_range, is_reference, is_view, is_void, keeps_const, owned_target, pointee, same, spans, takes, walks}
 use Rattle.life_proper.specs.Placed.{element_of, is_const_base, is_const_place, is_consumed, is_given, is_number, is_number_of, is_number_of_if, object_at, register_at, result_at, slot_at, type_at, type_in, type_of, type_of_element}
@@ -178,6 +178,14 @@ module _ (types : Types) (texts : ℕ) (fs : List Function) (f : Function) where
   is_well_formed_test (NotNull l) = is_raw (type_in types f l) || is_unique (type_in types f l)
 
   -- ---- each point of a tree
+
+  abbrev pub is_well_formed_node : Node → Bool
+  is_well_formed_node (Action i) = is_well_formed_step i
+  is_well_formed_node (Question t) = is_well_formed_test t
+  is_well_formed_node _ = true
+
+  abbrev pub is_well_formed_spot : Spot → Bool
+  is_well_formed_spot s = is_well_formed_node s.node
 
   abbrev pub is_well_formed_tree : Tree → Bool
   is_well_formed_tree Skip = true

@@ -11,8 +11,8 @@ use Rattle.life_core.specs.declared.program.Local.{Local}
 use Rattle.life_core.specs.declared.program.LocalKind.{LocalKind}
 use Rattle.life_core.specs.declared.program.LocalKind.TheVariants.{Object, Register, Range}
 use Rattle.life_core.specs.Function.{Function, Program, Promise, Default, Listed}
+use Rattle.life_core.specs.Kinds.{is_register}
 use Rattle.life_pset.specs.Shapes.{is_pointer, shape, ty_of}
-use Rattle.life_proper.specs.Knowing.{is_register}
 use Rattle.life_proper.specs.OperandTypes.{is_composed, is_value, is_void}
 use Rattle.life_proper.specs.WellFormed.{is_well_formed_tree}
 

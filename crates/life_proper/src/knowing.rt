@@ -1,6 +1,7 @@
 // What is known of all locals of a function, in the order of their numbers.
 ghost use Rattle.std.specs.Prelude.{◌≡◌, if◌then◌else◌, IfOk, slice_get, slice_set};
-ghost use Rattle.life_proper.specs.Knowing.{agreed, agreed_all, are_implied, at_head, comes_back, forgotten, is_blank, is_forgotten, is_register, known_at, met, same};
+ghost use Rattle.life_core.specs.Kinds.{is_register};
+ghost use Rattle.life_proper.specs.Knowing.{agreed, agreed_all, are_implied, at_head, comes_back, forgotten, is_blank, is_forgotten, known_at, met, same};
 ghost use Rattle.life_proper.specs.Seen.{state_seen};
 ghost use Rattle.life_proper.specs.Turns.{kept_by};
 ghost use Rattle.life_proper.specs.declared.known.Known.TheVariants as known;
@@ -29,14 +30,14 @@ fn known_in(known: &[Known], i: usize) -> Known
     }
 }
 
-/// Whether the local is known to hold this.
-pub(crate) fn holds(known: &[Known], x: u32, what: Known) -> bool
+/// Whether this is known of the local.
+pub(crate) fn is_known(known: &[Known], x: u32, what: Known) -> bool
     ensures { result ≡ same (known_at known.now x) what }
 {
     known_at(known, x).same(what)
 }
 
-/// From here on the local holds this.
+/// From here on this is known of the local.
 pub(crate) fn set(known: &mut Vec<Known>, x: u32, what: Known)
     ensures { known.new.items ≡ slice_set known.old.items x what }
 {

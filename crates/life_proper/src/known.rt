@@ -2,34 +2,25 @@
 ghost use Rattle.std.specs.Prelude.{◌≡◌};
 ghost use Rattle.life_proper.specs.Knowing.{agreed, is_implied, same};
 
-/// What a local is known to hold, on whichever way control came.
+/// What is known of a local, on whichever way control came.
 #[derive(Clone, Copy, Debug)]
 pub enum Known {
     /// Nothing is known.
     Unknown,
     /// It isn't alive, or was never written.
     Blank,
-    /// An object of a value type.
-    Object,
-    /// A value.
-    Number,
-    /// A raw pointer or reference.
-    Pointer,
-    /// A view of characters.
-    View,
+    /// It is alive, or was written.
+    Ready,
 }
 
 impl Known {
-    /// Whether both are known, and to hold the same.
+    /// Whether both are known, and the same.
     pub(crate) fn same(self, other: Known) -> bool
         ensures { result ≡ same self other }
     {
         match (self, other) {
             (Known::Blank, Known::Blank) => true,
-            (Known::Object, Known::Object) => true,
-            (Known::Number, Known::Number) => true,
-            (Known::Pointer, Known::Pointer) => true,
-            (Known::View, Known::View) => true,
+            (Known::Ready, Known::Ready) => true,
             _ => false,
         }
     }

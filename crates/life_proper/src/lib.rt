@@ -3,16 +3,16 @@
 
 mod by_value;
 mod checker;
+mod entry;
 mod flow;
 mod knowing;
 mod known;
 mod laws;
 mod passing;
 mod plain;
-mod ready;
 mod scope;
 mod shape;
-mod sorts;
+mod uses;
 mod walk;
 
 pub use checker::is_proper;

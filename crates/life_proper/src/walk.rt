@@ -1,53 +1,70 @@
 // What is known where control leaves a statement or a condition, and whether all of its points are
 // ready.
-ghost use Rattle.std.specs.Prelude.{◌≡◌, map, IfOk};
+ghost use Rattle.std.specs.Prelude.{◌≡◌, IfOk};
 ghost use Rattle.life_core.specs.Function.{function_of};
 ghost use Rattle.life_core.specs.Step.{asked_of, step_of};
-ghost use Rattle.life_core.specs.Tree.{condition_tree, tree_of};
+ghost use Rattle.life_core.specs.Tree.{condition_tree, tree_of, Question, Return};
 ghost use Rattle.life_proper.specs.Checking.{acting, asking, flow, returning};
+ghost use Rattle.life_proper.specs.ReadyKnown.{is_node_ready};
 ghost use Rattle.life_proper.specs.Seen.{flow_seen, state_seen};
 
 use crate::flow::Flow;
 use crate::knowing::{State, at_head, copied};
+use crate::known::Known;
 use crate::passing::pass;
-use crate::ready::{is_result_ready, is_test_ready};
 use crate::scope::Scope;
+use crate::uses::{is_result_ready, is_test_ready};
 use life_core::{Condition, Instr, Stmt, Test};
 use life_types::NoMemory;
 use std::alloc::Global;
 
 fn instr_flow(instr: &Instr, here: State, at: &Scope) -> Flow
-    ensures { flow_seen result ≡ acting at.now.types.now (map function_of at.now.functions.now) (function_of at.now.function.now) (step_of instr.now) (state_seen here) }
+    ensures { flow_seen result ≡ acting at.now.types.now (function_of at.now.function.now) (step_of instr.now) (state_seen here) }
 {
     match here {
         None => Flow::stopping(true),
         Some(before) => {
             let mut known = before;
-            let ready = pass(&mut known, instr, at);
+            let ready = pass(&mut known, instr, at.function);
             Flow::ending(ready, Some(known))
         }
     }
 }
 
 fn test_flow(alloc: Global, test: &Test, here: State, at: &Scope) -> Result<Flow, NoMemory>
-    ensures { IfOk result (λ w. flow_seen w ≡ asking at.now.types.now (map function_of at.now.functions.now) (function_of at.now.function.now) (asked_of test.now) (state_seen here)) }
+    ensures { IfOk result (λ w. flow_seen w ≡ asking at.now.types.now (function_of at.now.function.now) (asked_of test.now) (state_seen here)) }
 {
     match here {
         None => Ok(Flow::stopping(true)),
         Some(known) => {
-            let ready = is_test_ready(&known, test);
+            let ready = test_ready(&known, test, at);
             let failed = Vec::from_slice(alloc, &known)?;
             Ok(Flow::asking(ready, Some(known), Some(failed)))
         }
     }
 }
 
+// Nothing is born by a test or a return, and nothing goes.
+#[tactic(auto, using(crate::proofs::Joining::and_true))]
+fn test_ready(known: &[Known], test: &Test, at: &Scope) -> bool
+    ensures { result ≡ is_node_ready at.now.types.now (function_of at.now.function.now) known.now (Question (asked_of test.now)) }
+{
+    is_test_ready(known, test)
+}
+
+#[tactic(auto, using(crate::proofs::Joining::and_true))]
+fn return_ready(known: &[Known], at: &Scope) -> bool
+    ensures { result ≡ is_node_ready at.now.types.now (function_of at.now.function.now) known.now Return }
+{
+    is_result_ready(known, at.types, at.function)
+}
+
 fn return_flow(here: State, at: &Scope) -> Flow
-    ensures { flow_seen result ≡ returning at.now.types.now (map function_of at.now.functions.now) (function_of at.now.function.now) (state_seen here) }
+    ensures { flow_seen result ≡ returning at.now.types.now (function_of at.now.function.now) (state_seen here) }
 {
     match here {
         None => Flow::stopping(true),
-        Some(known) => Flow::stopping(is_result_ready(&known, at)),
+        Some(known) => Flow::stopping(return_ready(&known, at)),
     }
 }
 
@@ -55,7 +72,7 @@ fn return_flow(here: State, at: &Scope) -> Flow
 #[tactic(auto, using(crate::proofs::Joining::flow_more, crate::proofs::Joining::joined_end))]
 #[cycle(flows)]
 pub(crate) fn stmt_flow(alloc: Global, s: &Stmt, here: State, at: &Scope) -> Result<Flow, NoMemory>
-    ensures { IfOk result (λ w. flow_seen w ≡ flow at.now.types.now (map function_of at.now.functions.now) (function_of at.now.function.now) (tree_of s.now) (state_seen here)) }
+    ensures { IfOk result (λ w. flow_seen w ≡ flow at.now.types.now (function_of at.now.function.now) (tree_of s.now) (state_seen here)) }
 {
     match s {
         Stmt::List(items) => {
@@ -107,7 +124,7 @@ fn condition_flow(
     here: State,
     at: &Scope,
 ) -> Result<Flow, NoMemory>
-    ensures { IfOk result (λ w. flow_seen w ≡ flow at.now.types.now (map function_of at.now.functions.now) (function_of at.now.function.now) (condition_tree condition.now) (state_seen here)) }
+    ensures { IfOk result (λ w. flow_seen w ≡ flow at.now.types.now (function_of at.now.function.now) (condition_tree condition.now) (state_seen here)) }
 {
     match condition {
         Condition::After(before, last) => {

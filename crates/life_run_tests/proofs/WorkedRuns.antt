@@ -74,13 +74,13 @@ worked_proper = record {
   well_formed = worked_well_formed;
   ready = ready_program program refl;
   results = (
-    λ must. results_found types functions entry refl 0 (tt, (tt, (refl, tt))),
-    (λ must. results_found types functions called refl 0 (tt, (tt, (refl, tt))), tt),
+    λ must. results_found types entry refl 0 (tt, (tt, (refl, tt))),
+    (λ must. results_found types called refl 0 (tt, (tt, (refl, tt))), tt),
   );
   breaks = refl;
   given = refl;
   limits = record { few = omega arith; each = each_within };
-  so_far = record { by_value = refl };
+  so_far = record { by_value = refl; serves = refl };
 }
 
 pub worked_admitted : (input : List ℤ) → IfSome (slice_get functions 0) (λ f. IsAdmitted program f input)

@@ -5,7 +5,6 @@ use Rattle.life_types.specs.Types.{Types}
 use Rattle.life_types.specs.declared.place.Place.{Place}
 use Rattle.life_core.specs.Function.{Function}
 use Rattle.life_core.specs.Holdings.{APointer}
-use Rattle.life_core.specs.Proper.{IsOperandReady, IsStepReady}
 use Rattle.life_core.specs.Step.{Aim, Repoint}
 use Rattle.life_core.specs.Operands.{Location, Operand, Name, Through, Source}
 use Rattle.life_core.specs.Operands as source
@@ -19,8 +18,9 @@ use Rattle.life_pset.specs.declared.element.Fact.{Fact}
 use Rattle.life_contract.specs.Signatures.{Signature}
 use Rattle.life_rules.specs.Carrying.{fact_at, facts_at, facts_if, given_if, is_location, located}
 use Rattle.life_rules.proofs.Giving.{at_head}
+use Rattle.life_proper.proofs.Sorted.{IsOperandSorted, IsStepSorted}
 use Rattle.life_store.specs.Doing.{Setting, Next, put_cell, on_pointer, operand_word, pointed, pointer_to, text_length, viewed, aimed, aimed_at, does}
-use Rattle.life_store.specs.State.{Pointer, Null, Static, Points, State, holdings_of}
+use Rattle.life_store.specs.State.{Pointer, Null, Static, Points, State, ready_of}
 use Rattle.life_store.proofs.CellLemmas.{held_is, pointer_cell, view_cell}
 use Rattle.life_store.proofs.Housing.{Housed}
 use Rattle.life_store.proofs.WholeLocals.{whole_cell, whole_pointed}
@@ -35,12 +35,12 @@ use Rattle.life_sound.proofs.Writing.{IsSafe, pointer_known, view_known}
 at_pointer : (p : Location) → p.members ≡ [] → (e : Element) → Contains (facts_at (located p) (Some e)) (fact_at (local_place p.local) e)
 at_pointer p whole e = subst (λ (l : AbsPlace). Contains (fact_at l e ∷ []) (fact_at (local_place p.local) e)) (sym (located_whole p whole)) (at_head (fact_at (local_place p.local) e) [])
 
-module _ (n : ℕ) (sigs : List Signature) (types : Types) (fs : List Function) (f : Function) (place : Place) (S S' : Fact → Type 0) (st : State) (h : Housed st.world.content st.cells) (sorted : IsSorted types f (holdings_of st)) (k : Known S st) where
+module _ (n : ℕ) (sigs : List Signature) (types : Types) (fs : List Function) (f : Function) (place : Place) (S S' : Fact → Type 0) (st : State) (h : Housed st.world.content st.cells) (sorted : IsSorted types f st.cells) (k : Known S st) where
   -- a whole local is given the pointer
   aimed_safe : (p : Location) (v : Pointer) → p.members ≡ [] → IsSafe S' (Next (put_cell p.local (Points v) st)) → IsSafe S' (pointed types f p v st)
   aimed_safe p v whole safe = subst (IsSafe S') (sym (whole_pointed types f p st whole v)) safe
 
-  pub aim_known : (p : Location) (source : Source) → IsStepReady types fs f (holdings_of st) (Aim p source) → Clean n place (Aim p source) S → Closed sigs types f place (Aim p source) S S'
+  pub aim_known : (p : Location) (source : Source) → IsStepSorted types f fs (ready_of st) (Aim p source) → Clean n place (Aim p source) S → Closed sigs types f place (Aim p source) S S'
       → (s : Setting) → IsSafe S' (aimed s types f p source st)
   aim_known p source.Null ready clean cl s =
       aimed_safe p Null ready.0 (pointer_known sigs types f place S S' st sorted k (Aim p source.Null) cl p.local Null ready.1 (λ q e ne. other_location p ready.0 q ne) record {
@@ -55,7 +55,7 @@ module _ (n : ℕ) (sigs : List Signature) (types : Types) (fs : List Function) 
   aim_known p (source.Whole o) ready clean cl s = absurd ready.1
   aim_known p (source.Get l) ready clean cl s = absurd ready.1
   aim_known p (source.Place o) ready clean cl s =
-      let at = reached n types f place (Aim p (source.Place o)) S clean st h k o (λ q used. used) ready.1.1 in
+      let at = reached n types f place (Aim p (source.Place o)) S clean st h sorted k o (λ q used. used) ready.1.1 in
       let to = pointer_to st.world.content at.number at.index (operand_word types f o st) in
       subst (λ found. IsSafe S' (aimed_at s types f p o st found)) (sym at.here)
       (aimed_safe p to ready.0 (pointer_known sigs types f place S S' st sorted k (Aim p (source.Place o)) cl p.local to ready.1.0 (λ q e ne. other_location p ready.0 q ne) record {
@@ -69,7 +69,7 @@ module _ (n : ℕ) (sigs : List Signature) (types : Types) (fs : List Function) 
         };
       }))
     where
-      holds : (o : Operand) (y : ℕ) → IsOperandReady (holdings_of st) o → Sees S o y → Closed sigs types f place (Aim p (source.Place o)) S S' → IsOf (table_of types f) (fact_at (local_place p.local) (element.At (local_place y))) → S' (fact_at (local_place p.local) (element.At (local_place y)))
+      holds : (o : Operand) (y : ℕ) → IsOperandSorted types f (ready_of st) o → Sees S o y → Closed sigs types f place (Aim p (source.Place o)) S S' → IsOf (table_of types f) (fact_at (local_place p.local) (element.At (local_place y))) → S' (fact_at (local_place p.local) (element.At (local_place y)))
       holds (Name l) y whole seen cl of =
           cl.none _ of
           (subst (λ (a : AbsPlace). Contains (facts_at (located p) (Some (element.At a))) (fact_at (local_place p.local) (element.At (local_place y)))) (sym (located_whole l whole.0 ∙ ap local_place seen))
@@ -80,10 +80,10 @@ module _ (n : ℕ) (sigs : List Signature) (types : Types) (fs : List Function) 
           (subst (λ (b : Bool). Contains (cond b (facts_at (located p) (Some (element.At (local_place y)))) []) (fact_at (local_place p.local) (element.At (local_place y)))) (sym (same_location q whole.1.0))
           (at_pointer p ready.0 (element.At (local_place y)))))
 
-  pub repoint_known : (p q : Location) → IsStepReady types fs f (holdings_of st) (Repoint p q) → Closed sigs types f place (Repoint p q) S S' → (s : Setting) → IsSafe S' (does s types f (Repoint p q) st)
+  pub repoint_known : (p q : Location) → IsStepSorted types f fs (ready_of st) (Repoint p q) → Closed sigs types f place (Repoint p q) S S' → (s : Setting) → IsSafe S' (does s types f (Repoint p q) st)
   repoint_known p q (inl ready) cl s =
-      let cell = pointer_cell st.cells q.local ready.1.1 in
-      let c = k.covered q.local cell.0 cell.1 (held_is st.cells q.local APointer (Points cell.0) ready.1.1 cell.1) in
+      let cell = pointer_cell types f st.cells sorted q.local ready.1.1 in
+      let c = k.covered q.local cell.0 cell.1 (held_is types f st.cells sorted q.local APointer (Points cell.0) ready.1.1 cell.1) in
       subst (λ o. IsSafe S' (on_pointer o (λ v. pointed types f p v st))) (sym (whole_cell types f q st ready.1.0 ∙ cell.1))
       (aimed_safe p cell.0 ready.0.0 (pointer_known sigs types f place S S' st sorted k (Repoint p q) cl p.local cell.0 ready.0.1 (λ y e ne. other_location p ready.0.0 y ne) record {
         known = c.known;
@@ -93,6 +93,6 @@ module _ (n : ℕ) (sigs : List Signature) (types : Types) (fs : List Function) 
         covers = c.covers;
       }))
   repoint_known p q (inr ready) cl s =
-      let cell = view_cell st.cells q.local ready.1.1 in
+      let cell = view_cell types f st.cells sorted q.local ready.1.1 in
       subst (λ o. IsSafe S' (on_pointer o (λ v. pointed types f p v st))) (sym (whole_cell types f q st ready.1.0 ∙ cell.1))
       (aimed_safe p (Static cell.0) ready.0.0 (view_known sigs types f place S S' st sorted k (Repoint p q) cl p.local cell.0 ready.0.1 (λ y e ne. other_location p ready.0.0 y ne)))

@@ -9,7 +9,6 @@ use Rattle.life_types.specs.declared.ty.Ty.TheVariants as type
 use Rattle.life_types.specs.declared.ty.TyId.{TyId}
 use Rattle.life_core.specs.Function.{Function}
 use Rattle.life_core.specs.Holdings.{Holding, Blank, AnObject, ANumber, APointer, AView, sort_of}
-use Rattle.life_core.specs.Proper.{IsStepReady}
 use Rattle.life_core.specs.Step.{Live}
 use Rattle.life_core.specs.declared.instr.Form.{Form}
 use Rattle.life_core.specs.declared.instr.Form.TheVariants as way
@@ -22,16 +21,17 @@ use Rattle.life_pset.specs.declared.element.Fact.{Fact}
 use Rattle.life_contract.specs.Signatures.{Signature}
 use Rattle.life_rules.specs.Carrying.{fact_at, facts_at, locations_at, locations_of_local, born, born_raw, born_facts, drops, from_none, own_type}
 use Rattle.life_rules.proofs.Giving.{at_head, flat_map_into}
+use Rattle.life_proper.proofs.Sorted.{IsStepSorted}
 use Rattle.life_store.specs.Content.{live_words_of, is_valid_in}
 use Rattle.life_store.specs.Doing.{Setting, Next, Traps, put_cell, put_content, is_valid, with_value_object, born_pointer, live_as, live_over, live_local}
-use Rattle.life_store.specs.State.{Target, Pointer, Empty, Named, Points, State, holdings_of}
+use Rattle.life_store.specs.State.{Target, Pointer, Empty, Named, Points, State, ready_of}
 use Rattle.life_store.specs.declared.run.TrapKind.TheVariants as trap
 use Rattle.life_store.proofs.CellLemmas.{some_same, empty_cell_is, cell_cases, cell_other}
 use Rattle.life_store.proofs.Housing.{Housed, born_cases}
-use Rattle.life_sound.proofs.Covering.{IsRaw, covers_on, Cover, Known, birth_timely}
+use Rattle.life_sound.proofs.Covering.{covers_on, Cover, Known, birth_timely}
 use Rattle.life_sound.proofs.Facts.{local_location, pointer_local, pointer_location, null_element, caused_element, fact_of, Closed}
 use Rattle.life_sound.proofs.Located.{is_direct, IsDirect}
-use Rattle.life_store.proofs.Sorts.{IsSorted}
+use Rattle.life_store.proofs.Sorts.{IsRaw, IsSorted}
 use Rattle.life_sound.proofs.Writing.{IsSafe, known_kept, put_known}
 
 -- ---- an object is born where nothing is: what is there stays
@@ -76,8 +76,8 @@ module _ (S : Fact → Type 0) (st : State) (h : Housed st.world.content st.cell
 
 -- ---- a local comes to life
 
-module _ (sigs : List Signature) (types : Types) (fs : List Function) (f : Function) (place : Place) (S S' : Fact → Type 0) (st : State) (h : Housed st.world.content st.cells) (sorted : IsSorted types f (holdings_of st)) (k : Known S st) where
-  pub live_known : (s : Setting) (x : ℕ) (form : Form) → IsStepReady types fs f (holdings_of st) (Live x form) → Closed sigs types f place (Live x form) S S' → IsSafe S' (live_local s types f (slice_get f.locals x) form x st)
+module _ (sigs : List Signature) (types : Types) (fs : List Function) (f : Function) (place : Place) (S S' : Fact → Type 0) (st : State) (h : Housed st.world.content st.cells) (sorted : IsSorted types f st.cells) (k : Known S st) where
+  pub live_known : (s : Setting) (x : ℕ) (form : Form) → IsStepSorted types f fs (ready_of st) (Live x form) → Closed sigs types f place (Live x form) S S' → IsSafe S' (live_local s types f (slice_get f.locals x) form x st)
   live_known s x form ready cl = go (slice_get f.locals x) refl
     where
       empty : slice_get st.cells x ≡ Some Empty

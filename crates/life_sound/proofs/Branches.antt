@@ -4,7 +4,6 @@ use Rattle.std.specs.Prelude.{ℤ, pos, negsuc, slice_get, cond, ◌&&◌}
 use Rattle.std.proofs.lemmas.Bool.Decides.{eqb_tells}
 use Rattle.life_types.specs.Types.{Types}
 use Rattle.life_core.specs.Function.{Function}
-use Rattle.life_core.specs.Proper.{IsTestReady}
 use Rattle.life_core.specs.Operands.{Location}
 use Rattle.life_core.specs.Step.{Test, NonZero, NotNull}
 use Rattle.life_pset.specs.Elements.{local_place}
@@ -12,10 +11,12 @@ use Rattle.life_pset.specs.declared.element.Element.{Element}
 use Rattle.life_pset.specs.declared.element.Element.TheVariants as element
 use Rattle.life_pset.specs.declared.element.Fact.{Fact}
 use Rattle.life_rules.specs.Carrying.{fact_at, is_location, is_null, is_held, stops_at}
+use Rattle.life_proper.proofs.Sorted.{IsTestSorted}
 use Rattle.life_store.specs.Content.{Content}
 use Rattle.life_store.specs.Meaning.{Verdict, Holds, Fails, Cut, by_number, by_pointer, number_test, pointer_test, tested, whole_tested, test_at}
-use Rattle.life_store.specs.State.{Characters, Target, Pointer, Null, Wild, To, Static, Points, State, holdings_of}
+use Rattle.life_store.specs.State.{Characters, Target, Pointer, Null, Wild, To, Static, Points, State, ready_of}
 use Rattle.life_store.proofs.CellLemmas.{some_same, number_cell, pointer_cell}
+use Rattle.life_store.proofs.Sorts.{IsSorted}
 use Rattle.life_sound.proofs.Covering.{Covers, Known}
 use Rattle.life_sound.proofs.Places.{other_location}
 
@@ -79,17 +80,17 @@ null_on location whole branch v S S' st is left passes k = known_on S S' st (λ 
         (λ d. ap (λ b. b && cond branch (is_null e) (is_held e)) (other_location location whole q d.1))
         (eqb_tells p q)
 
-pub test_known : (types : Types) (f : Function) (t : Test) (S H F : Fact → Type 0) (n : ℕ) (st : State) → IsTestReady (holdings_of st) t → Passes t true S H → Passes t false S F → Known S st → IsKnownBy H F (test_at types f t n st)
-test_known types f (NonZero r) S H F n st ready held failed k =
-    let cell = number_cell st.cells r ready in
+pub test_known : (types : Types) (f : Function) (t : Test) (S H F : Fact → Type 0) (n : ℕ) (st : State) → IsSorted types f st.cells → IsTestSorted types f (ready_of st) t → Passes t true S H → Passes t false S F → Known S st → IsKnownBy H F (test_at types f t n st)
+test_known types f (NonZero r) S H F n st sorted ready held failed k =
+    let cell = number_cell types f st.cells sorted r ready in
     subst (λ o. IsKnownBy H F (number_test o n st)) (sym cell.1) (go cell.0)
   where
     go : (z : ℤ) → IsKnownBy H F (by_number z n st)
     go (pos zero) = known_on S F st (λ p v e at cov s. failed (fact_at (local_place p) e) s refl) k
     go (pos (suc m)) = known_on S H st (λ p v e at cov s. held (fact_at (local_place p) e) s refl) k
     go (negsuc m) = known_on S H st (λ p v e at cov s. held (fact_at (local_place p) e) s refl) k
-test_known types f (NotNull p) S H F n st ready held failed k =
-    let cell = pointer_cell st.cells p.local ready.1 in
+test_known types f (NotNull p) S H F n st sorted ready held failed k =
+    let cell = pointer_cell types f st.cells sorted p.local ready.1 in
     let is = ap (λ ms. tested types f p ms (slice_get st.cells p.local) st.world.content) ready.0 ∙ ap (λ o. whole_tested o st.world.content) cell.1 in
     subst (λ o. IsKnownBy H F (pointer_test o n st)) (sym is) (go cell.0 cell.1)
   where

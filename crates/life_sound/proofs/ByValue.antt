@@ -1,11 +1,12 @@
 -- Programs whose calls are by value: what their calls hand over, and what their parameters hold.
 use Rattle.std.proofs.Common.{◌≡◌, ℕ, zero, suc, List, [], ◌∷◌, Some, Bool, true, false, refl, sym, ap, subst, ◌∙◌}
-use Rattle.std.specs.Prelude.{◌||◌, not, slice_get, take}
+use Rattle.std.specs.Prelude.{◌||◌, map, not, slice_get, take}
 use Rattle.std.specs.List.{list_all, list_any}
 use Rattle.std.proofs.lemmas.Bool.{and_parts, false≢true}
 use Rattle.life_types.specs.Types.{Types}
 use Rattle.life_core.specs.Linked.{Linked, numbered}
-use Rattle.life_core.specs.Holdings.{Holding, Blank, APointer, given_holdings, held_by}
+use Rattle.life_core.specs.Holdings.{Holding, APointer, held_by, sort_of_local}
+use Rattle.life_core.specs.Ready.{given_ready}
 use Rattle.life_core.specs.declared.program.Local.{Local}
 use Rattle.life_core.specs.ByValue.{is_pointer}
 use Rattle.life_store.specs.Meaning.{AreObjects}
@@ -32,21 +33,16 @@ pub objects_plain : (sorts : List Holding) → AreObjects sorts → list_any is_
 objects_plain [] objects = refl
 objects_plain (sort ∷ sorts) objects = ap (λ h. is_pointer h || list_any is_pointer sorts) objects.0 ∙ objects_plain sorts objects.1
 
--- ---- at the entry no local holds a raw pointer or a reference, where no parameter does
+-- ---- at the entry no raw pointer and no reference is there, where no parameter is one
 
-none_held : (types : Types) (ls : List Local) (x : ℕ) → slice_get (given_holdings types zero ls) x ≡ Some APointer → ⊥
-none_held types [] x e = none_some e
-none_held types (l ∷ ls) zero e = clash (some_same e)
-  where
-    clash : Blank ≡ APointer → ⊥
-    clash e = cc
-none_held types (l ∷ ls) (suc x) e = none_held types ls x e
+none_there : (ls : List Local) (x : ℕ) → slice_get (given_ready zero ls) x ≡ Some true → ⊥
+none_there [] x e = none_some e
+none_there (l ∷ ls) zero e = false≢true (some_same e)
+none_there (l ∷ ls) (suc x) e = none_there ls x e
 
-pub plain_entry : (types : Types) (n : ℕ) (ls : List Local) (x : ℕ) → list_any is_pointer (take n (given_holdings types n ls)) ≡ false → slice_get (given_holdings types n ls) x ≡ Some APointer → ⊥
-plain_entry types n [] x none e = none_some e
-plain_entry types zero (l ∷ ls) x none e = none_held types (l ∷ ls) x e
-plain_entry types (suc n) (l ∷ ls) zero none e =
-    let parts = or_false (is_pointer (held_by types (Some l))) (list_any is_pointer (take n (given_holdings types n ls))) none in
-    false≢true (sym parts.0 ∙ ap is_pointer (some_same e))
-plain_entry types (suc n) (l ∷ ls) (suc x) none e =
-    plain_entry types n ls x (or_false (is_pointer (held_by types (Some l))) (list_any is_pointer (take n (given_holdings types n ls))) none).1 e
+pub plain_entry : (types : Types) (n : ℕ) (ls : List Local) (x : ℕ) → list_any is_pointer (map (sort_of_local types) (take n ls)) ≡ false → slice_get (given_ready n ls) x ≡ Some true → held_by types (slice_get ls x) ≡ APointer → ⊥
+plain_entry types n [] x none there e = none_some there
+plain_entry types zero (l ∷ ls) x none there e = none_there (l ∷ ls) x there
+plain_entry types (suc n) (l ∷ ls) zero none there e = false≢true (sym (or_false (is_pointer (sort_of_local types l)) (list_any is_pointer (map (sort_of_local types) (take n ls))) none).0 ∙ ap is_pointer e)
+plain_entry types (suc n) (l ∷ ls) (suc x) none there e =
+    plain_entry types n ls x (or_false (is_pointer (sort_of_local types l)) (list_any is_pointer (map (sort_of_local types) (take n ls))) none).1 there e

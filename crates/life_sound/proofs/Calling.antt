@@ -11,7 +11,7 @@ use Rattle.life_core.specs.Function.{Function}
 use Rattle.life_core.specs.Linked.{Linked, code_of, goes, numbered, parts, spot_at}
 use Rattle.life_core.specs.Operands.{Argument, Location}
 use Rattle.life_core.specs.Holdings.{parameter_sorts, result_sort}
-use Rattle.life_core.specs.Proper.{AreArgumentsReady, IsCallReady, HasReadyWays, IsStepReady, IsTargetReady}
+use Rattle.life_core.specs.Proper.{Reaches}
 use Rattle.life_core.specs.Step.{Step, Call, Test}
 use Rattle.life_core.specs.Tree.{Action, Question}
 use Rattle.life_core.specs.declared.exits.Exits.{Exits}
@@ -20,11 +20,14 @@ use Rattle.life_pset.specs.declared.element.Fact.{Fact}
 use Rattle.life_contract.specs.Signatures.{Signature}
 use Rattle.life_rules.specs.Diagnosing.{IsDiagnosed}
 use Rattle.life_rules.specs.declared.diag.Diag.{Diag}
+use Rattle.life_proper.specs.ProperFunctions.{AreProperFunctions, IsProperFunction}
+use Rattle.life_proper.proofs.PointsAsked.{point_sorted}
+use Rattle.life_proper.proofs.Sorted.{AreArgumentsSorted, IsCallSorted, IsNodeSorted, IsStepSorted, IsTargetSorted}
 use Rattle.life_store.specs.Calls.{all_handed, lent, target_given}
 use Rattle.life_store.specs.Content.{Content, is_valid_in}
 use Rattle.life_store.specs.Doing.{Setting, Effect, Next, Traps, Faults, Strays, does}
 use Rattle.life_store.specs.Meaning.{Stop, Trapped, Faulted, Stray, Exhausted, Verdict, Holds, Fails, Cut, Called, Back, Barred, Quit, Callee, Answer, act, came_back, call_with, paid, test_at, with_world}
-use Rattle.life_store.specs.State.{Cell, Named, World, State, holdings_of}
+use Rattle.life_store.specs.State.{Cell, Named, World, State, ready_of}
 use Rattle.life_store.proofs.Going.{InvAt, GoodAnswer, GoodVerdict, Keeps}
 use Rattle.life_store.proofs.Handing.{AreSuited, HandsAll, hands_all, lent_ready, taken_ready}
 use Rattle.life_store.proofs.Housing.{Housed}
@@ -35,7 +38,7 @@ use Rattle.life_sound.proofs.ByValue.{neither, all_numbered}
 use Rattle.life_sound.proofs.Covering.{IsTimely, covers_on, Known}
 use Rattle.life_sound.proofs.Edges.{FactsAt, closed_at, held_passes, failed_passes, clean_at}
 use Rattle.life_sound.proofs.Facts.{Closed, Clean}
-use Rattle.life_store.proofs.Sorts.{IsSorted, reached_sorted}
+use Rattle.life_store.proofs.Sorts.{IsSorted}
 use Rattle.life_sound.proofs.Sparing.{Spared, Leads, leads_on, Tells, test_tells, behind_housed, step_spares}
 use Rattle.life_sound.proofs.Steps.{step_safe}
 use Rattle.life_sound.proofs.Targets.{IsFresh, target_fresh, target_safe}
@@ -144,7 +147,7 @@ module _ (sigs : List Signature) (types : Types) (fs : List Function) (f : Funct
   module _ (number : ℕ) (s : Setting) (call : Callee) (callee : GoodCallee types fs call) (safe : SafeCallee types fs call) where
     -- what came back goes to the target
     back_sound : (S : Fact → Type 0) (place : Place) (x : Exits) (id : FnId) (g : Function) (target : Option Location) (xs : List Argument) (st : State) (r : Called)
-        → IsSorted types f (holdings_of st) → Known S st → IsSpared st → AreArgumentsReady (holdings_of st) (parameter_sorts types g) xs → IsTargetReady types f (holdings_of st) (result_sort types g) target → gives_pointer types f target ≡ false
+        → IsSorted types f st.cells → Known S st → IsSpared st → AreArgumentsSorted types f (ready_of st) (parameter_sorts types g) xs → IsTargetSorted types f (ready_of st) (result_sort types g) target → gives_pointer types f target ≡ false
         → Closed sigs types f place (Call target id xs) S (LeadFacts x.next) → GoodCalled types g (outer ++ st.cells) r → SafeCalled (outer ++ st.cells) st.world.content r
         → Stands x (came_back s types f place target xs st r) → IsSound x (came_back s types f place target xs st r)
     back_sound S place x id g target xs st (Back n w values) sorted k spared given ready none cl good kind a =
@@ -156,19 +159,19 @@ module _ (sigs : List Signature) (types : Types) (fs : List Function) (f : Funct
         (target_safe sigs types f place id xs S (LeadFacts x.next) s (with_world w st) (behind_housed w.content outer st.cells good.0) sorted known
         (result_sort types g) target values cl none ready good.1)
         (leads_on (IsFresh outer before s types f) IsSpared (λ st' fresh. fresh.0) (target_given s types f target values (with_world w st))
-        (target_fresh outer before s types f (holdings_of st) w.content (result_sort types g) target values (with_world w st) ready good.1 (still, kind.0))))
+        (target_fresh outer before s types f (ready_of st) w.content (result_sort types g) target values (with_world w st) ready good.1 (still, kind.0))))
     back_sound S place x id g target xs st (Barred trap) sorted k spared given ready none cl good kind a = tt
     back_sound S place x id g target xs st (Quit stop w) sorted k spared given ready none cl good kind a = kind
 
     call_sound : (S : Fact → Type 0) (place : Place) (x : Exits) (id : FnId) (o : Option Function) (target : Option Location) (xs : List Argument) (n : ℕ) (st : State) → slice_get fs id.0 ≡ o
-        → Housed st.world.content (outer ++ st.cells) → IsSorted types f (holdings_of st) → Known S st → IsSpared st → IsCallReady types f (holdings_of st) o target xs
+        → Housed st.world.content (outer ++ st.cells) → IsSorted types f st.cells → Known S st → IsSpared st → IsCallSorted types f (ready_of st) o target xs
         → takes_pointer types o ≡ false → gives_pointer types f target ≡ false → Closed sigs types f place (Call target id xs) S (LeadFacts x.next)
         → Stands x (came_back s types f place target xs st (call_with call id.0 (all_handed types f st xs) n (lent types f xs st).world)) → IsSound x (came_back s types f place target xs st (call_with call id.0 (all_handed types f st xs) n (lent types f xs st).world))
     call_sound S place x id None target xs n st is h sorted k spared ready takes gives cl a = absurd ready
     call_sound S place x id (Some g) target xs n st is h sorted k spared ready takes gives cl a =
-        let handed : HandsAll types f st (parameter_sorts types g) xs = hands_all types f outer st h (parameter_sorts types g) xs ready.0 in
+        let handed : HandsAll types f st (parameter_sorts types g) xs = hands_all types f outer st sorted h (parameter_sorts types g) xs ready.0 in
         let waiting = housed_more st.world.content (outer ++ st.cells) handed.values h handed.loose in
-        let same = lent_ready types f (holdings_of st) (parameter_sorts types g) xs st ready.0 in
+        let same = lent_ready types f (ready_of st) (parameter_sorts types g) xs st ready.0 in
         subst (λ (u : State). IsSound x (came_back s types f place target xs st (call_with call id.0 (all_handed types f st xs) n u.world))) (sym same)
         (subst (λ o. IsSound x (came_back s types f place target xs st (call_with call id.0 o n st.world))) (sym handed.are)
         (back_sound S place x id g target xs st (call id.0 handed.values n st.world) sorted k spared ready.0 ready.1 gives cl
@@ -177,8 +180,8 @@ module _ (sigs : List Signature) (types : Types) (fs : List Function) (f : Funct
         (subst (λ o. Stands x (came_back s types f place target xs st (call_with call id.0 o n st.world))) handed.are
         (subst (λ (u : State). Stands x (came_back s types f place target xs st (call_with call id.0 (all_handed types f st xs) n u.world))) same a))))
 
-    act_sound : (S : Fact → Type 0) (place : Place) (i : Step) (x : Exits) (n : ℕ) (st : State) → Housed st.world.content (outer ++ st.cells) → IsSorted types f (holdings_of st) → Known S st → IsSpared st
-        → IsStepReady types fs f (holdings_of st) i → Clean number place i S → Closed sigs types f place i S (LeadFacts x.next) → is_by_value types fs f i ≡ true
+    act_sound : (S : Fact → Type 0) (place : Place) (i : Step) (x : Exits) (n : ℕ) (st : State) → Housed st.world.content (outer ++ st.cells) → IsSorted types f st.cells → Known S st → IsSpared st
+        → IsStepSorted types f fs (ready_of st) i → Clean number place i S → Closed sigs types f place i S (LeadFacts x.next) → is_by_value types fs f i ≡ true
         → Stands x (act s types f call place i n st) → IsSound x (act s types f call place i n st)
     act_sound S place (Call target g xs) x n st h sorted k spared ready clean cl by_value a =
         let none = neither (takes_pointer types (slice_get fs g.0)) (gives_pointer types f target) by_value in
@@ -191,13 +194,13 @@ module _ (sigs : List Signature) (types : Types) (fs : List Function) (f : Funct
 
     -- ---- a proper function of which nothing is diagnosed keeps to this
 
-    pub sound_keeps : HasReadyWays types fs f → ((d : Diag) → IsDiagnosed sigs types number f d → ⊥) → calls_in_by_value types fs f ≡ true
+    pub sound_keeps : (texts : ℕ) → AreProperFunctions types texts fs → IsProperFunction types texts fs f → ((d : Diag) → IsDiagnosed sigs types number f d → ⊥) → calls_in_by_value types fs f ≡ true
         → Keeps s types f call (Sound sigs types f outer before) (SoundlyLeft types f outer before) IsSafeStop
-    sound_keeps proper none by_value = record {
+    sound_keeps texts all proper none by_value = record {
       acts = acts;
       asks = λ b place t held failed here m st inv.
           verdict_sound held failed (test_at types f t m st) (mine.asks b place t held failed here m st inv.standing)
-          (test_known types f t (FactsAt sigs types f b) (LeadFacts held) (LeadFacts failed) m st (proper.ready b (holdings_of st) _ inv.standing.reached here)
+          (test_known types f t (FactsAt sigs types f b) (LeadFacts held) (LeadFacts failed) m st inv.standing.sorted (asked b _ st inv.standing.reached here)
           (lead_held t b place held failed here) (lead_failed t b place held failed here) inv.known)
           (test_tells IsSpared m st inv.spared types f t);
       returns = λ b place here st inv. record { leaving = mine.returns b place here st inv.standing; timely = inv.known.timely; spared = inv.spared };
@@ -206,14 +209,18 @@ module _ (sigs : List Signature) (types : Types) (fs : List Function) (f : Funct
     }
       where
         mine : Keeps s types f call (Standing types f outer) (Leaving types f outer) IsHeld
-        mine = proper_keeps types f outer fs s call callee proper
+        mine = proper_keeps types f outer fs s call callee texts all proper
+
+        -- what is asked of the point
+        asked : (b : ℕ) (l : Linked) (st : State) → Reaches types f b (ready_of st) → numbered (code_of f) b ≡ Some l → IsNodeSorted types f fs (ready_of st) l.spot.node
+        asked b l st way here = point_sorted types texts fs f all proper b (ready_of st) l way here
 
         acts : (b : ℕ) (place : Place) (i : Step) (x : Exits) → numbered (code_of f) b ≡ Some (record { spot = spot_at place (Action i); leads = goes x.next })
             → (n : ℕ) (st : State) → Sound sigs types f outer before b st → IsSound x (act s types f call place i n st)
         acts b place i x here n st inv =
             let l : Linked = record { spot = spot_at place (Action i); leads = goes x.next } in
-            act_sound (FactsAt sigs types f b) place i x n st inv.standing.housed (reached_sorted types fs f proper inv.standing.reached) inv.known inv.spared
-            (proper.ready b (holdings_of st) l inv.standing.reached here) (clean_at sigs types f number none i b place (goes x.next) here)
-            (closed_to i b place x.next here (proper.leads_on b (holdings_of st) l inv.standing.reached here).0)
+            act_sound (FactsAt sigs types f b) place i x n st inv.standing.housed inv.standing.sorted inv.known inv.spared
+            (asked b l st inv.standing.reached here) (clean_at sigs types f number none i b place (goes x.next) here)
+            (closed_to i b place x.next here (proper.ready.leads_on b (ready_of st) l inv.standing.reached here).0)
             (all_numbered (λ (m : Linked). node_by_value types fs f m.spot.node) (code_of f) b l by_value here)
             (mine.acts b place i x here n st inv.standing)

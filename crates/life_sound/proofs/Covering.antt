@@ -3,7 +3,6 @@ use Rattle.std.proofs.Common.{◌≡◌, ◌≢◌, ◌⊎◌, inl, inr, ℕ, ze
 use Rattle.std.specs.Prelude.{ℤ, slice_get, slice_set, option_map, cond, nat_eq, nat_le, ◌&&◌}
 use Rattle.std.proofs.lemmas.Bool.{le-leb, leb-true, and_from}
 use Rattle.life_types.specs.declared.ty.TyId.{TyId}
-use Rattle.life_core.specs.Holdings.{APointer}
 use Rattle.life_pset.specs.Elements.{local_place}
 use Rattle.life_pset.specs.declared.element.AbsPlace.{AbsPlace}
 use Rattle.life_pset.specs.declared.element.Element.{Element}
@@ -13,9 +12,10 @@ use Rattle.life_rules.specs.Carrying.{fact_at}
 use Rattle.life_store.specs.Cells.{at, set}
 use Rattle.life_store.specs.Content.{Slot, Object, Content, with_object, with_word, set_slot, written, is_since, is_settled, is_valid_in}
 use Rattle.life_store.specs.Doing.{is_valid, saved, with_value_object, word_of_number}
-use Rattle.life_store.specs.State.{Target, Pointer, Null, Wild, To, Static, Cell, Named, Points, State, holding_of_pointer}
+use Rattle.life_store.specs.State.{Target, Pointer, Null, Wild, To, Static, Cell, Named, Points, State}
 use Rattle.life_store.proofs.CellLemmas.{none_some, some_same, set_cases}
 use Rattle.life_store.proofs.Housing.{value_object, with_word_length, born_cases}
+use Rattle.life_store.proofs.Sorts.{IsRaw}
 
 -- ---- what an element says of a value
 
@@ -25,10 +25,6 @@ pub record PointsTo (c : Content) (cells : List Cell) (place : AbsPlace) (t : Ta
   pub place_is : place ≡ local_place local
   pub named : slice_get cells local ≡ Some (Named t.object)
   pub valid : is_valid c t ≡ true
-
--- a raw pointer or a reference: a view's characters never end so far, and no instruction asks what its set is
-abbrev pub IsRaw : Pointer → Type 0
-IsRaw v = holding_of_pointer v ≡ APointer
 
 -- no such value that there is so far is moved from, owns, or points to what never ends
 abbrev pub Covers : Content → List Cell → Element → Pointer → Type 0
@@ -64,7 +60,7 @@ covers_on c c' cells cells' on (element.At place) (To t) h =
 
 -- ---- what is known of a state
 
--- some element of the pointer's set covers its value
+-- some element of the pointer's set covers its value; a view's characters never end so far, and no instruction asks what its set is
 pub record Cover (S : Fact → Type 0) (c : Content) (cells : List Cell) (p : ℕ) (v : Pointer) : Type 0 where
   pub known : Element
   pub holds : S (fact_at (local_place p) known)

@@ -4,16 +4,17 @@ use Rattle.std.specs.Prelude.{slice_get, slice_set, nat_eq, ◌||◌}
 use Rattle.std.specs.List.{list_any}
 use Rattle.std.proofs.lemmas.Bool.{ne_eqb, eq-eqb, false≢true}
 use Rattle.life_core.specs.Holdings.{AnObject, APointer, AView}
-use Rattle.life_core.specs.Proper.{Holds, CanEnd}
+use Rattle.life_core.specs.Ready.{Ready}
+use Rattle.life_proper.proofs.Sorted.{CanEnd, Holds}
 use Rattle.life_store.specs.Cells.{at, at-unset_other}
 use Rattle.life_store.specs.Content.{Object, without}
 use Rattle.life_store.specs.Doing.{Next, put_cell, put_content, on_next, end_object, end_cell, end_locals}
-use Rattle.life_store.specs.State.{Target, Pointer, To, Static, Cell, Empty, Named, Points, State, holding_of, holdings_of}
-use Rattle.life_store.proofs.CellLemmas.{none_some, named_cell, pointer_cell, view_cell, holdings_set, cell_cases, cell_other, unset_cases}
+use Rattle.life_store.specs.State.{Target, Pointer, To, Static, Cell, Empty, Named, Points, State, is_there, ready_of}
+use Rattle.life_store.proofs.CellLemmas.{none_some, named_cell, pointer_cell, view_cell, ready_set, cell_cases, cell_other, set_sorted, unset_cases}
 use Rattle.life_types.specs.Types.{Types}
 use Rattle.life_core.specs.Function.{Function}
 use Rattle.life_store.specs.Parts.{Parts, Single, local_parts}
-use Rattle.life_store.proofs.Sorts.{IsSorted, blanked_sorted, named_sort}
+use Rattle.life_store.proofs.Sorts.{IsSorted, named_sort}
 use Rattle.life_store.proofs.WholeLocals.{object_single}
 use Rattle.life_store.proofs.Housing.{Aims, Housed, put_housed, end_housed}
 
@@ -52,10 +53,10 @@ gone parts x st v h is = (
         clash : Empty ≡ Points (To t) → ⊥
         clash e = cc
 
-ends_one : (types : Types) (f : Function) (x : ℕ) (st : State) → IsSorted types f (holdings_of st) → Housed st.world.content st.cells → Holds (holdings_of st) x AnObject ⊎ (Holds (holdings_of st) x APointer ⊎ Holds (holdings_of st) x AView)
+ends_one : (types : Types) (f : Function) (x : ℕ) (st : State) → IsSorted types f st.cells → Housed st.world.content st.cells → Holds types f (ready_of st) x AnObject ⊎ (Holds types f (ready_of st) x APointer ⊎ Holds types f (ready_of st) x AView)
     → (st' : State) × ((end_cell (local_parts types f x) (slice_get st.cells x) x st ≡ Next st') × AfterEnd x st st')
 ends_one types f x st sorted h (inl ready) =
-    let cell = named_cell st.cells x ready in
+    let cell = named_cell types f st.cells sorted x ready in
     let l = h.lives x cell.0 cell.1 in
     let c = st.world.content in (
       put_cell x Empty (put_content (without cell.0 c) st),
@@ -71,8 +72,8 @@ ends_one types f x st sorted h (inl ready) =
         },
       ),
     )
-ends_one types f x st sorted h (inr (inl ready)) = let cell = pointer_cell st.cells x ready in gone (local_parts types f x) x st cell.0 h cell.1
-ends_one types f x st sorted h (inr (inr ready)) = let cell = view_cell st.cells x ready in gone (local_parts types f x) x st (Static cell.0) h cell.1
+ends_one types f x st sorted h (inr (inl ready)) = let cell = pointer_cell types f st.cells sorted x ready in gone (local_parts types f x) x st cell.0 h cell.1
+ends_one types f x st sorted h (inr (inr ready)) = let cell = view_cell types f st.cells sorted x ready in gone (local_parts types f x) x st (Static cell.0) h cell.1
 
 -- ---- all of them
 
@@ -113,10 +114,10 @@ more_ends x xs st mid st' one more = record {
         let r = more.named y n out.1 here in
         (r.0, r.1 ∙ one.named y n ne e)
 
-pub ends_are : (types : Types) (f : Function) (xs : List ℕ) (st : State) → IsSorted types f (holdings_of st) → Housed st.world.content st.cells → CanEnd (holdings_of st) xs → (st' : State) × ((end_locals types f xs st ≡ Next st') × AfterEnds xs st st')
+pub ends_are : (types : Types) (f : Function) (xs : List ℕ) (st : State) → IsSorted types f st.cells → Housed st.world.content st.cells → CanEnd types f (ready_of st) xs → (st' : State) × ((end_locals types f xs st ≡ Next st') × AfterEnds xs st st')
 ends_are types f [] st sorted h ready = (st, (refl, record { cells = λ y w e. inr (refl, e); named = λ y n out e. (e, refl); older = λ n o e. e; clock = refl }))
 ends_are types f (x ∷ xs) st sorted h ready =
     let one = ends_one types f x st sorted h ready.0 in
-    let held = ap (map holding_of) one.1.1.cells ∙ holdings_set st.cells x Empty in
-    let rest = ends_are types f xs one.0 (subst (IsSorted types f) (sym held) (blanked_sorted types f (x ∷ []) (holdings_of st) sorted)) one.1.1.housed (subst (λ hs. CanEnd hs xs) (sym held) ready.1) in
+    let left = ap (map is_there) one.1.1.cells ∙ ready_set st.cells x Empty in
+    let rest = ends_are types f xs one.0 (subst (IsSorted types f) (sym one.1.1.cells) (set_sorted types f st.cells x Empty tt sorted)) one.1.1.housed (subst (λ (bits : Ready). CanEnd types f bits xs) (sym left) ready.1) in
     (rest.0, (ap (λ e. on_next e (end_locals types f xs)) one.1.0 ∙ rest.1.0, more_ends x xs st one.0 rest.0 one.1.1 rest.1.1))

@@ -6,7 +6,6 @@ use Rattle.life_types.specs.Types.{Types}
 use Rattle.life_types.specs.declared.place.Place.{Place}
 use Rattle.life_core.specs.Function.{Function}
 use Rattle.life_core.specs.Holdings.{AnObject, sort_of}
-use Rattle.life_core.specs.Proper.{IsStepReady}
 use Rattle.life_core.specs.Step.{End}
 use Rattle.life_core.specs.declared.program.LocalKind.{LocalKind}
 use Rattle.life_pset.specs.Elements.{local_place, ended_local, end_if, end_causes, causes_of_end, end_elements}
@@ -18,17 +17,18 @@ use Rattle.life_pset.proofs.Numbers.{is_of_iff}
 use Rattle.life_contract.specs.Signatures.{Signature}
 use Rattle.life_rules.specs.Carrying.{fact_at, points_among, drops, invalid_facts, ended_element}
 use Rattle.life_rules.proofs.Giving.{at_head, flat_map_into}
+use Rattle.life_proper.proofs.Sorted.{IsStepSorted}
 use Rattle.life_store.specs.Content.{is_settled, is_valid_in}
 use Rattle.life_store.specs.Doing.{is_valid, end_locals}
-use Rattle.life_store.specs.State.{Target, Pointer, Null, Wild, To, Static, Empty, Named, Points, State, holdings_of}
+use Rattle.life_store.specs.State.{Target, Pointer, Null, Wild, To, Static, Empty, Named, Points, State, ready_of}
 use Rattle.life_store.proofs.Housing.{Housed}
-use Rattle.life_sound.proofs.Covering.{IsRaw, Covers, Cover, Known}
+use Rattle.life_sound.proofs.Covering.{Covers, Cover, Known}
 use Rattle.life_sound.proofs.Ending.{AfterEnds, ends_are}
 use Rattle.life_sound.proofs.Facts.{object_local, caused_element, fact_of, Closed, kept, made, among, map_into}
-use Rattle.life_store.proofs.Sorts.{IsSorted, named_sort}
+use Rattle.life_store.proofs.Sorts.{IsRaw, IsSorted, named_sort}
 use Rattle.life_sound.proofs.Writing.{IsSafe}
 
-module _ (sigs : List Signature) (types : Types) (f : Function) (place : Place) (xs : List ℕ) (S S' : Fact → Type 0) (st st' : State) (sorted : IsSorted types f (holdings_of st)) (k : Known S st) (cl : Closed sigs types f place (End xs) S S') (after : AfterEnds xs st st') where
+module _ (sigs : List Signature) (types : Types) (f : Function) (place : Place) (xs : List ℕ) (S S' : Fact → Type 0) (st st' : State) (sorted : IsSorted types f st.cells) (k : Known S st) (cl : Closed sigs types f place (End xs) S S') (after : AfterEnds xs st st') where
   stays : (q : ℕ) (e : Element) → list_any (λ z. nat_eq z q) xs ≡ false → points_among xs e ≡ false → drops types f place (End xs) (fact_at (local_place q) e) ≡ false
   stays q e out none = ap (λ b. b || list_any (λ z. nat_eq z q) xs) none ∙ out
 
@@ -88,8 +88,8 @@ module _ (sigs : List Signature) (types : Types) (f : Function) (place : Place) 
     timely = λ m o e i within. subst (λ moment. is_settled o i moment ≡ true) (sym after.clock) (k.timely m o (after.older m o e) i within);
   }
 
-pub end_known : (sigs : List Signature) (types : Types) (fs : List Function) (f : Function) (place : Place) (xs : List ℕ) (S S' : Fact → Type 0) (st : State) → Housed st.world.content st.cells → IsSorted types f (holdings_of st) → Known S st
-    → IsStepReady types fs f (holdings_of st) (End xs) → Closed sigs types f place (End xs) S S' → IsSafe S' (end_locals types f xs st)
+pub end_known : (sigs : List Signature) (types : Types) (fs : List Function) (f : Function) (place : Place) (xs : List ℕ) (S S' : Fact → Type 0) (st : State) → Housed st.world.content st.cells → IsSorted types f st.cells → Known S st
+    → IsStepSorted types f fs (ready_of st) (End xs) → Closed sigs types f place (End xs) S S' → IsSafe S' (end_locals types f xs st)
 end_known sigs types fs f place xs S S' st h sorted k ready cl =
     let after = ends_are types f xs st sorted h ready in
     subst (IsSafe S') (sym after.1.0) (known sigs types f place xs S S' st after.0 sorted k cl after.1.1)

@@ -3,7 +3,6 @@ use Rattle.std.proofs.Common.{◌≡◌, ℕ, ◌<◌, length, List, [], Some, r
 use Rattle.std.specs.Prelude.{Contains, slice_get}
 use Rattle.life_types.specs.declared.place.Place.{Place}
 use Rattle.life_core.specs.Holdings.{APointer}
-use Rattle.life_core.specs.Proper.{IsOperandReady}
 use Rattle.life_core.specs.Step.{Step}
 use Rattle.life_core.specs.Operands.{Location, Operand, Name, Through}
 use Rattle.life_pset.specs.Elements.{local_place}
@@ -16,14 +15,16 @@ use Rattle.life_rules.specs.Diagnosing.{used_in, uses}
 use Rattle.life_rules.proofs.Giving.{at_head}
 use Rattle.life_core.specs.Function.{Function}
 use Rattle.life_types.specs.Types.{Types}
+use Rattle.life_proper.proofs.Sorted.{IsOperandSorted}
 use Rattle.life_store.specs.Cells.{at}
 use Rattle.life_store.specs.Content.{Object, Content}
 use Rattle.life_store.specs.Doing.{Here, found_if, behind_cell, named_by, resolve}
-use Rattle.life_store.specs.State.{Target, Pointer, Null, Wild, To, Static, Named, Points, State, holdings_of}
+use Rattle.life_store.specs.State.{Target, Pointer, Null, Wild, To, Static, Named, Points, State, ready_of}
 use Rattle.life_store.proofs.CellLemmas.{held_is, named_cell, pointer_cell}
 use Rattle.life_store.proofs.Found.{found_here, reached_here}
 use Rattle.life_store.proofs.WholeLocals.{whole_cell}
 use Rattle.life_store.proofs.Housing.{Housed}
+use Rattle.life_store.proofs.Sorts.{IsSorted}
 use Rattle.life_sound.proofs.Covering.{PointsTo, Covers, Cover, Known}
 use Rattle.life_sound.proofs.Facts.{Clean, unused}
 
@@ -44,7 +45,7 @@ pub record Reached (types : Types) (f : Function) (S : Fact → Type 0) (st : St
   pub named : slice_get st.cells local ≡ Some (Named number)
   pub seen : Sees S o local
 
-module _ (n : ℕ) (types : Types) (f : Function) (place : Place) (i : Step) (S : Fact → Type 0) (clean : Clean n place i S) (st : State) (h : Housed st.world.content st.cells) (k : Known S st) where
+module _ (n : ℕ) (types : Types) (f : Function) (place : Place) (i : Step) (S : Fact → Type 0) (clean : Clean n place i S) (st : State) (h : Housed st.world.content st.cells) (sorted : IsSorted types f st.cells) (k : Known S st) where
   through : (at : Location) (members : List ℕ) → at.members ≡ [] → Contains (uses i) at → (v : Pointer) → slice_get st.cells at.local ≡ Some (Points v) → Cover S st.world.content st.cells at.local v → Reached types f S st (Through at members)
   through at members whole used v e cover = go v e cover.known cover.holds cover.covers
     where
@@ -84,9 +85,9 @@ module _ (n : ℕ) (types : Types) (f : Function) (place : Place) (i : Step) (S 
       go (To t) e (element.At place') s cov = pointed t e place' s cov
       go (Static c) e (element.At place') s cov = absurd cov
 
-  pub reached : (o : Operand) → ((p : Location) → Contains (used_in o) p → Contains (uses i) p) → IsOperandReady (holdings_of st) o → Reached types f S st o
+  pub reached : (o : Operand) → ((p : Location) → Contains (used_in o) p → Contains (uses i) p) → IsOperandSorted types f (ready_of st) o → Reached types f S st o
   reached (Name at) used ready =
-      let cell = named_cell st.cells at.local ready.1 in
+      let cell = named_cell types f st.cells sorted at.local ready.1 in
       let l = h.lives at.local cell.0 cell.1 in record {
         number = cell.0;
         index = 0;
@@ -99,6 +100,6 @@ module _ (n : ℕ) (types : Types) (f : Function) (place : Place) (i : Step) (S 
         seen = refl;
       }
   reached (Through p members) used ready =
-      let cell = pointer_cell st.cells p.local ready.1.1 in
-      let raw = held_is st.cells p.local APointer (Points cell.0) ready.1.1 cell.1 in
+      let cell = pointer_cell types f st.cells sorted p.local ready.1.1 in
+      let raw = held_is types f st.cells sorted p.local APointer (Points cell.0) ready.1.1 cell.1 in
       through p members ready.1.0 (used p (at_head p [])) cell.0 cell.1 (k.covered p.local cell.0 cell.1 raw)

@@ -6,7 +6,9 @@ use Rattle.life_core.specs.ByValue.{calls_in_by_value}
 use Rattle.life_core.specs.Function.{Function, Program}
 use Rattle.life_core.specs.Holdings.{parameter_sorts}
 use Rattle.life_contract.specs.Signatures.{signatures_of}
+use Rattle.life_proper.specs.ProperFunctions.{AreProperFunctions}
 use Rattle.life_proper.specs.ProperPrograms.{IsProperProgram}
+use Rattle.life_proper.proofs.PointsAsked.{proper_functions}
 use Rattle.life_rules.specs.Diagnosing.{IsDiagnosed}
 use Rattle.life_rules.specs.Listing.{IsProgramDiagnosed, AreProgramDiagnostics}
 use Rattle.life_rules.specs.declared.diag.Diag.{Diag}
@@ -19,7 +21,7 @@ use Rattle.life_store.specs.Doing.{Setting}
 use Rattle.life_store.specs.Meaning.{Trapped, Faulted, Stray, Exhausted, Called, Back, Barred, Quit, calls, entered, first_called, first_world, run_from, setting_of}
 use Rattle.life_store.specs.NoFault.{IsNoFault, NoFault}
 use Rattle.life_store.specs.State.{World}
-use Rattle.life_store.proofs.CallsReturn.{calls_good, proper_at}
+use Rattle.life_store.proofs.CallsReturn.{calls_good}
 use Rattle.life_store.proofs.CellLemmas.{none_some}
 use Rattle.life_store.proofs.NeverLost.{first_housed, first_suited}
 use Rattle.life_sound.proofs.ByValue.{all_get, objects_plain}
@@ -35,12 +37,15 @@ module _ (p : Program) (proper : IsProperProgram p) (none : (d : Diag) → IsPro
       let own : d.function ≡ k = own_function (signatures_of p.functions) p.types k f d h in
       none d (f, (ap (slice_get p.functions) own ∙ is, subst (λ m. IsDiagnosed (signatures_of p.functions) p.types m f d) (sym own) h))
 
+  all : AreProperFunctions p.types (length p.texts) p.functions
+  all = proper_functions p proper
+
   calls_safe : (s : Setting) (depth : ℕ) → SafeCallee p.types p.functions (calls s p depth)
   calls_safe s zero k g outer xs n w is plain suited h timely = tt
   calls_safe s (suc depth) k g outer xs n w is plain suited h timely =
       subst (λ o. SafeCalled outer w.content (entered s p.types o (calls s p depth) xs n w)) (sym is)
-      (entered_safe s (signatures_of p.functions) p.types p.functions g k (calls s p depth) outer xs n w (calls_good s p proper.ready depth) (calls_safe s depth)
-      (proper_at p.types p.functions p.functions k g proper.ready is) (undiagnosed k g is) (all_get (calls_in_by_value p.types p.functions) p.functions k g proper.so_far.by_value is) plain suited h timely)
+      (entered_safe s (signatures_of p.functions) p.types p.functions g k (calls s p depth) outer xs n w (calls_good s p (length p.texts) all depth) (calls_safe s depth)
+      (length p.texts) all (all k g is) (undiagnosed k g is) (all_get (calls_in_by_value p.types p.functions) p.functions k g proper.so_far.by_value is) plain suited h timely)
 
 -- ---- runs
 

@@ -1,5 +1,5 @@
 -- What a function does leaves the objects as they are that the frames which wait for it name.
-use Rattle.std.proofs.Common.{◌≡◌, ◌≢◌, ◌⊎◌, inl, inr, ⊎_elim, map, ℕ, zero, suc, ◌+◌, ◌*◌, ◌<◌, List, [], ◌∷◌, ◌++◌, length, Option, Some, None, refl, sym, ap, subst, ◌∙◌, arith}
+use Rattle.std.proofs.Common.{◌≡◌, ◌≢◌, ◌⊎◌, inl, inr, ⊎_elim, ℕ, zero, suc, ◌+◌, ◌*◌, ◌<◌, List, [], ◌∷◌, ◌++◌, length, Option, Some, None, refl, sym, ap, subst, ◌∙◌, arith}
 use Rattle.std.specs.Prelude.{ℤ, pos, negsuc, Ok, Err, nat_lt, slice_get, slice_set}
 use Rattle.std.proofs.lemmas.Bool.{cond_both}
 use Rattle.std.proofs.lemmas.Option.{slice_get_within}
@@ -10,26 +10,26 @@ use Rattle.life_core.specs.Function.{Function}
 use Rattle.life_core.specs.Operands.{Location, Operand, Source}
 use Rattle.life_core.specs.Operands as source
 use Rattle.life_core.specs.Holdings.{Holding, Blank, AnObject, ANumber, APointer, AView, sort_of}
-use Rattle.life_core.specs.Proper.{IsSourceReady, IsStepReady}
 use Rattle.life_core.specs.Step.{Step, Live, End, Eval, Load, Save, Copy, Move, Aim, Repoint, Element, Cursor, Advance, Cut, Size, Same, Changes, Make, Call, Port, Ports, Writes, WritesView, Takes, Test, NonZero, NotNull}
 use Rattle.life_core.specs.declared.instr.Form.{Form}
 use Rattle.life_core.specs.declared.operation.Operation.{Operation}
 use Rattle.life_core.specs.declared.operation.Operation.TheVariants as operation
 use Rattle.life_core.specs.declared.program.Local.{Local}
 use Rattle.life_pset.specs.declared.element.Fact.{Fact}
+use Rattle.life_proper.proofs.Sorted.{IsSourceSorted, IsStepSorted}
 use Rattle.life_store.specs.Cells.{at}
 use Rattle.life_store.specs.Content.{Object, Content, live_words_of, with_object, with_word, without}
 use Rattle.life_store.specs.Doing.{Setting, Effect, Next, Traps, Faults, Strays, Attempt, Got, GotTrap, GotFault, GotLost, Found, Here, Fixed, Outside, Wrong, Astray, cell, put_cell, put_content, word_of_number, on_number, on_pointer, on_character, on_found, on_got, on_place, on_next, location_cell, operand_word, pointed, resolve, with_value_object, born_object, live_as, live_over, live_local, end_object, end_cell, end_locals, computed_into, evaluated, saved, type_of, aimed, input_taken, port, does}
 use Rattle.life_store.specs.Meaning.{Verdict, Holds, Fails, Cut, by_number, by_pointer, number_test, pointer_test, tested, test_at}
 use Rattle.life_store.specs.Numbers.{Computed, combined, is_zero, negated, truth}
-use Rattle.life_store.specs.State.{Characters, Pointer, Null, Wild, To, Static, Cell, Empty, Named, Number, Points, State, holding_of, holdings_of}
+use Rattle.life_store.specs.State.{Characters, Pointer, Null, Wild, To, Static, Cell, Empty, Named, Number, Points, State, ready_of}
 use Rattle.life_store.specs.Parts.{Single, local_parts}
 use Rattle.life_store.specs.Views.{text_size, used}
 use Rattle.life_store.specs.declared.run.TrapKind.TheVariants as trap
-use Rattle.life_store.proofs.CellLemmas.{holdings_set, set_cases, unset_cases}
+use Rattle.life_store.proofs.CellLemmas.{set_cases, set_sorted, unset_cases}
 use Rattle.life_store.proofs.Housing.{Housed, born_cases}
 use Rattle.life_store.proofs.Settling.{IsPlain}
-use Rattle.life_store.proofs.Sorts.{IsSorted, blanked_sorted, named_sort}
+use Rattle.life_store.proofs.Sorts.{IsSorted, named_sort}
 use Rattle.life_store.proofs.WholeLocals.{object_single, whole_pointed}
 use Rattle.life_store.proofs.Waiting.{empty_loose, end_behind, get_behind, get_front, put_behind}
 use Rattle.life_sound.proofs.Covering.{Known}
@@ -214,12 +214,12 @@ module _ (outer : List Cell) (before : Content) where
       over (Some (Points p)) = tt
 
   -- one end, and then what is done from each state that it may leave
-  end_spares : (types : Types) (f : Function) (x : ℕ) (st : State) (go : State → Effect) → IsSorted types f (holdings_of st) → Housed st.world.content (outer ++ st.cells) → IsSpared st
-      → ((st' : State) → IsSorted types f (holdings_of st') → Housed st'.world.content (outer ++ st'.cells) → IsSpared st' → Leads IsSpared (go st')) → Leads IsSpared (on_next (end_cell (local_parts types f x) (cell st x) x st) go)
+  end_spares : (types : Types) (f : Function) (x : ℕ) (st : State) (go : State → Effect) → IsSorted types f st.cells → Housed st.world.content (outer ++ st.cells) → IsSpared st
+      → ((st' : State) → IsSorted types f st'.cells → Housed st'.world.content (outer ++ st'.cells) → IsSpared st' → Leads IsSpared (go st')) → Leads IsSpared (on_next (end_cell (local_parts types f x) (cell st x) x st) go)
   end_spares types f x st go sorted h spared each = ends (cell st x) refl
     where
-      still : IsSorted types f (map holding_of (slice_set st.cells x Empty))
-      still = subst (IsSorted types f) (sym (holdings_set st.cells x Empty)) (blanked_sorted types f (x ∷ []) (holdings_of st) sorted)
+      still : IsSorted types f (slice_set st.cells x Empty)
+      still = set_sorted types f st.cells x Empty tt sorted
 
       object_ends : (m : ℕ) (o : Option Object) → cell st x ≡ Some (Named m) → Leads IsSpared (on_next (end_object Single o m x st) go)
       object_ends m None e = tt
@@ -236,7 +236,7 @@ module _ (outer : List Cell) (before : Content) where
       ends (Some (Number z)) e = tt
       ends (Some (Points p)) e = each (put_cell x Empty st) still (put_behind st.world.content outer st.cells h x Empty (empty_loose st.world.content)) spared
 
-  ends_spare : (types : Types) (f : Function) (xs : List ℕ) (st : State) → IsSorted types f (holdings_of st) → Housed st.world.content (outer ++ st.cells) → IsSpared st → Leads IsSpared (end_locals types f xs st)
+  ends_spare : (types : Types) (f : Function) (xs : List ℕ) (st : State) → IsSorted types f st.cells → Housed st.world.content (outer ++ st.cells) → IsSpared st → Leads IsSpared (end_locals types f xs st)
   ends_spare types f [] st sorted h spared = spared
   ends_spare types f (x ∷ xs) st sorted h spared = end_spares types f x st (end_locals types f xs) sorted h spared (λ st' sorted' h' spared'. ends_spare types f xs st' sorted' h' spared')
 
@@ -256,7 +256,7 @@ module _ (outer : List Cell) (before : Content) where
   pointed_spares : (types : Types) (f : Function) (p : Location) (v : Pointer) (st : State) → p.members ≡ [] → IsSpared st → Leads IsSpared (pointed types f p v st)
   pointed_spares types f p v st whole spared = subst (Leads IsSpared) (sym (whole_pointed types f p st whole v)) spared
 
-  aim_spares : (s : Setting) (types : Types) (f : Function) (p : Location) (source : Source) (st : State) (sort : Holding) → p.members ≡ [] → IsSourceReady (holdings_of st) sort source → IsSpared st
+  aim_spares : (s : Setting) (types : Types) (f : Function) (p : Location) (source : Source) (st : State) (sort : Holding) → p.members ≡ [] → IsSourceSorted types f (ready_of st) sort source → IsSpared st
       → Leads IsSpared (aimed s types f p source st)
   aim_spares s types f p source.Null st sort whole ready spared = pointed_spares types f p _ st whole spared
   aim_spares s types f p (source.Text n) st sort whole ready spared = pointed_spares types f p _ st whole spared
@@ -276,16 +276,16 @@ module _ (outer : List Cell) (before : Content) where
       go [] = tt
       go (z ∷ zs) = spared
 
-  module _ (k : ℕ) (types : Types) (fs : List Function) (f : Function) (place : Place) (S : Fact → Type 0) (st : State) (sorted : IsSorted types f (holdings_of st)) (h : Housed st.world.content (outer ++ st.cells)) (own : Housed st.world.content st.cells) (known : Known S st)
+  module _ (k : ℕ) (types : Types) (fs : List Function) (f : Function) (place : Place) (S : Fact → Type 0) (st : State) (sorted : IsSorted types f st.cells) (h : Housed st.world.content (outer ++ st.cells)) (own : Housed st.world.content st.cells) (known : Known S st)
       (spared : Spared outer before st.world.content) where
     -- what is saved is saved to an object that the frame names itself
-    save_spares : (o : Operand) (r : ℕ) → IsStepReady types fs f (holdings_of st) (Save o r) → Clean k place (Save o r) S → (z : ℤ) → Leads IsSpared (on_found (resolve types f o st) (λ n i object. Next (saved z n i (operand_word types f o st) object st)))
+    save_spares : (o : Operand) (r : ℕ) → IsStepSorted types f fs (ready_of st) (Save o r) → Clean k place (Save o r) S → (z : ℤ) → Leads IsSpared (on_found (resolve types f o st) (λ n i object. Next (saved z n i (operand_word types f o st) object st)))
     save_spares o r ready clean z =
-        let found = reached k types f place (Save o r) S clean st own known o (λ p used. used) ready.1 in
+        let found = reached k types f place (Save o r) S clean st own sorted known o (λ p used. used) ready.1 in
         subst (λ where_it_is. Leads IsSpared (on_found where_it_is (λ n i object. Next (saved z n i (operand_word types f o st) object st)))) (sym found.here)
         (written_spared found.number (with_word found.index (operand_word types f o st) (word_of_number z) found.object) st.world.content (own_other st.world.content st.cells found.local found.number h found.named) spared)
 
-    pub step_spares : (s : Setting) (i : Step) → IsPlain i → IsStepReady types fs f (holdings_of st) i → Clean k place i S → Leads IsSpared (does s types f i st)
+    pub step_spares : (s : Setting) (i : Step) → IsPlain i → IsStepSorted types f fs (ready_of st) i → Clean k place i S → Leads IsSpared (does s types f i st)
     step_spares s (Live x form) plain ready clean = live_spares s types f (slice_get f.locals x) form x st ready.1 spared
     step_spares s (End xs) plain ready clean = ends_spare types f xs st sorted h spared
     step_spares s (Eval r op) plain ready clean = eval_spares types f r op st spared

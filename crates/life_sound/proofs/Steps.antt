@@ -3,12 +3,12 @@ use Rattle.std.proofs.Common.{ℕ, List}
 use Rattle.life_types.specs.Types.{Types}
 use Rattle.life_types.specs.declared.place.Place.{Place}
 use Rattle.life_core.specs.Function.{Function}
-use Rattle.life_core.specs.Proper.{IsStepReady}
 use Rattle.life_core.specs.Step.{Step, Live, End, Eval, Load, Save, Copy, Move, Aim, Repoint, Element, Cursor, Advance, Cut, Size, Same, Changes, Make, Call, Ports}
 use Rattle.life_pset.specs.declared.element.Fact.{Fact}
 use Rattle.life_contract.specs.Signatures.{Signature}
+use Rattle.life_proper.proofs.Sorted.{IsStepSorted}
 use Rattle.life_store.specs.Doing.{Setting, does}
-use Rattle.life_store.specs.State.{State, holdings_of}
+use Rattle.life_store.specs.State.{State, ready_of}
 use Rattle.life_store.proofs.Housing.{Housed}
 use Rattle.life_store.proofs.Settling.{IsPlain}
 use Rattle.life_sound.proofs.Covering.{Known}
@@ -20,8 +20,8 @@ use Rattle.life_sound.proofs.Ends.{end_known}
 use Rattle.life_sound.proofs.Values.{eval_known, load_known, save_known, port_known}
 use Rattle.life_sound.proofs.Aiming.{aim_known, repoint_known}
 
-module _ (n : ℕ) (sigs : List Signature) (types : Types) (fs : List Function) (f : Function) (place : Place) (S S' : Fact → Type 0) (st : State) (h : Housed st.world.content st.cells) (sorted : IsSorted types f (holdings_of st)) (k : Known S st) where
-  pub step_safe : (s : Setting) (i : Step) → IsPlain i → IsStepReady types fs f (holdings_of st) i → Clean n place i S → Closed sigs types f place i S S' → IsSafe S' (does s types f i st)
+module _ (n : ℕ) (sigs : List Signature) (types : Types) (fs : List Function) (f : Function) (place : Place) (S S' : Fact → Type 0) (st : State) (h : Housed st.world.content st.cells) (sorted : IsSorted types f st.cells) (k : Known S st) where
+  pub step_safe : (s : Setting) (i : Step) → IsPlain i → IsStepSorted types f fs (ready_of st) i → Clean n place i S → Closed sigs types f place i S S' → IsSafe S' (does s types f i st)
   step_safe s (Live x form) plain ready clean cl = live_known sigs types fs f place S S' st h sorted k s x form ready cl
   step_safe s (End xs) plain ready clean cl = end_known sigs types fs f place xs S S' st h sorted k ready cl
   step_safe s (Eval r op) plain ready clean cl = eval_known n sigs types fs f place S S' st h sorted k r op ready cl

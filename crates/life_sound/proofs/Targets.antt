@@ -8,18 +8,19 @@ use Rattle.life_types.specs.declared.ty.TyId.{TyId}
 use Rattle.life_core.specs.ByValue.{is_pointer, gives_pointer}
 use Rattle.life_core.specs.Function.{Function}
 use Rattle.life_core.specs.Operands.{Argument, Location}
-use Rattle.life_core.specs.Holdings.{Holding, Blank, AnObject, ANumber, APointer, AView, Holdings, held_by, sort_of}
-use Rattle.life_core.specs.Proper.{IsTargetReady}
+use Rattle.life_core.specs.Holdings.{Holding, Blank, AnObject, ANumber, APointer, AView, held_by, sort_of}
+use Rattle.life_core.specs.Ready.{Ready}
 use Rattle.life_core.specs.Step.{Call}
 use Rattle.life_core.specs.declared.program.FnId.{FnId}
 use Rattle.life_core.specs.declared.program.Local.{Local}
 use Rattle.life_pset.specs.declared.element.Fact.{Fact}
 use Rattle.life_contract.specs.Signatures.{Signature}
+use Rattle.life_proper.proofs.Sorted.{IsTargetSorted}
 use Rattle.life_store.specs.Calls.{born_with, number_given, given_to, given_if, given, parameters_given, first_given, result_given, target_given}
 use Rattle.life_store.specs.Cells.{at, at-set_same}
 use Rattle.life_store.specs.Content.{Content, live_words_of, with_word}
 use Rattle.life_store.specs.Doing.{Setting, Effect, Next, Traps, Found, Here, put_cell, put_content, word_of_number, found_at, on_found, on_next, with_value_object, saved}
-use Rattle.life_store.specs.State.{Pointer, Null, Wild, To, Static, Cell, Empty, Named, Number, Points, State, holdings_of}
+use Rattle.life_store.specs.State.{Pointer, Null, Wild, To, Static, Cell, Empty, Named, Number, Points, State, ready_of}
 use Rattle.life_store.specs.declared.run.TrapKind.TheVariants as trap
 use Rattle.life_store.proofs.CellLemmas.{empty_cell_is}
 use Rattle.life_store.proofs.Found.{found_here}
@@ -126,15 +127,15 @@ module _ (outer : List Cell) (before : Content) (s : Setting) (types : Types) (f
   first_fresh [] l st whole first fresh = tt
   first_fresh (v ∷ vs) l st whole first fresh = subst (λ ms. Leads IsFresh (result_given s types f l ms v st)) (sym whole) (given_fresh v l.local st first fresh)
 
-  pub target_fresh : (hs : Holdings) (c : Content) (sort : Holding) (target : Option Location) (values : List Cell) (st : State) → IsTargetReady types f hs sort target → GivesBack c sort values → IsFresh st
+  pub target_fresh : (bits : Ready) (c : Content) (sort : Holding) (target : Option Location) (values : List Cell) (st : State) → IsTargetSorted types f bits sort target → GivesBack c sort values → IsFresh st
       → Leads IsFresh (target_given s types f target values st)
-  target_fresh hs c sort None values st ready gives fresh = fresh
-  target_fresh hs c ANumber (Some l) values st (inl ready) gives fresh = first_fresh values l st ready.0 (first_value c ANumber values gives) fresh
-  target_fresh hs c ANumber (Some l) values st (inr ready) gives fresh = first_fresh values l st ready.0.0 (first_value c ANumber values gives) fresh
-  target_fresh hs c APointer (Some l) values st ready gives fresh = first_fresh values l st ready.0 (first_value c APointer values gives) fresh
-  target_fresh hs c AView (Some l) values st ready gives fresh = first_fresh values l st ready.0 (first_value c AView values gives) fresh
-  target_fresh hs c Blank (Some l) values st ready gives fresh = absurd ready
-  target_fresh hs c AnObject (Some l) values st ready gives fresh = absurd ready
+  target_fresh bits c sort None values st ready gives fresh = fresh
+  target_fresh bits c ANumber (Some l) values st (inl ready) gives fresh = first_fresh values l st ready.0 (first_value c ANumber values gives) fresh
+  target_fresh bits c ANumber (Some l) values st (inr ready) gives fresh = first_fresh values l st ready.0.0 (first_value c ANumber values gives) fresh
+  target_fresh bits c APointer (Some l) values st ready gives fresh = first_fresh values l st ready.0 (first_value c APointer values gives) fresh
+  target_fresh bits c AView (Some l) values st ready gives fresh = first_fresh values l st ready.0 (first_value c AView values gives) fresh
+  target_fresh bits c Blank (Some l) values st ready gives fresh = absurd ready
+  target_fresh bits c AnObject (Some l) values st ready gives fresh = absurd ready
 
 -- ---- what is known stays known, where no raw pointer and no reference is given
 
@@ -144,7 +145,7 @@ suits_object Empty suits = absurd suits
 suits_object (Named n) suits = absurd suits
 suits_object (Points p) suits = absurd suits
 
-module _ (sigs : List Signature) (types : Types) (f : Function) (place : Place) (id : FnId) (xs : List Argument) (S S' : Fact → Type 0) (s : Setting) (st : State) (h : Housed st.world.content st.cells) (sorted : IsSorted types f (holdings_of st)) (k : Known S st) where
+module _ (sigs : List Signature) (types : Types) (f : Function) (place : Place) (id : FnId) (xs : List Argument) (S S' : Fact → Type 0) (s : Setting) (st : State) (h : Housed st.world.content st.cells) (sorted : IsSorted types f st.cells) (k : Known S st) where
   -- a whole local is given it: the sets of the other locals stay
   module _ (l : Location) (whole : l.members ≡ []) (cl : Closed sigs types f place (Call (Some l) id xs) S S') where
     object_safe : (ty : TyId) (z : ℤ) → slice_get st.cells l.local ≡ Some Empty → IsSafe S' (born_with s ty z l.local st)
@@ -157,18 +158,9 @@ module _ (sigs : List Signature) (types : Types) (f : Function) (place : Place) 
 
     view_safe : (p : Pointer) → sort_of types f l.local ≡ AView → Suits AView (Points p) → IsSafe S' (Next (put_cell l.local (Points p) st))
     view_safe (Static c) is suits = view_known sigs types f place S S' st sorted k (Call (Some l) id xs) cl l.local c is (λ q e ne. outside_target l whole q ne)
-    view_safe Null is suits = absurd (clash suits)
-      where
-        clash : APointer ≡ AView → ⊥
-        clash e = cc
-    view_safe Wild is suits = absurd (clash suits)
-      where
-        clash : APointer ≡ AView → ⊥
-        clash e = cc
-    view_safe (To t) is suits = absurd (clash suits)
-      where
-        clash : APointer ≡ AView → ⊥
-        clash e = cc
+    view_safe Null is suits = absurd suits
+    view_safe Wild is suits = absurd suits
+    view_safe (To t) is suits = absurd suits
 
     to_safe : (sort : Holding) (ty : TyId) (v : Cell) → sort_of types f l.local ≡ sort → is_pointer sort ≡ false → Suits sort v → (sort ≡ AnObject → slice_get st.cells l.local ≡ Some Empty)
         → IsSafe S' (given_to s types sort ty v l.local st)
@@ -204,7 +196,7 @@ module _ (sigs : List Signature) (types : Types) (f : Function) (place : Place) 
   view_object : AView ≡ AnObject → ⊥
   view_object e = cc
 
-  pub target_safe : (sort : Holding) (target : Option Location) (values : List Cell) → Closed sigs types f place (Call target id xs) S S' → gives_pointer types f target ≡ false → IsTargetReady types f (holdings_of st) sort target
+  pub target_safe : (sort : Holding) (target : Option Location) (values : List Cell) → Closed sigs types f place (Call target id xs) S S' → gives_pointer types f target ≡ false → IsTargetSorted types f (ready_of st) sort target
       → GivesBack st.world.content sort values → IsSafe S' (target_given s types f target values st)
   target_safe sort None values cl none ready gives = known_kept sigs types f place S S' st (Call None id xs) cl (λ q w e is. refl) k
   target_safe ANumber (Some l) (v ∷ vs) cl none (inl ready) gives = plain_safe l ready.0 cl ANumber v number_object none ready.1 gives.0

@@ -12,11 +12,11 @@ use Rattle.life_pset.specs.declared.element.Fact.{Fact}
 use Rattle.life_contract.specs.Signatures.{Signature}
 use Rattle.life_rules.specs.Carrying.{fact_at, drops}
 use Rattle.life_store.specs.Doing.{Effect, Next, Traps, Faults, Strays, put_cell, is_valid}
-use Rattle.life_store.specs.State.{Characters, Target, Pointer, Static, Cell, Named, Number, Points, State, holding_of_pointer, holdings_of}
+use Rattle.life_store.specs.State.{Characters, Target, Pointer, Static, Cell, Named, Number, Points, State}
 use Rattle.life_store.proofs.CellLemmas.{cell_cases, cell_other}
-use Rattle.life_sound.proofs.Covering.{IsRaw, covers_on, Cover, Known}
+use Rattle.life_sound.proofs.Covering.{covers_on, Cover, Known}
 use Rattle.life_sound.proofs.Facts.{Closed, kept}
-use Rattle.life_store.proofs.Sorts.{IsSorted, named_sort}
+use Rattle.life_store.proofs.Sorts.{IsRaw, IsSorted, named_sort}
 
 -- the next state is known, and there is no fault; that no step strays is known of each proper program
 abbrev pub IsSafe : (Fact → Type 0) → Effect → Type 0
@@ -46,7 +46,7 @@ module _ (sigs : List Signature) (types : Types) (f : Function) (place : Place) 
     timely = k.timely;
   }
 
-module _ (sigs : List Signature) (types : Types) (f : Function) (place : Place) (S S' : Fact → Type 0) (st : State) (sorted : IsSorted types f (holdings_of st)) (k : Known S st) where
+module _ (sigs : List Signature) (types : Types) (f : Function) (place : Place) (S S' : Fact → Type 0) (st : State) (sorted : IsSorted types f st.cells) (k : Known S st) where
   -- what is a number, a pointer or a view by its sort names no object
   unnamed_number : (x m : ℕ) → sort_of types f x ≡ ANumber → slice_get st.cells x ≡ Some (Named m) → ⊥
   unnamed_number x m sort e = object_is_number (sym (named_sort types f st.cells x m sorted e) ∙ sort)
@@ -98,7 +98,4 @@ module _ (sigs : List Signature) (types : Types) (f : Function) (place : Place) 
   pub view_known : (i : Step) (cl : Closed sigs types f place i S S') (p : ℕ) (c : Characters) → sort_of types f p ≡ AView → ((q : ℕ) (e : Element) → p ≢ q → drops types f place i (fact_at (local_place q) e) ≡ false)
       → Known S' (put_cell p (Points (Static c)) st)
   view_known i cl p c sort stays =
-      put_known i cl p (Points (Static c)) (λ m. unnamed_view p m sort) stays (λ w e raw. absurd (clash (ap holding_of_pointer (same_pointer (Static c) w e) ∙ raw)))
-    where
-      clash : AView ≡ APointer → ⊥
-      clash e = cc
+      put_known i cl p (Points (Static c)) (λ m. unnamed_view p m sort) stays (λ w e raw. absurd (subst IsRaw (sym (same_pointer (Static c) w e)) raw))

@@ -2,18 +2,19 @@
 use Rattle.std.proofs.Common.{◌≡◌, ℕ, ◌<◌, List, ◌++◌, length, Option, Some, None, Bool, true, false, refl, sym, ap, subst, ◌∙◌}
 use Rattle.std.proofs.lemmas.Bool.{lt-ltb, false≢true}
 use Rattle.life_core.specs.Function.{Function}
-use Rattle.life_core.specs.Holdings.{APointer, AView}
-use Rattle.life_core.specs.Proper.{IsOperandReady}
+use Rattle.life_core.specs.Holdings.{APointer}
 use Rattle.life_types.specs.Types.{Types}
 use Rattle.life_core.specs.Operands.{Operand, Name, Through}
+use Rattle.life_proper.proofs.Sorted.{IsOperandSorted}
 use Rattle.life_store.specs.Cells.{at}
 use Rattle.life_store.specs.Content.{Object, Content, is_valid_in}
 use Rattle.life_store.specs.Doing.{Found, Here, Fixed, Outside, Wrong, Astray, Effect, Traps, Faults, here_if, found_in, found_at, reached_if, reached_in, is_valid, found_if, behind, behind_cell, named_by, resolve, on_place}
-use Rattle.life_store.specs.State.{Characters, Target, Pointer, Null, Wild, To, Static, Cell, Points, State, holding_of_pointer, holdings_of}
+use Rattle.life_store.specs.State.{Characters, Target, Pointer, Null, Wild, To, Static, Cell, Points, State, ready_of}
 use Rattle.life_store.specs.declared.run.FaultKind.{FaultKind}
 use Rattle.life_store.specs.declared.run.TrapKind.{TrapKind}
 use Rattle.life_store.proofs.CellLemmas.{held_is, named_cell, pointer_cell}
 use Rattle.life_store.proofs.Housing.{Housed, Aims}
+use Rattle.life_store.proofs.Sorts.{IsRaw, IsSorted}
 use Rattle.life_store.proofs.Waiting.{lives_behind, aims_behind}
 use Rattle.life_store.proofs.WholeLocals.{whole_cell}
 
@@ -44,29 +45,26 @@ target_there c t aims = go (is_valid c t) refl
     go true e = living (at c.objects t.object) refl e
     go false e = tt
 
-behind_there : (c : Content) (v : Pointer) → holding_of_pointer v ≡ APointer → ((t : Target) → v ≡ To t → Aims c t) → IsThere c (behind c v)
-behind_there c Null kind aims = tt
-behind_there c Wild kind aims = tt
-behind_there c (To t) kind aims = target_there c t (aims t refl)
-behind_there c (Static s) kind aims = absurd (clash kind)
-  where
-    clash : AView ≡ APointer → ⊥
-    clash e = cc
+behind_there : (c : Content) (v : Pointer) → IsRaw v → ((t : Target) → v ≡ To t → Aims c t) → IsThere c (behind c v)
+behind_there c Null raw aims = tt
+behind_there c Wild raw aims = tt
+behind_there c (To t) raw aims = target_there c t (aims t refl)
+behind_there c (Static s) raw aims = absurd raw
 
-pub operand_there : (types : Types) (f : Function) (outer : List Cell) (st : State) (o : Operand) → Housed st.world.content (outer ++ st.cells) → IsOperandReady (holdings_of st) o
+pub operand_there : (types : Types) (f : Function) (outer : List Cell) (st : State) (o : Operand) → IsSorted types f st.cells → Housed st.world.content (outer ++ st.cells) → IsOperandSorted types f (ready_of st) o
     → IsThere st.world.content (resolve types f o st)
-operand_there types f outer st (Name l') h ready =
+operand_there types f outer st (Name l') sorted h ready =
     let x = l'.local in
-    let cell = named_cell st.cells x ready.1 in
+    let cell = named_cell types f st.cells sorted x ready.1 in
     let c = st.world.content in
     let l = lives_behind c outer st.cells h x cell.0 cell.1 in
     subst (λ v. IsThere c (named_by c v)) (sym cell.1) (subst (IsThere c) (sym (found_here c cell.0 0 l.object l.there l.slot)) (l.there, l.slot))
-operand_there types f outer st (Through p members) h ready =
-    let cell = pointer_cell st.cells p.local ready.1.1 in
+operand_there types f outer st (Through p members) sorted h ready =
+    let cell = pointer_cell types f st.cells sorted p.local ready.1.1 in
     let c = st.world.content in
-    let kind = held_is st.cells p.local APointer (Points cell.0) ready.1.1 cell.1 in
+    let raw = held_is types f st.cells sorted p.local APointer (Points cell.0) ready.1.1 cell.1 in
     subst (λ v. IsThere c (behind_cell c v)) (sym (whole_cell types f p st ready.1.0 ∙ cell.1))
-    (behind_there c cell.0 kind (λ t e. aims_behind c outer st.cells h p.local t (cell.1 ∙ ap (λ v. Some (Points v)) e)))
+    (behind_there c cell.0 raw (λ t e. aims_behind c outer st.cells h p.local t (cell.1 ∙ ap (λ v. Some (Points v)) e)))
 
 -- what is done with a position that was found, or with what is wrong
 pub on_found_good : (P : Effect → Type 0) (c : Content) (r : Found) (go : ℕ → ℕ → Object → Effect) (fixed : Characters → Effect) → IsThere c r → ((kind : TrapKind) → P (Traps kind)) → ((kind : FaultKind) → P (Faults kind))

@@ -1,18 +1,20 @@
--- Arguments that are ready hand over what suits the parameters.
+-- Arguments that are ready and of the parameters' sorts hand over what suits the parameters.
 use Rattle.std.proofs.Common.{◌≡◌, ℕ, zero, suc, List, [], ◌∷◌, ◌++◌, length, Option, Some, refl, ap, subst, ◌∙◌}
 use Rattle.std.specs.Prelude.{slice_get}
 use Rattle.life_core.specs.Function.{Function}
 use Rattle.life_core.specs.Operands.{Argument, Location, Value, PointerOf}
-use Rattle.life_core.specs.Holdings.{Holding, Holdings, AnObject, ANumber, APointer, AView}
-use Rattle.life_core.specs.Proper.{Holds, HoldsAt, IsArgumentReady, AreArgumentsReady}
+use Rattle.life_core.specs.Holdings.{Holding, AnObject, ANumber, APointer, AView}
+use Rattle.life_core.specs.Ready.{Ready}
 use Rattle.life_types.specs.Types.{Types}
+use Rattle.life_proper.proofs.Sorted.{Holds, HoldsAt, IsArgumentSorted, AreArgumentsSorted}
 use Rattle.life_store.specs.Doing.{Setting, Next, on_next}
 use Rattle.life_store.specs.Calls.{number_handed, pointer_handed, handed, with_handed, all_handed, lent, slots_returned, taken_back, target_given}
 use Rattle.life_store.specs.Meaning.{with_world}
-use Rattle.life_store.specs.State.{Static, Cell, Number, Points, World, State, holdings_of}
+use Rattle.life_store.specs.State.{Static, Cell, Number, Points, World, State, ready_of}
 use Rattle.life_store.proofs.CellLemmas.{none_some, some_same, held_is, number_cell, pointer_cell, view_cell}
 use Rattle.life_store.proofs.Giving.{Suits}
 use Rattle.life_store.proofs.Housing.{Housed}
+use Rattle.life_store.proofs.Sorts.{IsSorted}
 use Rattle.life_store.proofs.WholeLocals.{whole_cell}
 use Rattle.life_store.proofs.Waiting.{IsLoose, number_loose, behind_loose}
 
@@ -49,28 +51,28 @@ pub record HandsAll (types : Types) (f : Function) (st : State) (sorts : List Ho
   pub suited : AreSuited sorts values
   pub loose : (i : ℕ) (v : Cell) → slice_get values i ≡ Some v → IsLoose st.world.content v
 
-module _ (types : Types) (f : Function) (outer : List Cell) (st : State) (h : Housed st.world.content (outer ++ st.cells)) where
-  number_hands : (r : ℕ) → Holds (holdings_of st) r ANumber → Hands types f st AnObject (Value r)
+module _ (types : Types) (f : Function) (outer : List Cell) (st : State) (sorted : IsSorted types f st.cells) (h : Housed st.world.content (outer ++ st.cells)) where
+  number_hands : (r : ℕ) → Holds types f (ready_of st) r ANumber → Hands types f st AnObject (Value r)
   number_hands r ready =
-      let cell = number_cell st.cells r ready in
+      let cell = number_cell types f st.cells sorted r ready in
       record { value = Number cell.0; is = ap number_handed cell.1; suits = tt; loose = number_loose st.world.content cell.0 }
 
-  pointer_hands : (l : Location) → HoldsAt (holdings_of st) l APointer → Hands types f st APointer (PointerOf l)
+  pointer_hands : (l : Location) → HoldsAt types f (ready_of st) l APointer → Hands types f st APointer (PointerOf l)
   pointer_hands l ready =
-      let cell = pointer_cell st.cells l.local ready.1 in
+      let cell = pointer_cell types f st.cells sorted l.local ready.1 in
       record {
         value = Points cell.0;
         is = ap pointer_handed (whole_cell types f l st ready.0 ∙ cell.1);
-        suits = held_is st.cells l.local APointer (Points cell.0) ready.1 cell.1;
+        suits = held_is types f st.cells sorted l.local APointer (Points cell.0) ready.1 cell.1;
         loose = behind_loose st.world.content outer st.cells h l.local cell.0 cell.1;
       }
 
-  view_hands : (l : Location) → HoldsAt (holdings_of st) l AView → Hands types f st AView (PointerOf l)
+  view_hands : (l : Location) → HoldsAt types f (ready_of st) l AView → Hands types f st AView (PointerOf l)
   view_hands l ready =
-      let cell = view_cell st.cells l.local ready.1 in
-      record { value = Points (Static cell.0); is = ap pointer_handed (whole_cell types f l st ready.0 ∙ cell.1); suits = refl; loose = behind_loose st.world.content outer st.cells h l.local (Static cell.0) cell.1 }
+      let cell = view_cell types f st.cells sorted l.local ready.1 in
+      record { value = Points (Static cell.0); is = ap pointer_handed (whole_cell types f l st ready.0 ∙ cell.1); suits = tt; loose = behind_loose st.world.content outer st.cells h l.local (Static cell.0) cell.1 }
 
-  hands : (sort : Holding) (x : Argument) → IsArgumentReady (holdings_of st) sort x → Hands types f st sort x
+  hands : (sort : Holding) (x : Argument) → IsArgumentSorted types f (ready_of st) sort x → Hands types f st sort x
   hands AnObject (Value r) ready = number_hands r ready
   hands APointer (PointerOf l) ready = pointer_hands l ready
   hands AView (PointerOf l) ready = view_hands l ready
@@ -88,33 +90,33 @@ module _ (types : Types) (f : Function) (outer : List Cell) (st : State) (h : Ho
       loose zero v e = subst (IsLoose st.world.content) (some_same e) one.loose
       loose (suc i) v e = rest.loose i v e
 
-  pub hands_all : (sorts : List Holding) (xs : List Argument) → AreArgumentsReady (holdings_of st) sorts xs → HandsAll types f st sorts xs
+  pub hands_all : (sorts : List Holding) (xs : List Argument) → AreArgumentsSorted types f (ready_of st) sorts xs → HandsAll types f st sorts xs
   hands_all [] [] ready = record { values = []; are = refl; suited = tt; loose = λ i v e. absurd (none_some e) }
   hands_all (sort ∷ sorts) (x ∷ xs) ready = more_hands sort sorts x xs (hands sort x ready.0) (hands_all sorts xs ready.1)
   hands_all [] (x ∷ xs) ready = absurd ready
   hands_all (sort ∷ sorts) [] ready = absurd ready
 
 -- nothing is lent or comes back where no argument is a temporary or a slot
-module _ (types : Types) (f : Function) (hs : Holdings) where
-  one_lent : (sort : Holding) (x : Argument) (xs : List Argument) (st : State) → IsArgumentReady hs sort x → lent types f (x ∷ xs) st ≡ lent types f xs st
+module _ (types : Types) (f : Function) (bits : Ready) where
+  one_lent : (sort : Holding) (x : Argument) (xs : List Argument) (st : State) → IsArgumentSorted types f bits sort x → lent types f (x ∷ xs) st ≡ lent types f xs st
   one_lent AnObject (Value r) xs st ready = refl
   one_lent APointer (PointerOf l) xs st ready = refl
   one_lent AView (PointerOf l) xs st ready = refl
   one_lent _ _ xs st ready = absurd ready
 
-  pub lent_ready : (sorts : List Holding) (xs : List Argument) (st : State) → AreArgumentsReady hs sorts xs → lent types f xs st ≡ st
+  pub lent_ready : (sorts : List Holding) (xs : List Argument) (st : State) → AreArgumentsSorted types f bits sorts xs → lent types f xs st ≡ st
   lent_ready [] [] st ready = refl
   lent_ready (sort ∷ sorts) (x ∷ xs) st ready = one_lent sort x xs st ready.0 ∙ lent_ready sorts xs st ready.1
   lent_ready [] (x ∷ xs) st ready = absurd ready
   lent_ready (sort ∷ sorts) [] st ready = absurd ready
 
-  one_returned : (sort : Holding) (x : Argument) (xs : List Argument) (vs : List Cell) (st : State) → IsArgumentReady hs sort x → slots_returned types f (x ∷ xs) vs st ≡ slots_returned types f xs vs st
+  one_returned : (sort : Holding) (x : Argument) (xs : List Argument) (vs : List Cell) (st : State) → IsArgumentSorted types f bits sort x → slots_returned types f (x ∷ xs) vs st ≡ slots_returned types f xs vs st
   one_returned AnObject (Value r) xs vs st ready = refl
   one_returned APointer (PointerOf l) xs vs st ready = refl
   one_returned AView (PointerOf l) xs vs st ready = refl
   one_returned _ _ xs vs st ready = absurd ready
 
-  pub returned_ready : (sorts : List Holding) (xs : List Argument) (vs : List Cell) (st : State) → AreArgumentsReady hs sorts xs → slots_returned types f xs vs st ≡ Next st
+  pub returned_ready : (sorts : List Holding) (xs : List Argument) (vs : List Cell) (st : State) → AreArgumentsSorted types f bits sorts xs → slots_returned types f xs vs st ≡ Next st
   returned_ready [] [] vs st ready = refl
   returned_ready (sort ∷ sorts) (x ∷ xs) vs st ready = one_returned sort x xs vs st ready.0 ∙ returned_ready sorts xs vs st ready.1
   returned_ready [] (x ∷ xs) vs st ready = absurd ready
@@ -122,7 +124,7 @@ module _ (types : Types) (f : Function) (hs : Holdings) where
 
 -- so the target is given the result, and nothing else
 pub taken_ready : (s : Setting) (types : Types) (f : Function) (sorts : List Holding) (target : Option Location) (xs : List Argument) (values : List Cell) (st : State) (w : World)
-    → AreArgumentsReady (holdings_of st) sorts xs → taken_back s types f target xs values (with_world w (lent types f xs st)) ≡ target_given s types f target values (with_world w st)
+    → AreArgumentsSorted types f (ready_of st) sorts xs → taken_back s types f target xs values (with_world w (lent types f xs st)) ≡ target_given s types f target values (with_world w st)
 taken_ready s types f sorts target xs values st w ready =
-    ap (λ (u : State). taken_back s types f target xs values (with_world w u)) (lent_ready types f (holdings_of st) sorts xs st ready)
-    ∙ ap (λ e. on_next e (target_given s types f target values)) (returned_ready types f (holdings_of st) sorts xs _ (with_world w st) ready)
+    ap (λ (u : State). taken_back s types f target xs values (with_world w u)) (lent_ready types f (ready_of st) sorts xs st ready)
+    ∙ ap (λ e. on_next e (target_given s types f target values)) (returned_ready types f (ready_of st) sorts xs _ (with_world w st) ready)

@@ -1,12 +1,13 @@
 -- A run of a proper program from an entry that is admitted takes no stray step.
-use Rattle.std.proofs.Common.{◌≡◌, ◌≤◌, ℕ, zero, suc, ◌+◌, List, [], ◌∷◌, ◌++◌, length, take, Some, refl, sym, ap, subst, ◌∙◌, arith}
+use Rattle.std.proofs.Common.{◌≡◌, ◌≤◌, ℕ, zero, suc, ◌+◌, List, [], ◌∷◌, ◌++◌, length, map, take, Some, refl, sym, ap, subst, ◌∙◌, arith}
 use Rattle.std.specs.Prelude.{ℤ, slice_get}
 use Rattle.life_core.specs.Function.{Function, Program}
-use Rattle.life_core.specs.Holdings.{Holding, AnObject, given_holdings, parameter_sorts}
+use Rattle.life_core.specs.Holdings.{Holding, AnObject, parameter_sorts, sort_of_local}
 use Rattle.life_core.specs.declared.program.Local.{Local}
 use Rattle.life_types.specs.Types.{Types}
 use Rattle.life_types.specs.declared.place.Place.{Place}
 use Rattle.life_proper.specs.ProperPrograms.{IsProperProgram}
+use Rattle.life_proper.proofs.PointsAsked.{proper_functions}
 use Rattle.life_store.specs.Calls.{entry_arguments}
 use Rattle.life_store.specs.Cells.{at-none}
 use Rattle.life_store.specs.Content.{Content, empty_content}
@@ -23,7 +24,7 @@ use Rattle.life_store.proofs.Waiting.{IsLoose, number_loose, housed_more}
 
 -- ---- what the entry is given
 
-parameter_count : (types : Types) (n : ℕ) (ls : List Local) → n ≤ length ls → length (take n (given_holdings types n ls)) ≡ n
+parameter_count : (types : Types) (n : ℕ) (ls : List Local) → n ≤ length ls → length (map (sort_of_local types) (take n ls)) ≡ n
 parameter_count types zero ls le = refl
 parameter_count types (suc n) [] le = absurd (omega (arith, le))
 parameter_count types (suc n) (l ∷ ls) le = ap suc (parameter_count types n ls (omega (arith, le)))
@@ -76,5 +77,5 @@ pub never_lost : (p : Program) (given : Given) (entry : ℕ) (f : Function) (inp
     → IsFound (run_of given p entry f input n).outcome
 never_lost p given entry f input n proper is admitted =
     called_found p.types f f.place (first_world f input) (first_called given p entry f input n)
-    (calls_good (setting_of given p) p proper.ready given.depth entry f [] (entry_arguments p.types f 0 f.parameters input) n (first_world f input) is
+    (calls_good (setting_of given p) p (length p.texts) (proper_functions p proper) given.depth entry f [] (entry_arguments p.types f 0 f.parameters input) n (first_world f input) is
     (first_suited p f input admitted) (first_housed p.types f f.parameters input))

@@ -1,6 +1,6 @@
 -- The state of a run: the world that all frames share, and the cells of one frame.
-use Rattle.std.specs.Prelude.{ℕ, ℤ, List, Option, map}
-use Rattle.life_core.specs.Holdings.{Holding, Blank, AnObject, ANumber, APointer, AView}
+use Rattle.std.specs.Prelude.{ℕ, ℤ, Bool, true, false, List, Option, map}
+use Rattle.life_core.specs.Ready.{Ready}
 use Rattle.life_store.specs.Content.{Content}
 
 -- a position in an object, the word of the slot there at which begins what is pointed to, how many positions a span or a view has from
@@ -42,19 +42,13 @@ pub record State : Type 0 where
   pub world : World
   pub cells : List Cell
 
--- a view's characters never end so far, and no raw pointer or reference points to such
-abbrev pub holding_of_pointer : Pointer → Holding
-holding_of_pointer Null = APointer
-holding_of_pointer Wild = APointer
-holding_of_pointer (To t) = APointer
-holding_of_pointer (Static c) = AView
+-- a local is there where its cell isn't empty
+abbrev pub is_there : Cell → Bool
+is_there Empty = false
+is_there (Named n) = true
+is_there (Number z) = true
+is_there (Points p) = true
 
-abbrev pub holding_of : Cell → Holding
-holding_of Empty = Blank
-holding_of (Named n) = AnObject
-holding_of (Number z) = ANumber
-holding_of (Points p) = holding_of_pointer p
-
--- what each local holds
-abbrev pub holdings_of : State → List Holding
-holdings_of st = map holding_of st.cells
+-- which locals are there
+abbrev pub ready_of : State → Ready
+ready_of st = map is_there st.cells

@@ -14,6 +14,7 @@ use Rattle.life_types.specs.declared.ty.Ty.TheVariants as type
 use Rattle.life_core.specs.ByValue.{calls_by_value}
 use Rattle.life_core.specs.Function.{Function, Program}
 use Rattle.life_core.specs.Linked.{Linked, edges_of, goes, spot_at, spot_of}
+use Rattle.life_core.specs.Served.{is_served_program}
 use Rattle.life_core.specs.Step.{Step, Live}
 use Rattle.life_core.specs.Tree.{Action, Spot}
 use Rattle.life_core.specs.declared.instr.Form.TheVariants.{Plain}
@@ -61,8 +62,8 @@ each_within i within (suc n) f e = absurd (none-some f e)
 
 -- .. by tests, and as far as its limits go
 one_proper : (i : Step) → list_all (is_well_formed_function types 1 0 (worked i ∷ [])) (worked i ∷ []) ≡ true → checked (program i) ≡ true → keeps_all_given (program i) ≡ true
-    → calls_by_value (program i) ≡ true → IsWithinLimits types (worked i) → IsProperProgram (program i)
-one_proper i formed ready given by_value within = record {
+    → calls_by_value (program i) ≡ true → is_served_program (program i) ≡ true → IsWithinLimits types (worked i) → IsProperProgram (program i)
+one_proper i formed ready given by_value serves within = record {
   well_formed = record {
     table = record { parts = parts_below; members = λ n ids e. absurd (none-some ids e) };
     members = refl;
@@ -74,7 +75,7 @@ one_proper i formed ready given by_value within = record {
   breaks = refl;
   given = given;
   limits = record { few = omega arith; each = each_within i within };
-  so_far = record { by_value = by_value };
+  so_far = record { by_value = by_value; serves = serves };
 }
 
 one_location : (i : Step) → length (locations_of types (worked i)) ≡ 1
@@ -104,11 +105,11 @@ no_use_within = record {
 
 pub misuse_proper : IsProperProgram (program misuse)
 unfolding tree_at
-misuse_proper = one_proper misuse refl refl refl refl misuse_within
+misuse_proper = one_proper misuse refl refl refl refl refl misuse_within
 
 pub no_use_proper : IsProperProgram (program no_use)
 unfolding tree_at
-no_use_proper = one_proper no_use refl refl refl refl no_use_within
+no_use_proper = one_proper no_use refl refl refl refl refl no_use_within
 
 -- ---- what is made is that program
 

@@ -15,8 +15,7 @@ decreases-stmt_flow l = goal.size-stmt_flow l
 abbrev pub invariant-stmt_flow-loop-item : goal.invariant-stmt_flow-loop-item
 invariant-stmt_flow-loop-item l =
     let types = l.at.types.now in
-    let functions = map function_of l.at.functions.now in
     let f = function_of l.at.function.now in
     let w = flow_seen l.ways in
-    joined (before_next w) (flow types functions f (trees (map tree_of (drop l.item-index l.item-items))) w.next)
-    ≡ flow types functions f (tree_of l.s) (state_seen l.fn.here)
+    joined (before_next w) (flow types f (trees (map tree_of (drop l.item-index l.item-items))) w.next)
+    ≡ flow types f (tree_of l.s) (state_seen l.fn.here)

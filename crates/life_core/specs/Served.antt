@@ -1,0 +1,112 @@
+-- What is served so far. A function has values, raw pointers, references and views, and none of the steps below: a feature that comes deletes lines here.
+use Rattle.std.specs.Prelude.{Bool, true, false, ◌&&◌, not, ℕ, List, [], ◌∷◌, Option, Some, None}
+use Rattle.std.specs.List.{list_all}
+use Rattle.life_types.specs.Types.{Types, is_slot_at}
+use Rattle.life_core.specs.declared.program.Local.{Local}
+use Rattle.life_core.specs.declared.program.LocalKind.{LocalKind}
+use Rattle.life_core.specs.declared.program.LocalKind.TheVariants.{Object}
+use Rattle.life_core.specs.Function.{Function, Program}
+use Rattle.life_core.specs.Holdings.{Holding, AnObject, ANumber, APointer, AView, held_by, sort_of}
+use Rattle.life_core.specs.Operands.{Argument, GivenOver, PointerOf, Slot, Location, Operand, Name, Through, Source}
+use Rattle.life_core.specs.Operands as source
+use Rattle.life_core.specs.Step.{Step, Live, Load, Save, Copy, Move, Aim, Repoint, Element, Cursor, Advance, Cut, Size, Same, Changes, Make, Call, Ports, Port, WritesView, Test, NotNull}
+use Rattle.life_core.specs.Tree.{Node, Action, Question, Spot, spots}
+
+-- ---- no member is named
+
+abbrev pub is_empty : List ℕ → Bool
+is_empty [] = true
+is_empty (m ∷ ms) = false
+
+abbrev pub is_served_location : Location → Bool
+is_served_location l = is_empty l.members
+
+abbrev pub is_served_operand : Operand → Bool
+is_served_operand (Name l) = is_served_location l
+is_served_operand (Through p members) = is_empty members && is_served_location p
+
+-- ---- parts of instructions
+
+abbrev pub is_served_source : Source → Bool
+is_served_source (source.Place o) = is_served_operand o
+is_served_source source.Empty = false
+is_served_source (source.Whole o) = false
+is_served_source (source.Get l) = false
+is_served_source _ = true
+
+abbrev pub is_served_argument : Argument → Bool
+is_served_argument (PointerOf l) = is_served_location l
+is_served_argument (GivenOver x) = false
+is_served_argument (Slot l) = false
+is_served_argument _ = true
+
+abbrev pub is_served_target : Option Location → Bool
+is_served_target None = true
+is_served_target (Some l) = is_served_location l
+
+abbrev pub is_served_port : Port → Bool
+is_served_port (WritesView l) = is_served_location l
+is_served_port _ = true
+
+-- an object or a raw pointer comes to life, and no view does
+abbrev pub is_served_birth : Holding → Bool
+is_served_birth AView = false
+is_served_birth _ = true
+
+-- ---- instructions and tests
+
+module _ (types : Types) (f : Function) where
+  abbrev pub is_served_step : Step → Bool
+  is_served_step (Live x form) = is_served_birth (sort_of types f x)
+  is_served_step (Load r o) = is_served_operand o
+  is_served_step (Save o r) = is_served_operand o
+  is_served_step (Copy to from) = false
+  is_served_step (Move to y) = false
+  is_served_step (Aim p s) = is_served_location p && is_served_source s
+  is_served_step (Repoint p q) = is_served_location p && is_served_location q
+  is_served_step (Element p b which) = false
+  is_served_step (Cursor p b end) = false
+  is_served_step (Advance p q r direction) = false
+  is_served_step (Cut p q r count) = false
+  is_served_step (Size r b) = false
+  is_served_step (Same r a b equal) = false
+  is_served_step (Changes o c) = false
+  is_served_step (Make u made) = false
+  is_served_step (Call target g xs) = is_served_target target && list_all is_served_argument xs
+  is_served_step (Ports p) = is_served_port p
+  is_served_step _ = true
+
+  abbrev pub is_served_test : Test → Bool
+  is_served_test (NotNull l) = is_served_location l
+  is_served_test _ = true
+
+  abbrev pub is_served_node : Node → Bool
+  is_served_node (Action i) = is_served_step i
+  is_served_node (Question t) = is_served_test t
+  is_served_node _ = true
+
+  abbrev pub is_served_spot : Spot → Bool
+  is_served_spot s = is_served_node s.node
+
+-- ---- locals
+
+-- what lies in memory is a value, and what doesn't is a number, a raw pointer, a reference or a view
+abbrev pub is_served_as : LocalKind → Holding → Bool
+is_served_as Object AnObject = true
+is_served_as Object _ = false
+is_served_as _ ANumber = true
+is_served_as _ APointer = true
+is_served_as _ AView = true
+is_served_as _ _ = false
+
+-- .. and no parameter is a slot
+abbrev pub is_served_local : Types → Local → Bool
+is_served_local types l = is_served_as l.kind (held_by types (Some l)) && not (is_slot_at types l.ty)
+
+-- ---- the whole
+
+abbrev pub is_served : Types → Function → Bool
+is_served types f = list_all (is_served_local types) f.locals && list_all (is_served_spot types f) (spots f.body)
+
+abbrev pub is_served_program : Program → Bool
+is_served_program p = list_all (is_served p.types) p.functions
