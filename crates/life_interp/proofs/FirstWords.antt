@@ -22,7 +22,7 @@ use Rattle.life_store.specs.State.{Characters, Null, Wild, To, Static, Cell, Emp
 use Rattle.life_store.specs.declared.run.TrapKind.TheVariants as trap
 use Rattle.life_store.specs.Calls.{with_handed, number_handed, pointer_handed, number_or_zero, pointer_back}
 use Rattle.life_store.specs.Doing.{Setting, Effect, Next, Traps, Faults, Strays, Found, Here, Fixed, Outside, Wrong, Astray, cell, put_cell, put_content, type_of, with_value_object, on_found, on_number, on_pointer, on_next, found_at, born_object, born_pointer, computed_into, evaluated, input_taken}
-use Rattle.life_interp.specs.SoFar.{on_view, resolve, live_as, live_over, live_local, end_object, end_cell, end_locals, aimed, port, does, handed, all_handed, born_with, number_given, given_to, given_if, given, parameters_given, given_back, results, target_given}
+use Rattle.life_interp.specs.SoFar.{on_view, locate, live_as, live_over, live_local, end_object, end_cell, end_locals, aimed, port, does, handed, all_handed, born_with, number_given, given_to, given_if, given, parameters_given, given_back, results, target_given}
 
 abbrev pub AtFirst : Cell → Type 0
 AtFirst Empty = Unit {0}
@@ -154,7 +154,7 @@ aimed_first s p (source.Text n) st h = set_first st.cells p _ h tt
 aimed_first s p source.Empty st h = tt
 aimed_first s p (source.Whole o) st h = tt
 aimed_first s p (source.Get l) st h = tt
-aimed_first s p (source.Place o) st h = found_first (resolve o st) _ (λ n i object. set_first st.cells p _ h refl)
+aimed_first s p (source.Place o) st h = found_first (locate o st) _ (λ n i object. set_first st.cells p _ h refl)
 
 taken_first : (r : ℕ) (input : List ℤ) (st : State) → AreFirst st.cells → FirstNext (input_taken r input st)
 taken_first r [] st h = tt
@@ -180,8 +180,8 @@ pub does_first : (s : Setting) (types : Types) (f : Function) (i : Step) (st : S
 does_first s types f (Live x form) st h = live_first s types f (slice_get f.locals x) form x st h
 does_first s types f (End xs) st h = ends_first xs st h
 does_first s types f (Eval r o) st h = evaluated_first types f r o st h
-does_first s types f (Load r o) st h = found_first (resolve o st) _ (λ n i object. set_first st.cells r _ h tt)
-does_first s types f (Save o r) st h = number_first (cell st r) _ (λ z. found_first (resolve o st) _ (λ n i object. h))
+does_first s types f (Load r o) st h = found_first (locate o st) _ (λ n i object. set_first st.cells r _ h tt)
+does_first s types f (Save o r) st h = number_first (cell st r) _ (λ z. found_first (locate o st) _ (λ n i object. h))
 does_first s types f (Copy to from) st h = tt
 does_first s types f (Move to y) st h = tt
 does_first s types f (Aim p x) st h = aimed_first s p.local x st h

@@ -63,16 +63,16 @@ module _ (c : Content) where
       go true = living (at c.objects t.object) refl
       go false = refl
 
-  behind_same : (v : Pointer) → IsRaw v → ((t : Target) → v ≡ To t → Aims c t) → doing.behind c v ≡ so_far.behind c v
+  behind_same : (v : Pointer) → IsRaw v → ((t : Target) → v ≡ To t → Aims c t) → doing.behind_pointer c v ≡ so_far.behind_pointer c v
   behind_same Null raw aims = refl
   behind_same Wild raw aims = refl
   behind_same (To t) raw aims = target_same t (aims t refl)
   behind_same (Static s) raw aims = absurd raw
 
 module _ (types : Types) (f : Function) (outer : List Cell) (st : State) (sorted : IsSorted types f st.cells) (h : Housed st.world.content (outer ++ st.cells)) (first : AreFirst st.cells) where
-  resolve_same : (o : Operand) → IsOperandSorted types f (ready_of st) o → doing.resolve types f o st ≡ so_far.resolve o st
-  resolve_same (Name l) ready = refl
-  resolve_same (Through p members) ready =
+  locate_same : (o : Operand) → IsOperandSorted types f (ready_of st) o → doing.locate types f o st ≡ so_far.locate o st
+  locate_same (Name l) ready = refl
+  locate_same (Through p members) ready =
       let v = pointer_cell types f st.cells sorted p.local ready.1.1 in
       let c = st.world.content in
       let raw = held_is types f st.cells sorted p.local APointer (Points v.0) ready.1.1 v.1 in
@@ -97,11 +97,11 @@ module _ (types : Types) (f : Function) (outer : List Cell) (st : State) (sorted
 
   -- what is done with an operand that is ready
   place_same : (o : Operand) (go : ℕ → ℕ → ℕ → Object → Effect) (fixed : Characters → Effect) → IsOperandSorted types f (ready_of st) o
-      → on_place (doing.resolve types f o st) (go (operand_word types f o st)) fixed ≡ on_found (so_far.resolve o st) (go 0)
+      → on_place (doing.locate types f o st) (go (operand_word types f o st)) fixed ≡ on_found (so_far.locate o st) (go 0)
   place_same o go fixed ready =
-      fixed_never st.world.content (doing.resolve types f o st) (go (operand_word types f o st)) fixed (operand_there types f outer st o sorted h ready)
-      ∙ ap (λ w. on_found (doing.resolve types f o st) (go w)) (word_first o ready)
-      ∙ ap (λ x. on_found x (go 0)) (resolve_same o ready)
+      fixed_never st.world.content (doing.locate types f o st) (go (operand_word types f o st)) fixed (operand_there types f outer st o sorted h ready)
+      ∙ ap (λ w. on_found (doing.locate types f o st) (go w)) (word_first o ready)
+      ∙ ap (λ x. on_found x (go 0)) (locate_same o ready)
 
 -- ---- births and ends
 
@@ -191,7 +191,7 @@ module _ (s : Setting) (types : Types) (fs : List Function) (f : Function) (oute
   aim_same p sort (source.Whole o) whole ready = absurd ready
   aim_same p sort (source.Get l) whole ready = absurd ready
   aim_same p sort (source.Place o) whole ready =
-      ap (λ ms. on_place (doing.resolve types f o st) (λ n i object. member_pointed types f p.local ms (cell st p.local) (doing.pointer_to st.world.content n i (operand_word types f o st)) st)
+      ap (λ ms. on_place (doing.locate types f o st) (λ n i object. member_pointed types f p.local ms (cell st p.local) (doing.pointer_to st.world.content n i (operand_word types f o st)) st)
       (λ c. doing.on_character s.texts c (λ z. member_pointed types f p.local ms (cell st p.local) (whole_at c) st))) whole
       ∙ place_same types f outer st sorted h first o (λ w n i object. Next (put_cell p.local (Points (doing.pointer_to st.world.content n i w)) st)) _ ready.1
     where
@@ -218,8 +218,8 @@ module _ (s : Setting) (types : Types) (fs : List Function) (f : Function) (oute
   does_same (Load r o) plain ready = place_same types f outer st sorted h first o (λ w n i object. Next (put_cell r (Number (number_in_word (word_at object i w))) st)) _ ready.1
   does_same (Save o r) plain ready = saved_same (cell st r)
     where
-      saved_same : (v : Option Cell) → on_number v (λ z. on_found (doing.resolve types f o st) (λ n i object. Next (doing.saved z n i (operand_word types f o st) object st)))
-          ≡ on_number v (λ z. on_found (so_far.resolve o st) (λ n i object. Next (so_far.saved z n i object st)))
+      saved_same : (v : Option Cell) → on_number v (λ z. on_found (doing.locate types f o st) (λ n i object. Next (doing.saved z n i (operand_word types f o st) object st)))
+          ≡ on_number v (λ z. on_found (so_far.locate o st) (λ n i object. Next (so_far.saved z n i object st)))
       saved_same None = refl
       saved_same (Some Empty) = refl
       saved_same (Some (Named n)) = refl

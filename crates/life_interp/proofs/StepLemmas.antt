@@ -6,7 +6,7 @@ use Rattle.std.specs.Prelude.{ℤ, slice_get, slice_set, option_map}
 use Rattle.life_core.specs.Operands.{Operand, Name, Through}
 use Rattle.life_store.specs.Content.{Content, Object}
 use Rattle.life_store.specs.Doing.{Effect, Strays, Found, named_by, on_found, on_number, on_pointer, put_cell}
-use Rattle.life_interp.specs.SoFar.{behind_cell, resolve}
+use Rattle.life_interp.specs.SoFar.{behind_cell, locate}
 use Rattle.life_store.specs.References.{Rows, object_of, asked_of}
 use Rattle.life_store.specs.State as state
 use Rattle.life_store.specs.State.{State}
@@ -68,9 +68,9 @@ leaves_as effect effect' next (Err e) same h = λ output input. subst (λ x. Tel
 
 -- ---- places
 
-pub resolve_is : (o : Operand) (c : Content) (cells : List Cell) (output : List ℕ) (input : List ℤ) → resolve o (state_of c cells output input) ≡ place_in c cells o
-resolve_is (Name l) c cells output input = ap (named_by c) (slice_get-map cell_seen cells l.local)
-resolve_is (Through p members) c cells output input = ap (behind_cell c) (slice_get-map cell_seen cells p.local)
+pub locate_is : (o : Operand) (c : Content) (cells : List Cell) (output : List ℕ) (input : List ℤ) → locate o (state_of c cells output input) ≡ place_in c cells o
+locate_is (Name l) c cells output input = ap (named_by c) (slice_get-map cell_seen cells l.local)
+locate_is (Through p members) c cells output input = ap (behind_cell c) (slice_get-map cell_seen cells p.local)
 
 missed : (found : Found) (e : Ending) (go : ℕ → ℕ → Object → Effect) → TellsMiss found e → TellsEnd (on_found found go) e
 missed found (ending.Trap kind) go h = absurd h
@@ -81,13 +81,13 @@ missed found ending.WriteFault go h = absurd h
 
 -- what isn't found ends the step
 pub place_missed : (o : Operand) (c : Content) (cells : List Cell) (e : Ending) (go : ℕ → ℕ → Object → Effect) (output : List ℕ) (input : List ℤ) → TellsMiss (place_in c cells o) e
-    → TellsEnd (on_found (resolve o (state_of c cells output input)) go) e
-place_missed o c cells e go output input h = subst (λ x. TellsEnd (on_found x go) e) (sym (resolve_is o c cells output input)) (missed (place_in c cells o) e go h)
+    → TellsEnd (on_found (locate o (state_of c cells output input)) go) e
+place_missed o c cells e go output input h = subst (λ x. TellsEnd (on_found x go) e) (sym (locate_is o c cells output input)) (missed (place_in c cells o) e go h)
 
 -- .. and what is found is at hand
 pub place_found : (o : Operand) (c : Content) (rows : Rows) (cells : List Cell) (p : Position) (go : ℕ → ℕ → Object → Effect) (output : List ℕ) (input : List ℤ) → (h : IsPosition c rows (place_in c cells o) p)
-    → on_found (resolve o (state_of c cells output input)) go ≡ go p.object.birth p.index h.object
-place_found o c rows cells p go output input h = ap (λ x. on_found x go) (resolve_is o c cells output input ∙ h.here)
+    → on_found (locate o (state_of c cells output input)) go ≡ go p.object.birth p.index h.object
+place_found o c rows cells p go output input h = ap (λ x. on_found x go) (locate_is o c cells output input ∙ h.here)
 
 -- what is asked of an object that lives
 pub asked_here : {A : Type 0} (c : Content) (rows : Rows) (found : Found) (p : Position) (h : IsPosition c rows found p) (ask : Object → A) (a : A) → ◌≡◌ {A = Result A Dead} (Ok a) (asked_of (object_of c rows p.object) ask) → a ≡ ask h.object

@@ -16,7 +16,7 @@ use Rattle.life_core.specs.Holdings.{Holding, Blank, AnObject, ANumber, APointer
 use Rattle.life_core.specs.Step.{Step, Live, End, Eval, Load, Save, Copy, Move, Aim, Repoint, Element, Cursor, Advance, Cut, Size, Same, Changes, Make, Call, Port, Ports, Writes, WritesView, Takes, Test, NonZero, NotNull}
 use Rattle.life_core.specs.Tree.{Node, Action, Question, Return, Stop}
 use Rattle.life_store.specs.Doing.{Setting, put_cell, put_content, with_value_object, Effect, Next, Traps, Faults, Strays, Found, Here, Fixed, Outside, Wrong, Astray, cell, characters_in, found_at, input_taken, number_text, on_found, on_number, on_pointer, born_object, on_next, computed_into, evaluated, type_of}
-use Rattle.life_interp.specs.SoFar.{test_at, all_handed, born_with, given, given_if, given_to, number_given, parameters_given, results, target_given, does, on_view, live_as, live_over, live_local, end_object, end_cell, end_locals, aimed, port, resolve}
+use Rattle.life_interp.specs.SoFar.{test_at, all_handed, born_with, given, given_if, given_to, number_given, parameters_given, results, target_given, does, on_view, live_as, live_over, live_local, end_object, end_cell, end_locals, aimed, port, locate}
 use Rattle.life_store.specs.Cells.{at}
 use Rattle.life_store.specs.Content.{Object, live_words_of}
 use Rattle.life_store.specs.Meaning.{Verdict, Holds, Fails, Cut, by_number, by_pointer, frame, number_test, pointer_test, Called, Quit, Trapped}
@@ -145,7 +145,7 @@ aimed_begins s p (source.Text n) st = begins_itself st.world.output
 aimed_begins s p source.Empty st = tt
 aimed_begins s p (source.Whole o) st = tt
 aimed_begins s p (source.Get l) st = tt
-aimed_begins s p (source.Place o) st = found_begins st.world.output (resolve o st) _ (λ n i object. begins_itself st.world.output)
+aimed_begins s p (source.Place o) st = found_begins st.world.output (locate o st) _ (λ n i object. begins_itself st.world.output)
 
 taken_begins : (r : ℕ) (input : List ℤ) (st : State) → EffectBegins st.world.output (input_taken r input st)
 taken_begins r [] st = tt
@@ -160,8 +160,8 @@ does_begins : (s : Setting) (types : Types) (f : Function) (i : Step) (st : Stat
 does_begins s types f (Live x form) st = live_begins s types f _ form x st
 does_begins s types f (End xs) st = ends_begin xs st
 does_begins s types f (Eval r o) st = evaluated_begins types f r o st
-does_begins s types f (Load r o) st = found_begins st.world.output (resolve o st) _ (λ n i object. begins_itself st.world.output)
-does_begins s types f (Save o r) st = number_begins st.world.output (cell st r) _ (λ z. found_begins st.world.output (resolve o st) _ (λ n i object. begins_itself st.world.output))
+does_begins s types f (Load r o) st = found_begins st.world.output (locate o st) _ (λ n i object. begins_itself st.world.output)
+does_begins s types f (Save o r) st = number_begins st.world.output (cell st r) _ (λ z. found_begins st.world.output (locate o st) _ (λ n i object. begins_itself st.world.output))
 does_begins s types f (Copy to from) st = tt
 does_begins s types f (Move to y) st = tt
 does_begins s types f (Aim p x) st = aimed_begins s p.local x st

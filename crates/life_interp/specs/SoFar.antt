@@ -24,23 +24,23 @@ found_if true c t = found_at c t.object t.index
 found_if false c t = Wrong fault.Dangling
 
 -- what is behind a pointer to an object
-abbrev pub behind : Content → Pointer → Found
-behind c Null = Wrong fault.Null
-behind c Wild = Wrong fault.Dangling
-behind c (To t) = found_if (is_valid c t) c t
-behind c (Static s) = Astray
+abbrev pub behind_pointer : Content → Pointer → Found
+behind_pointer c Null = Wrong fault.Null
+behind_pointer c Wild = Wrong fault.Dangling
+behind_pointer c (To t) = found_if (is_valid c t) c t
+behind_pointer c (Static s) = Astray
 
 abbrev pub behind_cell : Content → Option Cell → Found
 behind_cell c None = Astray
 behind_cell c (Some Empty) = Astray
 behind_cell c (Some (Named n)) = Astray
 behind_cell c (Some (Number z)) = Astray
-behind_cell c (Some (Points p)) = behind c p
+behind_cell c (Some (Points p)) = behind_pointer c p
 
 -- no operand that is ready names a member
-abbrev pub resolve : Operand → State → Found
-resolve (Name l) st = named_by st.world.content (cell st l.local)
-resolve (Through p members) st = behind_cell st.world.content (cell st p.local)
+abbrev pub locate : Operand → State → Found
+locate (Name l) st = named_by st.world.content (cell st l.local)
+locate (Through p members) st = behind_cell st.world.content (cell st p.local)
 
 -- ---- births and ends
 
@@ -92,7 +92,7 @@ pointer_to c n i = To (record { object = n; index = i; word = 0; count = 1; mome
 abbrev pub aimed : Setting → ℕ → Source → State → Effect
 aimed s p source.Null st = Next (put_cell p (Points Null) st)
 aimed s p (source.Text n) st = Next (put_cell p (Points (viewed s.texts n)) st)
-aimed s p (source.Place o) st = on_found (resolve o st) (λ n i object. Next (put_cell p (Points (pointer_to st.world.content n i)) st))
+aimed s p (source.Place o) st = on_found (locate o st) (λ n i object. Next (put_cell p (Points (pointer_to st.world.content n i)) st))
 aimed s p _ st = Strays
 
 -- characters that never end
@@ -109,8 +109,8 @@ abbrev pub does : Setting → Types → Function → Step → State → Effect
 does s types f (Live x form) st = live_local s types f (slice_get f.locals x) form x st
 does s types f (End xs) st = end_locals xs st
 does s types f (Eval r operation) st = evaluated types f r operation st
-does s types f (Load r o) st = on_found (resolve o st) (λ n i object. Next (put_cell r (Number (number_in_word (word_at object i 0))) st))
-does s types f (Save o r) st = on_number (cell st r) (λ z. on_found (resolve o st) (λ n i object. Next (saved z n i object st)))
+does s types f (Load r o) st = on_found (locate o st) (λ n i object. Next (put_cell r (Number (number_in_word (word_at object i 0))) st))
+does s types f (Save o r) st = on_number (cell st r) (λ z. on_found (locate o st) (λ n i object. Next (saved z n i object st)))
 does s types f (Aim p s') st = aimed s p.local s' st
 does s types f (Repoint p q) st = on_pointer (cell st q.local) (λ v. Next (put_cell p.local (Points v) st))
 does s types f (Ports p) st = port s types f p st

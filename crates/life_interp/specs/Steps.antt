@@ -6,7 +6,7 @@ use Rattle.life_types.specs.Types.{Types}
 use Rattle.life_core.specs.Function.{Function}
 use Rattle.life_core.specs.Operands.{Operand, Name, Through}
 use Rattle.life_store.specs.Doing.{Setting, Effect, Next, Traps, Faults, Strays, Found, Here, Wrong, Astray, named_by, on_found, on_number, on_pointer, put_cell, number_in_word, cell, characters_in, input_taken, with_output}
-use Rattle.life_interp.specs.SoFar.{parameters_given, behind_cell, saved, resolve, on_view}
+use Rattle.life_interp.specs.SoFar.{parameters_given, behind_cell, saved, locate, on_view}
 use Rattle.life_store.specs.Content.{Content, Object, live_words_of, word_at}
 use Rattle.life_store.specs.Meaning.{frame}
 use Rattle.life_store.specs.References.{Rows, HasWord, object_of}
@@ -64,10 +64,10 @@ Leaves effect next result =
     (λ e. (output : List ℕ) (input : List ℤ) → TellsEnd (effect output input) e)
 
 abbrev pub loaded : ℕ → Operand → State → Effect
-loaded r o st = on_found (resolve o st) (λ n i object. Next (put_cell r (state.Number (number_in_word (word_at object i 0))) st))
+loaded r o st = on_found (locate o st) (λ n i object. Next (put_cell r (state.Number (number_in_word (word_at object i 0))) st))
 
 abbrev pub stored : Operand → ℕ → State → Effect
-stored o r st = on_number (cell st r) (λ z. on_found (resolve o st) (λ n i object. Next (saved z n i object st)))
+stored o r st = on_number (cell st r) (λ z. on_found (locate o st) (λ n i object. Next (saved z n i object st)))
 
 abbrev pub repointed : ℕ → ℕ → State → Effect
 repointed p q st = on_pointer (cell st q) (λ v. Next (put_cell p (state.Points v) st))

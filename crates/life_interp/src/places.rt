@@ -1,7 +1,7 @@
 // What an operand names.
 ghost use Rattle.life_core.specs.Operands.{operand_of};
 ghost use Rattle.life_store.specs.Doing.{found_at};
-ghost use Rattle.life_interp.specs.SoFar.{behind};
+ghost use Rattle.life_interp.specs.SoFar.{behind_pointer};
 ghost use Rattle.life_interp.specs.Cells.{pointer_seen};
 ghost use Rattle.life_interp.specs.Fits.{IsFit, IsHoused, IsRef, PointerFits};
 ghost use Rattle.life_interp.specs.Steps.{place_in, Finds};
@@ -20,7 +20,7 @@ pub(crate) struct Position {
 }
 
 /// The position that the operand names: it has no members in the programs that are built so far.
-pub(crate) fn resolve<S: Store>(
+pub(crate) fn locate<S: Store>(
     store: &S,
     cells: &[Cell],
     operand: &Operand,
@@ -34,17 +34,17 @@ pub(crate) fn resolve<S: Store>(
             Some(Cell::Empty | Cell::Number(_) | Cell::Points(_)) | None => Err(Ending::Stray),
         },
         Operand::Through { pointer, .. } => match cell_at(cells, pointer.local) {
-            Some(Cell::Points(pointer)) => behind(store, pointer),
+            Some(Cell::Points(pointer)) => behind_pointer(store, pointer),
             Some(Cell::Empty | Cell::Number(_) | Cell::Object(_)) | None => Err(Ending::Stray),
         },
     }
 }
 
 // The position to which the pointer points.
-fn behind<S: Store>(store: &S, pointer: Pointer) -> Result<Position, Ending>
+fn behind_pointer<S: Store>(store: &S, pointer: Pointer) -> Result<Position, Ending>
     requires housed { IsHoused (S.content store.now) (S.rows store.now) }
     requires fits { PointerFits (S.content store.now) (S.rows store.now) pointer }
-    ensures { Finds (S.content store.now) (S.rows store.now) (behind (S.content store.now) (pointer_seen pointer)) result }
+    ensures { Finds (S.content store.now) (S.rows store.now) (behind_pointer (S.content store.now) (pointer_seen pointer)) result }
 {
     match pointer {
         Pointer::Null => Err(Ending::Fault(FaultKind::Null)),

@@ -12,7 +12,7 @@ ghost use Rattle.life_store.specs.References.{Rows};
 
 use crate::ending::Ending;
 use crate::frame::{pointer_at, put_cell};
-use crate::places::resolve;
+use crate::places::locate;
 use crate::value::{Cell, Characters, Pointer};
 use life_core::Source;
 use life_store::Store;
@@ -38,7 +38,7 @@ pub(crate) fn aim<S: Store>(
             put_cell(cells, pointer, Cell::Points(viewed(texts, *number)));
             Ok(())
         }
-        Source::Place(operand) => match resolve(store, cells, operand) {
+        Source::Place(operand) => match locate(store, cells, operand) {
             Err(ending) => Err(ending),
             Ok(position) => {
                 let to = Pointer::To {

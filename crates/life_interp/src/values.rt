@@ -11,7 +11,7 @@ ghost use Rattle.life_store.specs.Doing.{as_bool, as_char, as_int, computed_into
 use crate::arithmetic::{combined, negated, zero_test};
 use crate::ending::Ending;
 use crate::frame::{number_at, put_cell};
-use crate::places::resolve;
+use crate::places::locate;
 use crate::value::Cell;
 use life_core::{CoreFn, Operand, Operation};
 use life_store::{Store, TrapKind};
@@ -140,7 +140,7 @@ pub(crate) fn load<S: Store>(
     ensures step { LeavesCells (loaded into (operand_of from.now)) (S.content store.now) cells.old.items cells.new.items result }
     ensures fits { OnOk result (IsFit (S.content store.now) (S.rows store.now) cells.new.items) }
 {
-    match resolve(store, cells, from) {
+    match locate(store, cells, from) {
         Err(ending) => Err(ending),
         Ok(position) => match store.get(position.object, position.index, 0) {
             Err(_) => unreachable!(),
@@ -169,7 +169,7 @@ pub(crate) fn save<S: Store>(
 {
     match number_at(cells, from) {
         None => Err(Ending::Stray),
-        Some(value) => match resolve(store, cells, to) {
+        Some(value) => match locate(store, cells, to) {
             Err(ending) => Err(ending),
             Ok(position) => {
                 let word = value.cast_unsigned();

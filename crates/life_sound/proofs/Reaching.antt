@@ -18,7 +18,7 @@ use Rattle.life_types.specs.Types.{Types}
 use Rattle.life_proper.proofs.Sorted.{IsOperandSorted}
 use Rattle.life_store.specs.Cells.{at}
 use Rattle.life_store.specs.Content.{Object, Content}
-use Rattle.life_store.specs.Doing.{Here, found_if, behind_cell, named_by, resolve}
+use Rattle.life_store.specs.Doing.{Here, found_if, behind_cell, named_by, locate}
 use Rattle.life_store.specs.State.{Target, Pointer, Null, Wild, To, Static, Named, Points, State, ready_of}
 use Rattle.life_store.proofs.CellLemmas.{held_is, named_cell, pointer_cell}
 use Rattle.life_store.proofs.Found.{found_here, reached_here}
@@ -38,7 +38,7 @@ pub record Reached (types : Types) (f : Function) (S : Fact → Type 0) (st : St
   pub number : ℕ
   pub index : ℕ
   pub object : Object
-  pub here : resolve types f o st ≡ Here number index object
+  pub here : locate types f o st ≡ Here number index object
   pub there : at st.world.content.objects number ≡ Some object
   pub within : index < length object.slots
   pub local : ℕ

@@ -19,7 +19,7 @@ use Rattle.life_pset.specs.declared.element.Fact.{Fact}
 use Rattle.life_proper.proofs.Sorted.{IsSourceSorted, IsStepSorted}
 use Rattle.life_store.specs.Cells.{at}
 use Rattle.life_store.specs.Content.{Object, Content, live_words_of, with_object, with_word, without}
-use Rattle.life_store.specs.Doing.{Setting, Effect, Next, Traps, Faults, Strays, Attempt, Got, GotTrap, GotFault, GotLost, Found, Here, Fixed, Outside, Wrong, Astray, cell, put_cell, put_content, word_of_number, on_number, on_pointer, on_character, on_found, on_got, on_place, on_next, location_cell, operand_word, pointed, resolve, with_value_object, born_object, live_as, live_over, live_local, end_object, end_cell, end_locals, computed_into, evaluated, saved, type_of, aimed, input_taken, port, does}
+use Rattle.life_store.specs.Doing.{Setting, Effect, Next, Traps, Faults, Strays, Attempt, Got, GotTrap, GotFault, GotLost, Found, Here, Fixed, Outside, Wrong, Astray, cell, put_cell, put_content, word_of_number, on_number, on_pointer, on_character, on_found, on_got, on_place, on_next, location_cell, operand_word, pointed, locate, with_value_object, born_object, live_as, live_over, live_local, end_object, end_cell, end_locals, computed_into, evaluated, saved, type_of, aimed, input_taken, port, does}
 use Rattle.life_store.specs.Meaning.{Verdict, Holds, Fails, Cut, by_number, by_pointer, number_test, pointer_test, tested, test_at}
 use Rattle.life_store.specs.Numbers.{Computed, combined, is_zero, negated, truth}
 use Rattle.life_store.specs.State.{Characters, Pointer, Null, Wild, To, Static, Cell, Empty, Named, Number, Points, State, ready_of}
@@ -261,7 +261,7 @@ module _ (outer : List Cell) (before : Content) where
   aim_spares s types f p source.Null st sort whole ready spared = pointed_spares types f p _ st whole spared
   aim_spares s types f p (source.Text n) st sort whole ready spared = pointed_spares types f p _ st whole spared
   aim_spares s types f p (source.Place o) st sort whole ready spared =
-      on_place_leads IsSpared (resolve types f o st) _ _ (λ n i object. pointed_spares types f p _ st whole spared)
+      on_place_leads IsSpared (locate types f o st) _ _ (λ n i object. pointed_spares types f p _ st whole spared)
       (λ c. on_character_leads IsSpared s.texts c _ (λ z. pointed_spares types f p (Static (record { text = c.text; index = c.index; count = 1 })) st whole spared))
   aim_spares s types f p source.Empty st sort whole ready spared = absurd ready
   aim_spares s types f p (source.Whole o) st sort whole ready spared = absurd ready
@@ -279,7 +279,7 @@ module _ (outer : List Cell) (before : Content) where
   module _ (k : ℕ) (types : Types) (fs : List Function) (f : Function) (place : Place) (S : Fact → Type 0) (st : State) (sorted : IsSorted types f st.cells) (h : Housed st.world.content (outer ++ st.cells)) (own : Housed st.world.content st.cells) (known : Known S st)
       (spared : Spared outer before st.world.content) where
     -- what is saved is saved to an object that the frame names itself
-    save_spares : (o : Operand) (r : ℕ) → IsStepSorted types f fs (ready_of st) (Save o r) → Clean k place (Save o r) S → (z : ℤ) → Leads IsSpared (on_found (resolve types f o st) (λ n i object. Next (saved z n i (operand_word types f o st) object st)))
+    save_spares : (o : Operand) (r : ℕ) → IsStepSorted types f fs (ready_of st) (Save o r) → Clean k place (Save o r) S → (z : ℤ) → Leads IsSpared (on_found (locate types f o st) (λ n i object. Next (saved z n i (operand_word types f o st) object st)))
     save_spares o r ready clean z =
         let found = reached k types f place (Save o r) S clean st own sorted known o (λ p used. used) ready.1 in
         subst (λ where_it_is. Leads IsSpared (on_found where_it_is (λ n i object. Next (saved z n i (operand_word types f o st) object st)))) (sym found.here)
@@ -289,7 +289,7 @@ module _ (outer : List Cell) (before : Content) where
     step_spares s (Live x form) plain ready clean = live_spares s types f (slice_get f.locals x) form x st ready.1 spared
     step_spares s (End xs) plain ready clean = ends_spare types f xs st sorted h spared
     step_spares s (Eval r op) plain ready clean = eval_spares types f r op st spared
-    step_spares s (Load r o) plain ready clean = on_place_leads IsSpared (resolve types f o st) _ _ (λ n i object. spared) (λ c. on_character_leads IsSpared s.texts c (λ z. Next (put_cell r (Number z) st)) (λ z. spared))
+    step_spares s (Load r o) plain ready clean = on_place_leads IsSpared (locate types f o st) _ _ (λ n i object. spared) (λ c. on_character_leads IsSpared s.texts c (λ z. Next (put_cell r (Number z) st)) (λ z. spared))
     step_spares s (Save o r) plain ready clean = on_number_leads IsSpared (cell st r) _ (λ z. save_spares o r ready clean z)
     step_spares s (Aim p source) plain ready clean = aim_spares s types f p source st (sort_of types f p.local) ready.0 ready.1 spared
     step_spares s (Repoint p q) plain (inl ready) clean = on_pointer_leads IsSpared (location_cell types f q st) _ (λ v. pointed_spares types f p v st ready.0.0 spared)

@@ -11,7 +11,7 @@ use Rattle.life_core.specs.declared.operation.Operation.TheVariants as operation
 use Rattle.life_pset.specs.declared.element.Fact.{Fact}
 use Rattle.life_contract.specs.Signatures.{Signature}
 use Rattle.life_proper.proofs.Sorted.{IsStepSorted}
-use Rattle.life_store.specs.Doing.{Setting, Next, put_cell, converted, type_of, on_number, operand_word, resolve, loaded_from, on_found, computed_into, evaluated, saved, as_long, characters_in, input_taken, number_text, on_view, with_output, does}
+use Rattle.life_store.specs.Doing.{Setting, Next, put_cell, converted, type_of, on_number, operand_word, locate, loaded_from, on_found, computed_into, evaluated, saved, as_long, characters_in, input_taken, number_text, on_view, with_output, does}
 use Rattle.life_store.specs.Numbers.{Computed, negated, truth, is_zero, combined}
 use Rattle.life_store.specs.State.{Number, State, ready_of}
 use Rattle.life_store.proofs.CellLemmas.{number_cell, view_cell}
@@ -55,7 +55,7 @@ module _ (n : ℕ) (sigs : List Signature) (types : Types) (fs : List Function) 
   save_known o r ready clean cl s =
       let cell = number_cell types f st.cells sorted r ready.0 in
       let at = reached n types f place (Save o r) S clean st h sorted k o (λ p used. used) ready.1 in
-      subst (λ v. IsSafe S' (on_number v (λ z. on_found (resolve types f o st) (λ m i object. Next (saved z m i (operand_word types f o st) object st))))) (sym cell.1)
+      subst (λ v. IsSafe S' (on_number v (λ z. on_found (locate types f o st) (λ m i object. Next (saved z m i (operand_word types f o st) object st))))) (sym cell.1)
       (subst (λ found. IsSafe S' (on_found found (λ m i object. Next (saved cell.0 m i (operand_word types f o st) object st)))) (sym at.here)
       (known_kept sigs types f place S S' (saved cell.0 at.number at.index (operand_word types f o st) at.object st) (Save o r) cl (λ q w e is. refl) (saved_known S st cell.0 at.number at.index (operand_word types f o st) at.object at.there k)))
 

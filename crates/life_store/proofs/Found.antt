@@ -8,7 +8,7 @@ use Rattle.life_core.specs.Operands.{Operand, Name, Through}
 use Rattle.life_proper.proofs.Sorted.{IsOperandSorted}
 use Rattle.life_store.specs.Cells.{at}
 use Rattle.life_store.specs.Content.{Object, Content, is_valid_in}
-use Rattle.life_store.specs.Doing.{Found, Here, Fixed, Outside, Wrong, Astray, Effect, Traps, Faults, here_if, found_in, found_at, reached_if, reached_in, is_valid, found_if, behind, behind_cell, named_by, resolve, on_place}
+use Rattle.life_store.specs.Doing.{Found, Here, Fixed, Outside, Wrong, Astray, Effect, Traps, Faults, here_if, found_in, found_at, reached_if, reached_in, is_valid, found_if, behind_pointer, behind_cell, named_by, locate, on_place}
 use Rattle.life_store.specs.State.{Characters, Target, Pointer, Null, Wild, To, Static, Cell, Points, State, ready_of}
 use Rattle.life_store.specs.declared.run.FaultKind.{FaultKind}
 use Rattle.life_store.specs.declared.run.TrapKind.{TrapKind}
@@ -45,14 +45,14 @@ target_there c t aims = go (is_valid c t) refl
     go true e = living (at c.objects t.object) refl e
     go false e = tt
 
-behind_there : (c : Content) (v : Pointer) → IsRaw v → ((t : Target) → v ≡ To t → Aims c t) → IsThere c (behind c v)
+behind_there : (c : Content) (v : Pointer) → IsRaw v → ((t : Target) → v ≡ To t → Aims c t) → IsThere c (behind_pointer c v)
 behind_there c Null raw aims = tt
 behind_there c Wild raw aims = tt
 behind_there c (To t) raw aims = target_there c t (aims t refl)
 behind_there c (Static s) raw aims = absurd raw
 
 pub operand_there : (types : Types) (f : Function) (outer : List Cell) (st : State) (o : Operand) → IsSorted types f st.cells → Housed st.world.content (outer ++ st.cells) → IsOperandSorted types f (ready_of st) o
-    → IsThere st.world.content (resolve types f o st)
+    → IsThere st.world.content (locate types f o st)
 operand_there types f outer st (Name l') sorted h ready =
     let x = l'.local in
     let cell = named_cell types f st.cells sorted x ready.1 in

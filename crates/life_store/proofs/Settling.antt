@@ -19,7 +19,7 @@ use Rattle.life_types.specs.declared.ty.TyId.{TyId}
 use Rattle.life_proper.proofs.Sorted.{CanEnd, HoldsAt, IsEnded, IsLocal, IsOperationSorted, IsPortSorted, IsSourceSorted, IsStepSorted}
 use Rattle.life_store.specs.Cells.{at}
 use Rattle.life_store.specs.Content.{Object, live_words_of}
-use Rattle.life_store.specs.Doing.{Setting, converted, type_of, Effect, Next, Traps, Faults, Strays, put_cell, put_content, word_of_number, on_number, on_pointer, operand_word, pointed, resolve, on_found, with_value_object, born_object, born_pointer, live_as, live_over, live_local, on_next, end_object, end_cell, end_locals, computed_into, evaluated, saved, pointer_to, viewed, aimed, with_output, number_text, on_view, input_taken, port, does}
+use Rattle.life_store.specs.Doing.{Setting, converted, type_of, Effect, Next, Traps, Faults, Strays, put_cell, put_content, word_of_number, on_number, on_pointer, operand_word, pointed, locate, on_found, with_value_object, born_object, born_pointer, live_as, live_over, live_local, on_next, end_object, end_cell, end_locals, computed_into, evaluated, saved, pointer_to, viewed, aimed, with_output, number_text, on_view, input_taken, port, does}
 use Rattle.life_store.specs.Parts.{Parts, Single, local_parts}
 use Rattle.life_store.specs.Numbers.{Computed, negated, truth, is_zero, combined}
 use Rattle.life_store.specs.State.{Target, Pointer, Null, To, Static, Cell, Empty, Named, Number, Points, State, is_there, ready_of}
@@ -178,7 +178,7 @@ module _ (outer : List Cell) (s : Setting) (types : Types) (fs : List Function) 
   aim_settles p (source.Whole o) whole ready = absurd ready
   aim_settles p (source.Get l) whole ready = absurd ready
   aim_settles p (source.Place o) whole ready =
-      on_found_good (Fills p.local) st.world.content (resolve types f o st) _ _ (operand_there types f outer st o sorted h ready.1) (λ kind. tt) (λ kind. tt)
+      on_found_good (Fills p.local) st.world.content (locate types f o st) _ _ (operand_there types f outer st o sorted h ready.1) (λ kind. tt) (λ kind. tt)
       (λ n i object there within.
       let v = pointer_to st.world.content n i (operand_word types f o st) in
       pointed_settles p v whole (subst (λ k. FitsPointer k v) (sym ready.0) tt) (pointer_loose st.world.content v (aims n i (operand_word types f o st) object there within)))
@@ -213,12 +213,12 @@ module _ (outer : List Cell) (s : Setting) (types : Types) (fs : List Function) 
   step_settles (End xs) plain ready = ends_settle types f outer xs st (ready_of st) refl sorted h ready
   step_settles (Eval r op) plain ready = eval_settles r op ready.0 ready.1
   step_settles (Load r o) plain ready =
-      on_found_good (Fills r) st.world.content (resolve types f o st) _ _ (operand_there types f outer st o sorted h ready.1) (λ kind. tt) (λ kind. tt)
+      on_found_good (Fills r) st.world.content (locate types f o st) _ _ (operand_there types f outer st o sorted h ready.1) (λ kind. tt) (λ kind. tt)
       (λ n i object there within. written r _ ready.0)
   step_settles (Save o r) plain ready =
       let cell = number_cell types f st.cells sorted r ready.0 in
-      subst (λ v. Settles types f outer (ready_of st) (on_number v (λ z. on_found (resolve types f o st) (λ n i object. Next (saved z n i (operand_word types f o st) object st))))) (sym cell.1)
-      (on_found_good (Settles types f outer (ready_of st)) st.world.content (resolve types f o st) _ _ (operand_there types f outer st o sorted h ready.1) (λ kind. tt) (λ kind. tt)
+      subst (λ v. Settles types f outer (ready_of st) (on_number v (λ z. on_found (locate types f o st) (λ n i object. Next (saved z n i (operand_word types f o st) object st))))) (sym cell.1)
+      (on_found_good (Settles types f outer (ready_of st)) st.world.content (locate types f o st) _ _ (operand_there types f outer st o sorted h ready.1) (λ kind. tt) (λ kind. tt)
       (λ n i object there within. (refl, (sorted, write_housed st.world.content (outer ++ st.cells) n object _ there (with_word_length i (operand_word types f o st) (word_of_number cell.0) object) h))))
   step_settles (Aim p source) plain ready = aim_settles p source ready.0 ready.1
   step_settles (Repoint p q) plain (inl ready) = let cell = pointer_cell types f st.cells sorted q.local ready.1.1 in repointed p q APointer cell.0 ready.0 ready.1 cell.1

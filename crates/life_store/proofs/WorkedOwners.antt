@@ -9,7 +9,7 @@ use Rattle.life_core.specs.declared.instr.Form.TheVariants as form
 use Rattle.life_core.specs.declared.instr.Made.TheVariants as made
 use Rattle.life_store.specs.Cells.{at, at-set_other, at-unset_other, at-unset_same}
 use Rattle.life_store.specs.Content.{Object, Content, live_words_of, resized, is_settled, are_settled, with_birth, with_object, with_rename, without}
-use Rattle.life_store.specs.Doing.{Effect, Next, Traps, Faults, Got, GotFault, Wrong, Spot, behind, does, giving, on_character, remade, target_at, wrote_spot}
+use Rattle.life_store.specs.Doing.{Effect, Next, Traps, Faults, Got, GotFault, Wrong, Spot, behind_pointer, does, giving, on_character, remade, target_at, wrote_spot}
 use Rattle.life_store.specs.Edits.{grown}
 use Rattle.life_store.specs.Effects.{got_or}
 use Rattle.life_store.specs.Held.{filled_slots, owned_in, owner_word, pointer_in, pointer_words, resized_at, wrote}
@@ -94,10 +94,10 @@ policies = (refl, refl, refl)
 
 -- .. so what points into it dangles, whatever its moment
 gone : (c : Content) (b index word count moment : ℕ)
-    → behind (without b c) (To (record { object = b; index = index; word = word; count = count; moment = moment })) ≡ Wrong fault.Dangling
+    → behind_pointer (without b c) (To (record { object = b; index = index; word = word; count = count; moment = moment })) ≡ Wrong fault.Dangling
 gone c b index word count moment = dangles (without b c) b index word count moment (at-unset_same c.objects b b refl)
   where
-    dangles : (d : Content) (b index word count moment : ℕ) → at d.objects b ≡ None → behind d (To (record { object = b; index = index; word = word; count = count; moment = moment })) ≡ Wrong fault.Dangling
+    dangles : (d : Content) (b index word count moment : ℕ) → at d.objects b ≡ None → behind_pointer d (To (record { object = b; index = index; word = word; count = count; moment = moment })) ≡ Wrong fault.Dangling
     dangles d b index word count moment none = rw none refl
 
 -- ---- a moved-from owner has no buffer

@@ -33,7 +33,7 @@ use Rattle.life_store.specs.declared.run.TrapKind.TheVariants as trap
 pub use Rattle.life_store.specs.Births.{with_value_object, born_object, live_as, live_over, live_local, end_object, end_cell, end_locals}
 pub use Rattle.life_store.specs.Effects.{Given, Setting, Effect, Next, Traps, Faults, Strays, Attempt, Got, GotTrap, GotFault, GotLost, cell, put_cell, put_content, word_of_number, number_in_word, as_int, as_char, as_bool, converted, type_of_local, type_of, on_number, on_pointer, on_next, on_got, then_get}
 pub use Rattle.life_store.specs.Owners.{born_pointer, empty_view}
-pub use Rattle.life_store.specs.Places.{Found, Here, Fixed, Outside, Wrong, Astray, Spot, here_if, found_in, found_at, is_valid, reached_if, reached_in, found_if, behind, behind_cell, named_by, location_cell, member_cell, pointed, member_pointed, resolve, operand_word, pointer_word, on_place, on_found, on_spot, on_location, spot_words, wrote_spot}
+pub use Rattle.life_store.specs.Places.{Found, Here, Fixed, Outside, Wrong, Astray, Spot, here_if, found_in, found_at, is_valid, reached_if, reached_in, found_if, behind_pointer, behind_cell, named_by, location_cell, member_cell, pointed, member_pointed, locate, operand_word, pointer_word, on_place, on_found, on_spot, on_location, spot_words, wrote_spot}
 pub use Rattle.life_store.specs.Views.{text_length, viewed, characters_in}
 
 -- ---- numbers
@@ -65,7 +65,7 @@ loaded_from s types f r o st found =
     (λ c. on_character s.texts c (λ z. Next (put_cell r (Number z) st)))
 
 abbrev pub loaded : Setting → Types → Function → ℕ → Operand → State → Effect
-loaded s types f r o st = loaded_from s types f r o st (resolve types f o st)
+loaded s types f r o st = loaded_from s types f r o st (locate types f o st)
 
 abbrev pub saved : ℤ → ℕ → ℕ → ℕ → Object → State → State
 saved z n i w o st = put_content (with_object n (with_word i w (word_of_number z) o) st.world.content) st
@@ -95,7 +95,7 @@ abbrev pub aimed : Setting → Types → Function → Location → Source → St
 aimed s types f p source.Null st = pointed types f p Null st
 aimed s types f p (source.Text n) st = pointed types f p (viewed s.texts n) st
 aimed s types f p source.Empty st = pointed types f p empty_view st
-aimed s types f p (source.Place o) st = aimed_at s types f p o st (resolve types f o st)
+aimed s types f p (source.Place o) st = aimed_at s types f p o st (locate types f o st)
 aimed s types f p (source.Whole o) st = on_spot types f o st (λ spot. on_got (buffer_of st.world.content spot) (λ b. pointed types f p (whole_of st.world.content b) st))
 aimed s types f p (source.Get l) st = on_location types f l st (λ spot. pointed types f p (owned_pointer st.world.content (owned_at st.world.content spot)) st)
 
@@ -173,7 +173,7 @@ copied_to s parts spot ws st = on_got (copied s parts ws st.world.content) (λ v
 abbrev pub copies : Setting → Types → Function → Operand → Operand → State → Effect
 copies s types f to from st =
     on_spot types f to st (λ spot.
-    on_place (resolve types f from st)
+    on_place (locate types f from st)
     (λ n i object. copied_to s (operand_parts types f to) spot (words_at st.world.content n i (operand_word types f from st) (width (operand_parts types f to))) st)
     (λ c. on_character s.texts c (λ z. copied_to s (operand_parts types f to) spot (word_of_number z ∷ []) st)))
 
@@ -284,7 +284,7 @@ does s types f (Live x form) st = live_local s types f (slice_get f.locals x) fo
 does s types f (End xs) st = end_locals types f xs st
 does s types f (Eval r operation) st = evaluated types f r operation st
 does s types f (Load r o) st = loaded s types f r o st
-does s types f (Save o r) st = on_number (cell st r) (λ z. on_found (resolve types f o st) (λ n i object. Next (saved z n i (operand_word types f o st) object st)))
+does s types f (Save o r) st = on_number (cell st r) (λ z. on_found (locate types f o st) (λ n i object. Next (saved z n i (operand_word types f o st) object st)))
 does s types f (Copy to from) st = copies s types f to from st
 does s types f (Move to y) st = moves types f to y st
 does s types f (Aim p s') st = aimed s types f p s' st

@@ -67,18 +67,18 @@ found_text None s = Outside
 found_text (Some n) s = Fixed s
 
 -- what is behind a pointer
-abbrev pub behind : Content → Pointer → Found
-behind c Null = Wrong fault.Null
-behind c Wild = Wrong fault.Dangling
-behind c (To t) = found_if (is_valid c t) c t
-behind c (Static s) = found_text s.text s
+abbrev pub behind_pointer : Content → Pointer → Found
+behind_pointer c Null = Wrong fault.Null
+behind_pointer c Wild = Wrong fault.Dangling
+behind_pointer c (To t) = found_if (is_valid c t) c t
+behind_pointer c (Static s) = found_text s.text s
 
 abbrev pub behind_cell : Content → Option Cell → Found
 behind_cell c None = Astray
 behind_cell c (Some Empty) = Astray
 behind_cell c (Some (Named n)) = Astray
 behind_cell c (Some (Number z)) = Astray
-behind_cell c (Some (Points p)) = behind c p
+behind_cell c (Some (Points p)) = behind_pointer c p
 
 -- ---- locations: a local of its own, or a member of an object
 
@@ -103,9 +103,9 @@ pointed types f l p st = member_pointed types f l.local l.members (cell st l.loc
 
 -- ---- operands
 
-abbrev pub resolve : Types → Function → Operand → State → Found
-resolve types f (Name l) st = named_by st.world.content (cell st l.local)
-resolve types f (Through p members) st = behind_cell st.world.content (location_cell types f p st)
+abbrev pub locate : Types → Function → Operand → State → Found
+locate types f (Name l) st = named_by st.world.content (cell st l.local)
+locate types f (Through p members) st = behind_cell st.world.content (location_cell types f p st)
 
 -- where in its slot begins what is pointed to
 abbrev pub pointer_word : Option Cell → ℕ
@@ -137,7 +137,7 @@ pub record Spot : Type 0 where
   pub word : ℕ
 
 abbrev pub on_spot : Types → Function → Operand → State → (Spot → Effect) → Effect
-on_spot types f o st go = on_found (resolve types f o st) (λ n i object. go (record { object = n; index = i; word = operand_word types f o st }))
+on_spot types f o st go = on_found (locate types f o st) (λ n i object. go (record { object = n; index = i; word = operand_word types f o st }))
 
 abbrev pub spot_words : Content → Spot → (count : ℕ) → List ℕ
 spot_words c spot count = words_at c spot.object spot.index spot.word count

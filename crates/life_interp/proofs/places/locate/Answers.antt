@@ -2,14 +2,14 @@ use Rattle.std.proofs.Common.{◌≡◌, Some}
 use Rattle.std.specs.Prelude.{slice_get}
 use Rattle.life_interp.specs.declared.value.Cell.TheVariants as held
 use Rattle.life_interp.proofs.FitLemmas.{cell_fits}
-use Rattle.life_interp.proofs.places.resolve.Goals as goal
+use Rattle.life_interp.proofs.places.locate.Goals as goal
 
 pub slot_at-requires-clause-fits : goal.slot_at-requires-clause-fits
 slot_at-requires-clause-fits g c =
     let e : slice_get c.args.cells.now c.in-Name.location.local ≡ Some (held.Object c.in-Some-Object.object) = cc (c.cell_at.ensures, c.in-Some-Object.is, c.in-Some-Object.field-0-is) in
     cell_fits _ _ c.args.cells.now c.in-Name.location.local (held.Object c.in-Some-Object.object) c.requires.held e
 
-pub behind-requires-clause-fits : goal.behind-requires-clause-fits
-behind-requires-clause-fits g c =
+pub behind_pointer-requires-clause-fits : goal.behind_pointer-requires-clause-fits
+behind_pointer-requires-clause-fits g c =
     let e : slice_get c.args.cells.now c.in-Through.pointer.local ≡ Some (held.Points c.in-Some-Points.pointer) = cc (c.cell_at-in-Through.ensures, c.in-Some-Points.is, c.in-Some-Points.field-0-is) in
     cell_fits _ _ c.args.cells.now c.in-Through.pointer.local (held.Points c.in-Some-Points.pointer) c.requires.held e
