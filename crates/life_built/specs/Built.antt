@@ -1,10 +1,11 @@
 -- Which programs are built so far: values, and raw pointers and references to them.
 use Rattle.std.specs.Prelude.{◌-◌, ◌^◌, Bool, true, false, ◌&&◌, ◌||◌, List, [], ◌∷◌, drop, take, length, nat_lt, Option, Some, None, slice_get}
+use Rattle.life_types.specs.TypeTests.{is_value, is_void}
 use Rattle.life_types.specs.Types.{Types}
 use Rattle.life_types.specs.declared.ty.Ty.{Ty}
 use Rattle.life_types.specs.declared.ty.Ty.TheVariants as ty
 use Rattle.life_types.specs.declared.ty.TyId.{TyId}
-use Rattle.life_typed.specs.BaseTypes.{is_value, type_at}
+use Rattle.life_typed.specs.BaseTypes.{type_at}
 use Rattle.life_typed.specs.Conversions.{is_place_of}
 use Rattle.life_typed.specs.TypedForm.{Form, Typed, number, character, boolean, null, local, call, paren, input, dereference, negate, not as negation, address_of, binary, typed, nothing, ◌⨟◌, whole}
 use Rattle.life_typed.specs.TypedStatement.{StmtForm, DeclarationForm, ForStartForm, InitialForm, ItemForm, SimpleForm, one, several, assign, compound, step, discarded, declared_first, done_first, printed, line_end, block, empty, sentence, branching, while_loop, for_loop, range_loop, loop_break, loop_continue, returned, print, assertion, branch, declaration, no_more, chain}
@@ -29,10 +30,6 @@ has_built_types types = all_point types (drop 8 types.types) && nat_lt (length t
 
 abbrev pub is_built_variable : Types → TyId → Bool
 is_built_variable types id = is_value (type_at types id) || is_pointing types (type_at types id)
-
-abbrev pub is_void : Ty → Bool
-is_void ty.Void = true
-is_void _ = false
 
 abbrev pub is_built_result : Types → TyId → Bool
 is_built_result types id = is_void (type_at types id) || is_value (type_at types id)

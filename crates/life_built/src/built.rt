@@ -1,6 +1,7 @@
 // Which programs are built so far: values, and raw pointers and references to them.
 ghost use Rattle.std.specs.Prelude.{◌≡◌, length, map, take};
-ghost use Rattle.life_typed.specs.BaseTypes.{is_value, type_at};
+ghost use Rattle.life_types.specs.TypeTests.{is_value};
+ghost use Rattle.life_typed.specs.BaseTypes.{type_at};
 ghost use Rattle.life_typed.specs.TypedForm.{Form, form_view, forms, typed_view, typed_views};
 ghost use Rattle.life_typed.specs.TypedStatement.{block_item_view, block_view, branch_view, declaration_view, for_start_view, initial_view, item_view, optional_view, simple_view, stmt_forms, stmt_view};
 ghost use Rattle.life_built.specs.Built as spec;
@@ -10,9 +11,9 @@ ghost use Rattle.life_typed.specs.Programs.{function_view, program_view, promise
 use life_typed::{
     Category, ExprForm, ResultPromise, Typed, TypedBlock, TypedBlockItem, TypedBranch,
     TypedDeclaration, TypedExpr, TypedForStart, TypedFunction, TypedInitial, TypedItem, TypedLocal,
-    TypedSimple, TypedStmt, is_value,
+    TypedSimple, TypedStmt,
 };
-use life_types::{Ty, TyId, TypeTable};
+use life_types::{Ty, TyId, TypeTable, is_value, is_void};
 
 // How many types each table begins with.
 const BASE_TYPES: u32 = 8;
@@ -62,7 +63,7 @@ fn is_built_result(types: &TypeTable, id: TyId) -> bool
     ensures { result ≡ spec.is_built_result types.now id }
 {
     let ty = type_at(types, id);
-    matches!(ty, Ty::Void) || is_value(ty)
+    is_void(ty) || is_value(ty)
 }
 
 #[cycle(expressions)]

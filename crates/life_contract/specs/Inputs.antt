@@ -1,12 +1,13 @@
 -- The inputs of a signature: the pointers that a caller hands over, by parameter and then by member.
 use Rattle.std.specs.Prelude.{ℕ, Bool, false, not, ◌&&◌, List, Option, Some, None, length, map, slice_get}
 use Rattle.life_types.specs.Trees.{holds_owner}
+use Rattle.life_types.specs.TypeTests.{is_constant, is_raw}
 use Rattle.life_types.specs.Types.{Types}
 use Rattle.life_types.specs.declared.place.Place.{Place}
 use Rattle.life_core.specs.declared.program.Local.{Local}
 use Rattle.life_core.specs.declared.program.LocalKind.TheVariants.{Object}
 use Rattle.life_pset.specs.Elements.{Input, inputs_from}
-use Rattle.life_pset.specs.Shapes.{is_constant, is_raw, target_type, tree_if, ty_if}
+use Rattle.life_pset.specs.Shapes.{target_type, tree_if, ty_if}
 use Rattle.life_pset.specs.declared.element.Root.{Root}
 use Rattle.life_pset.specs.declared.element.Root.TheVariants as root
 use Rattle.life_contract.specs.Signatures.{Signature}

@@ -1,6 +1,7 @@
 -- What a result may be: the promise of a signature for each location of its result.
 use Rattle.std.specs.Prelude.{ℕ, Bool, true, false, cond, not, nat_eq, ◌&&◌, ◌||◌, List, [], ◌∷◌, ◌++◌, Some, length, map}
 use Rattle.std.specs.List.{flat_map, list_any}
+use Rattle.life_types.specs.TypeTests.{is_constant, is_pointer, is_raw}
 use Rattle.life_types.specs.Types.{Types}
 use Rattle.life_types.specs.contracts.ty.TyPartialEq.TheImpl.{ghosts as type}
 use Rattle.life_types.specs.declared.ty.Ty.{Ty}
@@ -9,7 +10,7 @@ use Rattle.life_core.specs.Function.{Promise, Default, Listed}
 use Rattle.life_core.specs.declared.program.LocalKind.TheVariants.{Object}
 use Rattle.life_pset.specs.Elements.{Input, input_places, local_place, locations_in}
 use Rattle.life_pset.specs.Places.{path}
-use Rattle.life_pset.specs.Shapes.{is_constant, is_pointer, is_raw, members_type, ty_if}
+use Rattle.life_pset.specs.Shapes.{members_type, ty_if}
 use Rattle.life_pset.specs.declared.element.AbsPlace.{AbsPlace}
 use Rattle.life_pset.specs.declared.element.Element.{Element}
 use Rattle.life_pset.specs.declared.element.Element.TheVariants as element

@@ -3,16 +3,13 @@ ghost use Rattle.std.specs.Option.{option_copied};
 ghost use Rattle.std.specs.Prelude.{◌≡◌, ◌++◌, ◌<◌, ◌^◌, length, map, IfOk, OnOk};
 ghost use Rattle.life_pset.specs.Elements.{inputs_from};
 ghost use Rattle.life_pset.specs.Inputs.{input_seen};
-ghost use Rattle.life_pset.specs.Shapes.{is_constant};
 ghost use Rattle.life_contract.specs.Inputs.{admits_null, bears_keeps, bears_nonnull, input_parameter, inputs_of_signature, is_mutating, may_be_null, parameter_in, parameter_local, parameter_number};
 
 use crate::param::Param;
 use crate::signature::Signature;
 use life_core::{Local, LocalKind};
-use life_pset::{
-    InputPointer, Root, holds_owner_if, is_raw, push_local_inputs, target_type, ty_if,
-};
-use life_types::{NoMemory, Place, Ty, TypeTable};
+use life_pset::{InputPointer, Root, holds_owner_if, push_local_inputs, target_type, ty_if};
+use life_types::{NoMemory, Place, TypeTable, is_constant, is_raw};
 use std::alloc::Global;
 
 /// The pointers that a caller hands over, by themselves or in structs, in the order of the parameters
@@ -114,20 +111,6 @@ pub fn admits_null(sig: &Signature, types: &TypeTable, input: InputPointer) -> b
 }
 
 // ---- changes
-
-/// Whether nothing changes through a pointer of this type.
-pub(crate) fn is_constant(ty: Ty) -> bool
-    ensures { result ≡ is_constant ty }
-{
-    match ty {
-        Ty::View => true,
-        Ty::Raw { constant, .. } => constant,
-        Ty::Reference { constant, .. } => constant,
-        Ty::Iterator { constant, .. } => constant,
-        Ty::Span { constant, .. } => constant,
-        _ => false,
-    }
-}
 
 fn bears_keeps(parameter: Option<&Param>) -> bool
     ensures { result ≡ bears_keeps (option_copied parameter.entry) }

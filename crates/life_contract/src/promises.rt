@@ -1,20 +1,20 @@
 // What a result may be.
 ghost use Rattle.std.specs.List.{flat_map};
 ghost use Rattle.std.specs.Prelude.{◌≡◌, ◌++◌, [], cond, map, IfOk, OnOk};
+ghost use Rattle.life_types.specs.TypeTests.{is_pointer};
 ghost use Rattle.life_core.specs.Function.{promise_of};
 ghost use Rattle.life_pset.specs.Inputs.{input_seen};
-ghost use Rattle.life_pset.specs.Shapes.{is_pointer};
 ghost use Rattle.life_contract.specs.Promises.{admits_static, agrees, element_if, fits, fitting, fixed_elements, is_listed, lists_null, lists_static, owner_elements, place_if, pointer_elements, promised_behind, promised_places, promises_null, promises_static, result_locations, result_type};
 
-use crate::inputs::{inputs_of, is_constant, parameter_number};
+use crate::inputs::{inputs_of, parameter_number};
 use crate::positions::{pointee, position_type};
 use crate::signature::Signature;
 use life_core::{LocalKind, Promise};
 use life_pset::{
-    AbsPlace, Element, InputPointer, is_pointer, is_raw, push_locations_in, push_places_if,
-    steps_type, target_type, ty_if,
+    AbsPlace, Element, InputPointer, push_locations_in, push_places_if, steps_type, target_type,
+    ty_if,
 };
-use life_types::{NoMemory, Ty, TypeTable};
+use life_types::{NoMemory, Ty, TypeTable, is_constant, is_pointer, is_raw};
 use std::alloc::Global;
 
 // ---- places

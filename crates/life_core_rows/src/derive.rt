@@ -7,7 +7,7 @@ ghost use Rattle.life_fix.specs.Solution.{AllLimited};
 
 use life_base::Steps;
 use life_contract::Signatures;
-use life_core::{CoreFn, Edge, FnId, Names, Point, edges};
+use life_core::{CoreFn, Edge, FnId, Names, Point, edges, spots};
 use life_fix::{Solution, diagnostics, solve};
 use life_plan::{facts_in, transfer};
 use life_pset::{ElementTable, Fact};
@@ -168,7 +168,8 @@ fn push_from<R: Rows, L: Ledger>(
     requires locations { R.location_limit row.now ≡ length (table_of given.types.now (function_of given.f.now)).locations }
     requires elements { R.element_limit row.now ≡ length (table_of given.types.now (function_of given.f.now)).elements }
 {
-    let table = ElementTable::of(given.alloc, given.f, given.types)?;
+    let spots = spots(given.alloc, given.f)?;
+    let table = ElementTable::of(given.alloc, given.f, given.types, &spots)?;
     let mut into = R::empty(given.alloc, table.location_count(), table.element_count())?;
     let first = carry(given, &table, edge, row, &mut into, steps)?;
     let second = carry(given, &table, edge, row, &mut into, steps)?;

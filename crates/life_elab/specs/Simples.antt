@@ -1,5 +1,6 @@
 -- Assignments, steps and calls.
 use Rattle.std.specs.Prelude.{ℕ, Option, Some, None, if◌then◌else◌, pos}
+use Rattle.life_types.specs.TypeTests.{is_raw}
 use Rattle.life_types.specs.declared.place.Place.{Place}
 use Rattle.life_types.specs.declared.ty.Ty.{Ty}
 use Rattle.life_types.specs.declared.ty.Ty.TheVariants as ty
@@ -7,7 +8,6 @@ use Rattle.life_tree.specs.declared.operator.CompoundOperator.{CompoundOperator}
 use Rattle.life_tree.specs.declared.operator.CompoundOperator.TheVariants as compound
 use Rattle.life_tree.specs.declared.operator.StepOperator.{StepOperator}
 use Rattle.life_tree.specs.declared.operator.StepOperator.TheVariants as step
-use Rattle.life_typed.specs.BaseTypes.{is_raw}
 use Rattle.life_typed.specs.Operators.{promoted}
 use Rattle.life_typed.specs.TypedForm.{Typed, whole}
 use Rattle.life_typed.specs.TypedStatement.{SimpleForm, InitialForm, one, several}

@@ -11,8 +11,8 @@ ghost use Rattle.life_writer.specs.Views.{around_of, called_of, state_of};
 use life_core::{FnId, Instr, Operand, Operation, Operator};
 use life_tree::{CompoundOperator, StepOperator};
 use life_typed::{TypedExpr, TypedInitial, TypedSimple, promoted};
-use life_types::{NoMemory, Place, Ty};
-use life_writer::{Around, Called, Writer, call_of, copied_operand, is_raw, own_type};
+use life_types::{NoMemory, Place, Ty, is_raw};
+use life_writer::{Around, Called, Writer, call_of, copied_operand, own_type};
 
 // The right side, and then the place (ISO/IEC 14882:2017 [expr.ass]/1).
 fn value_assigned(

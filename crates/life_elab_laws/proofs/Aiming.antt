@@ -1,10 +1,10 @@
 -- A pointer that is given something: it can be, it is a pointer behind it, and const stays const.
 use Rattle.std.proofs.Common.{◌≡◌, ℕ, Bool, true, false, ◌&&◌, List, [], ◌∷◌, None, refl, sym, ap, ◌∙◌, subst}
 use Rattle.std.proofs.lemmas.Bool.{and_from, and_parts, false≢true}
+use Rattle.life_types.specs.TypeTests.{is_constant, is_raw}
 use Rattle.life_types.specs.Types.{Types}
 use Rattle.life_types.specs.declared.ty.Ty.{Ty}
 use Rattle.life_types.specs.declared.ty.Ty.TheVariants as ty
-use Rattle.life_typed.specs.BaseTypes.{is_raw}
 use Rattle.life_typed.specs.declared.typed_expr.ExprType.{ExprType}
 use Rattle.life_typed.specs.declared.typed_expr.ExprType.TheVariants.{NullPointer, Of, TextLiteral}
 use Rattle.life_core.specs.Function.{Function}
@@ -12,7 +12,6 @@ use Rattle.life_core.specs.Operands.{Location, Null, Operand, Place as Aimed, wh
 use Rattle.life_core.specs.Served.{is_served_location, is_served_operand}
 use Rattle.life_core.specs.Step.{Aim}
 use Rattle.life_core.specs.Touched.{touched_by}
-use Rattle.life_pset.specs.Shapes.{is_constant}
 use Rattle.life_pset.specs.Shapes as shapes
 use Rattle.life_proper.specs.Knowing.{known_at}
 use Rattle.life_proper.specs.OperandTypes.{aims_at, keeps_const, same, takes}
@@ -26,7 +25,7 @@ use Rattle.life_writer.specs.Pointers.{As, At, Pointing, pointed}
 use Rattle.life_elab_laws.proofs.Falling.{Fills}
 use Rattle.life_elab_laws.proofs.Gifts.{IsAt, IsGivenAs}
 use Rattle.life_elab_laws.proofs.Held.{one_there}
-use Rattle.life_elab_laws.proofs.Instructions.{aimed_fills, raw_either}
+use Rattle.life_elab_laws.proofs.Instructions.{aimed_fills}
 use Rattle.life_elab_laws.proofs.Knowledge.{set_length, set_same}
 use Rattle.life_elab_laws.proofs.Making.{IsPointer, IsPointing, Keeps}
 use Rattle.life_elab_laws.proofs.OperandsThere.{same_is}
@@ -76,7 +75,7 @@ module _ (types : Types) (texts : ℕ) (fs : List Function) (f : Function) where
   aims_further _ u o raw taken aimed = absurd (false≢true raw)
 
   null_fine : (l : Location) (t : Ty) → is_raw t ≡ true → IsAt types texts fs f t l → IsFineStep types texts fs f (Aim l Null)
-  null_fine l t raw at = record { plain = refl; formed = ap shapes.is_raw at.typed ∙ raw_either t raw; served = and_from (is_served_location l) true at.served refl }
+  null_fine l t raw at = record { plain = refl; formed = ap is_raw at.typed ∙ raw; served = and_from (is_served_location l) true at.served refl }
 
   pub pointed_fine : (l : Location) (t : Ty) (u : ExprType) (p : Pointing) → is_raw t ≡ true → IsAt types texts fs f t l → takes_from types t u ≡ true → IsGivenAs types texts fs f u p → IsFineStep types texts fs f (pointed l p)
   pointed_fine l t (Of u) (At Null) raw at taken given = null_fine l t raw at

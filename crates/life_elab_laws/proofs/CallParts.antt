@@ -1,18 +1,18 @@
 -- Calls: each argument is a number of the parameter's type in a register, and the result goes to a register of its type.
 use Rattle.std.proofs.Common.{◌≡◌, ℕ, Bool, true, false, ◌&&◌, ◌||◌, if◌then◌else◌, List, [], ◌∷◌, slice_get, Option, Some, None, refl, ap, ◌∙◌}
 use Rattle.std.proofs.lemmas.Bool.{and_from, and_parts, or_left, or_right}
+use Rattle.life_types.specs.TypeTests.{is_pointer, is_value}
 use Rattle.life_types.specs.Types.{Types}
 use Rattle.life_types.specs.declared.place.Place.{Place}
 use Rattle.life_types.specs.declared.ty.Ty.{Ty}
 use Rattle.life_types.specs.declared.ty.Ty.TheVariants as ty
 use Rattle.life_types.specs.declared.ty.TyId.{TyId}
-use Rattle.life_typed.specs.BaseTypes.{is_value}
 use Rattle.life_typed.specs.Programs.{FunctionForm}
 use Rattle.life_core.specs.ByValue.{is_pointer as points}
 use Rattle.life_core.specs.Function.{Function}
 use Rattle.life_core.specs.Holdings.{sort_of}
 use Rattle.life_core.specs.Operands.{Argument, Location, Value, whole}
-use Rattle.life_pset.specs.Shapes.{is_pointer, ty_of}
+use Rattle.life_pset.specs.Shapes.{ty_of}
 use Rattle.life_proper.specs.OperandTypes.{same}
 use Rattle.life_proper.specs.OperandTypes as operands
 use Rattle.life_proper.specs.Placed.{is_number, is_number_of, object_at, register_at, type_in}
@@ -26,7 +26,7 @@ use Rattle.life_elab_laws.proofs.Calls.{IsCallee, alone_plain, call_plain, writt
 use Rattle.life_elab_laws.proofs.Gifts.{AreHanded, a_number, arguments, both, nothing}
 use Rattle.life_elab_laws.proofs.Instructions.{Computes, IsIntoOf, computed_part, into_of_later}
 use Rattle.life_elab_laws.proofs.Making.{IsOpen}
-use Rattle.life_elab_laws.proofs.OperandsThere.{number_any, number_sort, value_either, value_same}
+use Rattle.life_elab_laws.proofs.OperandsThere.{number_any, number_sort, value_same}
 use Rattle.life_elab_laws.proofs.Parts.{Makes, and_part, leaf_part, seen_part, then_part}
 use Rattle.life_elab_laws.proofs.Shaping.{IsFineStep}
 use Rattle.life_elab_laws.proofs.Values.{by_values}
@@ -63,14 +63,14 @@ module _ (types : Types) (texts : ℕ) (fs : List Function) (f : Function) where
   goes_value t r v h =
       ap (λ (b : Bool). if b then operands.takes types (type_in types f (whole r)) t else (same t (type_in types f (whole r)) && (object_at types f r || is_number types f r))) (value_no_pointer t v)
       ∙ and_from (same t (placed.type_at types f r)) (object_at types f r || is_number types f r)
-      (and_parts (operands.is_value t) (same t (placed.type_at types f r)) (and_parts (register_at types f r) _ h).1).1
+      (and_parts (is_value t) (same t (placed.type_at types f r)) (and_parts (register_at types f r) _ h).1).1
       (or_right (object_at types f r) (is_number types f r) (number_any types f t r h))
 
   -- .. or to an object
   pub goes_object : (t : Ty) (x : ℕ) → is_value t ≡ true → placed.type_at types f x ≡ t → object_at types f x ≡ true → goes_to types texts fs f t (Some (whole x)) ≡ true
   goes_object t x v typed there =
       ap (λ (b : Bool). if b then operands.takes types (type_in types f (whole x)) t else (same t (type_in types f (whole x)) && (object_at types f x || is_number types f x))) (value_no_pointer t v)
-      ∙ and_from (same t (placed.type_at types f x)) (object_at types f x || is_number types f x) (ap (same t) typed ∙ value_same t (value_either t v)) (or_left (object_at types f x) (is_number types f x) there)
+      ∙ and_from (same t (placed.type_at types f x)) (object_at types f x || is_number types f x) (ap (same t) typed ∙ value_same t v) (or_left (object_at types f x) (is_number types f x) there)
 
   pub called_formed : (g : ℕ) (xs : List Argument) (of : FunctionForm) (target : Option Location) → IsCallee types fs g of → AreHanded types texts fs f (parameter_types (Some of)) xs
       → goes_to types texts fs f (ty_of types of.result) target ≡ true → is_call types texts fs f (slice_get fs g) target xs ≡ true

@@ -2,13 +2,14 @@
 use Rattle.std.proofs.Common.{◌≡◌, ◌<◌, ◌≤◌, ◌⊎◌, inl, inr, ℕ, zero, suc, true, false, ◌||◌, List, [], ◌∷◌, ◌++◌, length, map, slice_get, take, Option, Some, None, refl, sym, ap, ◌∙◌, subst, unwrap_or, arith}
 use Rattle.std.proofs.lemmas.Bool.{and_parts, false≢true, or_cases}
 use Rattle.std.proofs.lemmas.Option.{none-some, same_Some}
+use Rattle.life_types.specs.TypeTests.{is_value, is_void}
 use Rattle.life_types.specs.Types.{Types, class, class_at}
 use Rattle.life_types.specs.declared.ty.Class.TheVariants.{Value}
 use Rattle.life_types.specs.declared.ty.Ty.{Ty}
 use Rattle.life_types.specs.declared.ty.Ty.TheVariants as ty
 use Rattle.life_types.specs.declared.ty.TyId.{TyId}
-use Rattle.life_built.specs.Built.{are_built_variables, are_values, is_built_function, is_built_result, is_built_statement, is_default, is_void}
-use Rattle.life_typed.specs.BaseTypes.{is_value, type_at}
+use Rattle.life_built.specs.Built.{are_built_variables, are_values, is_built_function, is_built_result, is_built_statement, is_default}
+use Rattle.life_typed.specs.BaseTypes.{type_at}
 use Rattle.life_typed.specs.Programs.{FunctionForm, ProgramForm}
 use Rattle.life_typed.specs.declared.typed_program.ParameterPromise.{ParameterPromise}
 use Rattle.life_typed.specs.declared.typed_program.TypedLocal.{TypedLocal}
@@ -16,7 +17,6 @@ use Rattle.life_core.specs.Function.{Function}
 use Rattle.life_core.specs.Holdings.{AnObject, Holding, held_by, held_if, parameter_sorts, sort_of_local}
 use Rattle.life_core.specs.declared.program.Local.{Local}
 use Rattle.life_pset.specs.Shapes.{or_void, ty_of}
-use Rattle.life_proper.specs.OperandTypes as operands
 use Rattle.life_proper.specs.WellFormed.{local_type, types_taken}
 use Rattle.life_well_typed.specs.Expressions.{parameter_types, type_of}
 use Rattle.life_well_typed.specs.Functions.{IsWellTypedFunction}
@@ -45,10 +45,6 @@ value_found types id w = go (slice_get types.types id.0) refl w
 -- a value, or nothing
 value_or_void : (t : Ty) → (is_void t || is_value t) ≡ true → class (Some t) ≡ Value
 value_or_void = by_results (λ t. class (Some t) ≡ Value) refl (λ t v. value_class t v)
-
-void_either : (t : Ty) → is_void t ≡ true → operands.is_void t ≡ true
-void_either ty.Void w = refl
-void_either _ w = absurd (false≢true w)
 
 -- ---- what is built
 
@@ -166,14 +162,14 @@ module _ (p : ProgramForm) (of : FunctionForm) (T types : Types) (core : Functio
       ∙ value_or_void is.ty (subst (λ (t : Ty). (is_void t || is_value t) ≡ true) (type_found p.types of.result is.ty is.result) is.built.result)
 
   -- the local of its result has no name
-  pub result_nameless : (l : Local) → slice_get core.locals core.parameters ≡ Some l → operands.is_void (ty_of types core.result) ≡ false → l.name ≡ None
+  pub result_nameless : (l : Local) → slice_get core.locals core.parameters ≡ Some l → is_void (ty_of types core.result) ≡ false → l.name ≡ None
   result_nameless l at void = go (or_cases (is_void (type_at p.types of.result)) (is_value (type_at p.types of.result)) is.built.result)
     where
       type_is : ty_of types core.result ≡ type_at p.types of.result
       type_is = ap or_void result_type ∙ sym (type_found p.types of.result is.ty is.result)
 
       go : (is_void (type_at p.types of.result) ≡ true) ⊎ (is_value (type_at p.types of.result) ≡ true) → l.name ≡ None
-      go (inl e) = absurd (false≢true (sym void ∙ ap operands.is_void type_is ∙ void_either (type_at p.types of.result) e))
+      go (inl e) = absurd (false≢true (sym void ∙ ap is_void type_is ∙ e))
       go (inr e) =
           let register = (register_there (around p of) T is.typed.parameters begun.table is.ty is.result e).0 in
           ap (λ (x : Local). x.name) (same_Some l register.local (sym at ∙ ap (slice_get core.locals) begun.count ∙ begun.locals (length of.parameters) register.local register.there)) ∙ register.nameless

@@ -3,16 +3,15 @@ use Rattle.std.proofs.Common.{◌≡◌, ◌<◌, ℕ, Bool, true, false, cond, 
 use Rattle.std.proofs.lemmas.Bool.{or_left}
 use Rattle.std.proofs.lemmas.Option.{slice_get_within}
 use Rattle.std.specs.Prelude.{pos, ℤ}
+use Rattle.life_types.specs.TypeTests.{is_raw, is_unique, is_value}
 use Rattle.life_types.specs.Types.{Types}
 use Rattle.life_types.specs.declared.place.Place.{Place}
 use Rattle.life_types.specs.declared.ty.Ty.{Ty}
-use Rattle.life_typed.specs.BaseTypes.{is_raw, is_value}
 use Rattle.life_core.specs.Function.{Function}
 use Rattle.life_core.specs.Operands.{Location}
 use Rattle.life_core.specs.Step.{NonZero, NotNull, Test}
 use Rattle.life_core.specs.Served.{is_served_test}
 use Rattle.life_core.specs.Tree.{Question, Acts, Asks, Both, Choice, Either, Then, Tree, trees}
-use Rattle.life_pset.specs.Shapes as shapes
 use Rattle.life_proper.specs.Knowing.{agreed_all, known_at}
 use Rattle.life_proper.specs.Placed.{is_number_of, type_in}
 use Rattle.life_proper.specs.ReadyKnown.{is_node_ready}
@@ -28,7 +27,7 @@ use Rattle.life_elab_laws.proofs.Falling.{Decides, Falls, decides_asks, decides_
 use Rattle.life_elab_laws.proofs.Gifts.{Gift, a_number, a_pointer, nothing}
 use Rattle.life_elab_laws.proofs.Growing.{Begins, Grows, begins_before, grows_then}
 use Rattle.life_elab_laws.proofs.Held.{one_there}
-use Rattle.life_elab_laws.proofs.Instructions.{IsIntoOf, into_of_later, is_constant, is_into, raw_either, target_number}
+use Rattle.life_elab_laws.proofs.Instructions.{IsIntoOf, into_of_later, is_constant, is_into, target_number}
 use Rattle.life_elab_laws.proofs.Knowledge.{agreed_length, at_agreed, at_set}
 use Rattle.life_elab_laws.proofs.Making.{Alive, IsBeside, IsOpen, Keeps, alive_later, keeps_then}
 use Rattle.life_elab_laws.proofs.OperandsThere.{number_any}
@@ -103,7 +102,7 @@ module _ (types : Types) (texts : ℕ) (fs : List Function) (f : Function) where
       → Tests s (not_null place pointer s)
   not_null_part place t pointer s raw made =
       tested_part place NotNull pointer s (a_pointer types texts fs f t) (λ l n k h. uses_ready k (l.local ∷ []) [] (one_there k l.local (ap (λ (q : Location). known_at k q.local) h.is ∙ h.held)))
-      (λ l h. (or_left (shapes.is_raw (type_in types f l)) (shapes.is_unique (type_in types f l)) (ap shapes.is_raw h.typed ∙ raw_either t raw), h.served)) made
+      (λ l h. (or_left (is_raw (type_in types f l)) (is_unique (type_in types f l)) (ap is_raw h.typed ∙ raw), h.served)) made
 
   -- ---- conditions of others
 

@@ -1,6 +1,7 @@
 -- What is written for a declaration is ready and well formed: the variable lives, and is given what typing lets it be given.
 use Rattle.std.proofs.Common.{◌≡◌, ◌<◌, ℕ, Bool, true, false, ◌||◌, cond, List, [], ◌∷◌, ◌++◌, length, slice_get, slice_set, Option, Some, None, refl, sym, ap, ◌∙◌, subst, unwrap_or, arith, append_assoc}
 use Rattle.std.proofs.lemmas.Bool.{and_parts, false≢true}
+use Rattle.life_types.specs.TypeTests.{is_value}
 use Rattle.life_types.specs.Types.{Types}
 use Rattle.life_types.specs.contracts.ty.TyPartialEq.TheImpl.{ghosts as compared}
 use Rattle.life_types.specs.declared.place.Place.{Place}
@@ -8,7 +9,7 @@ use Rattle.life_types.specs.declared.ty.Ty.{Ty}
 use Rattle.life_types.specs.declared.ty.Ty.TheVariants as ty
 use Rattle.life_types.specs.declared.ty.TyId.{TyId}
 use Rattle.life_built.specs.Built.{is_built_declaration, is_built_declared, is_built_expression, is_built_initial, is_built_variable, is_pointing, needs_no_temporary}
-use Rattle.life_typed.specs.BaseTypes.{is_value, type_at}
+use Rattle.life_typed.specs.BaseTypes.{type_at}
 use Rattle.life_typed.specs.Programs.{FunctionForm}
 use Rattle.life_typed.specs.TypedForm.{Typed, whole as whole_form}
 use Rattle.life_typed.specs.TypedStatement.{DeclarationForm, InitialForm, one, several}

@@ -1,6 +1,7 @@
 -- Each well typed expression that is built is of one of these kinds.
 use Rattle.std.proofs.Common.{◌≡◌, ℕ, Bool, true, false, cond, List, Option, Some, None, Ok, slice_get, refl, sym, ap, ◌∙◌, subst, true≢false}
 use Rattle.std.proofs.lemmas.Bool.{and_parts}
+use Rattle.life_types.specs.TypeTests.{is_raw, is_value}
 use Rattle.life_types.specs.Types.{Types}
 use Rattle.life_types.specs.declared.ty.Ty.{Ty}
 use Rattle.life_types.specs.declared.ty.Ty.TheVariants as ty
@@ -8,7 +9,7 @@ use Rattle.life_types.specs.declared.ty.TyId.{TyId}
 use Rattle.life_built.specs.Built.{are_built_functions, are_built_variables, is_built_function, is_built_result, is_built_variable}
 use Rattle.life_names.specs.Found.{not_found}
 use Rattle.life_names.specs.declared.fault.IllKind.TheVariants as kinds
-use Rattle.life_typed.specs.BaseTypes.{is_raw, is_value, type_at}
+use Rattle.life_typed.specs.BaseTypes.{type_at}
 use Rattle.life_typed.specs.Operators.{dereferenced, is_condition, negated, negated_type, promoted}
 use Rattle.life_typed.specs.Programs.{FunctionForm}
 use Rattle.life_typed.specs.TypedForm.{Form, Typed, local, dereference, not, typed}

@@ -1,11 +1,10 @@
 -- The types of expressions that are built.
 use Rattle.std.proofs.Common.{◌≡◌, ◌⊎◌, inl, inr, ℕ, true, false, ◌||◌, List, refl, sym, ap, ◌∙◌, subst, true≢false, Ok}
 use Rattle.std.proofs.lemmas.Bool.{false≢true}
+use Rattle.life_types.specs.TypeTests.{is_raw, is_value, is_void}
 use Rattle.life_types.specs.Types.{Types}
 use Rattle.life_types.specs.declared.ty.Ty.{Ty}
 use Rattle.life_types.specs.declared.ty.Ty.TheVariants as ty
-use Rattle.life_built.specs.Built.{is_void}
-use Rattle.life_typed.specs.BaseTypes.{is_raw, is_value}
 use Rattle.life_typed.specs.Operators.{is_condition, negated, negated_type, promoted}
 use Rattle.life_typed.specs.Programs.{ProgramForm}
 use Rattle.life_typed.specs.TypedForm.{Form, Typed, typed}

@@ -2,13 +2,14 @@
 use Rattle.std.proofs.Common.{◌≡◌, ◌⊎◌, inl, inr, ℕ, zero, suc, Bool, true, List, [], ◌∷◌, Contains, slice_get, Option, Some, None, refl, sym, ap, ◌∙◌, subst, unwrap_or}
 use Rattle.std.proofs.lemmas.Bool.{and_from, and_parts, false≢true}
 use Rattle.std.specs.Prelude.{pos}
+use Rattle.life_types.specs.TypeTests.{is_raw, is_value}
 use Rattle.life_types.specs.Types.{Types}
 use Rattle.life_types.specs.declared.place.Place.{Place}
 use Rattle.life_types.specs.declared.ty.Ty.{Ty}
 use Rattle.life_types.specs.declared.ty.Ty.TheVariants as ty
 use Rattle.life_types.specs.declared.ty.TyId.{TyId}
 use Rattle.life_built.specs.Built.{is_built_form}
-use Rattle.life_typed.specs.BaseTypes.{is_raw, is_value, type_at}
+use Rattle.life_typed.specs.BaseTypes.{type_at}
 use Rattle.life_typed.specs.Operators.{promoted}
 use Rattle.life_typed.specs.Programs.{FunctionForm}
 use Rattle.life_typed.specs.TypedForm.{Form, Typed, number, character, boolean, text, null, local, call, construct, paren, move, make_unique, text_of, input, member, dereference, index, method, negate, not, address_of, binary, typed, nothing, ◌⨟◌}
@@ -48,7 +49,7 @@ use Rattle.life_elab_laws.proofs.Gifts.{IsGivenAs, a_number, a_place, a_pointer,
 use Rattle.life_elab_laws.proofs.Gifts as gifts
 use Rattle.life_elab_laws.proofs.GivenKinds.{given_number}
 use Rattle.life_elab_laws.proofs.Instructions.{IsIntoOf, constant_part, input_part, negated_part, operated_part}
-use Rattle.life_elab_laws.proofs.OperandsThere.{value_either, value_same}
+use Rattle.life_elab_laws.proofs.OperandsThere.{value_same}
 use Rattle.life_elab_laws.proofs.OperatorTypes.{number_answer, promoted_is}
 use Rattle.life_elab_laws.proofs.Parts.{Makes, leaf_part, seen_part}
 use Rattle.life_elab_laws.proofs.Setting.{Setting}
@@ -224,7 +225,7 @@ module _ (a : Around) (visible : List ℕ) (types : Types) (texts : ℕ) (fs : L
       record {
         fits =
             and_from (aims_at types (ty.Raw d.target d.constant) (placed.type_of types f (operand a inner s).given)) (keeps_const d.constant (is_const_place types f (operand a inner s).given))
-            (ap (aims_at types (ty.Raw d.target d.constant)) (h.typed ∙ sym later) ∙ value_same (shapes.ty_of types d.target) (ap operands.is_value later ∙ value_either (type_at a.program.types d.target) d.worth)) h.held;
+            (ap (aims_at types (ty.Raw d.target d.constant)) (h.typed ∙ sym later) ∙ value_same (shapes.ty_of types d.target) (ap is_value later ∙ d.worth)) h.held;
         served = h.served;
       })
       (λ n k q. q)))

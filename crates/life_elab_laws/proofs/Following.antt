@@ -1,9 +1,10 @@
 -- What has been written of a function and what is visible, between statements.
 use Rattle.std.proofs.Common.{◌≡◌, ◌<◌, ◌≤◌, ℕ, zero, suc, Bool, true, false, List, [], ◌∷◌, Contains, length, slice_get, take, Option, Some, None, refl, sym, ap, ◌∙◌, subst, unwrap_or, arith}
 use Rattle.std.proofs.lemmas.Option.{none-some, slice_get_within}
+use Rattle.life_types.specs.TypeTests.{is_value}
 use Rattle.life_types.specs.Types.{Types}
 use Rattle.life_types.specs.declared.ty.NameId.{NameId}
-use Rattle.life_typed.specs.BaseTypes.{is_value, type_at}
+use Rattle.life_typed.specs.BaseTypes.{type_at}
 use Rattle.life_typed.specs.declared.typed_program.TypedLocal.{TypedLocal}
 use Rattle.life_core.specs.Function.{Function}
 use Rattle.life_core.specs.Holdings.{APointer, AnObject, Holding, sort_of}

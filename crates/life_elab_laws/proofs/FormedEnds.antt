@@ -3,6 +3,7 @@ use Rattle.std.proofs.Common.{◌≡◌, inl, inr, ℕ, Bool, true, false, ◌&&
 use Rattle.std.specs.List.{list_all}
 use Rattle.std.proofs.lemmas.Bool.{and_from, false≢true, or_left, or_right}
 use Rattle.std.proofs.lemmas.Bool.Decides.{nat_tests}
+use Rattle.life_types.specs.TypeTests.{is_pointer, is_value, is_void}
 use Rattle.life_types.specs.Types.{Types, class, is_slot_target, is_slot_type}
 use Rattle.life_types.specs.declared.ty.Class.{Class}
 use Rattle.life_types.specs.declared.ty.Class.TheVariants.{Value}
@@ -10,7 +11,7 @@ use Rattle.life_types.specs.declared.ty.NameId.{NameId}
 use Rattle.life_types.specs.declared.ty.Ty.{Ty}
 use Rattle.life_types.specs.declared.ty.Ty.TheVariants as ty
 use Rattle.life_types.specs.declared.ty.TyId.{TyId}
-use Rattle.life_typed.specs.BaseTypes.{is_value, type_at}
+use Rattle.life_typed.specs.BaseTypes.{type_at}
 use Rattle.life_core.specs.Function.{Function}
 use Rattle.life_core.specs.Holdings.{Holding, held_by, held_if, sort_of}
 use Rattle.life_core.specs.Kinds.{is_register}
@@ -23,7 +24,6 @@ use Rattle.life_elab_laws.proofs.Shaped.{AreShaped, shaped_at}
 use Rattle.life_elab_laws.proofs.Following.{is_variable_sort}
 use Rattle.life_elab_laws.proofs.Types.{value_class}
 use Rattle.life_elab_laws.proofs.VariablePlaces.{IsVariableType, a_raw, a_reference, a_value, variable_type}
-use Rattle.life_proper.specs.OperandTypes.{is_void}
 use Rattle.life_proper.specs.Placed.{is_slot_local, object_at, result_at, slot_at}
 use Rattle.life_proper.specs.Placed as placed
 use Rattle.life_proper.specs.WellFormed.{can_end}
@@ -87,9 +87,9 @@ module _ (types : Types) (texts : ℕ) (fs : List Function) (f : Function) (shap
       only_named Register n e = e
       only_named Range n e = refl
 
-      both : (object_at types f y || shapes.is_pointer (placed.type_at types f y)) ≡ true → is_slot_type types (slice_get types.types l.ty.0) ≡ false → can_end types texts fs f y ≡ true
+      both : (object_at types f y || is_pointer (placed.type_at types f y)) ≡ true → is_slot_type types (slice_get types.types l.ty.0) ≡ false → can_end types texts fs f y ≡ true
       both first slot =
-          and_from (object_at types f y || shapes.is_pointer (placed.type_at types f y)) _ first
+          and_from (object_at types f y || is_pointer (placed.type_at types f y)) _ first
           (and_from (not (result_at types f y)) (not (slot_at types f y)) (no_result y l at named) (ap (λ (o : Option Local). not (is_slot_local types f o)) at ∙ ap not slot))
 
       go : IsVariableType types l.ty → can_end types texts fs f y ≡ true
@@ -97,9 +97,9 @@ module _ (types : Types) (texts : ℕ) (fs : List Function) (f : Function) (shap
           let kind = value_object t l.kind v (subst (λ (h : Holding). is_variable_sort h ≡ true) (ap (held_by types) at ∙ ap (λ (o : Option Ty). held_if (class o) l.kind o) found) sorts) in
           both (or_left (object_at types f y) _ (object_there types f y l at kind)) (ap (is_slot_type types) found ∙ value_no_slot types t v)
       go (a_raw target constant found) =
-          both (or_right (object_at types f y) _ (ap shapes.is_pointer (type_there types f y l (ty.Raw target constant) at found refl))) (ap (is_slot_type types) found)
+          both (or_right (object_at types f y) _ (ap is_pointer (type_there types f y l (ty.Raw target constant) at found refl))) (ap (is_slot_type types) found)
       go (a_reference target constant found v) =
-          both (or_right (object_at types f y) _ (ap shapes.is_pointer (reference_there types f y l target constant at found (ap is_value (type_later types types (λ n x e. e) target v) ∙ v))))
+          both (or_right (object_at types f y) _ (ap is_pointer (reference_there types f y l target constant at found (ap is_value (type_later types types (λ n x e. e) target v) ∙ v))))
           (ap (is_slot_type types) found ∙ reference_no_slot types target constant v)
 
   -- .. and several

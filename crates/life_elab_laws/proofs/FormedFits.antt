@@ -1,13 +1,14 @@
 -- What the rules of initialisation let a pointer be given it takes, and so does a reference: of one target, and const stays const.
 use Rattle.std.proofs.Common.{◌≡◌, Bool, true, false, ◌&&◌, not, cond, Err, refl, ap, ◌∙◌, subst, rules}
 use Rattle.std.proofs.lemmas.Bool.{and_from, false≢true}
+use Rattle.life_types.specs.TypeTests.{is_value}
 use Rattle.life_types.specs.Types.{Types}
 use Rattle.life_types.specs.contracts.ty.TyIdPartialEq.TheImpl.{ghosts as id}
 use Rattle.life_types.specs.declared.ty.Ty.TheVariants as ty
 use Rattle.life_types.specs.declared.ty.TyId.{TyId}
 use Rattle.life_built.specs.Built.{needs_no_temporary}
 use Rattle.life_pset.specs.Shapes.{ty_of}
-use Rattle.life_typed.specs.BaseTypes.{is_value, type_at}
+use Rattle.life_typed.specs.BaseTypes.{type_at}
 use Rattle.life_typed.specs.Conversions.{fits, initialised, is_place_of, pointer_from, unless}
 use Rattle.life_typed.specs.TypedForm.{Typed}
 use Rattle.life_typed.specs.declared.misfit.Misfit.TheVariants.{General, Constant}
@@ -18,11 +19,10 @@ use Rattle.life_typed.specs.declared.typed_expr.ExprType.TheVariants.{Of, NullPo
 use Rattle.life_type_expr.specs.Lists.{fits_at_all}
 use Rattle.life_well_typed.specs.Given.{is_given}
 use Rattle.life_proper.specs.OperandTypes.{keeps_const, same}
-use Rattle.life_proper.specs.OperandTypes as operands
 use Rattle.life_elab_laws.proofs.Aiming.{takes_from}
 use Rattle.life_elab_laws.proofs.FormedVariables.{type_later}
 use Rattle.life_elab_laws.proofs.Fronts.{IsFront}
-use Rattle.life_elab_laws.proofs.OperandsThere.{value_either, value_same}
+use Rattle.life_elab_laws.proofs.OperandsThere.{value_same}
 
 same_id : (a b : TyId) → id.eq a b ≡ true → a ≡ b
 same_id a b e = search rules
@@ -36,7 +36,7 @@ module _ (few more : Types) (front : IsFront few.types more.types) (target : TyI
   one_target : (found : TyId) → found ≡ target → same (ty_of more target) (ty_of more found) ≡ true
   one_target found e =
       ap (λ (i : TyId). same (ty_of more target) (ty_of more i)) e
-      ∙ value_same (ty_of more target) (ap operands.is_value (type_later few more front target worth) ∙ value_either (type_at few target) worth)
+      ∙ value_same (ty_of more target) (ap is_value (type_later few more front target worth) ∙ worth)
 
   from_pointer : (found : TyId) (held : Bool) → fits_at_all (pointer_from target constant (ty.Raw found held)) ≡ true → takes_from more (ty.Raw target constant) (Of (ty.Raw found held)) ≡ true
   from_pointer found held e = go (id.eq found target) refl e

@@ -5,13 +5,14 @@ use Rattle.std.proofs.lemmas.Bool.{and_from, and_parts, false≢true, le-leb, or
 use Rattle.std.proofs.lemmas.Bool.Decides.{nat_tests}
 use Rattle.std.proofs.lemmas.Option.{same_Some}
 use Rattle.life_types.specs.Trees.{is_plain, tree_at, tree_of, tree_within}
+use Rattle.life_types.specs.TypeTests.{is_value, is_void}
 use Rattle.life_types.specs.Types.{Types, class}
 use Rattle.life_types.specs.declared.ty.NameId.{NameId}
 use Rattle.life_types.specs.declared.ty.Ty.{Ty}
 use Rattle.life_types.specs.declared.ty.Ty.TheVariants as ty
 use Rattle.life_types.specs.declared.ty.TyId.{TyId}
-use Rattle.life_built.specs.Built.{is_built_variable, is_default, is_pointing, is_void as is_nothing}
-use Rattle.life_typed.specs.BaseTypes.{is_value, type_at}
+use Rattle.life_built.specs.Built.{is_built_variable, is_default, is_pointing}
+use Rattle.life_typed.specs.BaseTypes.{type_at}
 use Rattle.life_typed.specs.Programs.{FunctionForm, ProgramForm, PromiseForm, default}
 use Rattle.life_typed.specs.declared.typed_program.ParameterPromise.{ParameterPromise}
 use Rattle.life_typed.specs.declared.typed_program.TypedLocal.{TypedLocal}
@@ -20,7 +21,6 @@ use Rattle.life_core.specs.declared.program.Local.{Local}
 use Rattle.life_core.specs.declared.program.LocalKind.{LocalKind}
 use Rattle.life_core.specs.declared.program.LocalKind.TheVariants.{Register}
 use Rattle.life_pset.specs.Shapes.{or_void, referred, shape, shape_if, ty_of, unslotted}
-use Rattle.life_proper.specs.OperandTypes.{is_void}
 use Rattle.life_proper.specs.WellFormedPrograms.{are_well_formed_locals, fits_kind, is_name, is_name_if, is_named_as, is_result_local, is_result_of, is_well_formed_local, may_stand, names_parameters}
 use Rattle.life_well_typed.specs.Names.{is_function_named, is_local_named}
 use Rattle.life_writer.specs.Registers.{nameless}
@@ -175,7 +175,7 @@ itself n = grind (arith, nat_tests)
 lt_of : (a b : ℕ) → nat_lt a b ≡ true → a < b
 lt_of a b h = grind (arith, nat_tests)
 
-result_void : (types : Types) (id : TyId) (o : Option Local) (t : Ty) → is_nothing t ≡ true → is_result_of types id (Some t) o ≡ true
+result_void : (types : Types) (id : TyId) (o : Option Local) (t : Ty) → is_void t ≡ true → is_result_of types id (Some t) o ≡ true
 result_void types id o ty.Void v = refl
 result_void types id o _ v = absurd (false≢true v)
 
@@ -235,13 +235,13 @@ module _ (p : ProgramForm) (of : FunctionForm) (T types : Types) (names : ℕ) (
       grown core.parameters (nameless of.place of.result)
       (result_first (around p of) T made.typed.parameters table (ap is_value (type_found p.types of.result made.ty made.result) ∙ v))
 
-  result_cases : (is_nothing made.ty ≡ true) ⊎ (is_value made.ty ≡ true)
-  result_cases = or_cases (is_nothing made.ty) (is_value made.ty) (subst (λ (u : Ty). (is_nothing u || is_value u) ≡ true) (type_found p.types of.result made.ty made.result) made.built.result)
+  result_cases : (is_void made.ty ≡ true) ⊎ (is_value made.ty ≡ true)
+  result_cases = or_cases (is_void made.ty) (is_value made.ty) (subst (λ (u : Ty). (is_void u || is_value u) ≡ true) (type_found p.types of.result made.ty made.result) made.built.result)
 
   result_formed : is_result_of types core.result (slice_get types.types core.result.0) (slice_get core.locals core.parameters) ≡ true
   result_formed = ap (λ (o : Option Ty). is_result_of types core.result o (slice_get core.locals core.parameters)) result_type ∙ go result_cases
     where
-      go : (is_nothing made.ty ≡ true) ⊎ (is_value made.ty ≡ true) → is_result_of types core.result (Some made.ty) (slice_get core.locals core.parameters) ≡ true
+      go : (is_void made.ty ≡ true) ⊎ (is_value made.ty ≡ true) → is_result_of types core.result (Some made.ty) (slice_get core.locals core.parameters) ≡ true
       go (inl v) = result_void types core.result (slice_get core.locals core.parameters) made.ty v
       go (inr v) =
           result_worth types core.result (slice_get core.locals core.parameters) made.ty v

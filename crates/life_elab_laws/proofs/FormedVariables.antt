@@ -1,12 +1,13 @@
 -- Variables as places and as pointers: their types in the finished function, and const where the text has it.
 use Rattle.std.proofs.Common.{◌≡◌, ℕ, Bool, true, false, not, if◌then◌else◌, List, [], nat_lt, slice_get, Option, Some, None, refl, sym, ap, ◌∙◌, subst, unwrap_or}
 use Rattle.std.proofs.lemmas.Bool.{false≢true}
+use Rattle.life_types.specs.TypeTests.{is_constant, is_value, is_void}
 use Rattle.life_types.specs.Types.{Types}
 use Rattle.life_types.specs.declared.ty.Ty.{Ty}
 use Rattle.life_types.specs.declared.ty.Ty.TheVariants as ty
 use Rattle.life_types.specs.declared.ty.TyId.{TyId}
 use Rattle.life_built.specs.Built.{is_built_variable}
-use Rattle.life_typed.specs.BaseTypes.{is_value, type_at}
+use Rattle.life_typed.specs.BaseTypes.{type_at}
 use Rattle.life_typed.specs.TypedForm.{Form, Typed}
 use Rattle.life_typed.specs.declared.typed_expr.Category.{Category}
 use Rattle.life_typed.specs.declared.typed_expr.Category.TheVariants as category
@@ -16,7 +17,7 @@ use Rattle.life_core.specs.Function.{Function}
 use Rattle.life_core.specs.Operands.{Location, Through, behind, object_named, whole}
 use Rattle.life_core.specs.declared.program.Local.{Local}
 use Rattle.life_core.specs.declared.program.LocalKind.TheVariants.{Object, Register}
-use Rattle.life_pset.specs.Shapes.{is_constant, or_void, referred, shape_if, shape_of, target_of, ty_if, ty_of, unslotted}
+use Rattle.life_pset.specs.Shapes.{or_void, referred, shape_if, shape_of, target_of, ty_if, ty_of, unslotted}
 use Rattle.life_writer.specs.Around.{Around}
 use Rattle.life_writer.specs.Variables.{variable, variable_place}
 use Rattle.life_writer.specs.Writing.{State}
@@ -26,10 +27,10 @@ use Rattle.life_elab_laws.proofs.TypedKinds.{place_same}
 use Rattle.life_elab_laws.proofs.Types.{value_kind}
 use Rattle.life_elab_laws.proofs.Values.{by_values}
 use Rattle.life_elab_laws.proofs.VariablePlaces.{IsVariableAt, IsVariableType, a_raw, a_reference, a_value, kind_is, place_is, variable_type}
-use Rattle.life_proper.specs.OperandTypes.{is_void, keeps_const, pointee}
+use Rattle.life_proper.specs.OperandTypes.{keeps_const, pointee}
 use Rattle.life_proper.specs.Placed as placed
 use Rattle.life_elab_laws.proofs.Gifts.{IsAt, IsPlaceOf}
-use Rattle.life_elab_laws.proofs.OperandsThere.{object_there, type_there, value_either, value_no_reference}
+use Rattle.life_elab_laws.proofs.OperandsThere.{object_there, type_there, value_no_reference}
 
 keeps_all : (to : Bool) → keeps_const to false ≡ true
 keeps_all true = refl
@@ -132,7 +133,7 @@ module _ (types : Types) (texts : ℕ) (fs : List Function) (f : Function) where
             let here : type_at a.program.types id ≡ t = ap (type_at a.program.types) (sym one) ∙ ap (λ (o : Option Ty). unwrap_or o ty.Void) found in
             subst (IsPlaceOf types texts fs f (type_at a.program.types id) constant) (sym (place_is a s x v h Object (kind_is a s x v h t found ∙ value_kind t w)))
             (object_place (variable s x) (type_at a.program.types id) constant (object_there types f (variable s x) h.local there (kind_is a s x v h t found ∙ value_kind t w))
-            (type_there types f (variable s x) h.local t there (typed_as t found) (value_no_reference t (value_either t w)) ∙ sym here))
+            (type_there types f (variable s x) h.local t there (typed_as t found) (value_no_reference t w) ∙ sym here))
 
         go : IsVariableType a.program.types v.ty → IsPlaceOf types texts fs f (type_at a.program.types id) constant (variable_place s x)
         go (a_value t found w) =

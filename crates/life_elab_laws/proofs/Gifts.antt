@@ -1,6 +1,7 @@
 -- What a part of an expression gives: which type it has in the finished function, and what is known of it where so many locals are there.
 use Rattle.std.proofs.Common.{◌≡◌, ◌≤◌, ◌&&◌, ℕ, Bool, true, List, [], ◌∷◌, None, ◌∙◌, arith}
 use Rattle.std.specs.List.{list_all}
+use Rattle.life_types.specs.TypeTests.{is_constant}
 use Rattle.life_types.specs.Types.{Types}
 use Rattle.life_types.specs.declared.ty.Ty.{Ty}
 use Rattle.life_types.specs.declared.ty.TyId.{TyId}
@@ -9,7 +10,6 @@ use Rattle.life_typed.specs.declared.typed_expr.ExprType.TheVariants.{NullPointe
 use Rattle.life_core.specs.Function.{Function}
 use Rattle.life_core.specs.Operands.{Argument, Location, Null, Operand, Place as Aimed, Value}
 use Rattle.life_core.specs.Served.{is_served_argument, is_served_location, is_served_operand}
-use Rattle.life_pset.specs.Shapes.{is_constant}
 use Rattle.life_proper.specs.OperandTypes.{aims_at, keeps_const}
 use Rattle.life_proper.specs.Placed.{is_const_place, is_number_of, type_in, type_of}
 use Rattle.life_proper.specs.WellFormed.{are_arguments_for, have_own_slots}

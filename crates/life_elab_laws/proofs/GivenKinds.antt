@@ -1,10 +1,10 @@
 -- What is given to a value is a number, and to a raw pointer a pointer or nullptr.
 use Rattle.std.proofs.Common.{◌≡◌, Bool, true, false, not, refl, if◌then◌else◌}
 use Rattle.std.proofs.lemmas.Bool.{false≢true}
+use Rattle.life_types.specs.TypeTests.{is_raw, is_value}
 use Rattle.life_types.specs.Types.{Types}
 use Rattle.life_types.specs.declared.ty.Ty.{Ty}
 use Rattle.life_types.specs.declared.ty.Ty.TheVariants as ty
-use Rattle.life_typed.specs.BaseTypes.{is_raw, is_value}
 use Rattle.life_typed.specs.Conversions.{fits, unless}
 use Rattle.life_typed.specs.TypedForm.{Typed}
 use Rattle.life_typed.specs.declared.misfit.Misfit.TheVariants.{General}

@@ -4,12 +4,12 @@ use Rattle.std.proofs.lemmas.Bool.{and_from, false≢true}
 use Rattle.std.proofs.lemmas.Option.{slice_get_within}
 use Rattle.std.specs.Prelude.{ℤ}
 use Rattle.life_types.specs.Trees.{HasPartsBelow}
+use Rattle.life_types.specs.TypeTests.{is_raw, is_value}
 use Rattle.life_types.specs.Types.{Types}
 use Rattle.life_types.specs.contracts.ty.TyPartialEq.TheImpl.{ghosts as compared}
 use Rattle.life_types.specs.declared.place.Place.{Place}
 use Rattle.life_types.specs.declared.ty.Ty.{Ty}
 use Rattle.life_types.specs.declared.ty.Ty.TheVariants as ty
-use Rattle.life_typed.specs.BaseTypes.{is_raw, is_value}
 use Rattle.life_typed.specs.declared.typed_expr.ExprType.TheVariants.{Of}
 use Rattle.life_core.specs.Function.{Function}
 use Rattle.life_core.specs.Kinds.{is_register_at}
@@ -20,7 +20,6 @@ use Rattle.life_core.specs.Tree.{Acts}
 use Rattle.life_core.specs.declared.operation.Operation.{Operation}
 use Rattle.life_core.specs.declared.operation.Operation.TheVariants as operation
 use Rattle.life_core.specs.declared.operation.Operator.{Operator}
-use Rattle.life_pset.specs.Shapes as shapes
 use Rattle.life_proper.specs.Knowing.{known_at}
 use Rattle.life_proper.specs.OperandTypes.{is_promoted}
 use Rattle.life_proper.specs.OperandTypes as operands
@@ -42,7 +41,7 @@ use Rattle.life_elab_laws.proofs.Growing.{Begins, Grows, added, grows_none}
 use Rattle.life_elab_laws.proofs.Held.{one_there, place_there, two_there}
 use Rattle.life_elab_laws.proofs.Knowledge.{at_set}
 use Rattle.life_elab_laws.proofs.Making.{IsOpen, IsPointing, Keeps}
-use Rattle.life_elab_laws.proofs.OperandsThere.{number_any, number_there, number_typed, type_there, value_either, value_same}
+use Rattle.life_elab_laws.proofs.OperandsThere.{number_any, number_there, number_typed, type_there, value_same}
 use Rattle.life_elab_laws.proofs.Parts.{Makes, Part, Runs, and_part, gives_part, then_part}
 use Rattle.life_elab_laws.proofs.Shaping.{IsFineStep, fine_acts}
 use Rattle.life_elab_laws.proofs.Types.{same_types, type_added}
@@ -73,11 +72,6 @@ into_of_later t s s' (Some r) g h = (
 pub is_into : (t : Ty) (s : State) (into : Option ℕ) → IsIntoOf t s into → IsInto s into
 is_into t s None h = tt
 is_into t s (Some r) h = h.0
-
--- a raw pointer, by both definitions
-pub raw_either : (t : Ty) → is_raw t ≡ true → shapes.is_raw t ≡ true
-raw_either (ty.Raw target constant) e = refl
-raw_either _ e = absurd (false≢true e)
 
 -- a pointer is aimed at nothing, or at a place that is there
 pub aimed_fills : (f : Function) (x n : ℕ) (source : Source) (k : List Known) → IsPointing (At source) n k → Fills f k (Aim (whole x) source) x
@@ -130,10 +124,10 @@ module _ (types : Types) (texts : ℕ) (fs : List Function) (f : Function) where
   pub target_number : (place : Place) (into : Option ℕ) (t : Ty) (s : State) → is_value t ≡ true → IsIntoOf t s into → Begins types f (target place into t s).state → is_number_of types f t (target place into t s).given ≡ true
   target_number place None t s v wanted b =
       number_there types f (length s.locals) (added place t s) t (b.locals (length s.locals) (added place t s) (last_there s.locals (added place t s))) refl
-      (b.table (added place t s).ty.0 t (type_added s.types.types t)) (value_either t v)
+      (b.table (added place t s).ty.0 t (type_added s.types.types t)) v
   target_number place (Some x) t s v wanted b =
       number_there types f x wanted.0.local t (b.locals x wanted.0.local wanted.0.there) wanted.0.kind
-      (b.table wanted.0.local.ty.0 t (wanted.0.typed ∙ ap Some wanted.1)) (value_either t v)
+      (b.table wanted.0.local.ty.0 t (wanted.0.typed ∙ ap Some wanted.1)) v
 
   pub computed_part : {A : Type 0} (P : G A) (x : A) (into : Option ℕ) (t : Ty) (place : Place) (step : ℕ → Step) (s : State) → is_value t ≡ true → IsIntoOf t s into → Computes P x t step
       → Part types texts fs f P x into s (computed into t place step s) (a_number types texts fs f t)
@@ -189,7 +183,7 @@ module _ (types : Types) (texts : ℕ) (fs : List Function) (f : Function) where
 
   -- .. from two of one type
 
-  operator_formed : (u : Ty) (o : Operator) (x y : ℕ) → is_promoted u ≡ true → operands.is_value (answer_of o u) ≡ true → is_number_of types f u x ≡ true → is_number_of types f u y ≡ true
+  operator_formed : (u : Ty) (o : Operator) (x y : ℕ) → is_promoted u ≡ true → is_value (answer_of o u) ≡ true → is_number_of types f u x ≡ true → is_number_of types f u y ≡ true
       → is_operation_of types texts fs f (answer_of o u) (operation.Binary o x y) ≡ true
   operator_formed u o x y p v one other =
       subst (λ (w : Ty). (is_promoted w && (is_number_of types f w x && (is_number_of types f w y && same_type w))) ≡ true) (number_typed types f u x one)
@@ -206,7 +200,7 @@ module _ (types : Types) (texts : ℕ) (fs : List Function) (f : Function) where
       (evaluates P x t (operation.Binary o x.0 x.1)
       (λ n k h. two_there k x.0 x.1 h.0.1 h.1.1)
       (λ h. subst (λ (a : Ty). is_operation_of types texts fs f a (operation.Binary o x.0 x.1) ≡ true) answers
-      (operator_formed u o x.0 x.1 p (value_either (answer_of o u) (ap is_value answers ∙ v)) h.0 h.1)))
+      (operator_formed u o x.0 x.1 p (ap is_value answers ∙ v) h.0 h.1)))
 
   -- .. from a place
 
@@ -280,7 +274,7 @@ module _ (types : Types) (texts : ℕ) (fs : List Function) (f : Function) where
 
   -- it is aimed at nothing, or at a place that it may be aimed at
   aimed_fine : (r : ℕ) (t : Ty) (source : Source) → is_raw t ≡ true → IsAt types texts fs f t (whole r) → IsGivenTo types texts fs f t (At source) → IsFineStep types texts fs f (Aim (whole r) source)
-  aimed_fine r t Null raw at h = record { plain = refl; formed = ap (λ (u : Ty). is_source_of types texts fs f u Null) at.typed ∙ raw_either t raw; served = refl }
+  aimed_fine r t Null raw at h = record { plain = refl; formed = ap (λ (u : Ty). is_source_of types texts fs f u Null) at.typed ∙ raw; served = refl }
   aimed_fine r t (Aimed o) raw at h = record { plain = refl; formed = ap (λ (u : Ty). is_source_of types texts fs f u (Aimed o)) at.typed ∙ h.fits; served = h.served }
   aimed_fine r t _ raw at h = absurd h
 

@@ -1,11 +1,12 @@
 -- The variable that is declared next: its kind and its type in the finished function, so it can live, and what it is given fits it.
 use Rattle.std.proofs.Common.{◌≡◌, ℕ, Bool, true, false, not, List, length, slice_get, Option, Some, refl, sym, ap, ◌∙◌}
 use Rattle.std.proofs.lemmas.Bool.{and_from, or_left, or_right}
+use Rattle.life_types.specs.TypeTests.{is_pointer, is_reference, is_value}
 use Rattle.life_types.specs.Types.{Types, class}
 use Rattle.life_types.specs.declared.ty.Ty.{Ty}
 use Rattle.life_types.specs.declared.ty.Ty.TheVariants as ty
 use Rattle.life_types.specs.declared.ty.TyId.{TyId}
-use Rattle.life_typed.specs.BaseTypes.{is_value, type_at}
+use Rattle.life_typed.specs.BaseTypes.{type_at}
 use Rattle.life_typed.specs.declared.typed_expr.ExprType.TheVariants.{Of}
 use Rattle.life_typed.specs.declared.typed_program.TypedLocal.{TypedLocal}
 use Rattle.life_core.specs.Function.{Function}
@@ -13,8 +14,7 @@ use Rattle.life_core.specs.Operands.{Operand, Place as Aimed, object_named, whol
 use Rattle.life_core.specs.Step.{Save}
 use Rattle.life_core.specs.declared.program.LocalKind.TheVariants.{Object}
 use Rattle.life_pset.specs.Shapes as shapes
-use Rattle.life_proper.specs.OperandTypes.{is_reference, keeps_const, same}
-use Rattle.life_proper.specs.OperandTypes as operands
+use Rattle.life_proper.specs.OperandTypes.{keeps_const, same}
 use Rattle.life_proper.specs.Placed.{is_const_place, is_number_of, object_at, register_at, type_in}
 use Rattle.life_proper.specs.Placed as placed
 use Rattle.life_proper.specs.WellFormed.{can_live, goes_to}
@@ -29,7 +29,7 @@ use Rattle.life_elab_laws.proofs.FormedVariables.{object_place, reference_there,
 use Rattle.life_elab_laws.proofs.Fronts.{IsFront, front_itself, last_there}
 use Rattle.life_elab_laws.proofs.Gifts.{IsAt, IsGivenAs, IsPlaceOf}
 use Rattle.life_elab_laws.proofs.Growing.{Begins}
-use Rattle.life_elab_laws.proofs.OperandsThere.{object_there, register_there, type_there, value_either, value_no_reference, value_same}
+use Rattle.life_elab_laws.proofs.OperandsThere.{object_there, register_there, type_there, value_no_reference, value_same}
 use Rattle.life_elab_laws.proofs.Shaping.{IsFineStep}
 use Rattle.life_elab_laws.proofs.Types.{value_kind}
 
@@ -42,7 +42,7 @@ module _ (a : Around) (types : Types) (texts : ℕ) (fs : List Function) (f : Fu
       record {
         fits =
             and_from (same (shapes.ty_of types target) (placed.type_of types f o)) (keeps_const constant (is_const_place types f o))
-            (ap (same (shapes.ty_of types target)) (place.typed ∙ sym later) ∙ value_same (shapes.ty_of types target) (ap operands.is_value later ∙ value_either (type_at a.program.types target) worth))
+            (ap (same (shapes.ty_of types target)) (place.typed ∙ sym later) ∙ value_same (shapes.ty_of types target) (ap is_value later ∙ worth))
             (keeps_further constant held (is_const_place types f o) kept place.held);
         served = place.served;
       }
@@ -62,7 +62,7 @@ module _ (a : Around) (types : Types) (texts : ℕ) (fs : List Function) (f : Fu
       type_declared : placed.type_at types f (length s.locals) ≡ type_at a.program.types v.ty
       type_declared =
           type_there types f (length s.locals) (variable_local a v) (type_at a.program.types v.ty) there (type_found a.program.types types front v.ty worth)
-          (value_no_reference (type_at a.program.types v.ty) (value_either (type_at a.program.types v.ty) worth))
+          (value_no_reference (type_at a.program.types v.ty) worth)
 
       pub value_lives : can_live types texts fs f (length s.locals) ≡ true
       value_lives = or_left (object_at types f (length s.locals)) _ object_declared
@@ -89,7 +89,7 @@ module _ (a : Around) (types : Types) (texts : ℕ) (fs : List Function) (f : Fu
       raw_lives =
           or_right (object_at types f (length s.locals)) _
           (and_from (register_at types f (length s.locals)) _ (register_there types f (length s.locals) (variable_local a v) there (ap (λ (o : Option Ty). kind (class o)) found))
-          (and_from (shapes.is_pointer (placed.type_at types f (length s.locals))) (not (is_reference (placed.type_at types f (length s.locals)))) (ap shapes.is_pointer raw_declared.typed) (ap (λ (t : Ty). not (is_reference t)) raw_declared.typed)))
+          (and_from (is_pointer (placed.type_at types f (length s.locals))) (not (is_reference (placed.type_at types f (length s.locals)))) (ap is_pointer raw_declared.typed) (ap (λ (t : Ty). not (is_reference t)) raw_declared.typed)))
 
     -- of a reference type
     module _ (target : TyId) (constant : Bool) (found : slice_get a.program.types.types v.ty.0 ≡ Some (ty.Reference target constant)) (worth : is_value (type_at a.program.types target) ≡ true) where

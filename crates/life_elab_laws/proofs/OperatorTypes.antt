@@ -1,9 +1,9 @@
 -- The type that an operator between two numbers answers, as the instruction has it.
 use Rattle.std.proofs.Common.{◌≡◌, Bool, true, false, ◌&&◌, cond, Some, refl, sym, ◌∙◌}
 use Rattle.std.proofs.lemmas.Bool.{false≢true}
+use Rattle.life_types.specs.TypeTests.{is_iterator, is_text, is_value}
 use Rattle.life_types.specs.declared.ty.Ty.{Ty}
 use Rattle.life_types.specs.declared.ty.Ty.TheVariants as ty
-use Rattle.life_typed.specs.BaseTypes.{is_iterator, is_text, is_value}
 use Rattle.life_typed.specs.Operators.{added_types, answer, are_equated, arithmetic, promoted, subtracted_types}
 use Rattle.life_typed.specs.declared.typed_expr.BinaryOperator.{BinaryOperator}
 use Rattle.life_typed.specs.declared.typed_expr.BinaryOperator.TheVariants as operator

@@ -1,6 +1,7 @@
 -- Output: a number, or the end of a line, which is the last text.
 use Rattle.std.proofs.Common.{◌≡◌, ℕ, true, List, [], ◌∷◌, length, nat_lt, None, refl, ap, ◌∙◌}
 use Rattle.std.proofs.lemmas.Bool.{and_from}
+use Rattle.life_types.specs.TypeTests.{is_view}
 use Rattle.life_types.specs.Types.{Types}
 use Rattle.life_types.specs.declared.place.Place.{Place}
 use Rattle.life_types.specs.declared.ty.Ty.{Ty}
@@ -11,7 +12,6 @@ use Rattle.life_typed.specs.TypedStatement.{ItemForm, line_end, printed}
 use Rattle.life_core.specs.Function.{Function}
 use Rattle.life_core.specs.Operands.{Text, whole as whole_local}
 use Rattle.life_core.specs.Step.{Aim, Ports, Writes, WritesView}
-use Rattle.life_proper.specs.OperandTypes.{is_view}
 use Rattle.life_proper.specs.Placed.{type_in}
 use Rattle.life_proper.specs.WellFormed.{is_source_of}
 use Rattle.life_well_typed.specs.Given.{is_number}

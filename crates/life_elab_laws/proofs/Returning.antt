@@ -2,16 +2,16 @@
 use Rattle.std.proofs.Common.{◌≡◌, Bool, true, false, ◌||◌, ℕ, List, [], ◌∷◌, ◌++◌, drop, reverse, take, Option, Some, None, refl, sym, ap, ◌∙◌, subst, append_assoc}
 use Rattle.std.proofs.lemmas.Bool.{and_from, false≢true}
 use Rattle.std.proofs.lemmas.Option.{none-some, same_Some}
+use Rattle.life_types.specs.TypeTests.{is_value, is_void}
 use Rattle.life_types.specs.Types.{Types}
 use Rattle.life_types.specs.declared.place.Place.{Place}
 use Rattle.life_types.specs.declared.ty.Class.{Class}
 use Rattle.life_types.specs.declared.ty.NameId.{NameId}
 use Rattle.life_types.specs.declared.ty.Ty.{Ty}
 use Rattle.life_types.specs.declared.ty.Ty.TheVariants as ty
-use Rattle.life_built.specs.Built.{is_built_expression, is_built_if_any, is_void}
-use Rattle.life_typed.specs.BaseTypes.{is_value, type_at}
+use Rattle.life_built.specs.Built.{is_built_expression, is_built_if_any}
+use Rattle.life_typed.specs.BaseTypes.{type_at}
 use Rattle.life_typed.specs.TypedForm.{Typed, whole as whole_form}
-use Rattle.life_type_stmt.specs.Returns as typing
 use Rattle.life_core.specs.Function.{Function}
 use Rattle.life_core.specs.Touched.{nothing, result_uses}
 use Rattle.life_core.specs.Tree.{Tree, Breaks, Continues, Return, Returns, trees}
@@ -45,8 +45,8 @@ use Rattle.life_elab_laws.proofs.Setting.{Setting}
 use Rattle.life_elab_laws.proofs.Values.{by_results}
 use Rattle.life_elab_laws.proofs.WrittenLocals.{locals_added}
 
-pub not_void : (t : Ty) → (is_void t || is_value t) ≡ true → typing.is_void t ≡ false → is_value t ≡ true
-not_void = by_results (λ t. typing.is_void t ≡ false → is_value t ≡ true) (λ e. absurd (false≢true (sym e))) (λ t v e. v)
+pub not_void : (t : Ty) → (is_void t || is_value t) ≡ true → is_void t ≡ false → is_value t ≡ true
+not_void = by_results (λ t. is_void t ≡ false → is_value t ≡ true) (λ e. absurd (false≢true (sym e))) (λ t v e. v)
 
 module _ (a : Around) (types : Types) (texts : ℕ) (fs : List Function) (f : Function) (setting : Setting a types fs f) (v : Visible) (in_loop : Bool) where
   -- a value that is given back may be left unwritten
@@ -189,7 +189,7 @@ module _ (a : Around) (types : Types) (texts : ℕ) (fs : List Function) (f : Fu
             level = left_level types texts fs f w.state 0 keyword (Returns keyword) ∙ made.grown.living;
           }
 
-    no_value : (x : Ty) → typing.is_void x ≡ true → is_value x ≡ false
+    no_value : (x : Ty) → is_void x ≡ true → is_value x ≡ false
     no_value ty.Void e = refl
     no_value _ e = absurd (false≢true e)
 

@@ -2,11 +2,11 @@
 use Rattle.std.proofs.Common.{◌≡◌, ℕ, zero, suc, Bool, true, false, ◌||◌, not, List, [], ◌∷◌, slice_get, Option, Some, refl, ap, ◌∙◌}
 use Rattle.std.proofs.lemmas.Bool.{and_from, false≢true}
 use Rattle.std.specs.List.{list_all}
+use Rattle.life_types.specs.TypeTests.{is_value}
 use Rattle.life_types.specs.Types.{Types, class, class_at, is_slot_at, is_slot_type}
 use Rattle.life_types.specs.declared.ty.Ty.{Ty}
 use Rattle.life_types.specs.declared.ty.Ty.TheVariants as ty
 use Rattle.life_built.specs.Built.{is_pointing}
-use Rattle.life_typed.specs.BaseTypes.{is_value}
 use Rattle.life_core.specs.Holdings.{held_by, held_if}
 use Rattle.life_core.specs.Served.{is_served_as, is_served_local}
 use Rattle.life_core.specs.declared.program.Local.{Local}

@@ -1,16 +1,16 @@
 -- Where a function is written: in a program that is built, whose core functions take and give what they should.
 use Rattle.std.proofs.Common.{◌≡◌, ℕ, true, false, List, None, Some, slice_get}
+use Rattle.life_types.specs.TypeTests.{is_value, is_void}
 use Rattle.life_types.specs.Types.{Types, class_at}
 use Rattle.life_types.specs.declared.ty.Class.TheVariants.{Value}
 use Rattle.life_types.specs.declared.ty.Ty.{Ty}
 use Rattle.life_types.specs.declared.ty.TyId.{TyId}
 use Rattle.life_built.specs.Built.{are_built_functions, are_built_variables, is_built_result}
-use Rattle.life_typed.specs.BaseTypes.{is_value, type_at}
+use Rattle.life_typed.specs.BaseTypes.{type_at}
 use Rattle.life_typed.specs.Programs.{FunctionForm}
 use Rattle.life_core.specs.Function.{Function}
 use Rattle.life_core.specs.declared.program.Local.{Local}
 use Rattle.life_pset.specs.Shapes.{ty_of}
-use Rattle.life_proper.specs.OperandTypes.{is_void}
 use Rattle.life_well_typed.specs.Expressions.{parameter_types}
 use Rattle.life_writer.specs.Around.{Around}
 use Rattle.life_elab_laws.proofs.Calls.{IsCallee}

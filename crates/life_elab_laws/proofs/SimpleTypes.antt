@@ -1,6 +1,7 @@
 -- What is assigned, stepped, computed back and printed, by its type.
 use Rattle.std.proofs.Common.{◌≡◌, Bool, true, false, ◌&&◌, refl, sym, ap, ◌∙◌, true≢false, not, subst}
 use Rattle.std.proofs.lemmas.Bool.{and_parts, false≢true}
+use Rattle.life_types.specs.TypeTests.{is_iterator, is_raw, is_text, is_value}
 use Rattle.life_types.specs.Types.{Types}
 use Rattle.life_types.specs.declared.ty.Ty.{Ty}
 use Rattle.life_types.specs.declared.ty.Ty.TheVariants as ty
@@ -9,7 +10,7 @@ use Rattle.life_tree.specs.declared.operator.CompoundOperator.{CompoundOperator}
 use Rattle.life_tree.specs.declared.operator.CompoundOperator.TheVariants as compound_by
 use Rattle.life_tree.specs.declared.operator.StepOperator.{StepOperator}
 use Rattle.life_tree.specs.declared.operator.StepOperator.TheVariants as step
-use Rattle.life_typed.specs.BaseTypes.{is_iterator, is_raw, is_text, is_value, type_at}
+use Rattle.life_typed.specs.BaseTypes.{type_at}
 use Rattle.life_typed.specs.Statements.{can_step, compounded, counted, fitting_where, is_printed}
 use Rattle.life_typed.specs.TypedForm.{Typed}
 use Rattle.life_typed.specs.declared.typed_expr.Category.{Category}

@@ -2,6 +2,7 @@
 use Rattle.std.proofs.Common.{◌≡◌, ◌⊎◌, inl, inr, ℕ, Bool, true, false, List, [], ◌∷◌, Contains, cond, not, Option, Some, None, refl, sym, ap, ◌∙◌, subst, arith}
 use Rattle.std.proofs.lemmas.Bool.{and_from, and_parts, false≢true}
 use Rattle.std.specs.Prelude.{pos}
+use Rattle.life_types.specs.TypeTests.{is_raw, is_value}
 use Rattle.life_types.specs.Types.{Types}
 use Rattle.life_types.specs.declared.place.Place.{Place}
 use Rattle.life_types.specs.declared.ty.Ty.{Ty}
@@ -10,7 +11,7 @@ use Rattle.life_types.specs.declared.ty.TyId.{TyId}
 use Rattle.life_tree.specs.declared.operator.CompoundOperator.{CompoundOperator}
 use Rattle.life_tree.specs.declared.operator.StepOperator.{StepOperator}
 use Rattle.life_built.specs.Built.{is_built_expression, is_built_simple}
-use Rattle.life_typed.specs.BaseTypes.{is_raw, is_value, type_at}
+use Rattle.life_typed.specs.BaseTypes.{type_at}
 use Rattle.life_typed.specs.Operators.{promoted}
 use Rattle.life_typed.specs.Statements.{can_step, compounded}
 use Rattle.life_typed.specs.TypedForm.{Typed, whole as whole_form}

@@ -2,13 +2,14 @@
 use Rattle.std.proofs.Common.{◌≡◌, Bool, true, false, ◌&&◌, ◌||◌, cond, Option, Some, None, Result, Ok, Err, refl, sym, ap, ◌∙◌, subst, true≢false}
 use Rattle.std.proofs.lemmas.Bool.{and_parts, false≢true}
 use Rattle.std.proofs.lemmas.Option.{cond_some}
+use Rattle.life_types.specs.TypeTests.{is_iterator, is_raw, is_text, is_unique, is_value, is_view, is_void}
 use Rattle.life_types.specs.Types.{Types}
 use Rattle.life_types.specs.declared.place.Place.{Place}
 use Rattle.life_types.specs.declared.ty.Ty.{Ty}
 use Rattle.life_types.specs.declared.ty.Ty.TheVariants as ty
 use Rattle.life_types.specs.declared.ty.TyId.{TyId}
-use Rattle.life_built.specs.Built.{is_pointing, is_void}
-use Rattle.life_typed.specs.BaseTypes.{is_iterator, is_raw, is_text, is_unique, is_value, is_view, type_at}
+use Rattle.life_built.specs.Built.{is_pointing}
+use Rattle.life_typed.specs.BaseTypes.{type_at}
 use Rattle.life_typed.specs.Operators.{added, answer, answered, are_equated, are_iterators_of_one, arithmetic, equated, given, is_condition, is_nullable, is_text_like, joined_conditions, misfit, multiplied, ordered, promoted, subtracted}
 use Rattle.life_typed.specs.TypedForm.{Form, Typed}
 use Rattle.life_typed.specs.declared.typed_expr.BinaryOperator.{BinaryOperator}

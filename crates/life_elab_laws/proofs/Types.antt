@@ -2,6 +2,7 @@
 use Rattle.std.proofs.Common.{◌≡◌, Bool, true, false, List, [], ◌∷◌, ◌++◌, if◌then◌else◌, slice_get, Some, refl, sym, ap, rules}
 use Rattle.std.specs.List.{list_any}
 use Rattle.std.proofs.lemmas.Bool.{false≢true}
+use Rattle.life_types.specs.TypeTests.{is_value}
 use Rattle.life_types.specs.Types.{class, with_type}
 use Rattle.life_types.specs.contracts.ty.TyPartialEq.TheImpl.{ghosts as compared}
 use Rattle.life_types.specs.declared.ty.Class.{Class}
@@ -9,7 +10,6 @@ use Rattle.life_types.specs.declared.ty.Class.TheVariants.{Value}
 use Rattle.life_types.specs.declared.ty.Ty.{Ty}
 use Rattle.life_core.specs.Holdings.{AnObject, held_if}
 use Rattle.life_core.specs.declared.program.LocalKind.TheVariants.{Object}
-use Rattle.life_typed.specs.BaseTypes.{is_value}
 use Rattle.life_writer.specs.Registers.{number_of}
 use Rattle.life_writer.specs.Variables.{kind}
 use Rattle.life_elab_laws.proofs.Fronts.{IsFront, front_append, front_itself}

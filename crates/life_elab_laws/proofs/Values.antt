@@ -1,10 +1,9 @@
 -- What holds of each of the five types of values holds of a value.
 use Rattle.std.proofs.Common.{◌≡◌, true, ◌||◌}
 use Rattle.std.proofs.lemmas.Bool.{false≢true}
+use Rattle.life_types.specs.TypeTests.{is_value, is_void}
 use Rattle.life_types.specs.declared.ty.Ty.{Ty}
 use Rattle.life_types.specs.declared.ty.Ty.TheVariants as ty
-use Rattle.life_built.specs.Built.{is_void}
-use Rattle.life_typed.specs.BaseTypes.{is_value}
 
 pub by_values : (P : Ty → Type 0) → P ty.Bool → P ty.Char → P ty.Int → P ty.Long → P ty.Size → (t : Ty) → is_value t ≡ true → P t
 by_values P bool char int long size ty.Bool v = bool

@@ -2,15 +2,15 @@
 -- written, but for the int of main.
 use Rattle.std.proofs.Common.{◌≡◌, ℕ, Bool, true, false, ◌||◌, List, slice_get, Some, None, refl, sym, ap, ◌∙◌, subst}
 use Rattle.std.proofs.lemmas.Bool.{false≢true}
+use Rattle.life_types.specs.TypeTests.{is_value, is_void}
 use Rattle.life_types.specs.declared.ty.NameId.{NameId}
 use Rattle.life_types.specs.declared.ty.Ty.{Ty}
 use Rattle.life_types.specs.declared.ty.Ty.TheVariants as ty
-use Rattle.life_built.specs.Built.{are_built_functions, is_built, is_void}
-use Rattle.life_typed.specs.BaseTypes.{is_value, type_at}
+use Rattle.life_built.specs.Built.{are_built_functions, is_built}
+use Rattle.life_typed.specs.BaseTypes.{type_at}
 use Rattle.life_typed.specs.Ends.{ends}
 use Rattle.life_typed.specs.Programs.{FunctionForm, ProgramForm, is_main}
 use Rattle.life_type_stmt.specs.Bodies.{return_fault}
-use Rattle.life_type_stmt.specs.Returns as typing
 use Rattle.life_core.specs.Function.{Function}
 use Rattle.life_proper.specs.ResultsWritten.{HasResultWritten, HaveResultsWritten, WritesResults, is_written_by, writes_result}
 use Rattle.life_proper.proofs.ResultsFound.{results_found}
@@ -26,18 +26,18 @@ use Rattle.life_elab_laws.proofs.Values.{by_results, by_values}
 
 -- ---- what must be written is a value, and control doesn't run past the end
 
-value_of : (t : Ty) → (is_void t || is_value t) ≡ true → is_written_by false (Some t) ≡ true → (is_value t ≡ true) × (typing.is_void t ≡ false)
-value_of = by_results (λ t. is_written_by false (Some t) ≡ true → (is_value t ≡ true) × (typing.is_void t ≡ false)) (λ w. absurd (false≢true w)) (λ t v w. (v, by_values (λ u. typing.is_void u ≡ false) refl refl refl refl refl t v))
+value_of : (t : Ty) → (is_void t || is_value t) ≡ true → is_written_by false (Some t) ≡ true → (is_value t ≡ true) × (is_void t ≡ false)
+value_of = by_results (λ t. is_written_by false (Some t) ≡ true → (is_value t ≡ true) × (is_void t ≡ false)) (λ w. absurd (false≢true w)) (λ t v w. (v, by_values (λ u. is_void u ≡ false) refl refl refl refl refl t v))
 
 no_fault : (void over : Bool) → void ≡ false → return_fault false void over ≡ None → over ≡ true
 no_fault true over v e = absurd (false≢true (sym v))
 no_fault false true v e = refl
 no_fault false false v e = absurd (none_some (sym e))
 
-needs : (main : Bool) (t : Ty) (over : Bool) → (is_void t || is_value t) ≡ true → (main ≡ true → t ≡ ty.Int) → return_fault main (typing.is_void t) over ≡ None → is_written_by main (Some t) ≡ true
+needs : (main : Bool) (t : Ty) (over : Bool) → (is_void t || is_value t) ≡ true → (main ≡ true → t ≡ ty.Int) → return_fault main (is_void t) over ≡ None → is_written_by main (Some t) ≡ true
     → (is_value t ≡ true) × (over ≡ true)
 needs true t over b int e w = absurd (false≢true (subst (λ (u : Ty). is_written_by true (Some u) ≡ true) (int refl) w))
-needs false t over b int e w = let v = value_of t b w in (v.0, no_fault (typing.is_void t) over v.1 e)
+needs false t over b int e w = let v = value_of t b w in (v.0, no_fault (is_void t) over v.1 e)
 
 int_at : (p : ProgramForm) (fs : List FunctionForm) (n : ℕ) (f : FunctionForm) → HaveIntMains p.names p.types fs → slice_get fs n ≡ Some f → is_main p.names f.name ≡ true → type_at p.types f.result ≡ ty.Int
 int_at p = each_at (λ (f : FunctionForm). is_main p.names f.name ≡ true → type_at p.types f.result ≡ ty.Int) (HaveIntMains p.names p.types) (λ f fs h. h)

@@ -1,25 +1,14 @@
 -- Tests of the types that operands of core instructions have: what is a number, what a pointer takes from another one, what has elements, and what stands
 -- where. A type that isn't there counts as void, which no operand has.
 use Rattle.std.specs.Prelude.{Bool, true, false, ◌&&◌, ◌||◌, not}
+use Rattle.life_types.specs.TypeTests.{is_constant, is_pointer, is_value, is_view, is_void}
 use Rattle.life_types.specs.Types.{Types}
 use Rattle.life_types.specs.contracts.ty.TyPartialEq.TheImpl.{ghosts as compared}
 use Rattle.life_types.specs.declared.ty.Ty.{Ty}
 use Rattle.life_types.specs.declared.ty.Ty.TheVariants as ty
-use Rattle.life_pset.specs.Shapes.{is_constant, is_pointer, ty_of}
+use Rattle.life_pset.specs.Shapes.{ty_of}
 
 -- ---- values
-
-abbrev pub is_void : Ty → Bool
-is_void ty.Void = true
-is_void _ = false
-
-abbrev pub is_value : Ty → Bool
-is_value ty.Bool = true
-is_value ty.Char = true
-is_value ty.Int = true
-is_value ty.Long = true
-is_value ty.Size = true
-is_value _ = false
 
 -- what operators compute in: the types that the others are promoted to (ISO/IEC 14882:2017 [conv.prom])
 abbrev pub is_promoted : Ty → Bool
@@ -44,18 +33,6 @@ same ty.Void u = false
 same t u = compared.eq t u
 
 -- ---- pointers
-
-abbrev pub is_reference : Ty → Bool
-is_reference (ty.Reference target constant) = true
-is_reference _ = false
-
-abbrev pub is_iterator : Ty → Bool
-is_iterator (ty.Iterator target constant) = true
-is_iterator _ = false
-
-abbrev pub is_view : Ty → Bool
-is_view ty.View = true
-is_view _ = false
 
 -- a span or a view
 abbrev pub is_range : Ty → Bool

@@ -2,6 +2,7 @@
 use Rattle.std.specs.Prelude.{◌≡◌, ℕ, ◌+◌, Bool, true, false, ◌&&◌, ◌||◌, not, nat_eq, nat_le, nat_lt, is_none, is_some, length, List, [], ◌∷◌, Option, Some, None, slice_get}
 use Rattle.std.specs.List.{list_all, list_any}
 use Rattle.life_types.specs.Trees.{IsOrdered, TypeTree, Void, Vector, Unique, Raw, Reference, Iterator, Span, Member, is_plain, tree_at}
+use Rattle.life_types.specs.TypeTests.{is_pointer, is_value, is_void}
 use Rattle.life_types.specs.Types.{Types}
 use Rattle.life_types.specs.declared.ty.NameId.{NameId}
 use Rattle.life_types.specs.declared.ty.Ty.{Ty}
@@ -12,8 +13,8 @@ use Rattle.life_core.specs.declared.program.LocalKind.{LocalKind}
 use Rattle.life_core.specs.declared.program.LocalKind.TheVariants.{Object, Register, Range}
 use Rattle.life_core.specs.Function.{Function, Program, Promise, Default, Listed}
 use Rattle.life_core.specs.Kinds.{is_register}
-use Rattle.life_pset.specs.Shapes.{is_pointer, shape, ty_of}
-use Rattle.life_proper.specs.OperandTypes.{is_composed, is_value, is_void}
+use Rattle.life_pset.specs.Shapes.{shape, ty_of}
+use Rattle.life_proper.specs.OperandTypes.{is_composed}
 use Rattle.life_proper.specs.WellFormed.{is_well_formed_tree}
 
 -- ---- types that may stand

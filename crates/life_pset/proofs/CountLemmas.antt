@@ -1,24 +1,30 @@
 -- What is counted is as much as what is listed.
-use Rattle.std.proofs.Common.{◌≡◌, ◌↔◌, ℕ, ◌+◌, ◌-◌, ◌<◌, ◌≤◌, Bool, true, false, refl, ap, arith, List, [], ◌∷◌, ◌++◌, length, map}
+use Rattle.std.proofs.Common.{◌≡◌, ◌∙◌, ◌↔◌, ℕ, ◌+◌, ◌-◌, ◌≤◌, Bool, true, false, refl, sym, ap, arith, List, [], ◌∷◌, ◌++◌, Option, Some, None, length, map, slice_get}
 use Rattle.std.specs.Prelude.{IsTrue, if◌then◌else◌, nat_lt}
 use Rattle.std.specs.List.{flat_map}
 use Rattle.std.proofs.lemmas.Bool.{and_parts}
 use Rattle.std.proofs.lemmas.Bool.Decides.{Decides-ltb}
+use Rattle.std.proofs.lemmas.Grind.{flat_map-append}
 use Rattle.std.proofs.lemmas.List.{length-append, length-map}
-use Rattle.life_types.specs.Trees.{TypeTree, Void, Boolean, Character, Int, Long, Size, Text, View, Vector, Unique, Raw, Reference, Iterator, Span, Member, NoMember, is_plain, struct_of, tree_at}
+use Rattle.life_types.specs.declared.place.Place.{Place}
+use Rattle.life_types.specs.Trees.{TypeTree, View, Vector, Unique, Raw, Reference, Iterator, Span, Member, is_plain, struct_of, tree_at}
 use Rattle.life_types.specs.Types.{Types}
 use Rattle.life_types.specs.declared.ty.TyId.{TyId}
 use Rattle.life_core.specs.Function.{Function}
+use Rattle.life_core.specs.Step.{Step, End}
+use Rattle.life_core.specs.Tree.{Tree, Skip, Then, Acts, Asks, Both, Either, Negated, Choice, Turns, Breaks, Continues, Returns, Stops, Spot, spots}
+use Rattle.life_core.proofs.SpotLemmas.{code_spots}
 use Rattle.life_core.specs.declared.program.Local.{Local}
 use Rattle.life_core.specs.declared.program.LocalKind.{LocalKind}
 use Rattle.life_core.specs.declared.program.LocalKind.TheVariants.{Object, Register, Range}
-use Rattle.life_pset.specs.Counts.{input_place_count, input_place_count_from, location_count, location_count_from, member_place_count, member_pointer_count, object_place_count, object_place_count_from, place_count, pointer_count}
-use Rattle.life_pset.specs.Elements.{Input, caused_elements, elements_of, input_places, inputs_from, inputs_of, local_inputs, local_locations, local_place, locations_from, locations_in, locations_of, object_places, objects_from, places_from, places_in, pointers_from, pointers_in}
+use Rattle.life_pset.specs.Counts.{caused_count, end_count, end_if_count, ends_count, input_place_count, input_place_count_from, location_count, location_count_from, member_place_count, member_pointer_count, object_place_count, object_place_count_from, place_count, pointer_count, step_count}
+use Rattle.life_pset.specs.Elements.{Input, caused_elements, elements_of, end_causes, end_elements, end_if, ended_local, input_places, inputs_from, inputs_of, local_inputs, local_locations, local_place, locations_from, locations_in, object_places, objects_from, places_from, places_in, pointers_from, pointers_in, step_elements}
+use Rattle.life_pset.specs.Causes.{spot_elements}
 use Rattle.life_pset.specs.Places.{member_place, owned_place, root_place}
 use Rattle.life_pset.specs.Shapes.{is_variable, shape, target_type, tree_if, ty_of}
 use Rattle.life_pset.specs.declared.element.AbsPlace.{AbsPlace}
-use Rattle.life_pset.specs.declared.element.Element.{Element}
-use Rattle.life_pset.specs.declared.element.Element.TheVariants.{At}
+use Rattle.life_pset.specs.declared.element.Element.TheVariants.{At, Invalid}
+use Rattle.life_pset.proofs.CandidateLemmas.{caused_of_spots}
 
 -- ---- locations
 
@@ -135,6 +141,52 @@ all_inputs_counted types n x [] = refl
 all_inputs_counted types n x (l ∷ ls) =
     omega (arith, input_places_append types (local_inputs types n x l) (inputs_from types n (x + 1) ls), all_inputs_counted types n (x + 1) ls)
 
+-- ---- elements with causes
+
+end_if_counted : (place : Place) (x : ℕ) (l : Local) (kind : LocalKind) → length (map Invalid (end_if kind (ended_local place x l))) ≡ end_if_count kind
+end_if_counted place x l Object = refl
+end_if_counted place x l Register = refl
+end_if_counted place x l Range = refl
+
+end_counted : (place : Place) (x : ℕ) (local : Option Local) → length (map Invalid (end_causes place x local)) ≡ end_count local
+end_counted place x None = refl
+end_counted place x (Some l) = end_if_counted place x l l.kind
+
+ends_counted : (f : Function) (place : Place) (xs : List ℕ) → length (flat_map (end_elements f place) xs) ≡ ends_count f xs
+ends_counted f place [] = refl
+ends_counted f place (x ∷ xs) =
+    omega (arith, length-append (end_elements f place x) (flat_map (end_elements f place) xs), end_counted place x (slice_get f.locals x), ends_counted f place xs)
+
+step_counted : (f : Function) (place : Place) (s : Step) → length (step_elements f place s) ≡ step_count f s
+step_counted f place (End xs) = ends_counted f place xs
+step_counted f place _ = refl
+
+-- the elements of points are as many as those of two parts of them
+two_counted : (f : Function) (xs ys : List Spot) (m n : ℕ) → length (flat_map (spot_elements f) xs) ≡ m → length (flat_map (spot_elements f) ys) ≡ n
+    → length (flat_map (spot_elements f) (xs ++ ys)) ≡ m + n
+two_counted f xs ys m n p q =
+    omega (arith, ap length (flat_map-append (spot_elements f) xs ys), length-append (flat_map (spot_elements f) xs) (flat_map (spot_elements f) ys), p, q)
+
+spots_counted : (f : Function) (t : Tree) → length (flat_map (spot_elements f) (spots t)) ≡ caused_count f t
+spots_counted f Skip = refl
+spots_counted f (Then a b) = two_counted f (spots a) (spots b) _ _ (spots_counted f a) (spots_counted f b)
+spots_counted f (Acts place i) = omega (arith, length-append (step_elements f place i) [], step_counted f place i)
+spots_counted f (Asks place t) = refl
+spots_counted f (Both a b) = two_counted f (spots a) (spots b) _ _ (spots_counted f a) (spots_counted f b)
+spots_counted f (Either a b) = two_counted f (spots a) (spots b) _ _ (spots_counted f a) (spots_counted f b)
+spots_counted f (Negated a) = spots_counted f a
+spots_counted f (Choice t a b) = two_counted f (spots t) (spots a ++ spots b) _ _ (spots_counted f t) (two_counted f (spots a) (spots b) _ _ (spots_counted f a) (spots_counted f b))
+spots_counted f (Turns t a b) = two_counted f (spots t) (spots a ++ spots b) _ _ (spots_counted f t) (two_counted f (spots a) (spots b) _ _ (spots_counted f a) (spots_counted f b))
+spots_counted f Breaks = refl
+spots_counted f Continues = refl
+spots_counted f (Returns place) = refl
+spots_counted f (Stops place) = refl
+
+pub caused_counted : (f : Function) → length (caused_elements f) ≡ caused_count f f.body
+caused_counted f = ap length (sym (caused_of_spots f (spots f.body) (sym (code_spots f)))) ∙ spots_counted f f.body
+
+-- ---- elements
+
 -- the elements are three, the places, and what has a cause
 pub elements_counted : (types : Types) (f : Function)
     → length (elements_of types f) ≡ 3 + (object_place_count_from types f.parameters 0 f.locals + (input_place_count_from types f.parameters 0 f.locals + length (caused_elements f)))
@@ -162,14 +214,14 @@ pub no_room : (a : ℕ) → 0 ≡ 0 - a
 no_room a = omega arith
 
 -- what is left says whether there are few elements
-pub few_elements_if : (types : Types) (f : Function) (room after first : ℕ) (ls ms : List Local) (caused : List Element) → caused ≡ caused_elements f → ls ≡ f.locals → ms ≡ f.locals
-    → first ≡ 2046 - length caused → after ≡ first - object_place_count_from types f.parameters 0 ls → room ≡ after - input_place_count_from types f.parameters 0 ms
+pub few_elements_if : (types : Types) (f : Function) (room after first : ℕ) (ls ms : List Local) → ls ≡ f.locals → ms ≡ f.locals
+    → first ≡ 2046 - caused_count f f.body → after ≡ first - object_place_count_from types f.parameters 0 ls → room ≡ after - input_place_count_from types f.parameters 0 ms
     → IsTrue (nat_lt 0 room) ↔ (length (elements_of types f) ≤ 2048)
-few_elements_if types f room after first ls ms caused is same again starts objects inputs =
+few_elements_if types f room after first ls ms same again starts objects inputs =
     let tells = Decides-ltb 0 room in
     let o = ap (object_place_count_from types f.parameters 0) same in
     let i = ap (input_place_count_from types f.parameters 0) again in
-    let c = ap (λ (es : List Element). length es) is in (
+    let c = caused_counted f in (
       λ some. omega (arith, tells.0 some, elements_counted types f, starts, objects, inputs, o, i, c),
       λ few. tells.1 (omega (arith, few, elements_counted types f, starts, objects, inputs, o, i, c)),
     )

@@ -1,5 +1,5 @@
 -- The types of a function's locals, and of their parts.
-use Rattle.std.specs.Prelude.{ℕ, Bool, true, false, ◌&&◌, if◌then◌else◌, nat_eq, nat_lt, List, [], ◌∷◌, Option, Some, None, slice_get}
+use Rattle.std.specs.Prelude.{ℕ, Bool, true, false, ◌&&◌, nat_eq, nat_lt, List, [], ◌∷◌, Option, Some, None, slice_get}
 use Rattle.life_types.specs.Trees.{TypeTree, Void as NoType, members_at, tree_at}
 use Rattle.life_types.specs.Types.{Types}
 use Rattle.life_types.specs.declared.ty.Ty.{Ty}
@@ -33,32 +33,6 @@ ty_if types (Some id) = ty_of types id
 abbrev pub tree_if : Types → Option TyId → TypeTree
 tree_if types None = NoType
 tree_if types (Some id) = tree_at types id
-
-abbrev pub is_pointer : Ty → Bool
-is_pointer ty.View = true
-is_pointer (ty.Raw target constant) = true
-is_pointer (ty.Reference target constant) = true
-is_pointer (ty.Iterator target constant) = true
-is_pointer (ty.Span target constant) = true
-is_pointer _ = false
-
--- what it points to is const: for a view it always is
-abbrev pub is_constant : Ty → Bool
-is_constant ty.View = true
-is_constant (ty.Raw target constant) = constant
-is_constant (ty.Reference target constant) = constant
-is_constant (ty.Iterator target constant) = constant
-is_constant (ty.Span target constant) = constant
-is_constant _ = false
-
--- of the pointers only a raw one may be null
-abbrev pub is_raw : Ty → Bool
-is_raw (ty.Raw target constant) = true
-is_raw _ = false
-
-abbrev pub is_unique : Ty → Bool
-is_unique (ty.Unique target) = true
-is_unique _ = false
 
 -- a vector or a string: it owns a buffer
 abbrev pub has_buffer : Ty → Bool

@@ -8,7 +8,7 @@ ghost use Rattle.life_pset.specs.Elements.{elements_of, local_inputs, locations_
 ghost use Rattle.life_pset.specs.Inputs.{input_seen};
 ghost use Rattle.life_pset.specs.Shapes.{tree_if};
 
-use crate::element_list::caused_elements;
+use crate::caused_count::room_after_caused;
 use crate::input_list::{InputPointer, push_local_inputs};
 use crate::limits::{ELEMENT_LIMIT, LOCATION_LIMIT};
 use crate::shape::{is_variable, members_of, shape_if, target_type, ty_at};
@@ -90,8 +90,7 @@ fn room_after_pointers(types: &TypeTable, id: TyId, room: usize) -> usize
 pub fn has_few_elements(alloc: Global, f: &CoreFn, types: &TypeTable) -> Result<bool, NoMemory>
     ensures { IfOk result (λ few. IsTrue few ↔ length (elements_of types.now (function_of f.now)) ≤ 2048) }
 {
-    let caused = caused_elements(alloc, f)?;
-    let room = (ELEMENT_LIMIT + 1 - ALWAYS).saturating_sub(caused.len());
+    let room = room_after_caused(&f.body, f, ELEMENT_LIMIT + 1 - ALWAYS);
     let room = room_after_objects(types, f.parameters, &f.locals, room);
     let room = room_after_all_inputs(alloc, types, f.parameters, &f.locals, room)?;
     Ok(room > 0)

@@ -6,7 +6,7 @@ ghost use Rattle.life_core.specs.Function.{function_of};
 ghost use Rattle.life_core.specs.Node.{spot_seen};
 ghost use Rattle.life_core.specs.Operands.{operand_of};
 ghost use Rattle.life_core.specs.Step.{step_of};
-ghost use Rattle.life_pset.specs.Causes.{spot_elements};
+ghost use Rattle.life_pset.specs.Causes.{spot_elements, AreSpotsOf};
 ghost use Rattle.life_pset.specs.Elements.{caused_elements, changed_in, elements_of, end_causes, end_elements, end_if, input_places, inputs_of, moved, objects_from, step_elements};
 
 use crate::cause::{called, changed, changed_in, ended, moved, uninitialised};
@@ -25,13 +25,27 @@ pub fn elements(alloc: Global, f: &CoreFn, types: &TypeTable) -> Result<Vec<Elem
     requires { length f.now.locals.items < 2 ^ 32 }
     ensures { IfOk result (λ all. all.items ≡ elements_of types.now (function_of f.now)) }
 {
+    let spots = spots(alloc, f)?;
+    elements_of(alloc, f, types, &spots)
+}
+
+/// As `elements`, for a function whose points are listed already.
+pub(crate) fn elements_of(
+    alloc: Global,
+    f: &CoreFn,
+    types: &TypeTable,
+    spots: &[SpotRef],
+) -> Result<Vec<Element>, NoMemory>
+    requires locals { length f.now.locals.items < 2 ^ 32 }
+    requires spots { AreSpotsOf (function_of f.now) spots.now }
+    ensures { IfOk result (λ all. all.items ≡ elements_of types.now (function_of f.now)) }
+{
     let mut all = vec![in alloc; Element::Null, Element::Own, Element::Static]?;
     let objects = object_places(alloc, f, types)?;
     push_at(&objects, &mut all)?;
     let behind = places_behind_inputs(alloc, f, types)?;
     push_at(&behind, &mut all)?;
-    let caused = caused_elements(alloc, f)?;
-    push_elements(&caused, &mut all)?;
+    push_caused(f, spots, &mut all)?;
     Ok(all)
 }
 
@@ -75,21 +89,13 @@ fn push_at(places: &[AbsPlace], all: &mut Vec<Element>) -> Result<(), NoMemory>
     Ok(())
 }
 
-fn push_elements(elements: &[Element], all: &mut Vec<Element>) -> Result<(), NoMemory>
-    ensures { OnOk result (all.new.items ≡ all.old.items ++ elements.now) }
+// Adds the elements with causes that the points of the function may give, in their order.
+#[tactic(auto, using(crate::proofs::CandidateLemmas::caused_of_spots))]
+fn push_caused(f: &CoreFn, spots: &[SpotRef], all: &mut Vec<Element>) -> Result<(), NoMemory>
+    requires { AreSpotsOf (function_of f.now) spots.now }
+    ensures { OnOk result (all.new.items ≡ all.old.items ++ caused_elements (function_of f.now)) }
 {
-    all.extend_from_slice(elements)?;
-    Ok(())
-}
-
-/// The elements with causes that the points of the function may give, in their order.
-pub(crate) fn caused_elements(alloc: Global, f: &CoreFn) -> Result<Vec<Element>, NoMemory>
-    ensures { IfOk result (λ all. all.items ≡ caused_elements (function_of f.now)) }
-{
-    let spots = spots(alloc, f)?;
-    let mut all = Vec::new(alloc);
-    push_all_caused(f, &spots, &mut all)?;
-    Ok(all)
+    push_all_caused(f, spots, all)
 }
 
 // Adds those that these points may give.

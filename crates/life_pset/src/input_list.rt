@@ -9,9 +9,9 @@ ghost use Rattle.life_pset.specs.Shapes.{shape, tree_if};
 use crate::element::{AbsPlace, Root};
 use crate::location_list::push_local_locations;
 use crate::place_list::push_places;
-use crate::shape::{is_pointer, shape_type, steps_type, target_type, ty_if};
+use crate::shape::{shape_type, steps_type, target_type, ty_if};
 use life_core::{CoreFn, Local};
-use life_types::{NoMemory, TyId, TypeTable};
+use life_types::{NoMemory, TyId, TypeTable, is_pointer};
 use std::alloc::Global;
 
 /// A pointer that a caller hands over, by itself or as a member of a struct: where it is held, its

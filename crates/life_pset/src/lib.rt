@@ -3,6 +3,7 @@
 
 mod beneath;
 mod cause;
+mod caused_count;
 mod counts;
 mod element;
 mod element_list;
@@ -25,8 +26,8 @@ pub use limits::{
 };
 pub use location_list::{locations, push_local_locations, push_locations_in};
 pub use shape::{
-    holds_owner_if, is_pointer, is_raw, is_unique, is_variable, is_variable_place, local_type,
-    location_type, member_of, member_type, members_at, members_type, operand_type, place_type,
-    shape_type, steps_type, target_of, target_type, ty_at, ty_if,
+    holds_owner_if, is_variable, is_variable_place, local_type, location_type, member_of,
+    member_type, members_at, members_type, operand_type, place_type, shape_type, steps_type,
+    target_of, target_type, ty_at, ty_if,
 };
 pub use table::ElementTable;

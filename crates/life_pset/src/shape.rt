@@ -5,7 +5,7 @@ ghost use Rattle.life_types.specs.Trees.{holds_owner, members_at, tree_at, tree_
 ghost use Rattle.life_types.specs.declared.ty.Ty.TheVariants as kinds;
 ghost use Rattle.life_core.specs.Function.{function_of};
 ghost use Rattle.life_core.specs.Operands.{location_of, operand_of};
-ghost use Rattle.life_pset.specs.Shapes.{has_buffer, is_pointer, is_raw, is_unique, is_variable, is_variable_of, is_variable_place, is_variable_root, local_type, location_type, member_of, member_type, members_type, operand_type, place_type, referred, rooted_type, shape, shape_if, shape_of, target_of, target_type, tree_if, ty_if, ty_of, unslotted};
+ghost use Rattle.life_pset.specs.Shapes.{has_buffer, is_variable, is_variable_of, is_variable_place, is_variable_root, local_type, location_type, member_of, member_type, members_type, operand_type, place_type, referred, rooted_type, shape, shape_if, shape_of, target_of, target_type, tree_if, ty_if, ty_of, unslotted};
 
 use crate::element::{AbsPlace, Root};
 use life_core::{CoreFn, Local, LocalKind, Location, Operand};
@@ -32,40 +32,6 @@ pub fn ty_if(types: &TypeTable, id: Option<TyId>) -> Ty
     match id {
         None => Ty::Void,
         Some(id) => ty_at(types, id),
-    }
-}
-
-/// Whether a type is a pointer.
-pub fn is_pointer(ty: Ty) -> bool
-    ensures { result ≡ is_pointer ty }
-{
-    match ty {
-        Ty::View => true,
-        Ty::Raw { .. } => true,
-        Ty::Reference { .. } => true,
-        Ty::Iterator { .. } => true,
-        Ty::Span { .. } => true,
-        _ => false,
-    }
-}
-
-/// Whether a type is a raw pointer.
-pub fn is_raw(ty: Ty) -> bool
-    ensures { result ≡ is_raw ty }
-{
-    match ty {
-        Ty::Raw { .. } => true,
-        _ => false,
-    }
-}
-
-/// Whether a type is a `std::unique_ptr`.
-pub fn is_unique(ty: Ty) -> bool
-    ensures { result ≡ is_unique ty }
-{
-    match ty {
-        Ty::Unique(_) => true,
-        _ => false,
     }
 }
 

@@ -3,14 +3,15 @@ ghost use Rattle.std.specs.Prelude.{◌≡◌, ℕ, ◌<◌, ◌^◌, [], length
 ghost use Rattle.std.specs.Option.{option_copied};
 ghost use Rattle.indexmap.specs.IndexSet.{insert_all};
 ghost use Rattle.life_core.specs.Function.{function_of};
+ghost use Rattle.life_pset.specs.Causes.{AreSpotsOf};
 ghost use Rattle.life_pset.specs.Elements.{IsWithinLimits};
 ghost use Rattle.life_pset.specs.Table.{table_of};
 
 use crate::element::{AbsPlace, Element};
-use crate::element_list::elements;
+use crate::element_list::elements_of;
 use crate::location_list::locations;
 use indexmap::IndexSet;
-use life_core::CoreFn;
+use life_core::{CoreFn, SpotRef};
 use life_types::{NoMemory, TypeTable};
 use std::alloc::{AllocError, Global};
 use std::hash::Hash;
@@ -36,14 +37,20 @@ impl Model for ElementTable {
 }
 
 impl ElementTable {
-    /// The table of a function, among the types of its program. `is_within_limits` is the test of what
-    /// it requires.
-    pub fn of(alloc: Global, f: &CoreFn, types: &TypeTable) -> Result<ElementTable, NoMemory>
-        requires { IsWithinLimits types.now (function_of f.now) }
+    /// The table of a function, among the types of its program, by the list of its points.
+    /// `is_within_limits` is the test of the limits that it requires.
+    pub fn of(
+        alloc: Global,
+        f: &CoreFn,
+        types: &TypeTable,
+        spots: &[SpotRef],
+    ) -> Result<ElementTable, NoMemory>
+        requires limits { IsWithinLimits types.now (function_of f.now) }
+        requires spots { AreSpotsOf (function_of f.now) spots.now }
         ensures { IfOk result (λ table. table ≡ table_of types.now (function_of f.now)) }
     {
         let locations = locations(alloc, f, types)?;
-        let elements = elements(alloc, f, types)?;
+        let elements = elements_of(alloc, f, types, spots)?;
         let locations = number_all(alloc, &locations)?;
         let elements = number_all(alloc, &elements)?;
         Ok(ElementTable {

@@ -4,6 +4,7 @@ use Rattle.std.specs.Prelude.{◌&&◌, ◌||◌, map, nat_eq, not, slice_get}
 use Rattle.std.specs.List.{list_any}
 use Rattle.std.proofs.Common.{append-nil, append_assoc}
 use Rattle.life_types.specs.Trees.{holds_owner}
+use Rattle.life_types.specs.TypeTests.{is_pointer, is_unique}
 use Rattle.life_types.specs.Types.{Types}
 use Rattle.life_types.specs.declared.place.Place.{Place}
 use Rattle.life_core.specs.Function.{Function}
@@ -14,7 +15,7 @@ use Rattle.life_core.specs.Step as step
 use Rattle.life_core.specs.Tree.{Node, Action, Question, Return, Stop, Spot}
 use Rattle.life_pset.specs.Elements.{causes_of_end}
 use Rattle.life_pset.specs.Places.{is_within}
-use Rattle.life_pset.specs.Shapes.{is_pointer, is_unique, location_type, operand_type, place_type, tree_if, ty_if}
+use Rattle.life_pset.specs.Shapes.{location_type, operand_type, place_type, tree_if, ty_if}
 use Rattle.life_pset.specs.declared.element.AbsPlace.{AbsPlace}
 use Rattle.life_pset.specs.declared.element.Cause.{Cause}
 use Rattle.life_pset.specs.declared.element.Element.{Element}

@@ -4,6 +4,7 @@ use Rattle.std.specs.List.{flat_map}
 use Rattle.std.specs.List.Sorted.{IsStrictlySortedBy}
 use Rattle.std.proofs.lemmas.List.Elements.{Contains-append_cases}
 use Rattle.std.specs.Prelude.{Bool, true, false, cond, if◌then◌else◌, ◌&&◌, Contains, slice_get}
+use Rattle.life_types.specs.TypeTests.{is_pointer}
 use Rattle.life_types.specs.Types.{Types}
 use Rattle.life_types.specs.declared.place.Place.{Place}
 use Rattle.life_core.specs.Function.{Function, Program}
@@ -21,7 +22,7 @@ use Rattle.life_pset.specs.declared.element.Cause.{Cause}
 use Rattle.life_pset.specs.declared.element.Root.{Root}
 use Rattle.life_pset.specs.declared.element.Root.TheVariants as root
 use Rattle.life_pset.specs.Places.{members_place}
-use Rattle.life_pset.specs.Shapes.{is_pointer, is_variable_place, operand_type, tree_if}
+use Rattle.life_pset.specs.Shapes.{is_variable_place, operand_type, tree_if}
 use Rattle.life_pset.specs.contracts.element.AbsPlacePartialEq.TheImpl.{ghosts as compared}
 use Rattle.life_rules.specs.Carrying.{is_location, is_rooted, located}
 use Rattle.life_contract.specs.Arguments.{is_argument_of, is_mutating_argument}

@@ -3,6 +3,7 @@
 use Rattle.std.specs.Prelude.{ℕ, Bool, true, false, cond, not, if◌then◌else◌, ◌&&◌, ◌||◌, nat_eq, List, [], ◌∷◌, ◌++◌, drop, map, Option, Some, None, Contains, slice_get}
 use Rattle.std.specs.List.{flat_map, list_any}
 use Rattle.life_types.specs.Trees.{holds_owner}
+use Rattle.life_types.specs.TypeTests.{is_pointer, is_unique}
 use Rattle.life_types.specs.Types.{Types}
 use Rattle.life_types.specs.declared.place.Place.{Place}
 use Rattle.life_types.specs.declared.ty.Ty.{Ty}
@@ -23,7 +24,7 @@ use Rattle.life_core.specs.declared.program.Local.{Local}
 use Rattle.life_core.specs.declared.stmt.Edge.{Edge}
 use Rattle.life_pset.specs.Elements.{local_place, local_locations, uninitialised, causes_of_end, changed, moved, owner_changed}
 use Rattle.life_pset.specs.Places.{members_place, path, is_within}
-use Rattle.life_pset.specs.Shapes.{is_pointer, is_unique, is_variable_place, location_type, members_type, operand_type, place_type, tree_if, ty_if}
+use Rattle.life_pset.specs.Shapes.{is_variable_place, location_type, members_type, operand_type, place_type, tree_if, ty_if}
 use Rattle.life_pset.specs.declared.element.AbsPlace.{AbsPlace}
 use Rattle.life_pset.specs.declared.element.Cause.{Cause}
 use Rattle.life_pset.specs.declared.element.Element.{Element}

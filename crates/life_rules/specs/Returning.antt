@@ -1,11 +1,11 @@
 -- What is wrong with a result.
 use Rattle.std.specs.Prelude.{ℕ, Bool, false, cond, not, ◌&&◌, List, [], ◌++◌}
 use Rattle.std.specs.List.{list_any}
+use Rattle.life_types.specs.TypeTests.{is_pointer, is_raw}
 use Rattle.life_types.specs.Types.{Types}
 use Rattle.life_types.specs.declared.place.Place.{Place}
 use Rattle.life_types.specs.declared.ty.Ty.{Ty}
 use Rattle.life_core.specs.Function.{Function}
-use Rattle.life_pset.specs.Shapes.{is_pointer, is_raw}
 use Rattle.life_pset.specs.contracts.element.AbsPlacePartialEq.TheImpl.{ghosts as compared}
 use Rattle.life_pset.specs.declared.element.AbsPlace.{AbsPlace}
 use Rattle.life_pset.specs.declared.element.Element.{Element}

@@ -13,10 +13,8 @@ use crate::push::{push_at_if, push_if};
 use crate::writes::is_whole;
 use life_contract::Signatures;
 use life_core::{Base, Change, CoreFn, Instr, Location, Operand, Source};
-use life_pset::{
-    AbsPlace, Fact, is_pointer, is_unique, is_within, location_type, place_type, rest_of, ty_if,
-};
-use life_types::{NoMemory, Place, TypeTable};
+use life_pset::{AbsPlace, Fact, is_within, location_type, place_type, rest_of, ty_if};
+use life_types::{NoMemory, Place, TypeTable, is_pointer, is_unique};
 use std::alloc::Global;
 
 /// Adds what an instruction at a place makes of a fact where its location is read, beside what stays of

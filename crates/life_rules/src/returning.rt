@@ -12,8 +12,8 @@ use life_contract::{
     Signature, admits_static, lists_null, promised_places, result_type, signature_of,
 };
 use life_core::CoreFn;
-use life_pset::{AbsPlace, Element, Fact, is_pointer, is_raw};
-use life_types::{NoMemory, Place, Ty, TypeTable};
+use life_pset::{AbsPlace, Element, Fact};
+use life_types::{NoMemory, Place, Ty, TypeTable, is_pointer, is_raw};
 use std::alloc::Global;
 
 /// Adds what is wrong with a result that may be as the fact says: it is invalid, or a pointer that its

@@ -1,5 +1,6 @@
 -- What stands behind an operand: members, member functions, and `[i]`.
 use Rattle.std.specs.Prelude.{ℕ, suc, ◌-◌, ◌^◌, Bool, false, ◌&&◌, List, [], ◌∷◌, Option, None, Some, Ok, if◌then◌else◌, nat_eq, nat_lt}
+use Rattle.life_types.specs.TypeTests.{is_value}
 use Rattle.life_types.specs.Types.{Types}
 use Rattle.life_types.specs.declared.place.Place.{Place}
 use Rattle.life_types.specs.declared.ty.NameId.{NameId}
@@ -18,7 +19,6 @@ use Rattle.life_names.specs.Environment.{Scope, StructureView, structure, text}
 use Rattle.life_names.specs.Found.{Found, found_in, given, not_found}
 use Rattle.life_type_expr.specs.Lists.{ListMeaning, Meaning, method_parameters, passed}
 use Rattle.life_type_expr.specs.Operands.{const_or, is_constant, literal_allowed, place_of, pointed_to}
-use Rattle.life_typed.specs.BaseTypes.{is_value}
 use Rattle.life_typed.specs.Members.{method_answer, method_named, mutates, method_parameters as parameters_of}
 use Rattle.life_typed.specs.Operators.{indexed}
 use Rattle.life_names.specs.declared.environment.MemberType.{MemberType}

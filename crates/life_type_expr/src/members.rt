@@ -10,10 +10,10 @@ use crate::operands::{const_or, is_constant, place_in};
 use life_names::{Environment, IllFault, IllKind, MemberType, ill};
 use life_tree::Identifier;
 use life_typed::{
-    Category, ExprForm, ExprType, Method, MethodParameters, TypedExpr, indexed, is_value,
-    method_answer, method_named, method_parameters, mutates,
+    Category, ExprForm, ExprType, Method, MethodParameters, TypedExpr, indexed, method_answer,
+    method_named, method_parameters, mutates,
 };
-use life_types::{NameId, Place, Ty, TyId, TypeTable};
+use life_types::{NameId, Place, Ty, TyId, TypeTable, is_value};
 use std::alloc::Global;
 
 /// Numbers of members are of 32 bits.

@@ -1,5 +1,6 @@
 -- Bodies of functions. One with a result whose end may be reached lacks a return, but for `main` (ISO/IEC 14882:2017 [stmt.return], [basic.start.main]).
 use Rattle.std.specs.Prelude.{Bool, true, false, Option, Some, None, Ok}
+use Rattle.life_types.specs.TypeTests.{is_void}
 use Rattle.life_types.specs.Types.{Types}
 use Rattle.life_types.specs.declared.ty.TyId.{TyId}
 use Rattle.life_tree.specs.declared.stmt.Block.{Block, out-Block}
@@ -8,7 +9,6 @@ use Rattle.life_names.specs.Checked.{Checked, ◌>>=◌}
 use Rattle.life_type_stmt.specs.Ends.{block_ends}
 use Rattle.life_names.specs.Environment.{Scope}
 use Rattle.life_names.specs.Found.{allowed, given}
-use Rattle.life_type_stmt.specs.Returns.{is_void}
 use Rattle.life_type_stmt.specs.Statements.{block_of}
 use Rattle.life_typed.specs.BaseTypes.{type_at}
 use Rattle.life_names.specs.declared.fault.IllKind.{IllKind}

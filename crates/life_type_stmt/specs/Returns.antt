@@ -1,6 +1,7 @@
 -- What a function returns (ISO/IEC 14882:2017 [stmt.return]).
 use Rattle.std.specs.Prelude.{ℕ, ◌==◌, Bool, true, false, ◌&&◌, not, Box, Option, Some, None, Ok}
 use Rattle.std.specs.declared.alloc.Global.{Global}
+use Rattle.life_types.specs.TypeTests.{is_void}
 use Rattle.life_types.specs.Types.{Types}
 use Rattle.life_types.specs.declared.place.Place.{Place}
 use Rattle.life_types.specs.declared.ty.Ty.{Ty}
@@ -18,10 +19,6 @@ use Rattle.life_type_stmt.specs.Simples.{named_in}
 use Rattle.life_typed.specs.BaseTypes.{type_at}
 use Rattle.life_names.specs.declared.fault.IllKind.{IllKind}
 use Rattle.life_names.specs.declared.fault.IllKind.TheVariants as kinds
-
-abbrev pub is_void : Ty → Bool
-is_void ty.Void = true
-is_void t = false
 
 -- a variable or value parameter of this type that isn't const
 abbrev pub is_moved_out : TyId → Option TypedLocal → Bool

@@ -6,12 +6,11 @@ ghost use Rattle.life_names.specs.Checked.{Gives};
 
 use crate::around::Around;
 use crate::ends::block_ends;
-use crate::returns::is_void;
 use crate::statements::block;
 use life_names::{Environment, IllFault, IllKind, allowed, type_at};
 use life_tree::Block;
 use life_typed::TypedBlock;
-use life_types::{TyId, TypeTable};
+use life_types::{TyId, TypeTable, is_void};
 use std::alloc::Global;
 
 /// `main`, what answers nothing, and what ends need no return at their end.

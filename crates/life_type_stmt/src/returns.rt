@@ -11,17 +11,8 @@ use crate::simples::named_in;
 use life_names::{Environment, IllFault, IllKind, allowed, type_at};
 use life_tree::Expr;
 use life_typed::{TypedExpr, TypedLocal};
-use life_types::{Place, Ty, TyId, TypeTable};
+use life_types::{Place, Ty, TyId, TypeTable, is_void};
 use std::alloc::Global;
-
-pub(crate) fn is_void(ty: Ty) -> bool
-    ensures { result ≡ spec.is_void ty }
-{
-    match ty {
-        Ty::Void => true,
-        _ => false,
-    }
-}
 
 /// A variable or value parameter of this type that isn't const.
 fn is_moved_out(result_type: TyId, local: Option<TypedLocal>) -> bool

@@ -1,12 +1,13 @@
 -- What initialises what.
 use Rattle.std.specs.Prelude.{ℕ, nat_eq, Bool, true, false, ◌&&◌, ◌||◌, not, Result, Ok, Err, if◌then◌else◌}
 use Rattle.life_types.specs.Trees.{holds_unique, tree_at}
+use Rattle.life_types.specs.TypeTests.{is_text, is_value}
 use Rattle.life_types.specs.Types.{Types}
 use Rattle.life_types.specs.declared.ty.Ty.{Ty}
 use Rattle.life_types.specs.declared.ty.Ty.TheVariants as ty
 use Rattle.life_types.specs.declared.ty.TyId.{TyId}
 use Rattle.life_types.specs.contracts.ty.TyIdPartialEq.TheImpl.{ghosts as id}
-use Rattle.life_typed.specs.BaseTypes.{is_value, is_text, type_at}
+use Rattle.life_typed.specs.BaseTypes.{type_at}
 use Rattle.life_typed.specs.Operators.{is_text_like}
 use Rattle.life_typed.specs.declared.misfit.Misfit.{Misfit}
 use Rattle.life_typed.specs.declared.misfit.Misfit.TheVariants.{General, Literal, Constant, Copy}

@@ -1,10 +1,10 @@
 -- Which operands each operator takes, and the type of its answer.
 use Rattle.std.specs.Prelude.{Bool, true, false, ◌&&◌, ◌||◌, Option, None, Some, Result, Ok, Err, if◌then◌else◌}
+use Rattle.life_types.specs.TypeTests.{is_char, is_iterator, is_long, is_raw, is_size, is_text, is_unique, is_value, is_view}
 use Rattle.life_types.specs.declared.ty.Ty.{Ty}
 use Rattle.life_types.specs.declared.ty.Ty.TheVariants as ty
 use Rattle.life_types.specs.declared.ty.TyId.{TyId}
 use Rattle.life_types.specs.contracts.ty.TyIdPartialEq.TheImpl.{ghosts as id}
-use Rattle.life_typed.specs.BaseTypes.{is_value, is_char, is_long, is_size, is_text, is_view, is_raw, is_unique, is_iterator}
 use Rattle.life_typed.specs.declared.basic.TheConstants.{CHAR}
 use Rattle.life_typed.specs.declared.misfit.Misfit.{Misfit}
 use Rattle.life_typed.specs.declared.misfit.Misfit.TheVariants.{General, Literal, Unsupported}

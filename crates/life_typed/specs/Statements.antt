@@ -1,11 +1,11 @@
 -- What assignments with an operator, steps, prints and loops over ranges take.
 use Rattle.std.specs.Prelude.{Bool, true, false, ◌&&◌, ◌||◌, Option, Err, if◌then◌else◌}
+use Rattle.life_types.specs.TypeTests.{is_char, is_text, is_value}
 use Rattle.life_tree.specs.declared.operator.CompoundOperator.{CompoundOperator}
 use Rattle.life_tree.specs.declared.operator.CompoundOperator.TheVariants.{Add, Subtract, Multiply, Divide, Remainder}
 use Rattle.life_types.specs.declared.ty.Ty.{Ty}
 use Rattle.life_types.specs.declared.ty.Ty.TheVariants as ty
 use Rattle.life_types.specs.declared.ty.TyId.{TyId}
-use Rattle.life_typed.specs.BaseTypes.{is_value, is_char, is_text}
 use Rattle.life_typed.specs.Conversions.{Fit, fitting}
 use Rattle.life_typed.specs.Operators.{indexed, is_text_like}
 use Rattle.life_typed.specs.declared.misfit.Misfit.TheVariants.{General, Literal}

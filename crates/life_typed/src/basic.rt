@@ -37,3 +37,13 @@ pub fn base_types(alloc: Global) -> Result<TypeTable, NoMemory>
     table.add(Ty::View)?;
     Ok(table)
 }
+
+// The type with this number. What the table doesn't have counts as void.
+pub(crate) fn type_at(types: &TypeTable, id: TyId) -> Ty
+    ensures { result ≡ spec.type_at types.now id }
+{
+    match types.get(id) {
+        Some(ty) => ty,
+        None => Ty::Void,
+    }
+}

@@ -2,11 +2,11 @@
 ghost use Rattle.std.specs.Prelude.{◌≡◌};
 ghost use Rattle.life_typed.specs.Conversions as spec;
 
-use crate::kinds::{is_text, is_value, type_at};
+use crate::basic::type_at;
 use crate::misfit::Misfit;
 use crate::strings::is_text_like;
 use crate::typed_expr::{Category, ExprType};
-use life_types::{Ty, TyId, TypeTable, holds_unique};
+use life_types::{Ty, TyId, TypeTable, holds_unique, is_text, is_value};
 
 /// Whether an expression of this type and category initialises an object or a reference of the
 /// target type ([dcl.init], [over.best.ics]), or why not:

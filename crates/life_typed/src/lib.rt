@@ -4,7 +4,6 @@
 
 mod basic;
 mod conversions;
-mod kinds;
 mod members;
 mod method_names;
 mod misfit;
@@ -17,7 +16,6 @@ mod typed_stmt;
 
 pub use basic::{BOOL, CHAR, INT, LONG, SIZE, TEXT, VIEW, VOID, base_types};
 pub use conversions::fits;
-pub use kinds::is_value;
 pub use members::{MethodParameters, has_method, method_answer, method_parameters, mutates};
 pub use method_names::method_named;
 pub use misfit::Misfit;

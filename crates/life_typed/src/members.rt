@@ -2,7 +2,7 @@
 ghost use Rattle.std.specs.Prelude.{◌≡◌};
 ghost use Rattle.life_typed.specs.Members as spec;
 
-use crate::kinds::type_at;
+use crate::basic::type_at;
 use crate::typed_expr::{Category, ExprType, Method};
 use life_types::{Ty, TyId, TypeTable};
 

@@ -3,11 +3,10 @@ ghost use Rattle.std.specs.Prelude.{◌≡◌};
 ghost use Rattle.life_typed.specs.Operators as spec;
 
 use crate::basic::CHAR;
-use crate::kinds::{is_iterator, is_long, is_raw, is_size, is_text, is_unique, is_value};
 use crate::misfit::Misfit;
 use crate::strings::{concatenated, is_text_like};
 use crate::typed_expr::{BinaryOperator, ExprType};
-use life_types::{Ty, TyId};
+use life_types::{Ty, TyId, is_iterator, is_long, is_raw, is_size, is_text, is_unique, is_value};
 
 /// The type that two values are brought to (ISO/IEC 14882:2017 [expr]/11): `std::size_t` if one is,
 /// else `long` if one is, else `int`.

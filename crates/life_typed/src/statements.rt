@@ -2,13 +2,12 @@
 ghost use Rattle.std.specs.Prelude.{◌≡◌};
 ghost use Rattle.life_typed.specs.Statements as spec;
 
-use crate::kinds::{is_char, is_text, is_value};
 use crate::misfit::Misfit;
 use crate::operators::indexed;
 use crate::strings::is_text_like;
 use crate::typed_expr::ExprType;
 use life_tree::CompoundOperator;
-use life_types::{Ty, TyId};
+use life_types::{Ty, TyId, is_char, is_text, is_value};
 
 /// Whether `target op= value` is one of the table (ISO/IEC 14882:2017 [expr.ass],
 /// [string.op.append]), or why not: `Literal` where a string literal isn't taken, else `General`.

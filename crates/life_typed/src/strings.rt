@@ -2,8 +2,7 @@
 ghost use Rattle.std.specs.Prelude.{◌≡◌};
 ghost use Rattle.life_typed.specs.Operators as spec;
 
-use crate::kinds::{is_char, is_text, is_view};
-use life_types::Ty;
+use life_types::{Ty, is_char, is_text, is_view};
 
 // A string or a view.
 pub(crate) fn is_text_like(ty: Ty) -> bool

@@ -2,4 +2,5 @@ pub mod Facts
 pub mod Memory
 pub mod Places
 pub mod Trees
+pub mod TypeTests
 pub mod Types

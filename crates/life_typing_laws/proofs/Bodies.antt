@@ -1,5 +1,6 @@
 -- The body of a function.
 use Rattle.std.proofs.Common.{◌≡◌, Bool, true, false, List, [], None, Ok, sym, ap, subst, ◌∙◌}
+use Rattle.life_types.specs.TypeTests.{is_void}
 use Rattle.life_types.specs.Types.{Types, HasType}
 use Rattle.life_types.specs.declared.ty.TyId.{TyId}
 use Rattle.life_tree.specs.Views.{block_tree}
@@ -14,7 +15,6 @@ use Rattle.life_names.specs.Environment.{Scope}
 use Rattle.life_names.specs.Found.{allowed, given}
 use Rattle.life_type_stmt.specs.Bodies.{body, return_fault}
 use Rattle.life_type_stmt.specs.Ends.{block_ends}
-use Rattle.life_type_stmt.specs.Returns.{is_void}
 use Rattle.life_type_stmt.specs.Statements.{block_of}
 use Rattle.life_well_typed.specs.Statements.{IsStatement}
 use Rattle.life_well_typed.specs.Visible.{Visible}

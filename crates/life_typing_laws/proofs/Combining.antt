@@ -1,9 +1,9 @@
 -- The parts of the type that an operator gives are there, if those of its operands' types are.
 use Rattle.std.proofs.Common.{◌≡◌, Bool, true, false, ◌||◌, ◌&&◌, Option, None, Some, Result, Ok, Err, refl, ap, subst, ◌∙◌, if◌then◌else◌}
+use Rattle.life_types.specs.TypeTests.{is_iterator, is_long, is_size, is_text, is_value}
 use Rattle.life_types.specs.Types.{Types, HasParts}
 use Rattle.life_types.specs.declared.ty.Ty.{Ty}
 use Rattle.life_types.specs.declared.ty.Ty.TheVariants as ty
-use Rattle.life_typed.specs.BaseTypes.{is_iterator, is_long, is_size, is_text, is_value}
 use Rattle.life_typed.specs.Operators.{answer, answered, arithmetic, are_equated, combined, concatenated, equated, given, is_condition, is_joined, is_nullable, is_text_like, misfit, moved, multiplied, negated, ordered, promoted}
 use Rattle.life_typed.specs.declared.misfit.Misfit.{Misfit}
 use Rattle.life_typed.specs.declared.misfit.Misfit.TheVariants.{General}

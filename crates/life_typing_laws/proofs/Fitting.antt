@@ -1,12 +1,13 @@
 -- What fits a type, and breaks no rule, is what is given to it.
 use Rattle.std.proofs.Common.{◌≡◌, ℕ, suc, ◌+◌, Bool, true, false, ◌||◌, Option, None, Some, Ok, Err, List, [], ◌∷◌, length, slice_get, unwrap_or, if◌then◌else◌, refl, sym, subst, ◌∙◌, arith}
 use Rattle.std.proofs.lemmas.Bool.{and_from}
+use Rattle.life_types.specs.TypeTests.{is_raw, is_value}
 use Rattle.life_types.specs.Types.{Types, HasTypes}
 use Rattle.life_types.specs.declared.ty.Ty.{Ty}
 use Rattle.life_types.specs.declared.ty.Ty.TheVariants as ty
 use Rattle.life_types.specs.declared.ty.TyId.{TyId}
 use Rattle.life_typing_laws.specs.Sound.{Grows}
-use Rattle.life_typed.specs.BaseTypes.{is_raw, is_value, type_at}
+use Rattle.life_typed.specs.BaseTypes.{type_at}
 use Rattle.life_typed.specs.Conversions.{Fit, bound, bound_const, fits, fitting, initialised, is_place_of}
 use Rattle.life_typed.specs.TypedForm.{Typed, forms}
 use Rattle.life_typed.specs.declared.typed_expr.Category.{Category}

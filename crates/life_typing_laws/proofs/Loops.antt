@@ -2,6 +2,7 @@
 use Rattle.std.proofs.Common.{◌≡◌, Bool, true, false, ◌&&◌, Option, None, Some, List, [], ◌∷◌, Ok, Box, length, refl, sym, ap, subst, ◌∙◌}
 use Rattle.std.specs.declared.alloc.Global.{Global}
 use Rattle.std.proofs.lemmas.Bool.{and_parts}
+use Rattle.life_types.specs.TypeTests.{is_void}
 use Rattle.life_types.specs.Types.{Types, HasType}
 use Rattle.life_types.specs.declared.place.Place.{Place}
 use Rattle.life_types.specs.declared.ty.NameId.{NameId}
@@ -27,7 +28,7 @@ use Rattle.life_names.specs.declared.fault.IllKind.TheVariants as kinds
 use Rattle.life_type_stmt.specs.Conditions.{condition, items, optional_condition, unless}
 use Rattle.life_type_stmt.specs.Declarations.{declaration}
 use Rattle.life_type_stmt.specs.Given.{given_expr, value_fault}
-use Rattle.life_type_stmt.specs.Returns.{is_void, moves_out, named_local, result_fault, returned}
+use Rattle.life_type_stmt.specs.Returns.{moves_out, named_local, result_fault, returned}
 use Rattle.life_type_stmt.specs.Simples.{named_in, optional_simple, simple_statement}
 use Rattle.life_type_stmt.specs.Statements.{Part, for_start_part, in_loop, in_loop_only, in_turn, optional_part, start_names}
 use Rattle.life_well_typed.specs.Given.{is_given}

@@ -1,6 +1,7 @@
 -- Operators before an operand, and parentheses around one.
 use Rattle.std.proofs.Common.{◌≡◌, Bool, true, false, Option, None, Some, Result, Ok, Err, List, slice_get, refl, sym, ap, subst, ◌∙◌, if◌then◌else◌}
 use Rattle.life_types.specs.Trees.{is_plain, tree_at, tree_of, tree_within}
+use Rattle.life_types.specs.TypeTests.{is_raw}
 use Rattle.life_types.specs.Types.{Types, HasType}
 use Rattle.life_types.specs.declared.place.Place.{Place}
 use Rattle.life_types.specs.declared.ty.Ty.{Ty}
@@ -8,7 +9,7 @@ use Rattle.life_types.specs.declared.ty.Ty.TheVariants as ty
 use Rattle.life_types.specs.declared.ty.TyId.{TyId}
 use Rattle.life_tree.specs.declared.operator.PrefixOperator.{PrefixOperator}
 use Rattle.life_tree.specs.declared.operator.PrefixOperator.TheVariants as prefix
-use Rattle.life_typed.specs.BaseTypes.{is_raw, type_at}
+use Rattle.life_typed.specs.BaseTypes.{type_at}
 use Rattle.life_typed.specs.Operators.{dereferenced, is_condition, negated}
 use Rattle.life_typed.specs.Programs.{ProgramForm}
 use Rattle.life_typed.specs.TypedForm.{Typed, address_of, dereference, negate, not as negation, paren, whole}

@@ -1,6 +1,7 @@
 -- A whole function: what is known behind it.
 use Rattle.std.proofs.Common.{◌≡◌, ◌⊎◌, inl, inr, ⊎_elim, ℕ, suc, ◌≤◌, Bool, true, false, Option, None, Some, Ok, List, [], ◌∷◌, length, map, slice_get, slice_set, take, refl, sym, ap, subst, ◌∙◌, arith}
 use Rattle.std.proofs.lemmas.List.{length-map}
+use Rattle.life_types.specs.TypeTests.{is_void}
 use Rattle.life_types.specs.Types.{Types, HasType}
 use Rattle.life_types.specs.declared.ty.NameId.{NameId}
 use Rattle.life_types.specs.declared.ty.Ty.{Ty}
@@ -19,7 +20,6 @@ use Rattle.life_typed.specs.declared.typed_program.TypedLocal.{TypedLocal}
 use Rattle.life_names.specs.Environment.{Scope, SignatureView, forgotten, seen_as, without_locals}
 use Rattle.life_names.specs.declared.environment.Entity.TheVariants as entity
 use Rattle.life_type_stmt.specs.Bodies.{body, return_fault}
-use Rattle.life_type_stmt.specs.Returns.{is_void}
 use Rattle.life_typing.specs.Functions.{PartsView, behind_header, behind_header_as, body_kept, changed_at, with_function, with_parameters_forgotten}
 use Rattle.life_typing.specs.Names.{DeclaredView, has_body, is_main}
 use Rattle.life_typing.specs.Parameters.{parameters_forgotten}

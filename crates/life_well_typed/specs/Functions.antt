@@ -1,11 +1,11 @@
 -- Functions and programs that are well typed.
 use Rattle.std.specs.Prelude.{◌≡◌, ◌≤◌, false, List, [], ◌∷◌, length, Option, None}
+use Rattle.life_types.specs.TypeTests.{is_void}
 use Rattle.life_typed.specs.BaseTypes.{type_at}
 use Rattle.life_typed.specs.Ends.{ends}
 use Rattle.life_typed.specs.Programs.{FunctionForm, ProgramForm, is_main}
 use Rattle.life_typed.specs.TypedStatement.{StmtForm, block}
 use Rattle.life_type_stmt.specs.Bodies.{return_fault}
-use Rattle.life_type_stmt.specs.Returns.{is_void}
 use Rattle.life_well_typed.specs.Statements.{IsStatement}
 use Rattle.life_well_typed.specs.Visible.{with_parameters}
 

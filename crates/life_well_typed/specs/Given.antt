@@ -1,10 +1,11 @@
 -- What is given to an object of a type, as far as the program is built: to a value, to a raw pointer, and to a reference to a value
 -- (ISO/IEC 14882:2017 [dcl.init], [dcl.init.ref]).
 use Rattle.std.specs.Prelude.{Bool, true, false, ◌||◌, if◌then◌else◌}
+use Rattle.life_types.specs.TypeTests.{is_raw, is_value}
 use Rattle.life_types.specs.Types.{Types}
 use Rattle.life_types.specs.declared.ty.Ty.{Ty}
 use Rattle.life_types.specs.declared.ty.Ty.TheVariants as ty
-use Rattle.life_typed.specs.BaseTypes.{is_raw, is_value, type_at}
+use Rattle.life_typed.specs.BaseTypes.{type_at}
 use Rattle.life_typed.specs.Conversions.{fits}
 use Rattle.life_typed.specs.TypedForm.{Typed}
 use Rattle.life_typed.specs.declared.typed_expr.ExprType.{ExprType}

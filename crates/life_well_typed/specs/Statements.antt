@@ -1,5 +1,6 @@
 -- Statements that are well typed, in the order of their text. Nothing is said of forms that aren't built so far.
 use Rattle.std.specs.Prelude.{◌≡◌, ℕ, Bool, true, false, ◌&&◌, not, List, [], ◌∷◌, Option, None, Some, slice_get}
+use Rattle.life_types.specs.TypeTests.{is_void}
 use Rattle.life_types.specs.declared.ty.Ty.{Ty}
 use Rattle.life_types.specs.declared.ty.TyId.{TyId}
 use Rattle.life_typed.specs.BaseTypes.{type_at}
@@ -12,7 +13,6 @@ use Rattle.life_typed.specs.declared.typed_program.TypedLocal.{TypedLocal}
 use Rattle.life_type_expr.specs.Lists.{fits_at_all}
 use Rattle.life_type_expr.specs.Operands.{is_constant}
 use Rattle.life_type_stmt.specs.Declarations.{default_fault}
-use Rattle.life_type_stmt.specs.Returns.{is_void}
 use Rattle.life_type_stmt.specs.Simples.{is_place, type_of}
 use Rattle.life_well_typed.specs.Expressions.{IsExpression}
 use Rattle.life_well_typed.specs.Given.{is_given}

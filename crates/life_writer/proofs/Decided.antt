@@ -1,10 +1,10 @@
 -- What is decided by tests, and what isn't.
 use Rattle.std.proofs.Common.{◌≡◌, ℕ, Bool, true, false, List, [], Option, None, Some, Result, Ok, refl, sym, ap, subst, ◌∙◌}
 use Rattle.std.specs.Prelude.{if◌then◌else◌}
+use Rattle.life_types.specs.TypeTests.{is_raw}
 use Rattle.life_types.specs.declared.memory.NoMemory.{NoMemory}
 use Rattle.life_types.specs.declared.place.Place.{Place}
 use Rattle.life_types.specs.declared.ty.Ty.{Ty}
-use Rattle.life_typed.specs.BaseTypes.{is_raw}
 use Rattle.life_typed.specs.declared.typed_expr.Category.{Category}
 use Rattle.life_core.specs.Operands.{Location, Operand}
 use Rattle.life_core.specs.Step.{Test}

@@ -1,8 +1,8 @@
 -- Conditions: tests, and what is decided by them.
 use Rattle.std.specs.Prelude.{ℕ, Bool, true, false, [], Option, Some, None, option_map, if◌then◌else◌, ℤ, pos}
+use Rattle.life_types.specs.TypeTests.{is_raw}
 use Rattle.life_types.specs.declared.place.Place.{Place}
 use Rattle.life_types.specs.declared.ty.Ty.{Ty}
-use Rattle.life_typed.specs.BaseTypes.{is_raw}
 use Rattle.life_typed.specs.TypedForm.{Form, typed}
 use Rattle.life_typed.specs.declared.typed_expr.BinaryOperator.{BinaryOperator}
 use Rattle.life_typed.specs.declared.typed_expr.BinaryOperator.TheVariants as operator

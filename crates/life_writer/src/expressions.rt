@@ -6,7 +6,6 @@ ghost use Rattle.life_core.specs.Tree.{condition_tree};
 ghost use Rattle.life_typed.specs.TypedForm.{forms, typed_view, typed_views, whole};
 ghost use Rattle.life_typed.specs.declared.typed_program.TypedLocal.{TypedLocal};
 ghost use Rattle.life_writer.specs.Answers.{Answers, AnswersIf};
-ghost use Rattle.life_typed.specs.BaseTypes.{is_raw};
 ghost use Rattle.life_writer.specs.Calls.{called};
 ghost use Rattle.life_writer.specs.Chains.{converted_in, joined_on, operated_on, own_of};
 ghost use Rattle.life_writer.specs.Conditions as conditions;
@@ -26,7 +25,7 @@ use life_core::{
     Argument, Condition, FnId, Instr, Location, Operand, Operation, Port, Source, Test,
 };
 use life_typed::{BinaryOperator, Category, TypedExpr, TypedLocal, promoted};
-use life_types::{NoMemory, Place, Ty, TyId};
+use life_types::{NoMemory, Place, Ty, TyId, is_raw};
 use std::vec::Vec;
 
 impl Writer {
@@ -585,11 +584,4 @@ fn type_of_parameter(parameters: &[TypedLocal], number: usize) -> Option<TyId>
         Some(parameter) => Some(parameter.ty),
         None => None,
     }
-}
-
-/// A raw pointer.
-pub fn is_raw(ty: Ty) -> bool
-    ensures { result ≡ is_raw ty }
-{
-    matches!(ty, Ty::Raw { .. })
 }

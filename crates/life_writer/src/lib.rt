@@ -19,7 +19,6 @@ mod writer;
 
 pub use around::{Around, own_type};
 pub use calls::{Called, call_of};
-pub use expressions::is_raw;
 pub use numbers::number;
 pub use operands::copied_operand;
 pub use pointers::Pointing;

@@ -15,4 +15,4 @@ invariant_of-result c =
     c.in_ok-locations-2.ensures ∙ ap (insert_all place.eq []) (c.deref.ensures.value ∙ c.in_ok-locations.ensures) in
     let elements : c.in_ok-elements-2.elements.keys ≡ (table_of types f).elements =
     c.in_ok-elements-2.ensures ∙ ap (insert_all element.eq []) (c.deref-2.ensures.value ∙ c.in_ok-elements.ensures) in
-    rw (locations, elements) (numbered_table types f c.requires)
+    rw (locations, elements) (numbered_table types f c.requires.limits)

@@ -3,8 +3,8 @@ use Rattle.std.proofs.lemmas.Int.{to_z-of_z}
 use Rattle.std.proofs.lemmas.List.{map-append}
 use Rattle.std.specs.Int.{w64}
 use mir.Val.{SFits}
+use Rattle.life_types.specs.TypeTests.{is_raw}
 use Rattle.life_typed.specs.TypedForm.{Form, Typed, forms, typed_views, whole}
-use Rattle.life_typed.specs.BaseTypes.{is_raw}
 use Rattle.life_typed.specs.declared.typed_expr.BinaryOperator.{BinaryOperator}
 use Rattle.life_typed.specs.declared.typed_program.TypedLocal.{TypedLocal}
 use Rattle.life_core.specs.Operands.{Argument, argument_of, operand_of}
