@@ -7,8 +7,7 @@ use Rattle.life_pset.specs.TableInvariant.{HasOneNumber}
 use Rattle.life_pset.specs.declared.element.Fact.{Fact}
 use Rattle.life_pset.proofs.Members.{cons_cases, in_head, none_in_empty}
 use Rattle.life_core.specs.Function.{function_of}
-use Rattle.life_sets.specs.NumberSets.{Numbers, holds, pairs_at}
-use Rattle.life_sets.specs.Pairs.{IsBetween}
+use Rattle.life_sets.specs.Pairs.{pairs_from, IsBetween}
 use Rattle.life_rules.specs.FactSets.{CarriesPair, GainsSome}
 use Rattle.life_rules.specs.Matching.{fact_at}
 use Rattle.life_rules.specs.Staying.{spot_keeps}
@@ -19,7 +18,7 @@ use Rattle.life_plan.specs.declared.context.EdgeContext.{EdgeContext}
 use Rattle.life_plan.proofs.Crossings.{crosses_carries, crossing_is}
 use Rattle.life_plan.proofs.Growing.{some_as}
 use Rattle.life_plan.proofs.Laws.{IsKeptAt, kept}
-use Rattle.life_plan.proofs.Naming.{at_number, holds_within}
+use Rattle.life_plan.proofs.Naming.{at_number}
 
 -- each pair of the table's limits is carried
 pub whole_crosses : (c : Crossing) → spot_keeps c.spot ≡ true → (from : ℕ → ℕ → Bool) (l m : ℕ) → IsAmong (length c.table.locations) (length c.table.elements) from l m → Crosses c from l m
@@ -77,17 +76,17 @@ module _ (locations elements : ℕ) (due : ℕ → Bool) (from a b : ℕ → ℕ
 
 -- ---- one location
 
-module _ (locations elements : ℕ) (from : ℕ → ℕ → Bool) (l : ℕ) (set : Numbers) (in_l : l < locations) (limit : set.limit ≡ elements) (read : (e : ℕ) → holds set e ≡ from l e) where
-  pub among_between : (a b : ℕ → ℕ → Bool) → IsBetween (pairs_at l set) a b → GainsSome a b (IsAmong locations elements from)
+module _ (locations elements : ℕ) (from : ℕ → ℕ → Bool) (l : ℕ) (in_l : l < locations) (within : (e : ℕ) → IsTrue (from l e) → e < elements) where
+  pub among_between : (a b : ℕ → ℕ → Bool) → IsBetween (pairs_from from l) a b → GainsSome a b (IsAmong locations elements from)
   among_between a b between n m = ((between n m).0, λ h. elim ((between n m).1 h) [ inl was ↦ inl was | inr new ↦ inr (at n m new) ])
     where
-      at : (n m : ℕ) → IsTrue (pairs_at l set n m) → IsAmong locations elements from n m
+      at : (n m : ℕ) → IsTrue (pairs_from from l n m) → IsAmong locations elements from n m
       at n m h =
-          let p = and_parts (nat_eq n l) (holds set m) h in
-          subst (λ (q : ℕ). IsAmong locations elements from q m) (sym (eqb-true n l p.0)) (in_l, (subst (λ (q : ℕ). m < q) limit (holds_within set m p.1), sym (read m) ∙ p.1))
+          let p = and_parts (nat_eq n l) (from l m) h in
+          subst (λ (q : ℕ). IsAmong locations elements from q m) (sym (eqb-true n l p.0)) (in_l, (within m p.1, p.1))
 
-  pub among_joined : (a b : ℕ → ℕ → Bool) → ((n m : ℕ) → b n m ≡ (pairs_at l set n m || a n m)) → (m : ℕ) → IsTrue (from l m) → IsTrue (b l m)
-  among_joined a b joined m h = joined l m ∙ or_left (pairs_at l set l m) (a l m) (and_from (nat_eq l l) (holds set m) (eq-eqb l l refl) (read m ∙ h))
+pub among_joined : (from : ℕ → ℕ → Bool) (l : ℕ) (a b : ℕ → ℕ → Bool) → ((n m : ℕ) → b n m ≡ (pairs_from from l n m || a n m)) → (m : ℕ) → IsTrue (from l m) → IsTrue (b l m)
+among_joined from l a b joined m h = joined l m ∙ or_left (pairs_from from l l m) (a l m) (and_from (nat_eq l l) (from l m) (eq-eqb l l refl) h)
 
 -- ---- what is kept is carried
 

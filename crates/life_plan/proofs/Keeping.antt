@@ -138,14 +138,14 @@ module _ (s : Staying) (k : Marking) (locations elements : ℕ) (from : ℕ → 
       joined l m ∙ or_left (pairs_at l after l m) (a l m) (and_from (nat_eq l l) (holds after m) (eq-eqb l l refl) there)
 
 -- a location at which a row gained a pair is noted
-pub notes_joined : (l : ℕ) (after : Numbers) (a b : ℕ → ℕ → Bool) (g h : ℕ → Bool) (fresh : Bool) → ((n m : ℕ) → b n m ≡ (pairs_at l after n m || a n m)) → IsTrue fresh ↔ HasNew a b → ((n : ℕ) → h n ≡ ((fresh && nat_eq n l) || g n)) → Notes a b g h
-notes_joined l after a b g h fresh joined tells noted n = (to, back)
+pub notes_joined : (l : ℕ) (test : ℕ → Bool) (a b : ℕ → ℕ → Bool) (g h : ℕ → Bool) (fresh : Bool) → ((n m : ℕ) → b n m ≡ ((nat_eq n l && test m) || a n m)) → IsTrue fresh ↔ HasNew a b → ((n : ℕ) → h n ≡ ((fresh && nat_eq n l) || g n)) → Notes a b g h
+notes_joined l test a b g h fresh joined tells noted n = (to, back)
   where
     -- a new pair is at the location
     here : (p m : ℕ) → a p m ≡ false → b p m ≡ true → p ≡ l
     here p m old new =
-        elim (or_cases (pairs_at l after p m) (a p m) (sym (joined p m) ∙ new)) [
-          | inl at ↦ eqb-true p l (and_parts (nat_eq p l) (holds after m) at).0
+        elim (or_cases (nat_eq p l && test m) (a p m) (sym (joined p m) ∙ new)) [
+          | inl at ↦ eqb-true p l (and_parts (nat_eq p l) (test m) at).0
           | inr was ↦ absurd (both_ways (a p m) old was)
         ]
 

@@ -3,7 +3,7 @@ use Rattle.std.proofs.Common.{◌≡◌, ◌≢◌, ◌<◌, ◌≤◌, ◌+◌,
 use Rattle.std.proofs.lemmas.Bool.{and_from, and_parts, both_ways, cases_Bool, eq-eqb, eqb-true, le-leb, leb-true, false_from_ne_true, not-true, not_from_false, or_cases, or_left, or_right}
 use Rattle.std.specs.Prelude.{IsTrue, slice_get}
 use Rattle.life_pset.specs.declared.element.Element.{Element}
-use Rattle.life_sets.specs.NumberSets.{Numbers, holds}
+use Rattle.life_sets.specs.NumberSets.{HasCommon, Numbers, holds}
 use Rattle.life_rules.specs.Staying.{marks}
 use Rattle.life_plan.specs.Carried.{AreSeen, due_from, none_due}
 use Rattle.life_plan.specs.Crossing.{Crossing}
@@ -160,6 +160,18 @@ seen_last c m due from i past was = record {
   seen = λ q e _ at held.
       let lt : q < m.targets.limit = holds_within m.targets q at in
       was.seen q e (false_from_ne_true (nat_le i q && due q) (λ t. let le : i ≤ q = leb-true i q (and_parts (nat_le i q) (due q) t).0 in omega (arith, le, lt, past))) at held;
+  marked = was.marked;
+  only = was.only;
+}
+
+-- where no target is due, all were seen
+pub seen_none : (c : Crossing) (m : Marking) (due : ℕ → Bool) (from : ℕ → ℕ → Bool) (met : Bool) → met ≡ false → IsTrue met ↔ HasCommon due (holds m.targets) → AreSeen c m due from → AreSeen c m none_due from
+seen_none c m due from met none tells was = record {
+  seen = λ q e _ target h.
+      elim (cases_Bool (due q)) [
+        | inl is ↦ absurd (both_ways met none (tells.1 (q, (is, target))))
+        | inr not_due ↦ was.seen q e not_due target h
+      ];
   marked = was.marked;
   only = was.only;
 }

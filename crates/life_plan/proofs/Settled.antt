@@ -1,5 +1,5 @@
 -- What a plan that has carried all gives, and what it keeps as rows and due sets grow.
-use Rattle.std.proofs.Common.{◌≡◌, ℕ, Bool, true, false, List, [], cond, map, Option, Some, None, inl, inr, ap, sym, ◌∙◌, subst, not, ◌&&◌}
+use Rattle.std.proofs.Common.{◌≡◌, ℕ, Box, Global, Bool, true, false, List, [], cond, map, Option, Some, None, inl, inr, ap, sym, ◌∙◌, subst, not, ◌&&◌}
 use Rattle.std.proofs.lemmas.Bool.{and_parts, both_ways, cases_Bool, false_from_ne_true, not-true}
 use Rattle.std.proofs.lemmas.List.Elements.{Contains-append_cases}
 use Rattle.std.proofs.lemmas.Option.{slice_get_within}
@@ -123,9 +123,9 @@ carried_settled sigs types f edge plan due from into carried none l m h =
     c : Crossing
     c = crossing_of sigs types f edge
 
-    by : (o : Option Tabulated) → carried_by c o due from into → Crosses c from l m → IsTrue (into l m)
+    by : (o : Option (Box Tabulated Global)) → carried_by c o due from into → Crosses c from l m → IsTrue (into l m)
     by None kept h = whole_settled c (one_location types f) (one_element types f) due from into kept none l m h
-    by (Some t) carried h = settled c (one_location types f) t due from into carried none l m h
+    by (Some t) carried h = settled c (one_location types f) t.value due from into carried none l m h
 
 -- the first row gained pairs at locations that are due now, and what was due is
 pub carried_due : (c : Crossing) (plan : Plan) (due now_due : ℕ → Bool) (from now_from into : ℕ → ℕ → Bool) → ((l : ℕ) → IsTrue (due l) → IsTrue (now_due l)) → Includes from now_from
@@ -135,7 +135,7 @@ carried_due c plan due now_due from now_from into more grown same was = by plan.
     before : (l : ℕ) → now_due l ≡ false → due l ≡ false
     before l not_due = false_from_ne_true (due l) (λ t. both_ways (now_due l) not_due (more l t))
 
-    by : (o : Option Tabulated) → carried_by c o due from into → carried_by c o now_due now_from into
+    by : (o : Option (Box Tabulated Global)) → carried_by c o due from into → carried_by c o now_due now_from into
     by None was = record { keeps = was.keeps; kept = λ l m not_due lt h. was.kept l m (before l not_due) lt (same l m not_due h) }
     by (Some t) was = record {
       means = was.means;
@@ -157,7 +157,7 @@ carried_due c plan due now_due from now_from into more grown same was = by plan.
 pub carried_into : (c : Crossing) (plan : Plan) (due : ℕ → Bool) (from into now_into : ℕ → ℕ → Bool) → Includes into now_into → IsCarried c plan due from into → IsCarried c plan due from now_into
 carried_into c plan due from into now_into grown was = by plan.tabulated was
   where
-    by : (o : Option Tabulated) → carried_by c o due from into → carried_by c o due from now_into
+    by : (o : Option (Box Tabulated Global)) → carried_by c o due from into → carried_by c o due from now_into
     by None was = record { keeps = was.keeps; kept = λ l m not_due lt h. grown l m (was.kept l m not_due lt h) }
     by (Some t) was = record {
       means = was.means;

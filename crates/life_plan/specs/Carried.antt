@@ -1,5 +1,5 @@
 -- How far a plan has been carried.
-use Rattle.std.specs.Prelude.{◌≡◌, ◌<◌, ◌⊎◌, ℕ, Bool, true, false, IsTrue, List, Option, Some, None, length, nat_le, ◌&&◌, slice_get}
+use Rattle.std.specs.Prelude.{◌≡◌, ◌<◌, ◌⊎◌, ℕ, Bool, true, false, IsTrue, List, Box, Option, Some, None, length, nat_le, ◌&&◌, slice_get}
 use Rattle.life_sets.specs.NumberSets.{holds}
 use Rattle.life_rules.specs.Staying.{spot_keeps}
 use Rattle.life_plan.specs.Crossing.{Crossing, FromNone}
@@ -41,9 +41,9 @@ pub record AreKept (c : Crossing) (due : ℕ → Bool) (from into : ℕ → ℕ 
   pub keeps : spot_keeps c.spot ≡ true
   pub kept : (l m : ℕ) → due l ≡ false → l < length c.table.locations → IsTrue (from l m) → IsTrue (into l m)
 
-abbrev pub carried_by : Crossing → Option Tabulated → (due : ℕ → Bool) → (from into : ℕ → ℕ → Bool) → Type 0
+abbrev pub carried_by : {Z : Type 0} → Crossing → Option (Box Tabulated Z) → (due : ℕ → Bool) → (from into : ℕ → ℕ → Bool) → Type 0
 carried_by c None due from into = AreKept c due from into
-carried_by c (Some t) due from into = AreCarried c t due from into
+carried_by c (Some t) due from into = AreCarried c t.value due from into
 
 -- what comes of the first set is in the second, save for what comes of the locations that are due
 abbrev pub IsCarried : Crossing → Plan → (due : ℕ → Bool) → (from into : ℕ → ℕ → Bool) → Type 0

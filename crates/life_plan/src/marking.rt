@@ -60,6 +60,7 @@ impl Marking {
         requires is { IsMarking (crossing_in context.now) self.old }
         requires locations { R.location_limit from.now ≡ length context.now.table.now.locations }
         requires elements { R.element_limit from.now ≡ length context.now.table.now.elements }
+        requires due { due.now.limit ≡ length context.now.table.now.locations }
         requires limit { elements.old.limit ≡ length context.now.table.now.elements }
         requires seen { AreSeen (crossing_in context.now) self.old (holds due.now) (R.has from.now) }
         ensures is { IsMarking (crossing_in context.now) self.new }
@@ -68,6 +69,10 @@ impl Marking {
         ensures grew { result ≡ false → (e : ℕ) → IsTrue (holds self.new.mask e) → IsTrue (holds self.old.mask e) }
         ensures limit { elements.new.limit ≡ elements.old.limit }
     {
+        let met = due.meets(&self.targets);
+        if !met {
+            return false;
+        }
         let mut grew = false;
         for q in 0..context.table.location_count() {
             let is_due = due.contains(q) & self.targets.contains(q);

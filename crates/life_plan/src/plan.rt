@@ -22,8 +22,9 @@ use std::sync::ledger::Ledger;
 /// run as often as the row before the edge has gained pairs. It keeps how much it has carried.
 #[derive(Drop)]
 pub struct Plan {
-    // None where nothing comes of facts but each fact itself
-    pub(crate) tabulated: Option<Tabulated>,
+    // None where nothing comes of facts but each fact itself, as along most edges: so the rest stands in
+    // a box
+    pub(crate) tabulated: Option<Box<Tabulated>>,
 }
 
 impl Plan {
@@ -37,7 +38,7 @@ impl Plan {
         if keeps_all(context.spot) {
             return Ok(Plan { tabulated: None });
         }
-        let tabulated = Tabulated::of(alloc, context)?;
+        let tabulated = Box::new(alloc, Tabulated::of(alloc, context)?)?;
         Ok(Plan {
             tabulated: Some(tabulated),
         })
@@ -110,7 +111,7 @@ impl Plan {
         ensures room { IsRoom (length context.now.table.now.elements) workspace.new }
     {
         match &mut self.tabulated {
-            None => carry_whole(due, from, into, gained, &mut workspace.before),
+            None => carry_whole(due, from, into, gained),
             Some(tabulated) => {
                 tabulated.carry(alloc, context, due, from, into, gained, workspace)
             }

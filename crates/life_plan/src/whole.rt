@@ -15,53 +15,41 @@ pub fn carry_whole<R: Rows>(
     from: &R,
     into: &mut R,
     gained: &mut NumberSet,
-    elements: &mut NumberSet,
 ) -> Result<(), NoMemory>
     requires locations { R.location_limit into.old ≡ R.location_limit from.now }
     requires elements { R.element_limit into.old ≡ R.element_limit from.now }
     requires gained { gained.old.limit ≡ R.location_limit from.now }
     requires due { due.now.limit ≡ R.location_limit from.now }
-    requires limit { elements.old.limit ≡ R.element_limit from.now }
     ensures kept { OnOk result ((l m : ℕ) → IsTrue (holds due.now l) → l < R.location_limit from.now → IsTrue (R.has from.now l m) → IsTrue (R.has into.new l m)) }
     ensures some { GainsSome (R.has into.old) (R.has into.new) (IsAmong (R.location_limit from.now) (R.element_limit from.now) (R.has from.now)) }
     ensures noted { OnOk result (Notes (R.has into.old) (R.has into.new) (holds gained.old) (holds gained.new)) }
     ensures locations { R.location_limit into.new ≡ R.location_limit into.old }
     ensures elements { R.element_limit into.new ≡ R.element_limit into.old }
     ensures gained { gained.new.limit ≡ gained.old.limit }
-    ensures limit { elements.new.limit ≡ elements.old.limit }
 {
     for l in 0..due.limit() {
         let is_due = due.contains(l);
         if is_due {
-            carry_at(l, from, into, gained, elements)?;
+            carry_at(l, from, into, gained)?;
         }
     }
     Ok(())
 }
 
 // Adds the pairs at a location.
-fn carry_at<R: Rows>(
-    l: u32,
-    from: &R,
-    into: &mut R,
-    gained: &mut NumberSet,
-    elements: &mut NumberSet,
-) -> Result<(), NoMemory>
+fn carry_at<R: Rows>(l: u32, from: &R, into: &mut R, gained: &mut NumberSet) -> Result<(), NoMemory>
     requires location { l < R.location_limit from.now }
     requires locations { R.location_limit into.old ≡ R.location_limit from.now }
     requires elements { R.element_limit into.old ≡ R.element_limit from.now }
     requires gained { gained.old.limit ≡ R.location_limit from.now }
-    requires limit { elements.old.limit ≡ R.element_limit from.now }
     ensures kept { OnOk result ((m : ℕ) → IsTrue (R.has from.now l m) → IsTrue (R.has into.new l m)) }
     ensures some { GainsSome (R.has into.old) (R.has into.new) (IsAmong (R.location_limit from.now) (R.element_limit from.now) (R.has from.now)) }
     ensures noted { OnOk result (Notes (R.has into.old) (R.has into.new) (holds gained.old) (holds gained.new)) }
     ensures locations { R.location_limit into.new ≡ R.location_limit into.old }
     ensures elements { R.element_limit into.new ≡ R.element_limit into.old }
     ensures gained { gained.new.limit ≡ gained.old.limit }
-    ensures limit { elements.new.limit ≡ elements.old.limit }
 {
-    from.read(l, elements);
-    let fresh = into.join_at(l, elements)?;
+    let fresh = into.join_from(from, l)?;
     insert_if(fresh, l, gained);
     Ok(())
 }

@@ -4,7 +4,6 @@ pub mod Kept
 pub mod Nothing
 pub mod OneFact
 pub mod OneFunction
-pub mod SetLemmas
 pub mod Spots
 pub mod TwoFacts
 pub mod Unique

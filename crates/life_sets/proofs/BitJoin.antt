@@ -87,7 +87,7 @@ gained_in m n old old_held new new_held r is_new is_old tells =
     (subst (λ (ws : List ℕ). IsTrue r ↔ HasNew (contains_bit m n old) (contains_bit m n ws)) (sym is_new) tells)
 
 -- .. and it has its own pairs, and besides only those of the other
-between_from : (from old new : ℕ → ℕ → Bool) → ((l e : ℕ) → new l e ≡ (from l e || old l e)) → IsBetween from old new
+pub between_from : (from old new : ℕ → ℕ → Bool) → ((l e : ℕ) → new l e ≡ (from l e || old l e)) → IsBetween from old new
 between_from from old new each l e = (
   λ h. each l e ∙ or_right (from l e) (old l e) h,
   λ h. elim (or_cases (from l e) (old l e) (sym (each l e) ∙ h)) [ inl f ↦ inr f | inr o ↦ inl o ],

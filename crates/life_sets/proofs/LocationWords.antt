@@ -6,7 +6,7 @@ use Rattle.std.proofs.lemmas.Bool.{lt-ltb, le-ltb, ne_eqb, cases_lt, cases_order
 use Rattle.std.proofs.lemmas.List.{get_or_past, get_or_append_left, get_or-append_right, get_or-replicate, get_or-take, get_or-drop, length-replicate, length-take-le, length-append, length-drop}
 use Rattle.std.proofs.lemmas.List.Edits.{get_or-between, length-between}
 use Rattle.std.proofs.lemmas.Nat.{row_fits, mod-mul-add}
-use Rattle.life_sets.specs.Pairs.{HasNew}
+use Rattle.life_sets.specs.Pairs.{HasNew, pairs_from}
 use Rattle.life_sets.specs.BitSets.{words_for, has_bit, bit_of, contains_bit, IsClean, IsFilled, IsLaidOut, IsJoined, TellsGain, AreWords}
 use Rattle.life_sets.specs.NumberSets.{holds_bit}
 use Rattle.life_sets.proofs.Bits.{has_none}
@@ -227,3 +227,13 @@ joined_at_width m n l w from old part new r wide is long laid_from laid_old hl w
 
 pub laid_out_at_width : (m n l w : ℕ) (ws : List ℕ) → w ≡ words_for n → IsLaidOut m n ws → l < m → IsLaidOut 1 n (slice_range ws (l * w) (l * w + w))
 laid_out_at_width m n l w ws wide laid hl = subst (λ (z : ℕ). IsLaidOut 1 n (slice_range ws (l * z) (l * z + z))) (sym wide) (location_laid_out m n l ws laid hl)
+
+-- the words of a location of one row were joined into those of another: in the names that the code has for them
+pub joined_from : (locations elements other_locations other_elements l : ℕ) (from other other_held old old_held new new_held : List ℕ) → other_elements ≡ elements → other ≡ other_held → old ≡ old_held → new_held ≡ new
+    → ((e : ℕ) → holds_bit other_elements from e ≡ contains_bit other_locations other_elements other l e) → ((x e : ℕ) → contains_bit locations elements new x e ≡ ((nat_eq x l && holds_bit elements from e) || contains_bit locations elements old x e))
+    → (x e : ℕ) → contains_bit locations elements new_held x e ≡ (pairs_from (contains_bit other_locations other_elements other_held) l x e || contains_bit locations elements old_held x e)
+joined_from locations elements other_locations other_elements l from other other_held old old_held new new_held same is_other is_old is_new each joined x e =
+    ap (λ (ws : List ℕ). contains_bit locations elements ws x e) is_new
+    ∙ joined x e
+    ∙ (λ i. (nat_eq x l && holds_bit (sym same i) from e) || contains_bit locations elements (is_old i) x e)
+    ∙ ap (λ (b : Bool). (nat_eq x l && b) || contains_bit locations elements old_held x e) (each e ∙ ap (λ (ws : List ℕ). contains_bit other_locations other_elements ws l e) is_other)

@@ -39,6 +39,18 @@ none_held n ws zeros e = and_right (nat_lt e n) (has_bit (slice_index ws (e / 64
 pub clean_none : (n : ℕ) (ws : List ℕ) → ((k : ℕ) → slice_index ws k ≡ 0) → IsClean n ws
 clean_none n ws zeros k b small set = absurd (both_ways (has_bit (slice_index ws k) b) (ap (λ (z : ℕ). has_bit z b) (zeros k) ∙ has_none b) set)
 
+-- ---- not empty
+is_set : (x : ℕ) → x < 2 → x ≢ 0 → nat_eq x 1 ≡ true
+is_set zero p ne = absurd (ne refl)
+is_set (suc zero) p ne = refl
+is_set (suc (suc x)) p ne = absurd (omega (arith, p))
+
+-- a word that isn't 0 has a bit
+some_bit : (word : ℕ) → word < 2 ^ 64 → word ≢ 0 → (i : ℕ) × ((i < 64) × (has_bit word i ≡ true))
+some_bit word small ne =
+    let d = differing 64 word 0 small (omega arith) ne in
+    (d.0, (d.1.0, is_set (bit_at word d.0) (bit_at-lt word d.0) (λ (h : bit_at word d.0 ≡ 0). d.1.1 (h ∙ sym (bit_at-zero d.0)))))
+
 -- ---- cut
 guard_cut : (a r p q : Bool) → r ≡ (p && not q) → (a && r) ≡ ((a && p) && not (a && q))
 guard_cut true r p q h = h
@@ -141,6 +153,18 @@ cut_in limit other_limit from from_held old old_held new new_held same is_from i
           ∙ cut_held limit from old new words cut e
           ∙ (λ i. holds_bit limit (is_old i) e && not (holds_bit (sym same i) (is_from i) e));
     }
+
+-- no bit was found
+pub none_in : (limit : ℕ) (words words_held : List ℕ) → words ≡ words_held → ((k : ℕ) → slice_index words k ≡ 0) → (e : ℕ) → holds_bit limit words_held e ≡ false
+none_in limit words words_held is zeros = none_held limit words_held (λ k. ap (λ (ws : List ℕ). slice_index ws k) (sym is) ∙ zeros k)
+
+-- .. or a word with one
+pub some_in : (limit : ℕ) (words words_held : List ℕ) → words ≡ words_held → IsLaidOut 1 limit words_held → (k : ℕ) × ((slice_index words k ≢ 0) × (slice_index words k < 2 ^ 64)) → (e : ℕ) × IsTrue (holds_bit limit words_held e)
+some_in limit words words_held is laid some =
+    let k = some.0 in
+    let here : slice_index words k ≡ slice_index words_held k = ap (λ (ws : List ℕ). slice_index ws k) is in
+    let bit = some_bit (slice_index words_held k) (subst (λ (w : ℕ). w < 2 ^ 64) here some.1.1) (λ (h : slice_index words_held k ≡ 0). some.1.0 (here ∙ h)) in
+    (k * 64 + bit.0, (bit_held limit k bit.0 words_held laid.clean (word_inside limit k bit.0 words_held laid.filled bit.1.1) bit.1.0 bit.1.1).0)
 
 -- two sets were compared
 pub common_in : (limit other_limit : ℕ) (one one_held other other_held : List ℕ) (r : Bool) → other_limit ≡ limit → one ≡ one_held → other ≡ other_held → IsLaidOut 1 limit one_held → IsLaidOut 1 other_limit other_held → AreWords one → TellsCommon one other r → IsTrue r ↔ HasCommon (holds_bit limit one_held) (holds_bit other_limit other_held)

@@ -1,5 +1,5 @@
 -- Sets of pairs of numbers, as tests.
-use Rattle.std.specs.Prelude.{◌≡◌, ◌⊎◌, ℕ, ◌<◌, Bool, true, false, IsTrue, List, All}
+use Rattle.std.specs.Prelude.{◌≡◌, ◌⊎◌, ℕ, ◌<◌, Bool, true, false, IsTrue, List, All, nat_eq, ◌&&◌}
 use Rattle.std.specs.Ordering.{ordering_then, nat_cmp}
 use Rattle.std.specs.declared.cmp.Ordering.{Ordering}
 use Rattle.std.specs.List.Sorted.{IsStrictlySortedBy}
@@ -23,3 +23,7 @@ HasNew before after = (l : ℕ) × ((e : ℕ) × ((before l e ≡ false) × (aft
 -- the set after has all of the set before, and besides only what was to be added
 abbrev pub IsBetween : (added before after : ℕ → ℕ → Bool) → Type 0
 IsBetween added before after = (l e : ℕ) → (IsTrue (before l e) → IsTrue (after l e)) × (IsTrue (after l e) → IsTrue (before l e) ⊎ IsTrue (added l e))
+
+-- the set's pairs of one location
+abbrev pub pairs_from : (has : ℕ → ℕ → Bool) → ℕ → ℕ → ℕ → Bool
+pairs_from has location l e = nat_eq l location && has location e

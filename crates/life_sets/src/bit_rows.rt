@@ -7,17 +7,19 @@ ghost use Rattle.life_sets.specs.Pairs.{IsAscending};
 use crate::bit_pairs::{set_pair, test_pair, word_of, words_for};
 use crate::number_set::NumberSet;
 use crate::rows::Rows;
-use crate::words::{join_words, join_words_at, words_at};
+use crate::words::{join_words, join_words_at, words_at, zeros};
 use life_types::NoMemory;
+use smallvec::SmallVec;
 use std::alloc::Global;
 use std::marker::Model;
 
-/// A row as one bit for each pair: quick to join. It takes all of its memory when it is made.
+/// A row as one bit for each pair: quick to join. It takes all of its memory when it is made, and none
+/// for up to four words, which serve most functions.
 #[derive(Drop)]
 pub struct BitRows {
     locations: u32,
     elements: u32,
-    words: Vec<u64>,
+    words: SmallVec<u64, 4>,
 }
 
 impl Model for BitRows {
@@ -61,7 +63,7 @@ impl Rows for BitRows {
 
     fn empty(alloc: Global, locations: u32, elements: u32) -> Result<Self, NoMemory> {
         let count = locations as usize * words_for(elements);
-        let words = vec![in alloc; 0u64; count]?;
+        let words = zeros(alloc, count)?;
         Ok(BitRows {
             locations,
             elements,
@@ -107,6 +109,17 @@ impl Rows for BitRows {
     fn join_at(&mut self, location: u32, elements: &NumberSet) -> Result<bool, NoMemory> {
         let gained = join_words_at(
             elements.words(),
+            &mut self.words,
+            self.locations,
+            self.elements,
+            location,
+        );
+        Ok(gained)
+    }
+
+    fn join_from(&mut self, other: &Self, location: u32) -> Result<bool, NoMemory> {
+        let gained = join_words_at(
+            words_at(&other.words, other.locations, other.elements, location),
             &mut self.words,
             self.locations,
             self.elements,

@@ -1,10 +1,10 @@
 // A set of numbers as one bit for each.
-ghost use Rattle.std.specs.Prelude.{◌≡◌, ◌==◌, ◌||◌, ◌&&◌, ℕ, ◌<◌, ◌≤◌, false, not, ◌↔◌, IsTrue, IfOk, IfSome, IfNone};
+ghost use Rattle.std.specs.Prelude.{◌≡◌, ◌==◌, ◌||◌, ◌&&◌, ℕ, ◌<◌, ◌≤◌, true, false, not, ◌↔◌, IsTrue, IfOk, IfSome, IfNone};
 ghost use Rattle.life_sets.specs.BitSets.{IsLaidOut};
 ghost use Rattle.life_sets.specs.NumberSets.{holds, HasMore, HasCommon, IsNext};
 
 use crate::bit_pairs::{set_pair, test_pair, words_for};
-use crate::words::{clear_words, cut_words, join_words_at, meet_words, next_bit};
+use crate::words::{are_clear, clear_words, cut_words, join_words_at, meet_words, next_bit, zeros};
 use life_types::NoMemory;
 use smallvec::SmallVec;
 use std::alloc::Global;
@@ -35,7 +35,7 @@ impl NumberSet {
         ensures none { IfOk result (λ set. (n : ℕ) → holds set n ≡ false) }
         ensures limit { IfOk result (λ set. set.limit ≡ limit) }
     {
-        let words = SmallVec::from_elem(alloc, 0u64, words_for(limit))?;
+        let words = zeros(alloc, words_for(limit))?;
         Ok(NumberSet { limit, words })
     }
 
@@ -44,6 +44,14 @@ impl NumberSet {
         ensures { result ≡ self.now.limit }
     {
         self.limit
+    }
+
+    /// Whether it has no number.
+    pub fn is_empty(&self) -> bool
+        ensures none { result ≡ true → (n : ℕ) → holds self.now n ≡ false }
+        ensures some { result ≡ false → (n : ℕ) × IsTrue (holds self.now n) }
+    {
+        are_clear(&self.words)
     }
 
     /// Whether the number is in the set. One past the limit isn't.
@@ -106,6 +114,7 @@ impl NumberSet {
     {
         next_bit(&self.words, self.limit, from)
     }
+
     // The words, as `BitRows` has them for one location.
     pub(crate) fn words(&self) -> &[u64]
         ensures words { result.now ≡ self.now.words }

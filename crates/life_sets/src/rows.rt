@@ -1,7 +1,7 @@
 // Rows: the facts at one point, as pairs of numbers.
 ghost use Rattle.std.specs.Prelude.{◌≡◌, ℕ, ◌<◌, ◌||◌, ◌&&◌, ◌==◌, Bool, true, false, not, ◌↔◌, IfOk, OnOk, OnErr, IsTrue, Contains};
 ghost use Rattle.life_sets.specs.NumberSets.{holds, pairs_at};
-ghost use Rattle.life_sets.specs.Pairs.{AllWithin, IsAscending, HasNew, IsBetween};
+ghost use Rattle.life_sets.specs.Pairs.{pairs_from, AllWithin, IsAscending, HasNew, IsBetween};
 
 use crate::number_set::NumberSet;
 use life_types::NoMemory;
@@ -72,6 +72,19 @@ pub trait Rows: Sized + Drop {
         ensures joined { OnOk result ((l e : ℕ) → has self.new l e ≡ (pairs_at location elements.now l e || has self.old l e)) }
         ensures gained { IfOk result (λ gained. IsTrue gained ↔ HasNew (has self.old) (has self.new)) }
         ensures between { IsBetween (pairs_at location elements.now) (has self.old) (has self.new) }
+        ensures locations { location_limit self.new ≡ location_limit self.old }
+        ensures elements { element_limit self.new ≡ element_limit self.old };
+
+    /// Adds the elements that another row with the same limits has at a location, and says whether
+    /// this row gained a pair. After `NoMemory` it has its own pairs and some of those.
+    fn join_from(&mut self, other: &Self, location: u32) -> Result<bool, NoMemory>
+        requires location { location < location_limit self.old }
+        requires locations { location_limit other.now ≡ location_limit self.old }
+        requires elements { element_limit other.now ≡ element_limit self.old }
+        ensures joined { OnOk result ((l e : ℕ) → has self.new l e ≡ (pairs_from (has other.now) location l e || has self.old l e)) }
+        ensures gained { IfOk result (λ gained. IsTrue gained ↔ HasNew (has self.old) (has self.new)) }
+        ensures between { IsBetween (pairs_from (has other.now) location) (has self.old) (has self.new) }
+        ensures within { (e : ℕ) → IsTrue (has other.now location e) → e < element_limit other.now }
         ensures locations { location_limit self.new ≡ location_limit self.old }
         ensures elements { element_limit self.new ≡ element_limit self.old };
 }

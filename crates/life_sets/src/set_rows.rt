@@ -2,7 +2,7 @@
 ghost use Rattle.std.specs.Prelude.{◌≡◌, ℕ, ◌<◌, ◌||◌, false, IsTrue, IfOk, OnOk, OnErr, not, ◌↔◌};
 ghost use Rattle.life_sets.specs.NumberSets.{holds, pairs_at};
 ghost use Rattle.life_sets.specs.PairSets.{contains_pair, AddsPair, AddsKeys, IsAmong, IsPairWithin};
-ghost use Rattle.life_sets.specs.Pairs.{IsAscending, HasNew, IsBetween};
+ghost use Rattle.life_sets.specs.Pairs.{pairs_from, IsAscending, HasNew, IsBetween};
 
 use crate::number_set::NumberSet;
 use crate::rows::Rows;
@@ -76,6 +76,27 @@ fn join_elements(
     Ok(gained)
 }
 
+// Adds the first set's pairs of a location, with elements below a limit, and says whether one was new.
+fn join_location(
+    from: &BTreeSet<(u32, u32)>,
+    location: u32,
+    limit: u32,
+    into: &mut BTreeSet<(u32, u32)>,
+) -> Result<bool, NoMemory>
+    requires { (e : ℕ) → IsTrue (contains_pair from.now location e) → e < limit }
+    ensures joined { OnOk result ((l e : ℕ) → contains_pair into.new l e ≡ (pairs_from (contains_pair from.now) location l e || contains_pair into.old l e)) }
+    ensures gained { IfOk result (λ gained. IsTrue gained ↔ HasNew (contains_pair into.old) (contains_pair into.new)) }
+    ensures between { IsBetween (pairs_from (contains_pair from.now) location) (contains_pair into.old) (contains_pair into.new) }
+{
+    let mut gained = false;
+    for element in 0..limit {
+        if from.contains(&(location, element)) {
+            gained |= insert_pair(into, location, element)?;
+        }
+    }
+    Ok(gained)
+}
+
 /// A row as an ordered set of its pairs: small where few facts hold. It takes memory for each pair.
 #[derive(Drop)]
 pub struct SetRows {
@@ -125,5 +146,9 @@ impl Rows for SetRows {
 
     fn join_at(&mut self, location: u32, elements: &NumberSet) -> Result<bool, NoMemory> {
         join_elements(location, elements, &mut self.pairs)
+    }
+
+    fn join_from(&mut self, other: &Self, location: u32) -> Result<bool, NoMemory> {
+        join_location(&other.pairs, location, self.elements, &mut self.pairs)
     }
 }

@@ -1,10 +1,24 @@
 // Whole words of bits: joined, cut, compared, and the words of one location.
-ghost use Rattle.std.specs.Prelude.{◌≡◌, ◌&&◌, ◌||◌, ◌==◌, ℕ, ◌<◌, ◌≤◌, IsTrue, IfSome, IfNone, ◌↔◌, false, length, slice_index};
+ghost use Rattle.std.specs.Prelude.{◌≡◌, ◌≢◌, ◌&&◌, ◌||◌, ◌==◌, ◌^◌, ℕ, ◌<◌, ◌≤◌, true, IsTrue, IfOk, IfSome, IfNone, ◌↔◌, false, length, replicate, slice_index};
 ghost use Rattle.life_sets.specs.BitSets.{has_bit, words_for, contains_bit, IsClean, IsFilled, IsLaidOut, IsJoined, TellsGain, AreWords};
 ghost use Rattle.life_sets.specs.NumberSets.{holds_bit, IsNext, IsCut, TellsCommon};
 ghost use Rattle.life_sets.specs.Pairs.{HasNew};
 
 use crate::bit_pairs::words_for;
+use smallvec::SmallVec;
+use std::alloc::{AllocError, Global};
+
+// So many words without a bit. They take memory only where there are more than so many that stand
+// in the value itself.
+pub fn zeros<const N: usize>(alloc: Global, count: usize) -> Result<SmallVec<u64, N>, AllocError>
+    ensures { IfOk result (λ words. words.items ≡ replicate count 0) }
+{
+    if count <= N {
+        Ok(SmallVec::from_buf_and_len(alloc, [0; N], count))
+    } else {
+        SmallVec::from_elem(alloc, 0, count)
+    }
+}
 
 // Adds the bits of the first, and says whether a word changed.
 pub fn join_words(from: &[u64], into: &mut [u64]) -> bool
@@ -56,6 +70,19 @@ pub fn clear_words(words: &mut [u64])
     for i in 0..words.len() {
         words[i] = 0;
     }
+}
+
+// Whether no bit is set.
+pub fn are_clear(words: &[u64]) -> bool
+    ensures none { result ≡ true → (k : ℕ) → slice_index words.now k ≡ 0 }
+    ensures some { result ≡ false → (k : ℕ) × ((slice_index words.now k ≢ 0) × (slice_index words.now k < 2 ^ 64)) }
+{
+    for i in 0..words.len() {
+        if words[i] != 0 {
+            return false;
+        }
+    }
+    true
 }
 
 // The least bit of a word from a place on.

@@ -33,4 +33,4 @@ returns-clause-some g c =
 
 pub returns-clause-noted : goal.returns-clause-noted
 returns-clause-noted g c =
-    notes_joined c.args.l c.leave.new.after (g.R.Rows.has c.args.into.now) (g.R.Rows.has c.join_at.new.self) (holds c.args.gained.now) (holds c.insert_if.new.set) c.in_ok-fresh.fresh c.in_ok-fresh.ensures.joined c.in_ok-fresh.ensures.gained c.insert_if.ensures.added
+    notes_joined c.args.l (holds c.leave.new.after) (g.R.Rows.has c.args.into.now) (g.R.Rows.has c.join_at.new.self) (holds c.args.gained.now) (holds c.insert_if.new.set) c.in_ok-fresh.fresh c.in_ok-fresh.ensures.joined c.in_ok-fresh.ensures.gained c.insert_if.ensures.added

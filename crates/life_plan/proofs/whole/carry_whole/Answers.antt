@@ -14,7 +14,6 @@ loop-l-init g c = record {
   locations = search rules;
   elements = search rules;
   gained = search rules;
-  limit = search rules;
 }
 
 pub loop-l-preserved : goal.loop-l-preserved
@@ -27,7 +26,7 @@ loop-l-preserved g c =
     elim c.if-is_due.branch [
       | then-is_due+in_ok-carry_at w ↦
           let now = w.carry_at.ensures in
-          rw (w.into-is, w.gained-is, w.elements-is)
+          rw (w.into-is, w.gained-is)
           (record {
             kept = whole_more ls es (holds c.args.due.now) (has c.args.from.now) (has c.loop-l.into) (has w.carry_at.new.into) c.loop-l.l was.kept (some_includes (has c.loop-l.into) (has w.carry_at.new.into) among now.some) w.in_ok-carry_at.ensures.kept;
             some = some_more (has c.args.into.now) (has c.loop-l.into) (has w.carry_at.new.into) among was.some now.some;
@@ -36,10 +35,9 @@ loop-l-preserved g c =
             locations = now.locations ∙ was.locations;
             elements = now.elements ∙ was.elements;
             gained = now.gained ∙ was.gained;
-            limit = now.limit ∙ was.limit;
           })
       | else-is_due w ↦
-          rw (w.into-is, w.gained-is, w.elements-is)
+          rw (w.into-is, w.gained-is)
           (record {
             kept = whole_past ls es (holds c.args.due.now) (has c.args.from.now) (has c.loop-l.into) (has c.loop-l.into) c.loop-l.l was.kept (λ n m h. h) (sym c.contains-is_due.ensures ∙ w.if-is_due.false);
             some = was.some;
@@ -47,7 +45,6 @@ loop-l-preserved g c =
             locations = was.locations;
             elements = was.elements;
             gained = was.gained;
-            limit = was.limit;
           })
     ]
 

@@ -16,5 +16,4 @@ invariant-loop-l g l =
       locations : g.R.Rows.location_limit l.into ≡ g.R.Rows.location_limit l.fn.into;
       elements : g.R.Rows.element_limit l.into ≡ g.R.Rows.element_limit l.fn.into;
       gained : l.gained.limit ≡ l.fn.gained.limit;
-      limit : l.elements.limit ≡ l.fn.elements.limit;
     }

@@ -1,5 +1,6 @@
 use Rattle.std.proofs.Common.{◌∙◌, ◌+◌, ℕ, Bool, BTreeSet, subst, sym}
 use Rattle.std.specs.Prelude.{IsTrue, ◌↔◌}
+use Rattle.life_sets.specs.NumberSets.{holds}
 use Rattle.life_sets.specs.Pairs.{HasNew}
 use Rattle.life_sets.specs.PairSets.{contains_pair}
 use Rattle.life_sets.proofs.ElementLemmas.{IsJoinedBelow, joined_one, joined_over, joined_between}
@@ -10,7 +11,7 @@ use Rattle.life_sets.proofs.set_rows.join_elements.Goals.{then-contains+in_ok-ga
 pub loop-element-preserved : goal.loop-element-preserved
 loop-element-preserved c =
     let l = c.args.location in
-    let set = c.args.elements.now in
+    let test = holds c.args.elements.now in
     let k = c.loop-element.element in
     let old = contains_pair c.args.pairs.now in
     let before = contains_pair c.loop-element.pairs in
@@ -21,13 +22,13 @@ loop-element-preserved c =
           let added = w.in_ok-gained.ensures.added in
           let fresh = w.in_ok-gained.field-0 in
           record {
-            joined = subst (λ (s : BTreeSet (ℕ × ℕ)). IsJoinedBelow l set (k + 1) old (contains_pair s)) (sym w.pairs-is) (joined_one l set k old before after was.joined (sym c.contains.ensures ∙ w.if-contains.true) added);
+            joined = subst (λ (s : BTreeSet (ℕ × ℕ)). IsJoinedBelow l test (k + 1) old (contains_pair s)) (sym w.pairs-is) (joined_one l test k old before after was.joined (sym c.contains.ensures ∙ w.if-contains.true) added);
             gained = subst (λ (s : BTreeSet (ℕ × ℕ)). IsTrue c.if-contains.gained ↔ HasNew old (contains_pair s)) (sym w.pairs-is)
                 (subst (λ (g : Bool). IsTrue g ↔ HasNew old after) (sym w.gained-is)
-                (gained_more old before after (λ x e. (joined_between l set k old before was.joined x e).0) (adds_pair_keeps l k before after added) c.loop-element.gained fresh was.gained (fresh_iff l k before after fresh added w.in_ok-gained.ensures.fresh)));
+                (gained_more old before after (λ x e. (joined_between l test k old before was.joined x e).0) (adds_pair_keeps l k before after added) c.loop-element.gained fresh was.gained (fresh_iff l k before after fresh added w.in_ok-gained.ensures.fresh)));
           }
       | else-contains w ↦ record {
-        joined = subst (λ (s : BTreeSet (ℕ × ℕ)). IsJoinedBelow l set (k + 1) old (contains_pair s)) (sym w.pairs-is) (joined_over l set k old before was.joined (sym c.contains.ensures ∙ w.if-contains.false));
+        joined = subst (λ (s : BTreeSet (ℕ × ℕ)). IsJoinedBelow l test (k + 1) old (contains_pair s)) (sym w.pairs-is) (joined_over l test k old before was.joined (sym c.contains.ensures ∙ w.if-contains.false));
         gained = subst (λ (s : BTreeSet (ℕ × ℕ)). IsTrue c.if-contains.gained ↔ HasNew old (contains_pair s)) (sym w.pairs-is)
             (subst (λ (g : Bool). IsTrue g ↔ HasNew old before) (sym w.gained-is) was.gained);
       }

@@ -1,4 +1,5 @@
 use Rattle.std.specs.Prelude.{IsTrue, ◌↔◌}
+use Rattle.life_sets.specs.NumberSets.{holds}
 use Rattle.life_sets.specs.Pairs.{HasNew}
 use Rattle.life_sets.specs.PairSets.{contains_pair}
 use Rattle.life_sets.proofs.ElementLemmas.{IsJoinedBelow}
@@ -6,6 +7,6 @@ use Rattle.life_sets.proofs.set_rows.join_elements.Given as goal
 
 abbrev pub invariant-loop-element : goal.invariant-loop-element
 invariant-loop-element l = record {
-  joined : IsJoinedBelow l.location l.elements l.element (contains_pair l.fn.pairs) (contains_pair l.pairs);
+  joined : IsJoinedBelow l.location (holds l.elements) l.element (contains_pair l.fn.pairs) (contains_pair l.pairs);
   gained : IsTrue l.gained ↔ HasNew (contains_pair l.fn.pairs) (contains_pair l.pairs);
 }

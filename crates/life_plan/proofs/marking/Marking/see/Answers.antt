@@ -3,7 +3,7 @@ use Rattle.std.proofs.lemmas.Bool.{and_parts}
 use Rattle.life_plan.proofs.Tabulating.{grown_more}
 use Rattle.life_sets.specs.NumberSets.{holds}
 use Rattle.life_plan.specs.Crossing.{crossing_in}
-use Rattle.life_plan.proofs.Seeing.{seen_first, seen_last, seen_more, seen_past}
+use Rattle.life_plan.proofs.Seeing.{seen_first, seen_last, seen_more, seen_none, seen_past}
 use Rattle.life_plan.proofs.marking.Marking.see.Goals as goal
 use Rattle.life_plan.proofs.marking.Marking.see.Goals.{else-is_due, then-is_due}
 
@@ -48,3 +48,7 @@ pub returns-clause-seen : goal.returns-clause-seen
 returns-clause-seen g c =
     let past : c.loop-q.self.targets.limit ≤ c.loop-q.q = omega (arith, c.loop-q.invariant.is.within, c.location_count-q-end.ensures, c.loop-q-test.false) in
     seen_last (crossing_in c.args.context.now) c.loop-q.self (holds c.args.due.now) (g.R.Rows.has c.args.from.now) c.loop-q.q past c.loop-q.invariant.seen
+
+pub returns-then-not-met-clause-seen : goal.returns-then-not-met-clause-seen
+returns-then-not-met-clause-seen g c =
+    seen_none (crossing_in c.args.context.now) c.args.self.now (holds c.args.due.now) (g.R.Rows.has c.args.from.now) c.meets-met.result c.if-not-met.true c.meets-met.ensures c.requires.seen

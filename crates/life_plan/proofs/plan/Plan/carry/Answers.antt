@@ -1,4 +1,4 @@
-use Rattle.std.proofs.Common.{◌≡◌, ℕ, Option, subst}
+use Rattle.std.proofs.Common.{◌≡◌, ℕ, Box, Global, Option, subst}
 use Rattle.life_sets.specs.NumberSets.{holds}
 use Rattle.life_plan.specs.Carried.{carried_by}
 use Rattle.life_plan.specs.Crossing.{crossing_in}
@@ -9,5 +9,5 @@ use Rattle.life_plan.proofs.plan.Plan.carry.Goals as goal
 pub returns-in-None-clause-sound : goal.returns-in-None-clause-sound
 returns-in-None-clause-sound g c =
     let has = g.R.Rows.has in
-    let kept = subst (λ (o : Option Tabulated). carried_by (crossing_in c.args.context.now) o (holds c.args.due.now) (has c.args.from.now) (has c.args.into.now)) c.in-None.is c.requires.carried in
+    let kept = subst (λ (o : Option (Box Tabulated Global)). carried_by (crossing_in c.args.context.now) o (holds c.args.due.now) (has c.args.from.now) (has c.args.into.now)) c.in-None.is c.requires.carried in
     whole_carried c.args.context.now c.requires.context kept.keeps (g.R.Rows.location_limit c.args.from.now) (g.R.Rows.element_limit c.args.from.now) c.requires.from_locations c.requires.from_elements (has c.args.from.now) (has c.args.into.now) (has c.carry_whole.new.into) c.carry_whole.ensures.some

@@ -9,4 +9,4 @@ returns-then-keeps_all c = λ due from into all. record {
 }
 
 pub returns : goal.returns
-returns c = c.in_ok-tabulated.ensures
+returns c = rw c.in_ok-tabulated.ensures.ok c.in_ok-of.ensures

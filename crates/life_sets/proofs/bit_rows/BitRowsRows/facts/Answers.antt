@@ -11,5 +11,5 @@ returns-clause-within c =
     let items = c.in_ok-facts.facts.items in
     rw (← c.self.view_is) (
     All-weaker (Contains items) (λ (pair : ℕ × ℕ). (pair.0 < row.locations) × (pair.1 < row.elements))
-    (λ pair h. set_within row.locations row.elements row.words.items pair.0 pair.1 (subst (λ (ws : List ℕ). IsTrue (contains_bit row.locations row.elements ws pair.0 pair.1)) c.deref.ensures.value ((c.in_ok-facts.ensures.each pair.0 pair.1).0 h))) items (All-contains_itself items)
+    (λ pair h. set_within row.locations row.elements row.words.items pair.0 pair.1 (subst (λ (ws : List ℕ). IsTrue (contains_bit row.locations row.elements ws pair.0 pair.1)) c.deref.ensures ((c.in_ok-facts.ensures.each pair.0 pair.1).0 h))) items (All-contains_itself items)
     )

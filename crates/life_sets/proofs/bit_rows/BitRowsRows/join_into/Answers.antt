@@ -1,6 +1,6 @@
-use Rattle.std.proofs.Common.{◌∙◌, ap, sym}
-use Rattle.std.proofs.lemmas.List.{with_items_is}
-use Rattle.std.specs.Vec.{with_items}
+use Rattle.std.proofs.Common.{◌∙◌, ap, length, sym}
+use Rattle.smallvec.proofs.SmallVecLemmas.{items-with_items}
+use Rattle.smallvec.specs.SmallVec.{with_items}
 use Rattle.life_sets.specs.BitSets.{BitSet}
 use Rattle.life_sets.specs.contracts.bit_rows.BitRows.{the_view}
 use Rattle.life_sets.proofs.BitJoin.{RowJoin, joined_row}
@@ -16,8 +16,8 @@ row c =
     joined_row from into (with_items c.into.inside.words new).items c.deref.result.now c.deref_mut.result.now new c.join_words-gained.result
     (ap (λ (s : BitSet). s.locations) c.self.view_is ∙ c.requires.locations ∙ sym (ap (λ (s : BitSet). s.locations) c.into.view_is))
     (ap (λ (s : BitSet). s.elements) c.self.view_is ∙ c.requires.elements ∙ sym (ap (λ (s : BitSet). s.elements) c.into.view_is))
-    c.deref.ensures.value c.deref_mut.ensures.value
-    (with_items_is c.into.inside.words new (same_length ∙ c.deref_mut.ensures.len))
+    c.deref.ensures c.deref_mut.ensures.value
+    (items-with_items c.into.inside.words new (same_length ∙ ap length c.deref_mut.ensures.value))
     same_length c.self.invariant c.into.invariant known.each known.from_words known.into_words known.tells
 
 pub invariant_of-into : goal.invariant_of-into

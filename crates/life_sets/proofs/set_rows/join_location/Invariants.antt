@@ -1,0 +1,11 @@
+use Rattle.std.specs.Prelude.{IsTrue, ◌↔◌}
+use Rattle.life_sets.specs.Pairs.{HasNew}
+use Rattle.life_sets.specs.PairSets.{contains_pair}
+use Rattle.life_sets.proofs.ElementLemmas.{IsJoinedBelow}
+use Rattle.life_sets.proofs.set_rows.join_location.Given as goal
+
+abbrev pub invariant-loop-element : goal.invariant-loop-element
+invariant-loop-element l = record {
+  joined : IsJoinedBelow l.location (contains_pair l.from l.location) l.element (contains_pair l.fn.into) (contains_pair l.into);
+  gained : IsTrue l.gained ↔ HasNew (contains_pair l.fn.into) (contains_pair l.into);
+}
