@@ -4,20 +4,9 @@ use Rattle.std.proofs.lemmas.Option.{get_or_from_slice_get, slice_get_within, sl
 use Rattle.std.specs.Borrow.{Bor}
 use Rattle.std.specs.Option.{option_copied}
 use Rattle.std.specs.Prelude.{IfSome, slice_get, slice_set}
+use Rattle.life_plan.proofs.Places.{get_set_other, get_set_same}
 use Rattle.life_fix.specs.Solution.{numbered_row, AllLimited}
 use Rattle.life_fix.specs.Solving.{pairs_in, pairs_at}
-
-pub get_set_same : {A : Type 0} (xs : List A) (i : ℕ) (y : A) → i < length xs → slice_get (slice_set xs i y) i ≡ Some y
-get_set_same [] i y h = absurd (omega (arith, h))
-get_set_same (x ∷ xs) zero y h = refl
-get_set_same (x ∷ xs) (suc i) y h = get_set_same xs i y (omega (arith, h))
-
-pub get_set_other : {A : Type 0} (xs : List A) (i p : ℕ) (y : A) → p ≢ i → slice_get (slice_set xs i y) p ≡ slice_get xs p
-get_set_other [] i p y h = refl
-get_set_other (x ∷ xs) zero zero y h = absurd (h refl)
-get_set_other (x ∷ xs) zero (suc p) y h = refl
-get_set_other (x ∷ xs) (suc i) zero y h = refl
-get_set_other (x ∷ xs) (suc i) (suc p) y h = get_set_other xs i p y (λ e. h (ap suc e))
 
 -- what an index reads
 pub row_at : {A : Type 0} (xs : List A) (i : ℕ) (x : A) → i < length xs → x ≡ get_or xs i x → slice_get xs i ≡ Some x
@@ -35,12 +24,6 @@ push_at [] y zero x h = inr (refl, cc)
 push_at [] y (suc k) x h = absurd (cc)
 push_at (z ∷ xs) y zero x h = inl h
 push_at (z ∷ xs) y (suc k) x h = elim (push_at xs y k x h) [ inl was ↦ inl was | inr new ↦ inr (ap suc new.0, new.1) ]
-
-pub same_or_not : (m n : ℕ) → (m ≡ n) ⊎ (m ≢ n)
-same_or_not zero zero = inl refl
-same_or_not zero (suc n) = inr (λ h. omega (arith, h))
-same_or_not (suc m) zero = inr (λ h. omega (arith, h))
-same_or_not (suc m) (suc n) = elim (same_or_not m n) [ inl e ↦ inl (ap suc e) | inr d ↦ inr (λ h. d (omega (arith, h))) ]
 
 -- the pairs at a point are those of its row
 pub pairs_of_row : {R : Type 0} (has : R → ℕ → ℕ → Bool) (rows : List R) (p i : ℕ) (row : R) → i + 1 ≡ p → slice_get rows i ≡ Some row → pairs_at has rows p ≡ has row

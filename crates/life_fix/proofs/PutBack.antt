@@ -1,15 +1,15 @@
 -- Which edges leave a point, and what is due for them when it gained.
-use Rattle.std.proofs.Common.{◌≡◌, ◌≢◌, ℕ, zero, suc, ◌+◌, ◌<◌, ◌≤◌, List, [], ◌∷◌, ◌++◌, ap, sym, ◌∙◌, inl, inr, ◌⊎◌, arith, subst, Some, Bool, true, false, true≢false, length, get_or, leb, ltb}
-use Rattle.std.proofs.lemmas.Bool.{cases_lt, leb-false, leb-true, ltb-false, ltb-true, or_cases, or_left, or_right}
-use Rattle.std.proofs.lemmas.Option.{get_or_from_slice_get, slice_get_within}
-use Rattle.std.specs.List.Sorted.{IsNonDecreasingBy, IsPartitionPoint}
+use Rattle.std.proofs.Common.{◌≡◌, ◌≢◌, ℕ, zero, suc, ◌+◌, ◌<◌, ◌≤◌, List, [], ◌∷◌, ◌++◌, ap, sym, ◌∙◌, inl, inr, ◌⊎◌, arith, subst, Some, Bool, false, true≢false, length, get_or}
+use Rattle.std.proofs.lemmas.Bool.{cases_lt, or_cases, or_left, or_right}
+use Rattle.std.proofs.lemmas.Option.{get_or_from_slice_get, slice_get-get_or, slice_get_within}
 use Rattle.std.specs.Prelude.{◌↔◌, ◌||◌, IsTrue, slice_get, slice_set}
 use Rattle.life_core.specs.Linked.{AreAscending, AreFrom}
 use Rattle.life_core.specs.declared.stmt.Edge.{Edge}
 use Rattle.life_sets.specs.NumberSets.{Numbers, holds}
 use Rattle.life_sets.proofs.NumberLemmas.{held_below}
-use Rattle.life_fix.specs.Solving.{set_at, set_in, AddsBetween, AreSized, IsPutBack}
-use Rattle.life_fix.proofs.PointRows.{get_set_other, get_set_same, same_or_not, there}
+use Rattle.life_plan.proofs.Places.{get_set_other, get_set_same, same_or_not}
+use Rattle.life_fix.specs.Solving.{set_at, set_in, AddsBetween, AreSized, IsBegin, IsPutBack}
+use Rattle.life_fix.proofs.PointRows.{push_at, there}
 
 -- ---- edges that leave a point stand together
 
@@ -25,68 +25,75 @@ rising p (e ∷ es) h zero (suc j) d le lt = least e.from.0 es h.1 j d (omega (a
 rising p (e ∷ es) h (suc i) zero d le lt = absurd (omega (arith, le))
 rising p (e ∷ es) h (suc i) (suc j) d le lt = rising e.from.0 es h.1 i j d (omega (arith, le)) (omega (arith, lt))
 
-pub non_decreasing : (es : List Edge) → AreAscending es → IsNonDecreasingBy (λ (e : Edge). e.from.0) es
-non_decreasing es h = rising 0 es h
-
--- so many edges begin before a point
-pub begin_before : (es : List Edge) (n i : ℕ) → IsPartitionPoint (λ (e : Edge). ltb e.from.0 n ≡ true) (λ e. ltb e.from.0 n ≡ false) es i → (k : ℕ) (edge : Edge) → slice_get es k ≡ Some edge → (k < i) ↔ (edge.from.0 < n)
-begin_before es n i point k edge at = (
-  λ lt. subst (λ (e : Edge). e.from.0 < n) is (ltb-true (get_or es k edge).from.0 n (point.0 k edge (omega arith) lt)),
-  λ before.
-      elim (cases_lt k i) [
-        | inl lt ↦ lt
-        | inr le ↦ absurd (omega (arith, before, subst (λ (e : Edge). n ≤ e.from.0) is (ltb-false (get_or es k edge).from.0 n (point.1 k edge le within))))
-      ],
+-- the first that doesn't leave an earlier point tells how many do
+pub begins_at : (es : List Edge) (n i : ℕ) (e : Edge) → AreAscending es → slice_get es i ≡ Some e → n ≤ e.from.0 → ((k : ℕ) (edge : Edge) → slice_get es k ≡ Some edge → k < i → edge.from.0 < n) → IsBegin es n i
+begins_at es n i e ascend here late early = (
+  omega (arith, slice_get_within es i e here),
+  λ k edge at. (
+    λ lt. early k edge at lt,
+    λ before.
+        elim (cases_lt k i) [
+          | inl lt ↦ lt
+          | inr ge ↦
+              let order = rising 0 es ascend i k e ge (slice_get_within es k edge at) in
+              let from : (get_or es i e).from.0 ≡ e.from.0 = ap (λ (x : Edge). x.from.0) (get_or_from_slice_get es i e e here) in
+              let to : (get_or es k e).from.0 ≡ edge.from.0 = ap (λ (x : Edge). x.from.0) (get_or_from_slice_get es k edge e at) in
+              absurd (omega (arith, order, from, to, late, before))
+        ],
+  ),
 )
-  where
-    is : get_or es k edge ≡ edge
-    is = get_or_from_slice_get es k edge edge at
 
-    within : k < length es
-    within = slice_get_within es k edge at
+-- one more that does
+pub begins_later : (es : List Edge) (n k : ℕ) (d : Edge) → ((j : ℕ) (edge : Edge) → slice_get es j ≡ Some edge → j < k → edge.from.0 < n) → (get_or es k d).from.0 < n → (j : ℕ) (edge : Edge) → slice_get es j ≡ Some edge → j < k + 1 → edge.from.0 < n
+begins_later es n k d early here j edge at lt =
+    elim (cases_lt j k) [
+      | inl before ↦ early j edge at before
+      | inr ge ↦
+          let is : j ≡ k = omega (arith, lt, ge) in
+          let same : (get_or es k d).from.0 ≡ edge.from.0 = ap (λ (i : ℕ). (get_or es i d).from.0) (sym is) ∙ ap (λ (e : Edge). e.from.0) (get_or_from_slice_get es j edge d at) in
+          omega (arith, same, here)
+    ]
 
--- .. and so many before it or there
-pub begin_by : (es : List Edge) (n i : ℕ) → IsPartitionPoint (λ (e : Edge). leb e.from.0 n ≡ true) (λ e. leb e.from.0 n ≡ false) es i → (k : ℕ) (edge : Edge) → slice_get es k ≡ Some edge → (k < i) ↔ (edge.from.0 ≤ n)
-begin_by es n i point k edge at = (
-  λ lt. subst (λ (e : Edge). e.from.0 ≤ n) is (leb-true (get_or es k edge).from.0 n (point.0 k edge (omega arith) lt)),
-  λ before.
-      elim (cases_lt k i) [
-        | inl lt ↦ lt
-        | inr le ↦ absurd (omega (arith, before, subst (λ (e : Edge). n < e.from.0) is (leb-false (get_or es k edge).from.0 n (point.1 k edge le within))))
-      ],
-)
-  where
-    is : get_or es k edge ≡ edge
-    is = get_or_from_slice_get es k edge edge at
+-- .. or all do
+pub begins_past : (es : List Edge) (n : ℕ) → ((k : ℕ) (edge : Edge) → slice_get es k ≡ Some edge → edge.from.0 < n) → IsBegin es n (length es)
+begins_past es n early = (omega arith, λ k edge at. (λ _. early k edge at, λ _. slice_get_within es k edge at))
 
-    within : k < length es
-    within = slice_get_within es k edge at
+-- one more number of a table
+pub begins_more : (es : List Edge) (firsts : List ℕ) (first : ℕ) → ((p i : ℕ) → slice_get firsts p ≡ Some i → IsBegin es p i) → IsBegin es (length firsts) first → (p i : ℕ) → slice_get (firsts ++ first ∷ []) p ≡ Some i → IsBegin es p i
+begins_more es firsts first each new p i at =
+    elim (push_at firsts first p i at) [
+      | inl was ↦ each p i was
+      | inr last ↦ subst (λ (q : ℕ). IsBegin es q i) (sym last.0) (subst (λ (j : ℕ). IsBegin es (length firsts) j) last.1 new)
+    ]
 
--- the former are no more than the latter
-pub before_by : (es : List Edge) (n i j : ℕ) → i ≤ length es → ((k : ℕ) (edge : Edge) → slice_get es k ≡ Some edge → (k < i) ↔ (edge.from.0 < n)) → ((k : ℕ) (edge : Edge) → slice_get es k ≡ Some edge → (k < j) ↔ (edge.from.0 ≤ n)) → i ≤ j
-before_by es n i j within before by =
+-- what a table says of a number within it
+pub begins : (es : List Edge) (firsts : List ℕ) (d : ℕ) → ((p i : ℕ) → slice_get firsts p ≡ Some i → IsBegin es p i) → (p i : ℕ) → p < length firsts → i ≡ get_or firsts p d → IsBegin es p i
+begins es firsts d each p i lt is = each p i (slice_get-get_or firsts p d lt ∙ ap (λ (n : ℕ). Some n) (sym is))
+
+-- no more leave points before one than points before the next
+pub before_next : (es : List Edge) (n i j : ℕ) → IsBegin es n i → IsBegin es (n + 1) j → i ≤ j
+before_next es n i j before by =
     elim (cases_lt j i) [
       | inl lt ↦
-          let edge = there es j (omega (arith, lt, within)) in
-          let low = (before j edge.0 edge.1).0 lt in
-          let high = (by j edge.0 edge.1).1 (omega (arith, low)) in
+          let edge = there es j (omega (arith, lt, before.0)) in
+          let low = (before.1 j edge.0 edge.1).0 lt in
+          let high = (by.1 j edge.0 edge.1).1 (omega (arith, low)) in
           absurd (omega (arith, high))
       | inr le ↦ le
     ]
 
 -- between these numbers stand those that leave it
-pub leave_between : (es : List Edge) (n i j : ℕ) → ((k : ℕ) (edge : Edge) → slice_get es k ≡ Some edge → (k < i) ↔ (edge.from.0 < n)) → ((k : ℕ) (edge : Edge) → slice_get es k ≡ Some edge → (k < j) ↔ (edge.from.0 ≤ n))
-    → (k : ℕ) (edge : Edge) → slice_get es k ≡ Some edge → ((i ≤ k) × (k < j)) ↔ (edge.from.0 ≡ n)
+pub leave_between : (es : List Edge) (n i j : ℕ) → IsBegin es n i → IsBegin es (n + 1) j → (k : ℕ) (edge : Edge) → slice_get es k ≡ Some edge → ((i ≤ k) × (k < j)) ↔ (edge.from.0 ≡ n)
 leave_between es n i j before by k edge at = (
   λ between.
       elim (cases_lt edge.from.0 n) [
-        | inl lt ↦ absurd (omega (arith, (before k edge at).1 lt, between.0))
-        | inr ge ↦ omega (arith, ge, (by k edge at).0 between.1)
+        | inl lt ↦ absurd (omega (arith, (before.1 k edge at).1 lt, between.0))
+        | inr ge ↦ omega (arith, ge, (by.1 k edge at).0 between.1)
       ],
   λ is.
       elim (cases_lt k i) [
-        | inl lt ↦ absurd (omega (arith, (before k edge at).0 lt, is))
-        | inr ge ↦ (ge, (by k edge at).1 (omega (arith, is)))
+        | inl lt ↦ absurd (omega (arith, (before.1 k edge at).0 lt, is))
+        | inr ge ↦ (ge, (by.1 k edge at).1 (omega (arith, is)))
       ],
 )
 

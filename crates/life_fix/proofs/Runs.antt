@@ -16,9 +16,9 @@ use Rattle.life_plan.specs.Crossing.{crossing_of}
 use Rattle.life_plan.specs.Noted.{HasNewAt}
 use Rattle.life_plan.specs.declared.plan.Plan.{Plan}
 use Rattle.life_plan.proofs.Settled.{carried_due, carried_into}
+use Rattle.life_plan.proofs.Places.{get_set_other, get_set_same, same_or_not}
 use Rattle.life_fix.specs.Solution.{IsDerivedPair}
 use Rattle.life_fix.specs.Solving.{has_some, left_of, point_at, runs_left, IsPartial, IsPutBack, RunsEdge}
-use Rattle.life_fix.proofs.PointRows.{get_set_other, get_set_same, same_or_not}
 use Rattle.life_fix.proofs.Sizes.{left_falls, one_of_some, runs_again, runs_done, runs_gained, runs_same, some_of}
 use Rattle.life_fix.proofs.States.{one_name}
 

@@ -6,10 +6,10 @@ use Rattle.life_core.specs.declared.stmt.Edge.{Edge}
 use Rattle.life_types.specs.Types.{Types}
 use Rattle.life_core.specs.Function.{Function}
 use Rattle.life_core.specs.Linked.{edges_of}
+use Rattle.life_plan.proofs.Places.{same_or_not}
 use Rattle.life_pset.specs.Table.{Table, table_of}
 use Rattle.life_rules.specs.FactSets.{Includes}
 use Rattle.life_fix.specs.Solving.{bit, has_some, left_of, most_pairs, most_steps, runs_left, size_of, size_of_location}
-use Rattle.life_fix.proofs.PointRows.{same_or_not}
 
 bit_le : (b : Bool) → bit b ≤ 1
 bit_le true = omega arith

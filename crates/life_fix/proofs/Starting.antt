@@ -12,9 +12,10 @@ use Rattle.life_pset.specs.declared.element.Fact.{Fact}
 use Rattle.life_rules.specs.Deriving.{entry, entry_facts}
 use Rattle.life_rules.specs.FactSets.{Gains, IsPairOf}
 use Rattle.life_plan.specs.declared.plan.Plan.{Plan}
+use Rattle.life_plan.proofs.Places.{same_or_not}
 use Rattle.life_fix.specs.Solution.{IsDerivedPair}
 use Rattle.life_fix.specs.Solving.{pairs_at, pairs_in, point_at, AreMade, IsMade, IsPartial, IsStart}
-use Rattle.life_fix.proofs.PointRows.{pairs_other, pairs_same, push_at, same_or_not}
+use Rattle.life_fix.proofs.PointRows.{pairs_other, pairs_same, push_at}
 
 -- what the entry gives is derived, and plans that were just made owe nothing where all is due
 first_state : (sigs : List Signature) (types : Types) (f : Function) (edges : List Edge) (plans : List Plan) (dues : ℕ → ℕ → Bool) (pairs : ℕ → ℕ → ℕ → Bool) → IsStart types f pairs → AreMade sigs types f edges plans

@@ -155,3 +155,7 @@ module _ (types : Types) (f : Function) (spot : Spot) (t : Table) (has : ℕ →
     λ h. let b = (so_far x).0 h in ((b.0, b.1.1.0), b.1.1.1),
     λ h. (so_far x).1 (h.0.0, (omega (arith, past, slice_get_within t.locations h.0.0 x.location h.0.1.1.0.0), (h.0.1, h.1))),
   )
+
+  -- none where nothing is told
+  pub untold_all : ((location : AbsPlace) → spot_tells types f (Some spot) location ≡ false) → AreTold types f spot t has []
+  untold_all none x = (λ h. absurd (none_in_empty x h), λ h. absurd (true≢false (sym h.1 ∙ none x.location)))

@@ -18,6 +18,7 @@ use Rattle.life_plan.specs.Noted.{HasNewAt}
 use Rattle.life_plan.specs.declared.plan.Plan.{Plan}
 use Rattle.life_fix.specs.Solution.{IsDerivedPair, numbered_row}
 use Rattle.life_fix.specs.declared.flow.Flow.{Flow}
+use Rattle.life_fix.specs.declared.leaving.Leaving.{Leaving}
 
 -- ---- what is solved
 
@@ -88,6 +89,15 @@ AreSized limit sets = All (λ set. set.limit ≡ limit) sets
 -- those between two places of a list have these numbers besides, and the others stay
 abbrev pub AddsBetween : (first past : ℕ) → (added : ℕ → Bool) → (before after : ℕ → ℕ → Bool) → Type 0
 AddsBetween first past added before after = (k l : ℕ) → IsTrue (after k l) ↔ (IsTrue (before k l) ⊎ (((first ≤ k) × (k < past)) × IsTrue (added l)))
+
+-- so many edges leave points before this one, and they stand first
+abbrev pub IsBegin : List Edge → (point first : ℕ) → Type 0
+IsBegin edges point first = (first ≤ length edges) × ((k : ℕ) (edge : Edge) → slice_get edges k ≡ Some edge → (k < first) ↔ (edge.from.0 < point))
+
+-- .. for each of these numbers, among them the second point of each edge and the number past it
+pub record IsLeaving (edges : List Edge) (leaving : Leaving) : Type 0 where
+  pub each : (point first : ℕ) → slice_get leaving.firsts.items point ≡ Some first → IsBegin edges point first
+  pub reach : (k : ℕ) (edge : Edge) → slice_get edges k ≡ Some edge → edge.to.0 + 1 < length leaving.firsts.items
 
 -- some number below the limit is in the set
 abbrev pub has_some : (ℕ → Bool) → ℕ → Bool

@@ -3,7 +3,9 @@ ghost use Rattle.std.specs.List.{flat_map};
 ghost use Rattle.std.specs.Option.{option_copied};
 ghost use Rattle.std.specs.Prelude.{◌≡◌, ◌++◌, ◌⊎◌, ◌↔◌, Contains, IfOk, IfSome, OnOk, Some, length};
 ghost use Rattle.life_core.specs.Function.{function_of};
+ghost use Rattle.life_core.specs.Linked.{points_of};
 ghost use Rattle.life_core.specs.Node.{spot_seen};
+ghost use Rattle.life_pset.specs.Causes.{AreSpotsOf};
 ghost use Rattle.life_pset.specs.Elements.{IsWithinLimits};
 ghost use Rattle.life_rules.specs.Along.{node_tells_first};
 ghost use Rattle.life_rules.specs.Diagnosing.{diags_at, diags_of_two, IsDiagnosed};
@@ -20,7 +22,7 @@ use life_contract::Signatures;
 use life_core::{CoreFn, FnId, Names, Point, SpotRef, spots};
 use life_pset::{ElementTable, Fact};
 use life_rules::{Diag, push_diags, push_diags_of_two, tells_first};
-use life_sets::Rows;
+use life_sets::{NumberSet, Rows};
 use life_types::{NoMemory, TypeTable};
 use std::alloc::Global;
 
@@ -43,28 +45,32 @@ pub fn diagnostics<R: Rows>(
     ensures { IfOk result
         (λ all. AreDiagnostics (naming_of names.now sigs.now) types.now id.0 (function_of f.now) all.items) }
 {
-    let found = found(alloc, f, id, sigs, types, sol)?;
+    let spots = spots(alloc, f)?;
+    let found = found(alloc, f, id, sigs, types, &spots, sol)?;
     let mut candidates = Vec::new(alloc);
     push_candidates(alloc, names, f, sigs, types, &found, &mut candidates)?;
     listed(alloc, candidates)
 }
 
-/// All that is wrong, in the order of the points, and maybe more than once.
+/// All that is wrong, in the order of the points, and maybe more than once. `spots` are the points.
 pub(crate) fn found<R: Rows>(
     alloc: Global,
     f: &CoreFn,
     id: FnId,
     sigs: &Signatures,
     types: &TypeTable,
+    spots: &[SpotRef],
     sol: &Solution<R>,
 ) -> Result<Vec<Diag>, NoMemory>
     requires limits { IsWithinLimits types.now (function_of f.now) }
+    requires spots { AreSpotsOf (function_of f.now) spots.now }
+    requires count { length spots.now ≡ points_of (function_of f.now) }
     requires solution { IsSolution R.has R.location_limit R.element_limit sigs.now types.now (function_of f.now) sol.now }
     ensures { IfOk result
         (λ all. (d : Diag) → Contains all.items d ↔ IsDiagnosed sigs.now types.now id.0 (function_of f.now) d) }
 {
-    let spots = spots(alloc, f)?;
     let table = sol.table();
+    let mut elements = NumberSet::empty(alloc, table.element_count())?;
     let mut all = Vec::new(alloc);
     for (index, spot) in spots.iter().enumerate() {
         let point = Point(index as u32 + 1);
@@ -77,6 +83,7 @@ pub(crate) fn found<R: Rows>(
             *spot,
             table,
             sol.row(point),
+            &mut elements,
             &mut all,
         )?;
     }
@@ -93,16 +100,21 @@ fn push_row<R: Rows>(
     spot: SpotRef,
     table: &ElementTable,
     row: Option<&R>,
+    elements: &mut NumberSet,
     out: &mut Vec<Diag>,
 ) -> Result<(), NoMemory>
     requires locations { IfSome row (λ row. R.location_limit row.now ≡ length table.now.locations) }
     requires elements { IfSome row (λ row. R.element_limit row.now ≡ length table.now.elements) }
-    ensures { OnOk result ((d : Diag) → Contains out.new.items d
+    requires limit { elements.old.limit ≡ length table.now.elements }
+    ensures limit { elements.new.limit ≡ elements.old.limit }
+    ensures wrong { OnOk result ((d : Diag) → Contains out.new.items d
         ↔ (Contains out.old.items d ⊎ IsWrongIn sigs.now types.now function (function_of f.now) table.now R.has (spot_seen spot.entry) (option_copied row.entry) d)) }
 {
     match row {
         None => {}
-        Some(row) => push_wrong_by(alloc, sigs, types, function, f, spot, table, row, out)?,
+        Some(row) => push_wrong_by(
+            alloc, sigs, types, function, f, spot, table, row, elements, out,
+        )?,
     }
     Ok(())
 }
@@ -116,14 +128,17 @@ fn push_wrong_by<R: Rows>(
     spot: SpotRef,
     table: &ElementTable,
     row: &R,
+    elements: &mut NumberSet,
     out: &mut Vec<Diag>,
 ) -> Result<(), NoMemory>
     requires locations { R.location_limit row.now ≡ length table.now.locations }
     requires elements { R.element_limit row.now ≡ length table.now.elements }
-    ensures { OnOk result ((d : Diag) → Contains out.new.items d
+    requires limit { elements.old.limit ≡ length table.now.elements }
+    ensures limit { elements.new.limit ≡ elements.old.limit }
+    ensures wrong { OnOk result ((d : Diag) → Contains out.new.items d
         ↔ (Contains out.old.items d ⊎ IsWrongBy sigs.now types.now function (function_of f.now) table.now (R.has row.now) (spot_seen spot.entry) d)) }
 {
-    let facts = told_facts(alloc, types, f, spot, table, row)?;
+    let facts = told_facts(alloc, types, f, spot, table, row, elements)?;
     push_all_wrong(alloc, sigs, types, function, f, spot, &facts, out)?;
     Ok(())
 }

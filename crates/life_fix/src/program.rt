@@ -13,10 +13,10 @@ ghost use Rattle.life_rules.specs.declared.diag.Diag.{Diag};
 
 use crate::diagnosis::found;
 use crate::listing::{Candidate, listed, push_candidates};
-use crate::solver::solve;
+use crate::solver::solve_listed;
 use life_base::Steps;
 use life_contract::Signatures;
-use life_core::{CoreFn, CoreProgram, FnId, Names};
+use life_core::{CoreFn, CoreProgram, FnId, Names, spots};
 use life_rules::Diag;
 use life_sets::BitRows;
 use life_types::{NoMemory, TypeTable};
@@ -87,6 +87,7 @@ fn function_found<L: Ledger>(
     ensures found { IfOk result (λ all. (d : Diag) → Contains all.items d ↔ IsDiagnosed sigs.now types.now id.0 (function_of f.now) d) }
     ensures ticks { steps.new ≤ steps.old + most_steps types.now (function_of f.now) }
 {
-    let solution = solve::<BitRows, L>(alloc, f, sigs, types, steps)?;
-    found(alloc, f, id, sigs, types, &solution)
+    let spots = spots(alloc, f)?;
+    let solution = solve_listed::<BitRows, L>(alloc, f, sigs, types, &spots, steps)?;
+    found(alloc, f, id, sigs, types, &spots, &solution)
 }

@@ -2,6 +2,7 @@
 ghost use Rattle.std.specs.Prelude.{◌≡◌, ◌+◌, ◌≤◌, length, IfOk};
 ghost use Rattle.life_core.specs.Function.{function_of};
 ghost use Rattle.life_core.specs.Linked.{points_of};
+ghost use Rattle.life_pset.specs.Causes.{AreSpotsOf};
 ghost use Rattle.life_pset.specs.Elements.{IsWithinLimits};
 ghost use Rattle.life_pset.specs.Table.{table_of};
 ghost use Rattle.life_fix.specs.Solution.{AllLimited, IsSolution};
@@ -13,7 +14,7 @@ use crate::solution::Solution;
 use crate::worklist::run_all;
 use life_base::Steps;
 use life_contract::Signatures;
-use life_core::CoreFn;
+use life_core::{CoreFn, SpotRef, edges, spots};
 use life_pset::ElementTable;
 use life_sets::Rows;
 use life_types::{NoMemory, TypeTable};
@@ -34,8 +35,28 @@ pub fn solve<R: Rows, L: Ledger>(
         (λ solution. IsSolution R.has R.location_limit R.element_limit sigs.now types.now (function_of f.now) solution) }
     ensures ticks { steps.new ≤ steps.old + most_steps types.now (function_of f.now) }
 {
-    let table = ElementTable::of(alloc, f, types)?;
-    let rows = solved_rows(alloc, f, sigs, types, &table, steps)?;
+    let spots = spots(alloc, f)?;
+    solve_listed(alloc, f, sigs, types, &spots, steps)
+}
+
+/// As `solve`, for a function whose points are listed already.
+pub(crate) fn solve_listed<R: Rows, L: Ledger>(
+    alloc: Global,
+    f: &CoreFn,
+    sigs: &Signatures,
+    types: &TypeTable,
+    spots: &[SpotRef],
+    steps: &mut Steps<L>,
+) -> Result<Solution<R>, NoMemory>
+    requires limits { IsWithinLimits types.now (function_of f.now) }
+    requires spots { AreSpotsOf (function_of f.now) spots.now }
+    requires count { length spots.now ≡ points_of (function_of f.now) }
+    ensures solution { IfOk result
+        (λ solution. IsSolution R.has R.location_limit R.element_limit sigs.now types.now (function_of f.now) solution) }
+    ensures ticks { steps.new ≤ steps.old + most_steps types.now (function_of f.now) }
+{
+    let table = ElementTable::of(alloc, f, types, spots)?;
+    let rows = solved_rows(alloc, f, sigs, types, &table, spots, steps)?;
     Ok(Solution::new(table, rows))
 }
 
@@ -46,9 +67,12 @@ fn solved_rows<R: Rows, L: Ledger>(
     sigs: &Signatures,
     types: &TypeTable,
     table: &ElementTable,
+    spots: &[SpotRef],
     steps: &mut Steps<L>,
 ) -> Result<Vec<R>, NoMemory>
     requires limits { IsWithinLimits types.now (function_of f.now) }
+    requires spots { AreSpotsOf (function_of f.now) spots.now }
+    requires count { length spots.now ≡ points_of (function_of f.now) }
     requires table { table.now ≡ table_of types.now (function_of f.now) }
     ensures count { IfOk result (λ rows. length rows.items ≡ points_of (function_of f.now)) }
     ensures solved { IfOk result (λ rows. IsSolved sigs.now types.now (function_of f.now) (pairs_at R.has rows.items)) }
@@ -56,15 +80,14 @@ fn solved_rows<R: Rows, L: Ledger>(
     ensures locations { IfOk result (λ rows. AllLimited R.location_limit (length table.now.locations) rows.items) }
     ensures elements { IfOk result (λ rows. AllLimited R.element_limit (length table.now.elements) rows.items) }
 {
-    let edges = life_core::edges(alloc, f)?;
-    let spots = life_core::spots(alloc, f)?;
+    let edges = edges(alloc, f)?;
     let flow = Flow {
         f,
         sigs,
         types,
         table,
         edges: &edges,
-        spots: &spots,
+        spots,
     };
     let mut rows = first_rows(alloc, &flow)?;
     let mut plans = plans_of(alloc, &flow)?;

@@ -10,13 +10,13 @@ ghost use Rattle.life_fix.specs.Told.{AreTold, IsOfElements, IsToldOf};
 
 use life_core::{CoreFn, SpotRef};
 use life_pset::{AbsPlace, Element, ElementTable, Fact};
-use life_rules::is_told_at;
+use life_rules::{is_told_at, tells_some};
 use life_sets::{NumberSet, Rows};
 use life_types::{NoMemory, TypeTable};
 use std::alloc::Global;
 
 /// Those facts of a row that may make something wrong at a point: it reads the locations alone that are
-/// told there.
+/// told there, by way of `elements`.
 pub(crate) fn told_facts<R: Rows>(
     alloc: Global,
     types: &TypeTable,
@@ -24,24 +24,20 @@ pub(crate) fn told_facts<R: Rows>(
     spot: SpotRef,
     table: &ElementTable,
     row: &R,
+    elements: &mut NumberSet,
 ) -> Result<Vec<Fact>, NoMemory>
     requires locations { R.location_limit row.now ≡ length table.now.locations }
     requires elements { R.element_limit row.now ≡ length table.now.elements }
-    ensures { IfOk result (λ facts. AreTold types.now (function_of f.now) (spot_seen spot.entry) table.now (R.has row.now) facts.items) }
+    requires limit { elements.old.limit ≡ length table.now.elements }
+    ensures limit { elements.new.limit ≡ elements.old.limit }
+    ensures told { IfOk result (λ facts. AreTold types.now (function_of f.now) (spot_seen spot.entry) table.now (R.has row.now) facts.items) }
 {
-    let mut elements = NumberSet::empty(alloc, table.element_count())?;
     let mut facts = Vec::new(alloc);
+    if !tells_some(types, f, spot) {
+        return Ok(facts);
+    }
     for number in 0..table.location_count() {
-        push_told(
-            types,
-            f,
-            spot,
-            table,
-            row,
-            number,
-            &mut elements,
-            &mut facts,
-        )?;
+        push_told(types, f, spot, table, row, number, elements, &mut facts)?;
     }
     Ok(facts)
 }

@@ -5,10 +5,10 @@ ghost use Rattle.life_core.specs.Linked.{points_of};
 ghost use Rattle.life_sets.specs.NumberSets.{holds};
 ghost use Rattle.life_plan.specs.Carried.{IsRoom};
 ghost use Rattle.life_fix.specs.Solution.{AllLimited};
-ghost use Rattle.life_fix.specs.Solving.{left_of, most_steps, pairs_at, set_at, AreSized, IsFlow, IsPartial, IsSolved};
+ghost use Rattle.life_fix.specs.Solving.{left_of, most_steps, pairs_at, set_at, AreSized, IsFlow, IsLeaving, IsPartial, IsSolved};
 
 use crate::flow::{Flow, run_edge};
-use crate::leaving::put_back;
+use crate::leaving::Leaving;
 use life_base::Steps;
 use life_plan::{Plan, Workspace};
 use life_sets::{NumberSet, Rows};
@@ -39,6 +39,7 @@ pub fn run_all<R: Rows, L: Ledger>(
     ensures locations { OnOk result (AllLimited R.location_limit (length flow.now.table.now.locations) rows.new) }
     ensures elements { OnOk result (AllLimited R.element_limit (length flow.now.table.now.elements) rows.new) }
 {
+    let leaving = Leaving::of(alloc, flow)?;
     let mut gained = NumberSet::empty(alloc, flow.table.location_count())?;
     let mut workspace = Workspace::new(alloc, flow.table.element_count())?;
     let mut next = 0;
@@ -46,6 +47,7 @@ pub fn run_all<R: Rows, L: Ledger>(
         visit(
             alloc,
             flow,
+            &leaving,
             k,
             rows,
             plans,
@@ -63,6 +65,7 @@ pub fn run_all<R: Rows, L: Ledger>(
 fn visit<R: Rows, L: Ledger>(
     alloc: Global,
     flow: &Flow,
+    leaving: &Leaving,
     k: usize,
     rows: &mut [R],
     plans: &mut [Plan],
@@ -72,6 +75,7 @@ fn visit<R: Rows, L: Ledger>(
     steps: &mut Steps<L>,
 ) -> Result<(), NoMemory>
     requires flow { IsFlow flow.now }
+    requires leaving { IsLeaving flow.now.edges.now leaving.now }
     requires count { length rows.old ≡ points_of (function_of flow.now.f.now) }
     requires plans { length plans.old ≡ length flow.now.edges.now }
     requires dues { length dues.old ≡ length flow.now.edges.now }
@@ -108,7 +112,7 @@ fn visit<R: Rows, L: Ledger>(
         workspace,
         steps,
     )?;
-    put_back(flow.edges, k, edge.to, gained, dues);
+    leaving.put_back(flow.edges, k, gained, dues);
     Ok(())
 }
 
@@ -132,17 +136,9 @@ fn due_from(dues: &[NumberSet], start: usize) -> Option<usize>
     ensures none { IfNone result ((k l : ℕ) → start ≤ k → set_at dues.now k l ≡ false) }
 {
     for k in start..dues.len() {
-        if has_number(&dues[k]) {
+        if !dues[k].is_empty() {
             return Some(k);
         }
     }
     None
-}
-
-// Whether the set has a number.
-fn has_number(set: &NumberSet) -> bool
-    ensures some { result ≡ true → (l : ℕ) × IsTrue (holds set.now l) }
-    ensures none { result ≡ false → (l : ℕ) → holds set.now l ≡ false }
-{
-    set.next(0).is_some()
 }

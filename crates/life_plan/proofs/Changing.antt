@@ -233,6 +233,15 @@ noted_more c i x itself gone now changes after at was tells gone_is more sized =
       ]),
     )
 
+-- one that stays as itself alone
+pub noted_kept : (c : Crossing) (i : ℕ) (x : Element) (gone : Numbers) (changes : List Becoming) → slice_get c.table.elements i ≡ Some x → AreNoted c i gone changes → staying c.types c.f c.spot x ≡ x ∷ [] → AreNoted c (i + 1) gone changes
+noted_kept c i x gone changes at was alone =
+    noted_more c i x true gone gone changes changes at was (λ t. subst (λ (ys : List Element). Contains ys x) (sym alone) (in_head x []), λ h. refl) (λ n. refl)
+    (λ d m. (λ h. inl h, λ h. elim h [ inl early ↦ early | inr new ↦ absurd (other m new.1) ])) was.sized
+  where
+    other : (m : ℕ) → NamesOther c.table x (staying c.types c.f c.spot x) m → ⊥
+    other m h = elim (cons_cases x [] h.0 (subst (λ (ys : List Element). Contains ys h.0) alone h.1.0)) [ inl is ↦ h.1.1.0 (sym is) | inr none ↦ none_in_empty h.0 none ]
+
 -- all were noted
 pub stays_noted : (c : Crossing) → HasOneNumber c.table.elements → (s : Staying) (i : ℕ) → length c.table.elements ≤ i → AreNoted c i s.gone s.becoming.items
     → (e m : ℕ) (x y : Element) → slice_get c.table.elements e ≡ Some x → slice_get c.table.elements m ≡ Some y → StaysAs s e m ↔ Contains (staying c.types c.f c.spot x) y

@@ -13,7 +13,7 @@ ghost use Rattle.life_plan.specs.declared.staying.Becoming.{Becoming};
 use crate::context::EdgeContext;
 use crate::numbers::insert_if;
 use life_pset::{Element, ElementTable};
-use life_rules::{is_written_at, moves_elements, push_staying};
+use life_rules::{is_removed, is_written_at, moves_elements, push_staying};
 use life_sets::NumberSet;
 use life_types::NoMemory;
 use std::alloc::Global;
@@ -97,7 +97,7 @@ fn note_all(
     Ok(())
 }
 
-// Adds what becomes of the element with this number.
+// Adds what becomes of the element with this number. Most stay as they are.
 fn note_element(
     alloc: Global,
     context: &EdgeContext,
@@ -112,14 +112,37 @@ fn note_element(
     ensures limit { gone.new.limit ≡ gone.old.limit }
 {
     match context.table.element(e) {
-        None => {}
+        None => Ok(()),
         Some(element) => {
-            let mut stays = Vec::new(alloc);
-            push_staying(context.types, context.f, context.spot, element, &mut stays)?;
-            insert_if(!is_among(element, &stays), e, gone);
-            note_changes(alloc, context.table, e, element, &stays, becoming)?;
+            if is_removed(context.types, context.f, context.spot, element) {
+                note_removed(alloc, context, e, element, gone, becoming)
+            } else {
+                Ok(())
+            }
         }
     }
+}
+
+// Adds what becomes of the element with this number, which may not stay.
+fn note_removed(
+    alloc: Global,
+    context: &EdgeContext,
+    e: u32,
+    element: &Element,
+    gone: &mut NumberSet,
+    becoming: &mut Vec<Becoming>,
+) -> Result<(), NoMemory>
+    requires at { slice_get context.now.table.now.elements e ≡ Some element.now }
+    requires within { e < length context.now.table.now.elements }
+    requires limit { gone.old.limit ≡ length context.now.table.now.elements }
+    requires noted { AreNoted (crossing_in context.now) e gone.old becoming.old.items }
+    ensures noted { OnOk result (AreNoted (crossing_in context.now) (e + 1) gone.new becoming.new.items) }
+    ensures limit { gone.new.limit ≡ gone.old.limit }
+{
+    let mut stays = Vec::new(alloc);
+    push_staying(context.types, context.f, context.spot, element, &mut stays)?;
+    insert_if(!is_among(element, &stays), e, gone);
+    note_changes(alloc, context.table, e, element, &stays, becoming)?;
     Ok(())
 }
 

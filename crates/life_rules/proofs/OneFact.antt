@@ -25,14 +25,14 @@ use Rattle.life_pset.specs.declared.element.Root.{Root}
 use Rattle.life_pset.specs.declared.element.Root.TheVariants as root
 use Rattle.life_contract.specs.Arguments.{is_argument_of, is_in_arguments}
 use Rattle.life_contract.specs.Inputs.{inputs_of_signature}
-use Rattle.life_contract.specs.Located.{is_location, located}
+use Rattle.life_contract.specs.Located.{is_location, is_root, located}
 use Rattle.life_contract.specs.Signatures.{Signature}
-use Rattle.life_rules.proofs.Calls.{no_argument}
+use Rattle.life_rules.proofs.Calls.{no_argument, or_first, or_second}
 use Rattle.life_rules.proofs.Nothing.{cond_none, flat_map_empty}
 use Rattle.life_rules.specs.Calling.{called_one}
-use Rattle.life_rules.specs.Carrying.{aimed_from, copied_from, element_from, ended_element, ended_root, from_one, invalid_facts, is_killed, is_rooted_among, killed_fact, killed_facts, kills, named_kill, node_one, one_at, one_kill, position_facts, reached_from, stops_at, taken, writes}
+use Rattle.life_rules.specs.Carrying.{aimed_from, copied_from, element_from, ended_element, ended_root, from_one, invalid_facts, is_gone, is_killed, is_killed_by, is_rooted_among, killed_fact, killed_facts, kills, named_kill, node_one, one_at, one_kill, position_facts, reached_from, stops_at, taken, writes}
 use Rattle.life_rules.specs.Matching.{fact_at, given_if, is_held, is_null, points_among, points_under, unless}
-use Rattle.life_rules.specs.Staying.{after_change, after_changes, after_end, base_reads, ended_in, goes_through, has_kill, made, made_at, moves, node_made, node_moves, node_reads, node_stays, node_writes, reads, source_reads, spot_moves, spot_reads, spot_writes, staying, stays}
+use Rattle.life_rules.specs.Staying.{after_change, after_changes, after_end, base_reads, ended_in, goes_through, has_kill, made, made_at, moves, node_made, node_moves, node_reads, node_removes, node_stays, node_writes, reads, source_reads, spot_moves, spot_reads, spot_removes, spot_writes, staying, stays}
 use Rattle.life_rules.specs.declared.kill.Kill.{Kill}
 use Rattle.life_rules.specs.declared.kill.KillPair.{KillPair}
 
@@ -209,3 +209,35 @@ node_still types f place Stop e h = refl
 pub still : (types : Types) (f : Function) (spot : Option Spot) → spot_moves types f spot ≡ false → (e : Element) → staying types f spot e ≡ e ∷ []
 still types f None h e = absurd (true≢false h)
 still types f (Some s) h e = node_still types f s.place s.node e h
+
+-- ---- an element that stays is itself alone
+
+not_ended : (f : Function) (place : Place) (xs : List ℕ) (e : Element) → points_among xs e ≡ false → after_end f place xs e ≡ []
+not_ended f place xs (element.At b) h = not_ended_in b.root h
+  where
+    not_ended_in : (r : Root) → list_any (λ y. is_root y r) xs ≡ false → ended_in f place xs r ≡ []
+    not_ended_in (root.Local x) h = cond_none _ _ h
+    not_ended_in (root.Input parameter member) h = refl
+not_ended f place xs _ h = refl
+
+not_killed : (k : Option Kill) (e : Element) → is_killed_by k e ≡ false → after_change k e ≡ []
+not_killed None e h = refl
+not_killed (Some k) e h = cond_none _ _ h
+
+not_changed : (ks : KillPair) (e : Element) → is_killed ks e ≡ false → cond (is_killed ks e) [] (e ∷ []) ++ after_changes ks e ≡ e ∷ []
+not_changed ks e h =
+    rw (h, not_killed ks.first e (or_first (is_killed_by ks.first e) _ h), not_killed ks.second e (or_second (is_killed_by ks.first e) _ h)) refl
+
+step_kept : (types : Types) (f : Function) (place : Place) (i : Step) (e : Element) → is_gone types f place i e ≡ false → stays types f place i e ≡ e ∷ []
+step_kept types f place (End xs) e h = rw (h, not_ended f place xs e h) refl
+step_kept types f place i e h = not_changed (kills types f place i) e h
+
+node_kept : (types : Types) (f : Function) (place : Place) (n : Node) (e : Element) → node_removes types f place n e ≡ false → node_stays types f place n e ≡ e ∷ []
+node_kept types f place (Action i) e h = step_kept types f place i e h
+node_kept types f place (Question t) e h = refl
+node_kept types f place Return e h = refl
+node_kept types f place Stop e h = refl
+
+pub kept : (types : Types) (f : Function) (spot : Option Spot) (e : Element) → spot_removes types f spot e ≡ false → staying types f spot e ≡ e ∷ []
+kept types f None e h = absurd (true≢false h)
+kept types f (Some s) e h = node_kept types f s.place s.node e h

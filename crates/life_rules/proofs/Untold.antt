@@ -8,7 +8,7 @@ use Rattle.life_types.specs.declared.place.Place.{Place}
 use Rattle.life_core.specs.Function.{Function}
 use Rattle.life_core.specs.Operands.{Argument, Base, Characters, Location, Name, Operand, Source, Through, whole}
 use Rattle.life_core.specs.Operands as named
-use Rattle.life_core.specs.Step.{Step, Load, Save, Copy, Move, Aim, Advance, Cut, Size, Same, Cursor, Changes, Call, Ports, Change, Erase, Set, Append, Port, WritesView}
+use Rattle.life_core.specs.Step.{Step, Live, End, Eval, Load, Save, Copy, Move, Aim, Repoint, Advance, Cut, Size, Same, Cursor, Changes, Make, Call, Ports, Change, Erase, Set, Append, Port, WritesView}
 use Rattle.life_core.specs.Step as step
 use Rattle.life_core.specs.Tree.{Node, Action, Question, Return, Stop, Spot}
 use Rattle.life_core.specs.declared.operand.Which.{Which}
@@ -31,7 +31,7 @@ use Rattle.life_rules.proofs.Nothing.{and_first, and_second, cond_none, either_n
 use Rattle.life_rules.specs.Arguing.{argument_diags, argument_diags_of_two, broken_by, broken_by_two, moved_at, moved_behind, overlapping_at}
 use Rattle.life_rules.specs.Diagnosing.{diags_at, diags_of_two, misopened_as, misread_as, misused_as, moved_as, moved_target, moved_through, node_diags, node_diags_of_two, opened_by_base, opened_if, opens, owner_of_base, owner_of_source, owners, read_by_base, read_by_change, read_by_characters, read_by_port, reads, step_diags, step_diags_of_two, use_diags, used_by_base, used_by_source, used_in, uses}
 use Rattle.life_rules.specs.Keeping.{keeping_diags, kept_by_call, kept_through}
-use Rattle.life_rules.specs.ToldAt.{base_names, base_reaches, change_names, characters_name, is_operand, is_through, names, node_tells, port_names, reaches, source_names, source_reaches, spot_tells, step_tells}
+use Rattle.life_rules.specs.ToldAt.{base_names, base_reaches, change_names, characters_name, is_operand, is_through, names, names_some, node_tells, node_tells_some, port_names, reaches, source_names, source_names_some, source_reaches, spot_tells, step_tells}
 use Rattle.life_rules.specs.declared.diag.Diag.{Diag}
 
 -- ---- one fact, about what isn't named
@@ -266,4 +266,28 @@ second_untold sigs types function f (Some s) a b h = at_node s.node h where
   at_node (Action i) k = second_of_step types function f s.place a b sigs i k
   at_node (Question t) k = refl
   at_node Return k = refl
+  at_node Stop k = refl
+
+-- ---- points that tell of no location
+
+aims_at_none : (types : Types) (f : Function) (p : Location) (s : Source) (location : AbsPlace) → source_names_some s ≡ false → step_tells types f (Aim p s) location ≡ false
+aims_at_none types f p (named.Place o) location h = absurd (true≢false h)
+aims_at_none types f p (named.Whole o) location h = absurd (true≢false h)
+aims_at_none types f p _ location h = refl
+
+names_none : (types : Types) (f : Function) (i : Step) (location : AbsPlace) → names_some i ≡ false → step_tells types f i location ≡ false
+names_none types f (Live x form) location h = refl
+names_none types f (End xs) location h = refl
+names_none types f (Eval r operation) location h = refl
+names_none types f (Repoint p q) location h = refl
+names_none types f (Make u made) location h = refl
+names_none types f (Aim p s) location h = aims_at_none types f p s location h
+names_none types f _ location h = absurd (true≢false h)
+
+pub tells_none : (types : Types) (f : Function) (spot : Spot) → node_tells_some types f spot.node ≡ false → (location : AbsPlace) → spot_tells types f (Some spot) location ≡ false
+tells_none types f spot h location = at_node spot.node h where
+  at_node : (n : Node) → node_tells_some types f n ≡ false → node_tells types f n location ≡ false
+  at_node (Action i) k = names_none types f i location k
+  at_node (Question t) k = refl
+  at_node Return k = rw k refl
   at_node Stop k = refl

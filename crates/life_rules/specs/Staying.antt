@@ -165,6 +165,17 @@ abbrev pub spot_moves : Types → Function → Option Spot → Bool
 spot_moves types f None = true
 spot_moves types f (Some s) = node_moves types f s.place s.node
 
+-- whether an element doesn't stay
+abbrev pub node_removes : Types → Function → Place → Node → Element → Bool
+node_removes types f place (Action i) e = is_gone types f place i e
+node_removes types f place (Question t) e = false
+node_removes types f place Return e = false
+node_removes types f place Stop e = false
+
+abbrev pub spot_removes : Types → Function → Option Spot → Element → Bool
+spot_removes types f None e = true
+spot_removes types f (Some s) e = node_removes types f s.place s.node e
+
 -- ---- marking: a target of the pointer through which an owner is changed, or of a mutating argument, makes what points under it invalid,
 -- at each location that isn't written
 

@@ -4,7 +4,7 @@ use Rattle.life_types.specs.Types.{Types}
 use Rattle.life_core.specs.Function.{Function}
 use Rattle.life_core.specs.Operands.{Operand, Source, Base, Characters, whole}
 use Rattle.life_core.specs.Operands as named
-use Rattle.life_core.specs.Step.{Step, Load, Save, Copy, Move, Aim, Advance, Cut, Size, Same, Cursor, Changes, Call, Ports, Change, Erase, Set, Append, Port, WritesView}
+use Rattle.life_core.specs.Step.{Step, Live, End, Eval, Load, Save, Copy, Move, Aim, Repoint, Advance, Cut, Size, Same, Cursor, Changes, Make, Call, Ports, Change, Erase, Set, Append, Port, WritesView}
 use Rattle.life_core.specs.Step as step
 use Rattle.life_core.specs.Tree.{Node, Action, Question, Return, Stop, Spot}
 use Rattle.life_pset.specs.Shapes.{is_variable_place}
@@ -98,3 +98,25 @@ node_tells types f Stop location = false
 abbrev pub spot_tells : Types → Function → Option Spot → AbsPlace → Bool
 spot_tells types f None location = false
 spot_tells types f (Some s) location = node_tells types f s.node location
+
+-- ---- whether something may be told at a point at all
+
+abbrev pub source_names_some : Source → Bool
+source_names_some (named.Place o) = true
+source_names_some (named.Whole o) = true
+source_names_some _ = false
+
+abbrev pub names_some : Step → Bool
+names_some (Live x form) = false
+names_some (End xs) = false
+names_some (Eval r operation) = false
+names_some (Repoint p q) = false
+names_some (Make u made) = false
+names_some (Aim p s) = source_names_some s
+names_some _ = true
+
+abbrev pub node_tells_some : Types → Function → Node → Bool
+node_tells_some types f (Action i) = names_some i
+node_tells_some types f (Question t) = false
+node_tells_some types f Return = is_result types f f.parameters
+node_tells_some types f Stop = false

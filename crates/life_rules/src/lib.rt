@@ -35,10 +35,10 @@ pub use laws::{
 pub use none::push_none;
 pub use spot::spot_in;
 pub use staying::{
-    is_marked, is_read_at, is_target_at, is_written_at, keeps_all, mark_at, moves_elements,
-    push_made, push_staying,
+    is_marked, is_read_at, is_removed, is_target_at, is_written_at, keeps_all, mark_at,
+    moves_elements, push_made, push_staying,
 };
 pub use texts::{element_text, kind_name, place_text, texts_of};
-pub use told_at::is_told_at;
+pub use told_at::{is_told_at, tells_some};
 pub use wrong::push_diags;
 pub use wrong_two::{push_diags_of_two, tells_first};

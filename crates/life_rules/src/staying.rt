@@ -4,9 +4,10 @@ ghost use Rattle.std.specs.Prelude.{◌≡◌, ◌++◌, ◌∷◌, [], false, m
 ghost use Rattle.life_core.specs.Function.{function_of};
 ghost use Rattle.life_core.specs.Node.{spot_seen};
 ghost use Rattle.life_pset.specs.declared.element.Element.{Element};
-ghost use Rattle.life_rules.specs.Staying.{made_at, mark, marks, spot_keeps, spot_moves, spot_reads, spot_targets, spot_writes, staying};
+ghost use Rattle.life_rules.specs.Staying.{made_at, mark, marks, spot_keeps, spot_moves, spot_reads, spot_removes, spot_targets, spot_writes, staying};
 
 use crate::branch::stops_at;
+use crate::kill::is_gone;
 use crate::marks::{mark, marks, targets};
 use crate::one::push_made_by;
 use crate::push::push_unless;
@@ -132,6 +133,28 @@ fn spot_moves(types: &TypeTable, f: &CoreFn, spot: Option<SpotRef>) -> bool
         None => true,
         Some(spot) => match spot.node {
             NodeRef::Action(instr) => moves(types, f, spot.place, instr),
+            NodeRef::Question(_) => false,
+            NodeRef::Return => false,
+            NodeRef::Stop => false,
+        },
+    }
+}
+
+/// Whether an element doesn't stay: else it stays as itself, and becomes no other.
+#[tactic(auto, using(crate::proofs::OneFact::kept))]
+pub fn is_removed(types: &TypeTable, f: &CoreFn, spot: Option<SpotRef>, element: &Element) -> bool
+    ensures { result ≡ false → staying types.now (function_of f.now) (option_map spot_seen spot.entry) element.now ≡ element.now ∷ [] }
+{
+    spot_removes(types, f, spot, element)
+}
+
+fn spot_removes(types: &TypeTable, f: &CoreFn, spot: Option<SpotRef>, element: &Element) -> bool
+    ensures { result ≡ spot_removes types.now (function_of f.now) (option_map spot_seen spot.entry) element.now }
+{
+    match spot {
+        None => true,
+        Some(spot) => match spot.node {
+            NodeRef::Action(instr) => is_gone(types, f, spot.place, instr, element),
             NodeRef::Question(_) => false,
             NodeRef::Return => false,
             NodeRef::Stop => false,

@@ -1,10 +1,11 @@
 // At which locations facts may make something wrong at a point.
-ghost use Rattle.std.specs.Prelude.{◌≡◌, Some};
+ghost use Rattle.std.specs.Prelude.{◌≡◌, false, Some};
 ghost use Rattle.life_core.specs.Function.{function_of};
-ghost use Rattle.life_core.specs.Node.{spot_seen};
+ghost use Rattle.life_core.specs.Node.{node_seen, spot_seen};
 ghost use Rattle.life_core.specs.Operands.{base_of, characters_of, operand_of, source_of};
 ghost use Rattle.life_core.specs.Step.{change_of, port_of, step_of};
-ghost use Rattle.life_rules.specs.ToldAt.{base_names, base_reaches, change_names, characters_name, is_operand, is_through, names, port_names, reaches, source_names, source_reaches, spot_tells};
+ghost use Rattle.life_pset.specs.declared.element.AbsPlace.{AbsPlace};
+ghost use Rattle.life_rules.specs.ToldAt.{base_names, base_reaches, change_names, characters_name, is_operand, is_through, names, names_some, node_tells_some, port_names, reaches, source_names, source_names_some, source_reaches, spot_tells};
 
 use crate::matching::{is_location, is_rooted};
 use crate::texts::is_result;
@@ -29,7 +30,51 @@ pub fn is_told_at(types: &TypeTable, f: &CoreFn, spot: SpotRef, location: &AbsPl
     }
 }
 
+/// Whether something may be told at a point at all: else it tells of no location.
+#[tactic(auto, using(crate::proofs::Untold::tells_none))]
+pub fn tells_some(types: &TypeTable, f: &CoreFn, spot: SpotRef) -> bool
+    ensures { result ≡ false → (location : AbsPlace) → spot_tells types.now (function_of f.now) (Some (spot_seen spot.entry)) location ≡ false }
+{
+    node_tells_some(types, f, spot.node)
+}
+
+fn node_tells_some(types: &TypeTable, f: &CoreFn, node: NodeRef) -> bool
+    ensures { result ≡ node_tells_some types.now (function_of f.now) (node_seen node.entry) }
+{
+    match node {
+        NodeRef::Action(instr) => names_some(instr),
+        NodeRef::Question(_) => false,
+        NodeRef::Return => is_result(f, types, f.parameters),
+        NodeRef::Stop => false,
+    }
+}
+
 // ---- what an instruction names
+
+// Whether the instruction is of a kind that names a location, or uses what it doesn't name.
+fn names_some(instr: &Instr) -> bool
+    ensures { result ≡ names_some (step_of instr.now) }
+{
+    match instr {
+        Instr::Live { .. } => false,
+        Instr::End { .. } => false,
+        Instr::Eval { .. } => false,
+        Instr::Repoint { .. } => false,
+        Instr::Make { .. } => false,
+        Instr::Aim { source, .. } => source_names_some(source),
+        _ => true,
+    }
+}
+
+fn source_names_some(source: &Source) -> bool
+    ensures { result ≡ source_names_some (source_of source.now) }
+{
+    match source {
+        Source::Place(_) => true,
+        Source::Whole(_) => true,
+        _ => false,
+    }
+}
 
 fn is_operand(operand: &Operand, location: &AbsPlace) -> bool
     ensures { result ≡ is_operand (operand_of operand.now) location.now }

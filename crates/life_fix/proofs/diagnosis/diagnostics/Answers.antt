@@ -14,7 +14,7 @@ pub returns : goal.returns
 returns g c =
     let line = line_of (naming_of c.args.names.now c.args.sigs.now) c.args.types.now (function_of c.args.f.now) in
     let same = subst (λ (ds : List Diag). (d : Diag) → Contains ds d ↔ IsDiagnosed c.args.sigs.now c.args.types.now c.args.id.0 (function_of c.args.f.now) d)
-    (sym c.deref.ensures.value) c.in_ok-found.ensures in
-    let before : map candidate_seen c.push_candidates.new.out.items ≡ map (lined line) c.deref.result.now =
-    c.in_ok-push_candidates.ensures ∙ ap (λ (cs : List Candidate). map candidate_seen cs ++ map (lined line) c.deref.result.now) c.new-candidates.ensures.items in
-    IfOk-weaker _ _ _ (λ all listing. same_wrongs same (listing line c.deref.result.now before)) c.listed.ensures
+    (sym c.deref-2.ensures.value) c.in_ok-found.ensures in
+    let before : map candidate_seen c.push_candidates.new.out.items ≡ map (lined line) c.deref-2.result.now =
+    c.in_ok-push_candidates.ensures ∙ ap (λ (cs : List Candidate). map candidate_seen cs ++ map (lined line) c.deref-2.result.now) c.new-candidates.ensures.items in
+    IfOk-weaker _ _ _ (λ all listing. same_wrongs same (listing line c.deref-2.result.now before)) c.listed.ensures

@@ -63,7 +63,7 @@ returns-clause-partial g c =
     let in_plans : k < length c.args.plans.now = omega (arith, c.requires.k, c.requires.plans) in
     partial_visit flow.sigs.now flow.types.now (function_of flow.f.now) flow.edges.now c.requires.flow.edges c.args.plans.now _ (set_at c.args.dues.now) (set_at c.put_back.new.dues)
     (pairs_at g.R.Rows.has c.args.rows.now) (pairs_at g.R.Rows.has c.run_edge.new.rows) k (get_or flow.edges.now k no_edge) (get_or c.args.plans.now k c.index-plans-k.result) c.run_edge.new.plan (holds c.run_edge.new.gained)
-    c.requires.partial (slice_get-get_or flow.edges.now k no_edge c.requires.k) (slice_get-get_or c.args.plans.now k _ in_plans) c.in_ok-run_edge.ensures.runs c.put_back.ensures.put refl
+    c.requires.partial (slice_get-get_or flow.edges.now k no_edge c.requires.k) (slice_get-get_or c.args.plans.now k _ in_plans) c.in_ok-run_edge.ensures.runs (c.put_back.ensures.put (get_or flow.edges.now k no_edge) (slice_get-get_or flow.edges.now k no_edge c.requires.k)) refl
 
 pub returns-clause-falls : goal.returns-clause-falls
 returns-clause-falls g c =
@@ -73,4 +73,4 @@ returns-clause-falls g c =
     let low = due_below (length flow.table.now.locations) c.args.dues.now k c.requires.due.0 c.requires.sized c.requires.due.1 in
     falls_visit flow.sigs.now flow.types.now (function_of flow.f.now) flow.table.now flow.edges.now c.requires.flow.table c.requires.flow.edges c.args.plans.now (set_at c.args.dues.now) (set_at c.put_back.new.dues)
     (pairs_at g.R.Rows.has c.args.rows.now) (pairs_at g.R.Rows.has c.run_edge.new.rows) k (get_or flow.edges.now k no_edge) (get_or c.args.plans.now k c.index-plans-k.result) c.run_edge.new.plan (holds c.run_edge.new.gained)
-    c.requires.partial (slice_get-get_or flow.edges.now k no_edge c.requires.k) (slice_get-get_or c.args.plans.now k _ in_plans) c.in_ok-run_edge.ensures.runs c.put_back.ensures.put c.requires.due.0 low c.requires.due.1
+    c.requires.partial (slice_get-get_or flow.edges.now k no_edge c.requires.k) (slice_get-get_or c.args.plans.now k _ in_plans) c.in_ok-run_edge.ensures.runs (c.put_back.ensures.put (get_or flow.edges.now k no_edge) (slice_get-get_or flow.edges.now k no_edge c.requires.k)) c.requires.due.0 low c.requires.due.1

@@ -1,21 +1,8 @@
-use Rattle.std.proofs.Common.{◌∙◌, ◌≡◌, ◌⊎◌, ◌↔◌, ◌++◌, ℕ, List, ap, subst, sym}
-use Rattle.std.specs.Prelude.{Contains, IsTrue}
-use Rattle.life_pset.specs.declared.element.Element.{Element}
-use Rattle.life_rules.specs.Staying.{staying}
+use Rattle.std.proofs.Common.{sym}
 use Rattle.life_plan.specs.Crossing.{crossing_in}
-use Rattle.life_plan.specs.Noting.{NamesOther}
-use Rattle.life_plan.specs.Numbered.{Becomes}
-use Rattle.life_plan.proofs.Changing.{noted_more}
+use Rattle.life_plan.proofs.Changing.{noted_kept}
 use Rattle.life_plan.proofs.staying.note_element.Goals as goal
 
-pub returns-in_ok-note_changes-in-Some-clause-noted : goal.returns-in_ok-note_changes-in-Some-clause-noted
-returns-in_ok-note_changes-in-Some-clause-noted c =
-    let x = crossing_in c.args.context.now in
-    let y = c.in-Some.element.now in
-    let stays : List Element = staying x.types x.f x.spot y in
-    let now = c.note_changes.new.becoming.items in
-    let pushed = c.in_ok-push_staying-in-Some.ensures ∙ ap (λ (ys : List Element). ys ++ stays) c.new-stays.ensures.items in
-    let before = c.args.becoming.now.items in
-    noted_more x c.args.e y c.is_among.result c.args.gone.now c.insert_if.new.set before now (sym c.in-Some.ensures) c.requires.noted
-    (subst (λ (ys : List Element). IsTrue c.is_among.result ↔ Contains ys y) (c.deref.ensures.value ∙ pushed) c.is_among.ensures) c.insert_if.ensures.added
-    (subst (λ (ys : List Element). (d m : ℕ) → Becomes now d m ↔ (Becomes before d m ⊎ ((d ≡ c.args.e) × NamesOther x.table y ys m))) (c.deref-in-Some.ensures.value ∙ pushed) c.in_ok-note_changes-in-Some.ensures.noted) c.in_ok-note_changes-in-Some.ensures.sized
+pub returns-else-is_removed-clause-noted : goal.returns-else-is_removed-clause-noted
+returns-else-is_removed-clause-noted c =
+    noted_kept (crossing_in c.args.context.now) c.args.e c.in-Some.element.now c.args.gone.now c.args.becoming.now.items (sym c.in-Some.ensures) c.requires.noted (c.is_removed.ensures c.if-is_removed.false)

@@ -1,5 +1,3 @@
-use Rattle.std.proofs.Common.{◌<◌, ℕ, subst}
-use Rattle.std.specs.Prelude.{IsTrue}
 use Rattle.life_sets.specs.NumberSets.{holds}
 use Rattle.life_plan.proofs.AllKept.{among_between, among_joined}
 use Rattle.life_plan.proofs.Keeping.{notes_joined}

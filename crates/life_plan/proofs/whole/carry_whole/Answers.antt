@@ -1,4 +1,4 @@
-use Rattle.std.proofs.Common.{◌∙◌, ◌<◌, ◌≡◌, ℕ, sym, arith, rules}
+use Rattle.std.proofs.Common.{◌∙◌, ◌<◌, ℕ, sym, arith, rules}
 use Rattle.life_sets.specs.NumberSets.{holds}
 use Rattle.life_plan.specs.Numbered.{IsAmong}
 use Rattle.life_plan.proofs.AllKept.{whole_more, whole_past}

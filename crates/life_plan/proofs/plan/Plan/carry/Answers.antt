@@ -1,4 +1,4 @@
-use Rattle.std.proofs.Common.{◌≡◌, ℕ, Box, Global, Option, subst}
+use Rattle.std.proofs.Common.{Box, Global, Option, subst}
 use Rattle.life_sets.specs.NumberSets.{holds}
 use Rattle.life_plan.specs.Carried.{carried_by}
 use Rattle.life_plan.specs.Crossing.{crossing_in}

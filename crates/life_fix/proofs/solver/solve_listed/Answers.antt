@@ -1,6 +1,6 @@
 use Rattle.life_core.specs.Function.{function_of}
 use Rattle.life_fix.proofs.Solved.{solution_of}
-use Rattle.life_fix.proofs.solver.solve.Goals as goal
+use Rattle.life_fix.proofs.solver.solve_listed.Goals as goal
 
 pub returns-clause-solution : goal.returns-clause-solution
 returns-clause-solution g c =
