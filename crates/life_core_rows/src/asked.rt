@@ -1,6 +1,5 @@
 // What a row asks for, and what differs from it.
-use crate::refusal::Refusal;
-use std::alloc::Global;
+use life_row_text::{Refusal, say};
 
 /// What a line asks for.
 #[derive(Clone, Copy, PartialEq, Eq)]
@@ -106,24 +105,4 @@ fn is_asked(all: &[Asked], function: u32, ask: Ask, line: &[u8]) -> bool {
         }
     }
     false
-}
-
-/// Adds a line of two parts.
-pub fn say(said: &mut Vec<u8>, head: &str, text: &[u8]) -> Result<(), Refusal> {
-    said.extend_from_slice(head.as_bytes())?;
-    said.extend_from_slice(text)?;
-    said.push(b'\n')?;
-    Ok(())
-}
-
-/// The words with a space between each two.
-pub fn joined(alloc: Global, words: &[&str]) -> Result<String, Refusal> {
-    let mut text = String::new(alloc);
-    for word in words {
-        if !text.is_empty() {
-            text.push(' ')?;
-        }
-        text.push_str(word)?;
-    }
-    Ok(text)
 }

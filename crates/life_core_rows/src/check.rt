@@ -4,21 +4,20 @@ ghost use Rattle.life_core.specs.Function.{function_of};
 ghost use Rattle.life_pset.specs.Elements.{IsWithinLimits};
 ghost use Rattle.life_rules.specs.declared.diag.Diag.{Diag};
 
-use crate::asked::{Ask, Asked, PROGRAM, compare, count_of, say};
+use crate::asked::{Ask, Asked, PROGRAM, compare, count_of};
 use crate::derive::{Found, Given, MOST_POINTS, found_by_bits, found_by_sets};
 use crate::joins::joined_line;
-use crate::refusal::Refusal;
-use crate::row::Row;
+use crate::row::AskedRow;
 use crate::show::{
     carried_line, diagnostic_line, edge_line, element_line, place_line, point_line, stretch_line,
     stretches,
 };
-use crate::words::index;
 use life_contract::Signatures;
 use life_core::{CoreFn, CoreProgram, FnId, Point, edges, links, points};
 use life_proper::{is_plain_program, is_proper};
 use life_pset::{elements, is_within_limits, locations};
 use life_report::text_report;
+use life_row_text::{Refusal, index, say};
 use life_rules::Diag;
 use life_types::NoMemory;
 use std::alloc::Global;
@@ -32,23 +31,30 @@ pub struct Counts {
 }
 
 /// Adds to what is said what differs in a row, and tells how much was derived.
-pub fn check(alloc: Global, row: &Row, said: &mut Vec<u8>) -> Result<Counts, Refusal> {
-    let sigs = Signatures::of(alloc, &row.program)?;
+pub fn check(alloc: Global, row: &AskedRow, said: &mut Vec<u8>) -> Result<Counts, Refusal> {
+    let sigs = Signatures::of(alloc, &row.written.program)?;
     let mut counts = Counts {
         points: 0,
         facts: 0,
         diagnostics: 0,
     };
     let mut all = Vec::new(alloc);
-    for (count, (f, named)) in row.program.functions.iter().zip(&row.named).enumerate() {
+    for (count, (f, named)) in row
+        .written
+        .program
+        .functions
+        .iter()
+        .zip(&row.written.named)
+        .enumerate()
+    {
         let number = index(count)?;
         let given = Given {
             alloc,
             f,
             id: FnId(number),
             sigs: &sigs,
-            types: &row.program.types,
-            names: &row.program.names,
+            types: &row.written.program.types,
+            names: &row.written.program.names,
         };
         let more = check_function(given, named, &row.asked, said, &mut all)?;
         counts.points = counts.points.saturating_add(more.points);
@@ -63,21 +69,27 @@ pub fn check(alloc: Global, row: &Row, said: &mut Vec<u8>) -> Result<Counts, Ref
 
 fn compare_program(
     alloc: Global,
-    row: &Row,
+    row: &AskedRow,
     all: &[Diag],
     said: &mut Vec<u8>,
 ) -> Result<(), Refusal> {
     if count_of(&row.asked, PROGRAM, Ask::Report) > 0 {
-        let text = report(alloc, &row.program, all)?;
+        let text = report(alloc, &row.written.program, all)?;
         let lines = lines_of(alloc, &text)?;
         compare(&row.asked, PROGRAM, Ask::Report, &lines, said)?;
     }
     if count_of(&row.asked, PROGRAM, Ask::Proper) > 0 {
-        let proper = is_proper(alloc, &row.program)?;
+        let proper = is_proper(alloc, &row.written.program)?;
         compare_answer(alloc, row, Ask::Proper, proper, said)?;
     }
     if count_of(&row.asked, PROGRAM, Ask::Plain) > 0 {
-        compare_answer(alloc, row, Ask::Plain, is_plain_program(&row.program), said)?;
+        compare_answer(
+            alloc,
+            row,
+            Ask::Plain,
+            is_plain_program(&row.written.program),
+            said,
+        )?;
     }
     compare_joined(alloc, &row.asked, said)
 }
@@ -94,7 +106,7 @@ fn compare_joined(alloc: Global, asked: &[Asked], said: &mut Vec<u8>) -> Result<
 
 fn compare_answer(
     alloc: Global,
-    row: &Row,
+    row: &AskedRow,
     ask: Ask,
     answer: bool,
     said: &mut Vec<u8>,

@@ -1,8 +1,7 @@
 // Rows of pairs, joined.
 ghost use Rattle.std.specs.Prelude.{◌≡◌, IfOk};
 
-use crate::refusal::Refusal;
-use crate::words::{fits, number, word_at, words_of};
+use life_row_text::{Refusal, fits, number, word_at, words_of};
 use life_sets::{BitRows, Rows, SetRows};
 use std::alloc::Global;
 

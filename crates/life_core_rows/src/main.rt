@@ -5,26 +5,19 @@
 #![tactic(auto)]
 
 mod asked;
-mod body;
 mod check;
 mod derive;
-mod draft;
-mod instructions;
 mod joins;
-mod kinds;
-mod refusal;
 mod row;
-mod scope;
 mod show;
-mod table;
-mod words;
 
+use crate::row::AskedRow;
+use life_row_text::Table;
 use std::io::{self, Write};
-use table::Table;
 
 fn main(rt: HostRuntime) -> io::Result<()> {
     let alloc = rt.alloc();
-    let mut table = Table::new(alloc);
+    let mut table = Table::<AskedRow>::new(alloc);
     let mut number: usize = 0;
     for line in rt.lines(alloc) {
         number = number.saturating_add(1);

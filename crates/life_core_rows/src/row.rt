@@ -1,101 +1,43 @@
 // A row: a program as its lines come, and what is asked of it.
-use crate::asked::{Ask, Asked, PROGRAM, joined};
-use crate::draft::{Draft, Sort, add_name};
-use crate::kinds::{add_struct, type_of};
-use crate::refusal::Refusal;
-use crate::words::{fits, index, word_at, words_from};
-use life_core::{CoreFn, CoreProgram, Names};
-use life_types::{NameId, TyId, TypeTable};
+use crate::asked::{Ask, Asked, PROGRAM};
+use crate::check::{Counts, check};
+use life_row_text::{Refusal, Row, Written, fits, joined, say, words_from};
 use std::alloc::Global;
 
 /// A row: a program as its lines come, and what is asked of it.
-pub struct Row {
-    pub name: String,
-    pub program: CoreProgram,
-    /// Beside each function one without statements that has a name for each local.
-    pub named: Vec<CoreFn>,
+pub struct AskedRow {
+    name: String,
+    pub written: Written,
     pub asked: Vec<Asked>,
-    functions: Vec<String>,
-    structs: Vec<String>,
-    members: Vec<TyId>,
-    member_names: Vec<NameId>,
-    draft: Option<Draft>,
 }
 
-impl Drop for Row {
+impl Drop for AskedRow {
     fn drop(self) {
-        let Row {
+        let AskedRow {
             name: _name,
-            program: _program,
-            named: _named,
+            written: _written,
             asked: _asked,
-            functions: _functions,
-            structs: _structs,
-            members: _members,
-            member_names: _member_names,
-            draft: _draft,
         } = self;
     }
 }
 
-#[derive(Clone, Copy)]
-enum Kind {
-    Text,
-    Member,
-    Struct,
-    Function,
-    Local(Sort),
-    Promise,
-    Asked(Ask),
-}
-
-const FORMS: [(&str, Kind); 25] = [
-    ("text ..", Kind::Text),
-    ("member _ ..", Kind::Member),
-    ("struct _", Kind::Struct),
-    ("function _", Kind::Function),
-    (
-        "parameter _ ..",
-        Kind::Local(Sort::Parameter {
-            nonnull: false,
-            keeps: false,
-        }),
-    ),
-    (
-        "nonnull _ ..",
-        Kind::Local(Sort::Parameter {
-            nonnull: true,
-            keeps: false,
-        }),
-    ),
-    (
-        "keeps _ ..",
-        Kind::Local(Sort::Parameter {
-            nonnull: false,
-            keeps: true,
-        }),
-    ),
-    ("result _ ..", Kind::Local(Sort::Result)),
-    ("variable _ ..", Kind::Local(Sort::Variable)),
-    ("temporary _ ..", Kind::Local(Sort::Temporary)),
-    ("register _ ..", Kind::Local(Sort::Register)),
-    ("range _ ..", Kind::Local(Sort::Range)),
-    ("promise ..", Kind::Promise),
-    ("fact ..", Kind::Asked(Ask::Fact)),
-    ("wrong ..", Kind::Asked(Ask::Wrong)),
-    ("carry ..", Kind::Asked(Ask::Carry)),
-    ("edge ..", Kind::Asked(Ask::Edge)),
-    ("point ..", Kind::Asked(Ask::Point)),
-    ("location ..", Kind::Asked(Ask::Location)),
-    ("element ..", Kind::Asked(Ask::Element)),
-    ("no-facts", Kind::Asked(Ask::NoFacts)),
-    ("report ..", Kind::Asked(Ask::Report)),
-    ("proper ..", Kind::Asked(Ask::Proper)),
-    ("plain ..", Kind::Asked(Ask::Plain)),
-    ("join ..", Kind::Asked(Ask::Join)),
+const FORMS: [(&str, Ask); 12] = [
+    ("fact ..", Ask::Fact),
+    ("wrong ..", Ask::Wrong),
+    ("carry ..", Ask::Carry),
+    ("edge ..", Ask::Edge),
+    ("point ..", Ask::Point),
+    ("location ..", Ask::Location),
+    ("element ..", Ask::Element),
+    ("no-facts", Ask::NoFacts),
+    ("report ..", Ask::Report),
+    ("proper ..", Ask::Proper),
+    ("plain ..", Ask::Plain),
+    ("join ..", Ask::Join),
 ];
 
-fn kind_of(words: &[&str]) -> Option<Kind> {
+// What a line asks for, if it asks for something.
+fn ask_of(words: &[&str]) -> Option<Ask> {
     for form in &FORMS {
         if fits(form.0, words) {
             return Some(form.1);
@@ -104,127 +46,12 @@ fn kind_of(words: &[&str]) -> Option<Kind> {
     None
 }
 
-impl Row {
-    pub fn new(alloc: Global, words: &[&str]) -> Result<Row, Refusal> {
-        Ok(Row {
-            name: joined(alloc, words)?,
-            program: CoreProgram {
-                names: Names {
-                    texts: Vec::new(alloc),
-                    members: Vec::new(alloc),
-                },
-                types: TypeTable::new(alloc),
-                texts: Vec::new(alloc),
-                functions: Vec::new(alloc),
-            },
-            named: Vec::new(alloc),
-            asked: Vec::new(alloc),
-            functions: Vec::new(alloc),
-            structs: Vec::new(alloc),
-            members: Vec::new(alloc),
-            member_names: Vec::new(alloc),
-            draft: None,
-        })
-    }
-
-    /// The next line of the row.
-    pub fn line(&mut self, alloc: Global, words: &[&str]) -> Result<(), Refusal> {
-        match kind_of(words) {
-            None => self.statement(alloc, words),
-            Some(Kind::Text) => self.text(alloc, words_from(words, 1)),
-            Some(Kind::Member) => self.member(alloc, word_at(words, 1), words_from(words, 2)),
-            Some(Kind::Struct) => self.end_struct(alloc, word_at(words, 1)),
-            Some(Kind::Function) => self.function(alloc, word_at(words, 1)),
-            Some(Kind::Local(sort)) => {
-                self.local(alloc, sort, word_at(words, 1), words_from(words, 2))
-            }
-            Some(Kind::Promise) => self.promise(alloc, words_from(words, 1)),
-            Some(Kind::Asked(ask)) => self.ask(alloc, ask, words_from(words, 1)),
-        }
-    }
-
-    fn statement(&mut self, alloc: Global, words: &[&str]) -> Result<(), Refusal> {
-        match &mut self.draft {
-            None => Err(Refusal::NotBegun),
-            Some(draft) => draft.line(alloc, &self.functions, words),
-        }
-    }
-
-    // A string literal.
-    fn text(&mut self, alloc: Global, words: &[&str]) -> Result<(), Refusal> {
-        let text = joined(alloc, words)?;
-        self.program.texts.push(text.into_bytes())?;
-        Ok(())
-    }
-
-    // ---- structs
-
-    fn member(&mut self, alloc: Global, name: &str, words: &[&str]) -> Result<(), Refusal> {
-        let ty = type_of(&mut self.program.types, &self.structs, words)?;
-        let name = add_name(alloc, &mut self.program.names, name)?;
-        self.members.push(ty)?;
-        self.member_names.push(name)?;
-        Ok(())
-    }
-
-    // A struct of the members that have come.
-    fn end_struct(&mut self, alloc: Global, name: &str) -> Result<(), Refusal> {
-        let members = std::mem::replace(&mut self.members, Vec::new(alloc));
-        let names = std::mem::replace(&mut self.member_names, Vec::new(alloc));
-        add_struct(&mut self.program.types, members)?;
-        self.program.names.members.push(names)?;
-        self.structs.push(String::from_str(alloc, name)?)?;
-        Ok(())
-    }
-
-    // ---- functions
-
-    fn function(&mut self, alloc: Global, word: &str) -> Result<(), Refusal> {
-        self.end_function()?;
-        let name = add_name(alloc, &mut self.program.names, word)?;
-        self.functions.push(String::from_str(alloc, word)?)?;
-        self.draft = Some(Draft::new(alloc, &mut self.program.types, name)?);
-        Ok(())
-    }
-
-    // Adds the function that was begun, if there is one.
-    fn end_function(&mut self) -> Result<(), Refusal> {
-        if let Some(draft) = self.draft.take() {
-            let (function, named) = draft.finish()?;
-            self.program.functions.push(function)?;
-            self.named.push(named)?;
-        }
-        Ok(())
-    }
-
-    fn local(
-        &mut self,
-        alloc: Global,
-        sort: Sort,
-        name: &str,
-        words: &[&str],
-    ) -> Result<(), Refusal> {
-        let ty = type_of(&mut self.program.types, &self.structs, words)?;
-        match &mut self.draft {
-            None => Err(Refusal::NotBegun),
-            Some(draft) => draft.declare(alloc, &mut self.program.names, sort, name, ty),
-        }
-    }
-
-    fn promise(&mut self, alloc: Global, words: &[&str]) -> Result<(), Refusal> {
-        match &mut self.draft {
-            None => Err(Refusal::NotBegun),
-            Some(draft) => draft.promise(alloc, words),
-        }
-    }
-
-    // ---- what is asked
-
+impl AskedRow {
     fn ask(&mut self, alloc: Global, ask: Ask, words: &[&str]) -> Result<(), Refusal> {
         let function = if ask.is_of_program() {
             PROGRAM
         } else {
-            self.last_function()?
+            self.written.last_function()?
         };
         let text = joined(alloc, words)?;
         self.asked.push(Asked {
@@ -234,20 +61,39 @@ impl Row {
         })?;
         Ok(())
     }
+}
 
-    // The number of the function that has begun.
-    fn last_function(&self) -> Result<u32, Refusal> {
-        match self.functions.len().checked_sub(1) {
-            None => Err(Refusal::NotBegun),
-            Some(last) => index(last),
+impl Row for AskedRow {
+    fn begin(alloc: Global, words: &[&str]) -> Result<AskedRow, Refusal> {
+        Ok(AskedRow {
+            name: joined(alloc, words)?,
+            written: Written::new(alloc)?,
+            asked: Vec::new(alloc),
+        })
+    }
+
+    fn line(&mut self, alloc: Global, words: &[&str]) -> Result<(), Refusal> {
+        match ask_of(words) {
+            None => self.written.line(alloc, words),
+            Some(ask) => self.ask(alloc, ask, words_from(words, 1)),
         }
     }
 
-    /// Ends the last function.
-    pub fn finish(&mut self) -> Result<(), Refusal> {
-        if !self.members.is_empty() {
-            return Err(Refusal::NotBegun);
-        }
-        self.end_function()
+    // Tells how much was derived in the row, and what differs from what it asks for.
+    fn tell(mut self, alloc: Global, said: &mut Vec<u8>) -> Result<bool, Refusal> {
+        self.written.finish()?;
+        let mut differences = Vec::new(alloc);
+        let counts = check(alloc, &self, &mut differences)?;
+        let Counts {
+            points,
+            facts,
+            diagnostics,
+        } = counts;
+        let text = format!(in alloc;
+            ": {points} points, {facts} facts, {diagnostics} diagnostics"
+        )?;
+        say(said, &self.name, text.as_bytes())?;
+        said.extend_from_slice(&differences)?;
+        Ok(!differences.is_empty())
     }
 }

@@ -1,0 +1,36 @@
+-- What a local holds, by its class and its kind: whether it may come to life, and whether it is served.
+use Rattle.std.proofs.Common.{◌≡◌, true, false, Option, Some, None, refl}
+use Rattle.life_types.specs.declared.ty.Class.TheVariants.{Value}
+use Rattle.life_types.specs.declared.ty.Ty.{Ty}
+use Rattle.life_types.specs.declared.ty.Ty.TheVariants as ty
+use Rattle.life_core.specs.declared.program.LocalKind.{LocalKind}
+use Rattle.life_core.specs.declared.program.LocalKind.TheVariants.{Object, Register, Range}
+use Rattle.life_core.specs.Holdings.{Blank, held_if, pointer_held}
+use Rattle.life_core.specs.Served.{is_served_as, is_served_birth}
+
+-- what holds a value is no view
+pub value_born : (kind : LocalKind) (ty : Option Ty) → is_served_birth (held_if Value kind ty) ≡ true
+value_born Object ty = refl
+value_born Register ty = refl
+value_born Range ty = refl
+
+-- no pointer lies in memory, and where one lies in a register it may lie as a range
+pub none_in_memory : (ty : Option Ty) → is_served_as Object (pointer_held ty) ≡ false
+none_in_memory None = refl
+none_in_memory (Some (ty.Raw target constant)) = refl
+none_in_memory (Some (ty.Reference target constant)) = refl
+none_in_memory (Some ty.View) = refl
+none_in_memory (Some _) = refl
+
+pub range_points : (ty : Option Ty) → is_served_as Range (pointer_held ty) ≡ is_served_as Register (pointer_held ty)
+range_points None = refl
+range_points (Some (ty.Raw target constant)) = refl
+range_points (Some (ty.Reference target constant)) = refl
+range_points (Some ty.View) = refl
+range_points (Some _) = refl
+
+-- what holds nothing isn't served
+pub none_held : (kind : LocalKind) → is_served_as kind Blank ≡ false
+none_held Object = refl
+none_held Register = refl
+none_held Range = refl

@@ -1,0 +1,10 @@
+pub mod Births
+pub mod Changed
+pub mod Formed
+pub mod Functions
+pub mod Handed
+pub mod Kept
+pub mod Parts
+pub mod Points
+pub mod Within
+pub mod Written

@@ -1,0 +1,15 @@
+//! A checker of programs that are made by hand: whether all that is asked of a proper program is met, or which part
+//! isn't, for what is served so far.
+#![tactic(auto)]
+
+mod breaks;
+mod check;
+mod forms;
+mod headers;
+mod placed;
+mod results;
+mod scope;
+mod served;
+mod types;
+
+pub use check::{Part, unmet_part};

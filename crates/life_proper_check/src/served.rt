@@ -1,0 +1,226 @@
+// What is served so far.
+ghost use Rattle.std.specs.Prelude.{◌≡◌, ◌&&◌, Option, map, option_map};
+ghost use Rattle.std.specs.List.{list_all};
+ghost use Rattle.life_core.specs.Function.{function_of};
+ghost use Rattle.life_core.specs.Holdings.{held_by, held_if, pointer_held, sort_of};
+ghost use Rattle.life_core.specs.declared.program.LocalKind.TheVariants.{Register};
+ghost use Rattle.life_types.specs.declared.ty.Class.TheVariants.{Value};
+ghost use Rattle.life_types.specs.declared.ty.Ty.{Ty as AnyTy};
+ghost use Rattle.life_core.specs.Node.{node_seen};
+ghost use Rattle.life_core.specs.Operands.{argument_of, location_of, operand_of, source_of};
+ghost use Rattle.life_core.specs.Served.{is_empty, is_served_argument, is_served_as, is_served_birth, is_served_local, is_served_location, is_served_node, is_served_operand, is_served_port, is_served_source, is_served_step, is_served_target, is_served_test};
+ghost use Rattle.life_core.specs.Step.{asked_of, port_of, step_of};
+
+use life_core::{
+    Argument, CoreFn, Instr, Local, LocalKind, Location, NodeRef, Operand, Port, Source, Test,
+};
+use life_types::{Class, Ty, TypeTable, class_of, is_slot};
+
+// ---- no member is named
+
+fn has_none(members: &[u32]) -> bool
+    ensures { result ≡ is_empty members.now }
+{
+    members.is_empty()
+}
+
+fn is_location(l: &Location) -> bool
+    ensures { result ≡ is_served_location (location_of l.now) }
+{
+    has_none(&l.members)
+}
+
+fn is_operand(o: &Operand) -> bool
+    ensures { result ≡ is_served_operand (operand_of o.now) }
+{
+    match o {
+        Operand::Name(l) => is_location(l),
+        Operand::Through { pointer, members } => has_none(members) && is_location(pointer),
+    }
+}
+
+// ---- parts of instructions
+
+fn is_source(source: &Source) -> bool
+    ensures { result ≡ is_served_source (source_of source.now) }
+{
+    match source {
+        Source::Place(o) => is_operand(o),
+        Source::Empty => false,
+        Source::Whole(_) => false,
+        Source::Get(_) => false,
+        _ => true,
+    }
+}
+
+fn is_argument(argument: &Argument) -> bool
+    ensures { result ≡ is_served_argument (argument_of argument.now) }
+{
+    match argument {
+        Argument::Pointer(l) => is_location(l),
+        Argument::Given(_) => false,
+        Argument::Slot(_) => false,
+        _ => true,
+    }
+}
+
+fn are_arguments(arguments: &[Argument]) -> bool
+    ensures { result ≡ list_all is_served_argument (map argument_of arguments.now) }
+{
+    for argument in arguments {
+        if !is_argument(argument) {
+            return false;
+        }
+    }
+    true
+}
+
+fn is_target(target: &Option<Location>) -> bool
+    ensures { result ≡ is_served_target (option_map location_of target.now) }
+{
+    match target {
+        None => true,
+        Some(l) => is_location(l),
+    }
+}
+
+fn is_port(port: &Port) -> bool
+    ensures { result ≡ is_served_port (port_of port.now) }
+{
+    match port {
+        Port::View(l) => is_location(l),
+        _ => true,
+    }
+}
+
+// Whether it isn't a view.
+fn is_birth(types: &TypeTable, f: &CoreFn, x: u32) -> bool
+    ensures { result ≡ is_served_birth (sort_of types.now (function_of f.now) x) }
+{
+    match f.locals.get(x as usize) {
+        None => true,
+        Some(l) => is_born(types, l),
+    }
+}
+
+#[tactic(auto, using(crate::proofs::Births::value_born))]
+fn is_born(types: &TypeTable, local: &Local) -> bool
+    ensures { result ≡ is_served_birth (held_by types.now (Some local.now)) }
+{
+    match class_of(types, local.ty) {
+        Class::Pointer => match types.get(local.ty) {
+            Some(Ty::View) => false,
+            _ => true,
+        },
+        Class::Value => true,
+        Class::Owner => true,
+        Class::Aggregate => true,
+    }
+}
+
+// ---- points
+
+fn is_step(types: &TypeTable, f: &CoreFn, instr: &Instr) -> bool
+    ensures { result ≡ is_served_step types.now (function_of f.now) (step_of instr.now) }
+{
+    match instr {
+        Instr::Live { local, .. } => is_birth(types, f, *local),
+        Instr::Load { from, .. } => is_operand(from),
+        Instr::Save { to, .. } => is_operand(to),
+        Instr::Copy { .. } => false,
+        Instr::Move { .. } => false,
+        Instr::Aim { pointer, source } => is_location(pointer) && is_source(source),
+        Instr::Repoint { pointer, from } => is_location(pointer) && is_location(from),
+        Instr::Element { .. } => false,
+        Instr::Cursor { .. } => false,
+        Instr::Advance { .. } => false,
+        Instr::Cut { .. } => false,
+        Instr::Size { .. } => false,
+        Instr::Same { .. } => false,
+        Instr::Change { .. } => false,
+        Instr::Make { .. } => false,
+        Instr::Call {
+            target,
+            arguments,
+            ..
+        } => is_target(target) && are_arguments(arguments),
+        Instr::Port(port) => is_port(port),
+        _ => true,
+    }
+}
+
+fn is_test(types: &TypeTable, f: &CoreFn, test: &Test) -> bool
+    ensures { result ≡ is_served_test types.now (function_of f.now) (asked_of test.now) }
+{
+    match test {
+        Test::NotNull(l) => is_location(l),
+        _ => true,
+    }
+}
+
+/// Whether what stands at a point is served.
+pub(crate) fn is_served_node(types: &TypeTable, f: &CoreFn, node: NodeRef) -> bool
+    ensures { result ≡ is_served_node types.now (function_of f.now) (node_seen node.entry) }
+{
+    match node {
+        NodeRef::Action(instr) => is_step(types, f, instr),
+        NodeRef::Question(test) => is_test(types, f, test),
+        NodeRef::Return => true,
+        NodeRef::Stop => true,
+    }
+}
+
+// ---- locals
+
+// Whether a pointer may lie there: not in memory.
+#[tactic(auto, using(crate::proofs::Births::none_in_memory, crate::proofs::Births::range_points))]
+fn lies_apart(kind: LocalKind) -> bool
+    ensures { (ty : Option AnyTy) → is_served_as kind (pointer_held ty) ≡ (result && is_served_as Register (pointer_held ty)) }
+{
+    match kind {
+        LocalKind::Object => false,
+        LocalKind::Register => true,
+        LocalKind::Range => true,
+    }
+}
+
+// Whether a value may: an object and a register hold one.
+fn holds_value(kind: LocalKind) -> bool
+    ensures { (ty : Option AnyTy) → result ≡ is_served_as kind (held_if Value kind ty) }
+{
+    match kind {
+        LocalKind::Object => true,
+        LocalKind::Register => true,
+        LocalKind::Range => false,
+    }
+}
+
+fn points_simply(ty: Option<Ty>) -> bool
+    ensures { result ≡ is_served_as Register (pointer_held ty) }
+{
+    match ty {
+        Some(Ty::Raw { .. }) => true,
+        Some(Ty::Reference { .. }) => true,
+        Some(Ty::View) => true,
+        _ => false,
+    }
+}
+
+/// Whether the local is served.
+pub(crate) fn is_served_local(types: &TypeTable, local: &Local) -> bool
+    ensures { result ≡ is_served_local types.now local.now }
+{
+    is_held(types, local) && !is_slot(types, local.ty)
+}
+
+#[tactic(auto, using(crate::proofs::Births::none_held))]
+fn is_held(types: &TypeTable, local: &Local) -> bool
+    ensures { result ≡ is_served_as local.now.kind (held_by types.now (Some local.now)) }
+{
+    match class_of(types, local.ty) {
+        Class::Pointer => lies_apart(local.kind) && points_simply(types.get(local.ty)),
+        Class::Value => holds_value(local.kind),
+        Class::Owner => false,
+        Class::Aggregate => false,
+    }
+}

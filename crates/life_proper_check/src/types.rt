@@ -1,0 +1,97 @@
+// Tests of the types that operands have.
+ghost use Rattle.std.specs.Prelude.{◌≡◌};
+ghost use Rattle.life_types.specs.TypeTests.{is_reference};
+ghost use Rattle.life_proper.specs.OperandTypes.{aims_at, are_alike, is_promoted, keeps_const, pointee, same, takes};
+
+use life_pset::ty_at;
+use life_types::{Ty, TypeTable, is_constant};
+
+/// Whether operators compute in it.
+pub(crate) fn is_promoted(ty: Ty) -> bool
+    ensures { result ≡ is_promoted ty }
+{
+    match ty {
+        Ty::Int => true,
+        Ty::Long => true,
+        Ty::Size => true,
+        _ => false,
+    }
+}
+
+pub(crate) fn is_reference(ty: Ty) -> bool
+    ensures { result ≡ is_reference ty }
+{
+    match ty {
+        Ty::Reference { .. } => true,
+        _ => false,
+    }
+}
+
+/// Whether both are one type, which isn't void.
+pub(crate) fn same(left: Ty, right: Ty) -> bool
+    ensures { result ≡ same left right }
+{
+    match left {
+        Ty::Void => false,
+        _ => left == right,
+    }
+}
+
+/// A pointer to what isn't const takes nothing from one to what is.
+pub(crate) fn keeps_const(to: bool, from: bool) -> bool
+    ensures { result ≡ keeps_const to from }
+{
+    to || !from
+}
+
+// Whether two pointers are of one kind with one target.
+fn are_alike(types: &TypeTable, left: Ty, right: Ty) -> bool
+    ensures { result ≡ are_alike types.now left right }
+{
+    match (left, right) {
+        (Ty::Raw { target: t, .. }, Ty::Raw { target: u, .. }) => {
+            same(ty_at(types, t), ty_at(types, u))
+        }
+        (Ty::Reference { target: t, .. }, Ty::Reference { target: u, .. }) => {
+            same(ty_at(types, t), ty_at(types, u))
+        }
+        (Ty::Iterator { target: t, .. }, Ty::Iterator { target: u, .. }) => {
+            same(ty_at(types, t), ty_at(types, u))
+        }
+        (Ty::Span { target: t, .. }, Ty::Span { target: u, .. }) => {
+            same(ty_at(types, t), ty_at(types, u))
+        }
+        (Ty::View, Ty::View) => true,
+        _ => false,
+    }
+}
+
+/// Whether the first takes what the second is.
+pub(crate) fn takes(types: &TypeTable, to: Ty, from: Ty) -> bool
+    ensures { result ≡ takes types.now to from }
+{
+    are_alike(types, to, from) && keeps_const(is_constant(to), is_constant(from))
+}
+
+/// The object that a pointer points to.
+pub(crate) fn pointee(types: &TypeTable, ty: Ty) -> Ty
+    ensures { result ≡ pointee types.now ty }
+{
+    match ty {
+        Ty::Raw { target, .. } => ty_at(types, target),
+        Ty::Reference { target, .. } => ty_at(types, target),
+        Ty::Iterator { target, .. } => ty_at(types, target),
+        _ => Ty::Void,
+    }
+}
+
+/// Whether it is a raw pointer or a reference to objects of the second.
+pub(crate) fn aims_at(types: &TypeTable, ty: Ty, object: Ty) -> bool
+    ensures { result ≡ aims_at types.now ty object }
+{
+    match ty {
+        Ty::Raw { target, .. } => same(ty_at(types, target), object),
+        Ty::Reference { target, .. } => same(ty_at(types, target), object),
+        _ => false,
+    }
+}
