@@ -1,5 +1,5 @@
 -- Assignments and steps, part by part.
-use Rattle.std.proofs.Common.{◌≡◌, ℕ, Option, None, Some, sym, ap, ◌∙◌}
+use Rattle.std.proofs.Common.{◌≡◌, ℕ, None, Some, length, sym, ap, ◌∙◌}
 use Rattle.std.specs.Prelude.{pos}
 use Rattle.life_types.specs.declared.place.Place.{Place}
 use Rattle.life_types.specs.declared.ty.Ty.{Ty}
@@ -14,9 +14,10 @@ use Rattle.life_writer.proofs.Seen.{type_seen}
 use Rattle.life_writer.specs.Around.{Around, own_type, result_local, type_of}
 use Rattle.life_writer.specs.Expressions.{operand, value}
 use Rattle.life_writer.specs.Registers.{computed, constant}
+use Rattle.life_writer.specs.Variables.{end_pending, full}
 use Rattle.life_writer.specs.Writing.{State, Gives, gives, ◌>>◌}
 use Rattle.life_elab.specs.Simples.{held, put_back, step_operator, stepped, type_in}
-use Rattle.life_elab.specs.Statements.{result_given}
+use Rattle.life_elab.specs.Statements.{given_back}
 
 pub followed : {y z : State} (x : State) → y ≡ z → x ≡ y → x ≡ z
 followed x e is = is ∙ e
@@ -37,10 +38,14 @@ pub same_common : (x : TypedExpr) (own common : Ty) → own ≡ own_type (out-Ty
 same_common x own common is promotes =
     promotes ∙ ap (λ (t : Ty). promoted t t) (is ∙ ap own_type (sym (type_seen x)))
 
-pub given_result : (a : Around) (v : Option Typed) (e : Typed) (t : Ty) (into r : ℕ) (s after : State) → v ≡ Some e → t ≡ type_of a a.function.result → into ≡ result_local a
-    → value a (whole e) t (Some into) s ≡ gives r after → after ≡ result_given a v s
-given_result a v e t into r s after is as_type goes given =
-    sym (ap (λ (w : Option Typed). result_given a w s) is
-    ∙ ap (λ (u : Ty). (value a (whole e) u (Some (result_local a)) s).state) (sym as_type)
-    ∙ ap (λ (n : ℕ). (value a (whole e) t (Some n) s).state) (sym goes)
+pub given_result : (a : Around) (e : Typed) (behind : Place) (t : Ty) (into r : ℕ) (s after : State) → t ≡ type_of a a.function.result → into ≡ result_local a
+    → value a (whole e) behind t (Some into) s ≡ gives r after → after ≡ given_back a e behind s
+given_result a e behind t into r s after as_type goes given =
+    sym (ap (λ (u : Ty). (value a (whole e) behind u (Some (result_local a)) s).state) (sym as_type)
+    ∙ ap (λ (n : ℕ). (value a (whole e) behind t (Some n) s).state) (sym goes)
     ∙ ap (λ (w : Gives ℕ). w.state) given)
+
+-- a full expression: what was made for it ends behind it
+pub full_gives : (expression : State → State) (behind : Place) (s written after : State) (pending : ℕ) → pending ≡ length s.pending → written ≡ expression s → after ≡ end_pending pending behind written → after ≡ full behind expression s
+full_gives expression behind s written after pending count first last =
+    last ∙ ap (λ (n : ℕ). end_pending n behind written) count ∙ ap (end_pending (length s.pending) behind) first

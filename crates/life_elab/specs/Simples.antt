@@ -24,6 +24,7 @@ use Rattle.life_writer.specs.Expressions.{handed_over, operand, pointer, pointin
 use Rattle.life_writer.specs.Pointers.{pointed}
 use Rattle.life_writer.specs.Registers.{as_type, computed, constant, converted, eval}
 use Rattle.life_writer.specs.Values.{read}
+use Rattle.life_writer.specs.Variables.{full}
 use Rattle.life_writer.specs.Writing.{State, Gives, gives, ◌>>◌, emit}
 
 abbrev pub type_in : Typed → Ty
@@ -31,17 +32,17 @@ type_in e = own_type e.ty
 
 -- ---- assignments: the right side, and then the place
 
-abbrev pub value_assigned : Around → (target : Typed) → (equals : Place) → Typed → State → State
-value_assigned a target equals e s =
-    value a (whole e) (type_in target) None s >> λ r s. operand a (whole target) s >> λ to s. emit equals (Save to r) s
+abbrev pub value_assigned : Around → (target : Typed) → (equals : Place) → Typed → (behind : Place) → State → State
+value_assigned a target equals e behind s =
+    value a (whole e) behind (type_in target) None s >> λ r s. operand a (whole target) s >> λ to s. emit equals (Save to r) s
 
 abbrev pub pointer_assigned : Around → (target : Typed) → Typed → State → State
 pointer_assigned a target e s =
-    pointing a (whole e) s >> λ p s. pointer a (whole target) s >> λ l s. emit e.place (pointed l p) s
+    pointing a (whole e) s >> λ p s. pointer a (whole target) s >> λ l s. emit e.place (pointed p l) s
 
-abbrev pub assigned : Around → (target : Typed) → (equals : Place) → InitialForm → State → State
-assigned a target equals (one e) s = if is_raw (type_in target) then pointer_assigned a target e s else value_assigned a target equals e s
-assigned a target equals (several list) s = s
+abbrev pub assigned : Around → (target : Typed) → (equals : Place) → InitialForm → (behind : Place) → State → State
+assigned a target equals (one e) behind s = if is_raw (type_in target) then pointer_assigned a target e s else value_assigned a target equals e behind s
+assigned a target equals (several list) behind s = s
 
 -- ---- assignments that compute, and steps
 
@@ -63,9 +64,9 @@ compound_operator compound.Divide = core.Divide
 compound_operator compound.Remainder = core.Remainder
 
 -- the right side, the place, what it holds, and the operator
-abbrev pub combined : Around → (target : Typed) → CompoundOperator → Place → Typed → Ty → State → State
-combined a target operator place e t s =
-    value a (whole e) t None s >> λ r s. operand a (whole target) s >> λ at s.
+abbrev pub combined : Around → (target : Typed) → CompoundOperator → Place → Typed → (behind : Place) → Ty → State → State
+combined a target operator place e behind t s =
+    value a (whole e) behind t None s >> λ r s. operand a (whole target) s >> λ at s.
     held target at t s >> λ l s. put_back target at t place (operation.Binary (compound_operator operator) l r) s
 
 abbrev pub step_operator : StepOperator → Operator
@@ -82,24 +83,28 @@ stepped a target operator place t s =
 
 abbrev pub called_for_nothing : Around → Place → Called → State → State
 called_for_nothing a place c s =
-    handed_over a c.arguments (parameter_types a c.function) s >> λ given s. emit place (called_alone c.function given) s
+    handed_over a c.arguments c.closing (parameter_types a c.function) s >> λ given s. emit place (called_alone c.function given) s
 
-abbrev pub discarded_as : Around → Typed → Option Called → Ty → State → State
-discarded_as a e (Some c) ty.Void s = called_for_nothing a e.place c s
-discarded_as a e _ t s = (value a (whole e) t None s).state
+abbrev pub discarded_as : Around → Typed → Option Called → (behind : Place) → Ty → State → State
+discarded_as a e (Some c) behind ty.Void s = called_for_nothing a e.place c s
+discarded_as a e _ behind t s = (value a (whole e) behind t None s).state
 
-abbrev pub discarded : Around → Typed → State → State
-discarded a e s = discarded_as a e (call_of (whole e)) (type_in e) s
+abbrev pub discarded : Around → Typed → (behind : Place) → State → State
+discarded a e behind s = discarded_as a e (call_of (whole e)) behind (type_in e) s
 
 -- ---- any of these
 
-abbrev pub simple : Around → SimpleForm → State → State
-simple a (typed.assign target equals initial) s = assigned a target equals initial s
-simple a (typed.compound target operator place e) s = combined a target operator place e (promoted (type_in target) (type_in e)) s
-simple a (typed.step target operator place) s = stepped a target operator place (promoted (type_in target) (type_in target)) s
-simple a (typed.discarded e) s = discarded a e s
+abbrev pub done : Around → SimpleForm → (behind : Place) → State → State
+done a (typed.assign target equals initial) behind s = assigned a target equals initial behind s
+done a (typed.compound target operator place e) behind s = combined a target operator place e behind (promoted (type_in target) (type_in e)) s
+done a (typed.step target operator place) behind s = stepped a target operator place (promoted (type_in target) (type_in target)) s
+done a (typed.discarded e) behind s = discarded a e behind s
+
+-- .. a full expression, up to the token behind it
+abbrev pub simple : Around → SimpleForm → (behind : Place) → State → State
+simple a it behind s = full behind (done a it behind) s
 
 -- .. which may be left out
-abbrev pub simple_if : Around → Option SimpleForm → State → State
-simple_if a None s = s
-simple_if a (Some it) s = simple a it s
+abbrev pub simple_if : Around → Option SimpleForm → (behind : Place) → State → State
+simple_if a None behind s = s
+simple_if a (Some it) behind s = simple a it behind s

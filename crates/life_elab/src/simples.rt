@@ -21,10 +21,11 @@ fn value_assigned(
     target: &TypedExpr,
     equals: Place,
     value: &TypedExpr,
+    behind: Place,
 ) -> Result<(), NoMemory>
-    ensures { OnOk result (state_of writer.new ≡ spec.value_assigned (around_of a.now) (typed_view target.now) equals (typed_view value.now) (state_of writer.old)) }
+    ensures { OnOk result (state_of writer.new ≡ spec.value_assigned (around_of a.now) (typed_view target.now) equals (typed_view value.now) behind (state_of writer.old)) }
 {
-    let from = writer.value(a, value, own_type(target.ty), None)?;
+    let from = writer.value(a, value, behind, own_type(target.ty), None)?;
     let to = writer.operand(a, target)?;
     writer.emit(equals, Instr::Save { to, from })
 }
@@ -48,14 +49,15 @@ fn assigned(
     target: &TypedExpr,
     equals: Place,
     value: &TypedInitial,
+    behind: Place,
 ) -> Result<(), NoMemory>
-    ensures { OnOk result (state_of writer.new ≡ spec.assigned (around_of a.now) (typed_view target.now) equals (initial_view value.now) (state_of writer.old)) }
+    ensures { OnOk result (state_of writer.new ≡ spec.assigned (around_of a.now) (typed_view target.now) equals (initial_view value.now) behind (state_of writer.old)) }
 {
     match value {
         TypedInitial::Expr(value) if is_raw(own_type(target.ty)) => {
             pointer_assigned(writer, a, target, value)
         }
-        TypedInitial::Expr(value) => value_assigned(writer, a, target, equals, value),
+        TypedInitial::Expr(value) => value_assigned(writer, a, target, equals, value, behind),
         TypedInitial::List(_) => Ok(()),
     }
 }
@@ -93,11 +95,12 @@ fn combined(
     operator: CompoundOperator,
     place: Place,
     value: &TypedExpr,
+    behind: Place,
 ) -> Result<(), NoMemory>
-    ensures { OnOk result (state_of writer.new ≡ spec.combined (around_of a.now) (typed_view target.now) operator place (typed_view value.now) (promoted (spec.type_in (typed_view target.now)) (spec.type_in (typed_view value.now))) (state_of writer.old)) }
+    ensures { OnOk result (state_of writer.new ≡ spec.combined (around_of a.now) (typed_view target.now) operator place (typed_view value.now) behind (promoted (spec.type_in (typed_view target.now)) (spec.type_in (typed_view value.now))) (state_of writer.old)) }
 {
     let common = promoted(own_type(target.ty), own_type(value.ty));
-    let right = writer.value(a, value, common, None)?;
+    let right = writer.value(a, value, behind, common, None)?;
     let to = writer.operand(a, target)?;
     let from = copied_operand(&to)?;
     let left = held(writer, target, from, common)?;
@@ -143,7 +146,7 @@ fn called_for_nothing(
     ensures { OnOk result (state_of writer.new ≡ spec.called_for_nothing (around_of a.now) place (called_of called.entry) (state_of writer.old)) }
 {
     let parameters = a.parameters(called.function);
-    let arguments = writer.handed_over(a, called.arguments, parameters)?;
+    let arguments = writer.handed_over(a, called.arguments, called.closing, parameters)?;
     writer.emit(
         place,
         Instr::Call {
@@ -155,46 +158,66 @@ fn called_for_nothing(
 }
 
 // A call whose answer is thrown away ([stmt.expr]).
-fn discarded(writer: &mut Writer, a: &Around, expression: &TypedExpr) -> Result<(), NoMemory>
-    ensures { OnOk result (state_of writer.new ≡ spec.discarded (around_of a.now) (typed_view expression.now) (state_of writer.old)) }
+fn discarded(
+    writer: &mut Writer,
+    a: &Around,
+    expression: &TypedExpr,
+    behind: Place,
+) -> Result<(), NoMemory>
+    ensures { OnOk result (state_of writer.new ≡ spec.discarded (around_of a.now) (typed_view expression.now) behind (state_of writer.old)) }
 {
     let ty = own_type(expression.ty);
     match call_of(expression) {
         Some(called) if ty == Ty::Void => called_for_nothing(writer, a, expression.place, called),
         _ => {
-            writer.value(a, expression, ty, None)?;
+            writer.value(a, expression, behind, ty, None)?;
             Ok(())
         }
     }
 }
 
-/// An assignment, a step or a call.
-pub(crate) fn write_simple(
+// An assignment, a step or a call.
+fn done(
     writer: &mut Writer,
     a: &Around,
     simple: &TypedSimple,
+    behind: Place,
 ) -> Result<(), NoMemory>
-    ensures { OnOk result (state_of writer.new ≡ spec.simple (around_of a.now) (simple_view simple.now) (state_of writer.old)) }
+    ensures { OnOk result (state_of writer.new ≡ spec.done (around_of a.now) (simple_view simple.now) behind (state_of writer.old)) }
 {
     match simple {
         TypedSimple::Assign {
             target,
             equals,
             value,
-        } => assigned(writer, a, target, *equals, value),
+        } => assigned(writer, a, target, *equals, value, behind),
         TypedSimple::Compound {
             target,
             operator,
             place,
             value,
-        } => combined(writer, a, target, *operator, *place, value),
+        } => combined(writer, a, target, *operator, *place, value, behind),
         TypedSimple::Step {
             target,
             operator,
             place,
         } => stepped(writer, a, target, *operator, *place),
-        TypedSimple::Call(expression) => discarded(writer, a, expression),
+        TypedSimple::Call(expression) => discarded(writer, a, expression, behind),
     }
+}
+
+/// .. which is a full expression up to the token behind it.
+pub(crate) fn write_simple(
+    writer: &mut Writer,
+    a: &Around,
+    simple: &TypedSimple,
+    behind: Place,
+) -> Result<(), NoMemory>
+    ensures { OnOk result (state_of writer.new ≡ spec.simple (around_of a.now) (simple_view simple.now) behind (state_of writer.old)) }
+{
+    let pending = writer.pending_count();
+    done(writer, a, simple, behind)?;
+    writer.end_pending(pending, behind)
 }
 
 /// .. which may be left out.
@@ -202,11 +225,12 @@ pub(crate) fn write_simple_if(
     writer: &mut Writer,
     a: &Around,
     simple: &Option<TypedSimple>,
+    behind: Place,
 ) -> Result<(), NoMemory>
-    ensures { OnOk result (state_of writer.new ≡ spec.simple_if (around_of a.now) (optional_view simple_view simple.now) (state_of writer.old)) }
+    ensures { OnOk result (state_of writer.new ≡ spec.simple_if (around_of a.now) (optional_view simple_view simple.now) behind (state_of writer.old)) }
 {
     match simple {
-        Some(simple) => write_simple(writer, a, simple),
+        Some(simple) => write_simple(writer, a, simple, behind),
         None => Ok(()),
     }
 }

@@ -2,7 +2,7 @@
 ghost use Rattle.std.specs.Prelude.{◌≡◌, OnOk, map};
 ghost use Rattle.life_core.specs.Tree.{Turns, condition_tree, tree_of};
 ghost use Rattle.life_typed.specs.TypedForm.{typed_view, whole};
-ghost use Rattle.life_typed.specs.TypedStatement.{block_item_view, block_view, branch_view, for_start_view, item_view, line_end, optional_view, simple_view, stmt_forms, stmt_view};
+ghost use Rattle.life_typed.specs.TypedStatement.{block_item_view, block_view, branch_view, for_start_view, item_view, optional_view, simple_view, stmt_forms, stmt_view};
 ghost use Rattle.life_writer.specs.Answers.{Answers};
 ghost use Rattle.life_writer.specs.Expressions as expressions;
 ghost use Rattle.life_elab.specs.OpenedViews.{opened_of};
@@ -22,7 +22,7 @@ use life_typed::{
     TypedStmt,
 };
 use life_types::{NoMemory, Place, Ty};
-use life_writer::{Around, Writer, number, own_type};
+use life_writer::{Around, Behind, Destination, Last, Pointing, Writer, number, own_type};
 
 // A loop: while the condition holds, the body and then the step.
 fn write_loop(
@@ -48,26 +48,32 @@ fn condition_or_true(
     a: &Around,
     keyword: Place,
     condition: &Option<TypedExpr>,
+    behind: Place,
 ) -> Result<Condition, NoMemory>
-    ensures { Answers condition_tree result (spec.condition_or_true (around_of a.now) keyword (optional_view typed_view condition.now) (state_of writer.old)) (state_of writer.new) }
+    ensures { Answers condition_tree result (spec.condition_or_true (around_of a.now) keyword (optional_view typed_view condition.now) behind (state_of writer.old)) (state_of writer.new) }
 {
     match condition {
-        Some(condition) => writer.condition(a, condition),
+        Some(condition) => writer.condition(a, condition, Behind::ending(behind)),
         None => {
-            let before = writer.begin_list();
+            let before = writer.begin_test();
             let register = writer.eval(None, Ty::Bool, keyword, Operation::Number(1))?;
-            writer.behind_code(before, keyword, Test::NonZero(register))
+            writer.behind_code(before, keyword, None, Test::NonZero(register))
         }
     }
 }
 
 // What a loop by `for` begins with.
-fn started(writer: &mut Writer, a: &Around, start: &Option<TypedForStart>) -> Result<(), NoMemory>
-    ensures { OnOk result (state_of writer.new ≡ spec.started (around_of a.now) (optional_view for_start_view start.now) (state_of writer.old)) }
+fn started(
+    writer: &mut Writer,
+    a: &Around,
+    start: &Option<TypedForStart>,
+    behind: Place,
+) -> Result<(), NoMemory>
+    ensures { OnOk result (state_of writer.new ≡ spec.started (around_of a.now) (optional_view for_start_view start.now) behind (state_of writer.old)) }
 {
     match start {
-        Some(TypedForStart::Declaration(declaration)) => declared(writer, a, declaration),
-        Some(TypedForStart::Simple(simple)) => write_simple(writer, a, simple),
+        Some(TypedForStart::Declaration(declaration)) => declared(writer, a, declaration, behind),
+        Some(TypedForStart::Simple(simple)) => write_simple(writer, a, simple, behind),
         None => Ok(()),
     }
 }
@@ -77,11 +83,12 @@ fn step_of_loop(
     writer: &mut Writer,
     a: &Around,
     step: &Option<TypedSimple>,
+    behind: Place,
 ) -> Result<Stmt, NoMemory>
-    ensures { Answers tree_of result (apart (simple_if (around_of a.now) (optional_view simple_view step.now)) (state_of writer.old)) (state_of writer.new) }
+    ensures { Answers tree_of result (apart (simple_if (around_of a.now) (optional_view simple_view step.now) behind) (state_of writer.old)) (state_of writer.new) }
 {
     let before = writer.begin_list();
-    write_simple_if(writer, a, step)?;
+    write_simple_if(writer, a, step, behind)?;
     Ok(writer.end_list(before))
 }
 
@@ -107,15 +114,34 @@ fn leave_loop(writer: &mut Writer, keyword: Place, leaves: Stmt) -> Result<(), N
 }
 
 // The value of a `return` goes to the local of the result.
-fn result_given(writer: &mut Writer, a: &Around, value: &Option<TypedExpr>) -> Result<(), NoMemory>
-    ensures { OnOk result (state_of writer.new ≡ spec.result_given (around_of a.now) (optional_view typed_view value.now) (state_of writer.old)) }
+fn given_back(
+    writer: &mut Writer,
+    a: &Around,
+    value: &TypedExpr,
+    behind: Place,
+) -> Result<(), NoMemory>
+    ensures { OnOk result (state_of writer.new ≡ spec.given_back (around_of a.now) (typed_view value.now) behind (state_of writer.old)) }
+{
+    let ty = a.type_of(a.function.result);
+    let into = a.result_local()?;
+    writer.value(a, value, behind, ty, Some(into))?;
+    Ok(())
+}
+
+// .. which is a full expression up to the token behind it.
+fn result_given(
+    writer: &mut Writer,
+    a: &Around,
+    value: &Option<TypedExpr>,
+    behind: Place,
+) -> Result<(), NoMemory>
+    ensures { OnOk result (state_of writer.new ≡ spec.result_given (around_of a.now) (optional_view typed_view value.now) behind (state_of writer.old)) }
 {
     match value {
         Some(value) => {
-            let ty = a.type_of(a.function.result);
-            let into = a.result_local()?;
-            writer.value(a, value, ty, Some(into))?;
-            Ok(())
+            let pending = writer.pending_count();
+            given_back(writer, a, value, behind)?;
+            writer.end_pending(pending, behind)
         }
         None => Ok(()),
     }
@@ -123,12 +149,17 @@ fn result_given(writer: &mut Writer, a: &Around, value: &Option<TypedExpr>) -> R
 
 // A printed item ([ostream.inserters.arithmetic]); `std::endl` writes the last text, which has
 // the one byte 10.
-fn write_item(writer: &mut Writer, a: &Around, item: &TypedItem) -> Result<(), NoMemory>
-    ensures { OnOk result (state_of writer.new ≡ spec.item (around_of a.now) (item_view item.now) (state_of writer.old)) }
+fn write_item(
+    writer: &mut Writer,
+    a: &Around,
+    item: &TypedItem,
+    behind: Place,
+) -> Result<(), NoMemory>
+    ensures { OnOk result (state_of writer.new ≡ spec.item (around_of a.now) (item_view item.now) behind (state_of writer.old)) }
 {
     match item {
         TypedItem::Value(value) => {
-            let register = writer.value(a, value, own_type(value.ty), None)?;
+            let register = writer.value(a, value, behind, own_type(value.ty), None)?;
             writer.emit(value.place, Instr::Port(Port::Value(register)))
         }
         TypedItem::EndLine(place) => end_line(writer, a, *place),
@@ -136,23 +167,41 @@ fn write_item(writer: &mut Writer, a: &Around, item: &TypedItem) -> Result<(), N
 }
 
 fn end_line(writer: &mut Writer, a: &Around, place: Place) -> Result<(), NoMemory>
-    ensures { OnOk result (state_of writer.new ≡ spec.item (around_of a.now) (line_end place) (state_of writer.old)) }
+    ensures { OnOk result (state_of writer.new ≡ spec.line (around_of a.now) place (state_of writer.old)) }
 {
-    let register = writer.new_register(place, Ty::View)?;
-    let pointer = Location::whole(writer.alloc, register);
     let source = Source::Text(number(a.program.texts.len())?);
-    writer.emit(place, Instr::Aim { pointer, source })?;
+    let last = Last::Point(place, Pointing::At(source));
+    let register = writer.built(last, Destination::Register(place, Ty::View))?;
     let view = Location::whole(writer.alloc, register);
     writer.emit(place, Instr::Port(Port::View(view)))
 }
 
-fn write_items(writer: &mut Writer, a: &Around, items: &[TypedItem]) -> Result<(), NoMemory>
-    ensures { OnOk result (state_of writer.new ≡ spec.items (around_of a.now) (map item_view items.now) (state_of writer.old)) }
+fn write_items(
+    writer: &mut Writer,
+    a: &Around,
+    items: &[TypedItem],
+    behind: Place,
+) -> Result<(), NoMemory>
+    ensures { OnOk result (state_of writer.new ≡ spec.items (around_of a.now) (map item_view items.now) behind (state_of writer.old)) }
 {
     'items: for item in items {
-        write_item(writer, a, item)?;
+        write_item(writer, a, item, behind)?;
     }
     Ok(())
+}
+
+// All items are one full expression up to the token behind them.
+fn write_output(
+    writer: &mut Writer,
+    a: &Around,
+    items: &[TypedItem],
+    behind: Place,
+) -> Result<(), NoMemory>
+    ensures { OnOk result (state_of writer.new ≡ spec.output (around_of a.now) (map item_view items.now) behind (state_of writer.old)) }
+{
+    let pending = writer.pending_count();
+    write_items(writer, a, items, behind)?;
+    writer.end_pending(pending, behind)
 }
 
 // A run ends where an assertion doesn't hold.
@@ -161,10 +210,11 @@ fn asserted(
     a: &Around,
     keyword: Place,
     condition: &TypedExpr,
+    behind: Behind,
 ) -> Result<(), NoMemory>
-    ensures { OnOk result (state_of writer.new ≡ spec.asserted (expressions.condition (around_of a.now) (whole (typed_view condition.now))) keyword (state_of writer.old)) }
+    ensures { OnOk result (state_of writer.new ≡ spec.asserted (expressions.condition (around_of a.now) (whole (typed_view condition.now)) behind) keyword (state_of writer.old)) }
 {
-    let condition = writer.condition(a, condition)?;
+    let condition = writer.condition(a, condition, behind)?;
     write_branch(
         writer,
         condition,
@@ -185,7 +235,7 @@ pub(crate) fn write_statement(
     match statement {
         TypedStmt::Block(block) => write_block(writer, a, block),
         TypedStmt::Empty(_) => Ok(()),
-        TypedStmt::Simple { simple, .. } => write_simple(writer, a, simple),
+        TypedStmt::Simple { simple, semicolon } => write_simple(writer, a, simple, *semicolon),
         TypedStmt::If { branches, last } => {
             let opened = open_branches(writer, a, branches)?;
             write_last(writer, a, last)?;
@@ -193,10 +243,11 @@ pub(crate) fn write_statement(
         }
         TypedStmt::While {
             condition,
+            closing,
             body,
             ..
         } => {
-            let condition = writer.condition(a, condition)?;
+            let condition = writer.condition(a, condition, Behind::ending(*closing))?;
             let body = write_body_of_loop(writer, a, body)?;
             let step = nothing(writer.alloc);
             write_loop(writer, condition, body, step)
@@ -204,33 +255,39 @@ pub(crate) fn write_statement(
         TypedStmt::For {
             keyword,
             start,
+            first_semicolon,
             condition,
+            second_semicolon,
             step,
             closing,
             body,
-            ..
         } => {
             let outside = writer.living_count();
-            started(writer, a, start)?;
-            let condition = condition_or_true(writer, a, *keyword, condition)?;
+            started(writer, a, start, *first_semicolon)?;
+            let condition = condition_or_true(writer, a, *keyword, condition, *second_semicolon)?;
             let repeated = write_body_of_loop(writer, a, body)?;
-            let step = step_of_loop(writer, a, step)?;
+            let step = step_of_loop(writer, a, step, *closing)?;
             write_loop(writer, condition, repeated, step)?;
             writer.end_since(outside, last_token(body, *closing))
         }
         TypedStmt::RangeFor { .. } => Ok(()),
         TypedStmt::Break { keyword, .. } => leave_loop(writer, *keyword, Stmt::Break),
         TypedStmt::Continue { keyword, .. } => leave_loop(writer, *keyword, Stmt::Continue),
-        TypedStmt::Return { keyword, value, .. } => {
-            result_given(writer, a, value)?;
+        TypedStmt::Return {
+            keyword,
+            value,
+            semicolon,
+        } => {
+            result_given(writer, a, value, *semicolon)?;
             leave(writer, 0, *keyword, Stmt::Return(*keyword))
         }
-        TypedStmt::Print { items, .. } => write_items(writer, a, items),
+        TypedStmt::Print { items, semicolon } => write_output(writer, a, items, *semicolon),
         TypedStmt::Assert {
             keyword,
             condition,
+            closing,
             ..
-        } => asserted(writer, a, *keyword, condition),
+        } => asserted(writer, a, *keyword, condition, Behind::ending(*closing)),
     }
 }
 
@@ -264,7 +321,10 @@ fn write_block_item(writer: &mut Writer, a: &Around, item: &TypedBlockItem) -> R
     ensures { OnOk result (state_of writer.new ≡ spec.statement (around_of a.now) (block_item_view item.now) (state_of writer.old)) }
 {
     match item {
-        TypedBlockItem::Declare { declaration, .. } => declared(writer, a, declaration),
+        TypedBlockItem::Declare {
+            declaration,
+            semicolon,
+        } => declared(writer, a, declaration, *semicolon),
         TypedBlockItem::Stmt(statement) => write_statement(writer, a, statement),
     }
 }
@@ -297,10 +357,11 @@ fn open_branch(
     a: &Around,
     body: &TypedStmt,
     condition: &TypedExpr,
+    behind: Behind,
 ) -> Result<Opened, NoMemory>
-    ensures { Answers opened_of result (spec.opened (expressions.condition (around_of a.now) (whole (typed_view condition.now))) (spec.statement (around_of a.now) (stmt_view body.now)) (state_of writer.old)) (state_of writer.new) }
+    ensures { Answers opened_of result (spec.opened (expressions.condition (around_of a.now) (whole (typed_view condition.now)) behind) (spec.statement (around_of a.now) (stmt_view body.now)) (state_of writer.old)) (state_of writer.new) }
 {
-    let condition = writer.condition(a, condition)?;
+    let condition = writer.condition(a, condition, behind)?;
     let first = write_apart(writer, a, body)?;
     let before = writer.begin_list();
     Ok(Opened {
@@ -321,7 +382,8 @@ fn open_branches(
 {
     let mut opened = Vec::new(writer.alloc);
     'branches: for branch in branches {
-        let one = open_branch(writer, a, &branch.body, &branch.condition)?;
+        let behind = Behind::ending(branch.closing);
+        let one = open_branch(writer, a, &branch.body, &branch.condition, behind)?;
         opened.push(one)?;
     }
     Ok(opened)

@@ -1,5 +1,5 @@
 -- A pointer that is given something: it can be, it is a pointer behind it, and const stays const.
-use Rattle.std.proofs.Common.{◌≡◌, ℕ, Bool, true, false, ◌&&◌, List, [], ◌∷◌, None, refl, sym, ap, ◌∙◌, subst}
+use Rattle.std.proofs.Common.{◌≡◌, inl, inr, ℕ, Bool, true, false, ◌&&◌, List, [], ◌∷◌, None, refl, sym, ap, ◌∙◌, subst}
 use Rattle.std.proofs.lemmas.Bool.{and_from, and_parts, false≢true}
 use Rattle.life_types.specs.TypeTests.{is_constant, is_raw}
 use Rattle.life_types.specs.Types.{Types}
@@ -10,7 +10,6 @@ use Rattle.life_typed.specs.declared.typed_expr.ExprType.TheVariants.{NullPointe
 use Rattle.life_core.specs.Function.{Function}
 use Rattle.life_core.specs.Operands.{Location, Null, Operand, Place as Aimed, whole}
 use Rattle.life_core.specs.Served.{is_served_location, is_served_operand}
-use Rattle.life_core.specs.Step.{Aim}
 use Rattle.life_core.specs.Touched.{touched_by}
 use Rattle.life_pset.specs.Shapes as shapes
 use Rattle.life_proper.specs.Knowing.{known_at}
@@ -21,11 +20,11 @@ use Rattle.life_proper.specs.WellFormed.{is_source_of}
 use Rattle.life_proper.specs.declared.known.Known.{Known}
 use Rattle.life_proper.specs.declared.known.Known.TheVariants as known
 use Rattle.life_proper.proofs.ReadyTests.{uses_ready}
-use Rattle.life_writer.specs.Pointers.{As, At, Pointing, pointed}
+use Rattle.life_writer.specs.Pointers.{As, By, Pointing, aimed, pointed}
 use Rattle.life_elab_laws.proofs.Falling.{Fills}
-use Rattle.life_elab_laws.proofs.Gifts.{IsAt, IsGivenAs}
+use Rattle.life_elab_laws.proofs.Filling.{filling_fills}
+use Rattle.life_elab_laws.proofs.Gifts.{IsAt, IsGivenAs, IsTakenBy, takes_from}
 use Rattle.life_elab_laws.proofs.Held.{one_there}
-use Rattle.life_elab_laws.proofs.Instructions.{aimed_fills}
 use Rattle.life_elab_laws.proofs.Knowledge.{set_length, set_same}
 use Rattle.life_elab_laws.proofs.Making.{IsPointer, IsPointing, Keeps}
 use Rattle.life_elab_laws.proofs.OperandsThere.{same_is}
@@ -36,25 +35,19 @@ keeps_further true d e h g = refl
 keeps_further false true e h g = absurd (false≢true h)
 keeps_further false false e h g = g
 
--- what a pointer of a type may be given: a pointer that it takes, or nullptr
-abbrev pub takes_from : Types → Ty → ExprType → Bool
-takes_from types t (Of u) = takes types t u
-takes_from types t NullPointer = true
-takes_from types t TextLiteral = false
-
 -- ---- what it is given is there, and it is a pointer still
 
 module _ (f : Function) where
-  pub pointed_fills : (x n : ℕ) (p : Pointing) (k : List Known) → IsPointing p n k → Fills f k (pointed (whole x) p) x
-  pointed_fills x n (At source) k h = aimed_fills f x n source k h
+  pub pointed_fills : (x n : ℕ) (p : Pointing) (k : List Known) → IsPointing f p n k → Fills f k (pointed p (whole x)) x
+  pointed_fills x n (By step) k h = filling_fills f step n k h x
   pointed_fills x n (As q) k h = record { ready = uses_ready k (q.local ∷ []) (x ∷ []) (one_there k q.local (ap (λ (l : Location). known_at k l.local) h.is ∙ h.held)); after = refl }
 
-  pub pointed_ready : (l : Location) (n m : ℕ) (p : Pointing) (k : List Known) → IsPointer l n k → IsPointing p m k → are_ready k (touched_by f (pointed l p)) ≡ true
-  pointed_ready l n m p k h g = ap (λ (q : Location). are_ready k (touched_by f (pointed q p))) h.is ∙ (pointed_fills h.local m p k g).ready
+  pub pointed_ready : (l : Location) (n m : ℕ) (p : Pointing) (k : List Known) → IsPointer l n k → IsPointing f p m k → are_ready k (touched_by f (pointed p l)) ≡ true
+  pointed_ready l n m p k h g = ap (λ (q : Location). are_ready k (touched_by f (pointed p q))) h.is ∙ (pointed_fills h.local m p k g).ready
 
-  pub pointed_keeps : (l : Location) (n m z : ℕ) (p : Pointing) (k : List Known) → IsPointer l n k → IsPointing p m k → Keeps f z None k (known_after (touched_by f (pointed l p)) k)
+  pub pointed_keeps : (l : Location) (n m z : ℕ) (p : Pointing) (k : List Known) → IsPointer l n k → IsPointing f p m k → Keeps f z None k (known_after (touched_by f (pointed p l)) k)
   pointed_keeps l n m z p k h g =
-      subst (Keeps f z None k) (sym (ap (λ (q : Location). known_after (touched_by f (pointed q p)) k) h.is ∙ (pointed_fills h.local m p k g).after)) (record {
+      subst (Keeps f z None k) (sym (ap (λ (q : Location). known_after (touched_by f (pointed p q)) k) h.is ∙ (pointed_fills h.local m p k g).after)) (record {
         sized = set_length k h.local known.Ready;
         below = λ y lt b. set_same k h.local known.Ready y h.held;
         named = λ y u name there is. set_same k h.local known.Ready y h.held;
@@ -74,21 +67,31 @@ module _ (types : Types) (texts : ℕ) (fs : List Function) (f : Function) where
   aims_further (ty.Raw target c) _ o raw taken aimed = absurd (false≢true taken)
   aims_further _ u o raw taken aimed = absurd (false≢true raw)
 
-  null_fine : (l : Location) (t : Ty) → is_raw t ≡ true → IsAt types texts fs f t l → IsFineStep types texts fs f (Aim l Null)
-  null_fine l t raw at = record { plain = refl; formed = ap is_raw at.typed ∙ raw; served = and_from (is_served_location l) true at.served refl }
+  -- nullptr is taken by each pointer
+  pub null_given : (t : ExprType) → IsGivenAs types texts fs f t (aimed Null)
+  null_given t = λ u l raw at taken. record { plain = refl; formed = ap is_raw at.typed ∙ raw; served = and_from (is_served_location l) true at.served refl }
 
-  pub pointed_fine : (l : Location) (t : Ty) (u : ExprType) (p : Pointing) → is_raw t ≡ true → IsAt types texts fs f t l → takes_from types t u ≡ true → IsGivenAs types texts fs f u p → IsFineStep types texts fs f (pointed l p)
-  pointed_fine l t (Of u) (At Null) raw at taken given = null_fine l t raw at
-  pointed_fine l t (Of u) (At (Aimed o)) raw at taken given = record {
+  -- a place by each that takes its address
+  pub place_given : (t : Ty) (o : Operand) → (aims_at types t (type_of types f o) && keeps_const (is_constant t) (is_const_place types f o)) ≡ true → is_served_operand o ≡ true → IsGivenAs types texts fs f (Of t) (aimed (Aimed o))
+  place_given t o fits served = λ u l raw at taken. record {
     plain = refl;
-    formed = ap (λ (w : Ty). is_source_of types texts fs f w (Aimed o)) at.typed ∙ aims_further t u o raw taken given.fits;
-    served = and_from (is_served_location l) (is_served_operand o) at.served given.served;
+    formed = ap (λ (w : Ty). is_source_of types texts fs f w (Aimed o)) at.typed ∙ go u raw taken;
+    served = and_from (is_served_location l) (is_served_operand o) at.served served;
   }
-  pointed_fine l t (Of u) (At _) raw at taken given = absurd given
-  pointed_fine l t (Of u) (As q) raw at taken given = record {
+    where
+      same_of : (u : Ty) → Of t ≡ Of u → t ≡ u
+      same_of u e = cc
+
+      go : (u : Ty) → is_raw u ≡ true → IsTakenBy types u (Of t) → (aims_at types u (type_of types f o) && keeps_const (is_constant u) (is_const_place types f o)) ≡ true
+      go u raw (inl e) = subst (λ (w : Ty). (aims_at types w (type_of types f o) && keeps_const (is_constant w) (is_const_place types f o)) ≡ true) (same_of u e) fits
+      go u raw (inr taken) = aims_further u t o raw taken fits
+
+  pub pointed_fine : (l : Location) (u : Ty) (t : ExprType) (p : Pointing) → is_raw u ≡ true → IsAt types texts fs f u l → takes_from types u t ≡ true → IsGivenAs types texts fs f t p → IsFineStep types texts fs f (pointed p l)
+  pointed_fine l u t (By step) raw at taken given = given u l raw at (inr taken)
+  pointed_fine l u (Of v) (As q) raw at taken given = record {
     plain = refl;
-    formed = ap (λ (w : Ty). takes types w (type_in types f q)) at.typed ∙ ap (takes types t) given.typed ∙ taken;
+    formed = ap (λ (w : Ty). takes types w (type_in types f q)) at.typed ∙ ap (takes types u) given.typed ∙ taken;
     served = and_from (is_served_location l) (is_served_location q) at.served given.served;
   }
-  pointed_fine l t NullPointer p raw at taken given = subst (λ (q : Pointing). IsFineStep types texts fs f (pointed l q)) (sym given) (null_fine l t raw at)
-  pointed_fine l t TextLiteral p raw at taken given = absurd given
+  pointed_fine l u NullPointer (As q) raw at taken given = absurd given
+  pointed_fine l u TextLiteral (As q) raw at taken given = absurd given

@@ -152,6 +152,7 @@ module _ (a : Around) where
     count = omega (arith, length-append s.locals (nameless a.function.place a.function.result ∷ []));
     variables = refl;
     living = refl;
+    pending = refl;
     outside = refl;
     shaped = λ types h. shaped_more types s.locals (nameless a.function.place a.function.result) h (λ is. absurd (false≢true (sym is)));
   }

@@ -91,7 +91,7 @@ module _ (types : Types) (texts : ℕ) (fs : List Function) (f : Function) where
 
   -- a call whose result goes to a local that holds no pointer
   pub called_fine : (g : ℕ) (xs : List Argument) (of : FunctionForm) (x : ℕ) → IsCallee types fs g of → AreHanded types texts fs f (parameter_types (Some of)) xs → points (sort_of types f x) ≡ false
-      → goes_to types texts fs f (ty_of types of.result) (Some (whole x)) ≡ true → IsFineStep types texts fs f (called g xs x)
+      → goes_to types texts fs f (ty_of types of.result) (Some (whole x)) ≡ true → IsFineStep types texts fs f (called g xs (whole x))
   called_fine g xs of x callee h sort goes = record {
     plain = call_plain types fs f g of callee xs x sort;
     formed = called_formed g xs of (Some (whole x)) callee h goes;
@@ -101,7 +101,7 @@ module _ (types : Types) (texts : ℕ) (fs : List Function) (f : Function) where
   -- ---- a call that gives a number
 
   pub call_computes : (g : ℕ) (xs : List Argument) (of : FunctionForm) (t : Ty) → IsCallee types fs g of → ty_of types of.result ≡ t → is_value t ≡ true
-      → Computes types texts fs f (arguments types texts fs f (parameter_types (Some of))) xs t (called g xs)
+      → Computes types texts fs f (arguments types texts fs f (parameter_types (Some of))) xs t (λ r. called g xs (whole r))
   call_computes g xs of t callee own v = record {
     fills = λ r n k e p. written_fills f g (parameter_types (Some of)) xs n k p r e;
     fine = λ r e h. called_fine g xs of r callee h (ap points (number_sort types f t r e)) (ap (λ (u : Ty). goes_to types texts fs f u (Some (whole r))) own ∙ goes_value t r v e);
@@ -109,8 +109,8 @@ module _ (types : Types) (texts : ℕ) (fs : List Function) (f : Function) where
 
   pub call_part : (g : ℕ) (of : FunctionForm) (into : Option ℕ) (t : Ty) (place : Place) (s : State) (w : Gives (List Argument)) → IsCallee types fs g of → ty_of types of.result ≡ t
       → is_value t ≡ true → IsIntoOf t s into → IsOpen s → Makes types texts fs f None s w (arguments types texts fs f (parameter_types (Some of)))
-      → Makes types texts fs f into s (computed into t place (called g w.given) w.state) (a_number types texts fs f t)
+      → Makes types texts fs f into s (computed into t place (λ r. called g w.given (whole r)) w.state) (a_number types texts fs f t)
   call_part g of into t place s w callee own v wanted opened first =
       let P = arguments types texts fs f (parameter_types (Some of)) in
       then_part types texts fs f (nothing types texts fs f) tt into s w _ P (a_number types texts fs f t) opened first
-      (computed_part types texts fs f P w.given into t place (called g w.given) w.state v (into_of_later t s w.state into first.grown wanted) (call_computes g w.given of t callee own v))
+      (computed_part types texts fs f P w.given into t place (λ r. called g w.given (whole r)) w.state v (into_of_later t s w.state into first.grown wanted) (call_computes g w.given of t callee own v))

@@ -9,7 +9,7 @@ use Rattle.life_core.specs.ByValue.{is_by_value, is_pointer, takes_pointer}
 use Rattle.life_core.specs.Function.{Function}
 use Rattle.life_core.specs.Holdings.{Holding, AnObject, parameter_sorts, sort_of}
 use Rattle.life_core.specs.Kinds.{has_kind, is_object, is_object_at, is_register, is_register_at}
-use Rattle.life_core.specs.Operands.{Argument, Value}
+use Rattle.life_core.specs.Operands.{Argument, Value, whole}
 use Rattle.life_core.specs.Touched.{argument_leaves, argument_uses, if_object, touched_by, unless_object}
 use Rattle.life_core.specs.declared.program.Local.{Local}
 use Rattle.life_core.specs.declared.program.LocalKind.{LocalKind}
@@ -52,7 +52,7 @@ module _ (types : Types) (fs : List Function) (f : Function) (g : ℕ) (of : Fun
   taken_plain : takes_pointer types (slice_get fs g) ≡ false
   taken_plain = ap (takes_pointer types) callee.there ∙ ap (list_any is_pointer) callee.takes ∙ no_pointers (parameter_types (Some of))
 
-  pub call_plain : (x : ℕ) → is_pointer (sort_of types f x) ≡ false → is_by_value types fs f (called g xs x) ≡ true
+  pub call_plain : (x : ℕ) → is_pointer (sort_of types f x) ≡ false → is_by_value types fs f (called g xs (whole x)) ≡ true
   call_plain x e = ap not (ap (λ (b : Bool). b || is_pointer (sort_of types f x)) taken_plain ∙ e)
 
   pub alone_plain : is_by_value types fs f (called_alone g xs) ≡ true
@@ -94,20 +94,20 @@ module _ (f : Function) where
     stay : flat_map (argument_leaves f) xs ≡ []
     stay = numbers_stay ids xs n k numbers
 
-    call_fills : (x : ℕ) → are_known known.Blank k (if_object f x) ≡ true → Fills f k (called g xs x) x
+    call_fills : (x : ℕ) → are_known known.Blank k (if_object f x) ≡ true → Fills f k (called g xs (whole x)) x
     call_fills x born = record {
-      ready = all_ready k (touched_by f (called g xs x)) used (ap (can_leave k) stay) born;
+      ready = all_ready k (touched_by f (called g xs (whole x))) used (ap (can_leave k) stay) born;
       after =
           ap (λ (gone : List ℕ). set_known known.Ready (if_object f x ++ unless_object f x) (set_known known.Blank gone k)) stay
           ∙ ap (λ (here : List ℕ). set_known known.Ready here k) (one_local (is_object_at f x) x);
     }
 
     -- its result goes to a register
-    pub written_fills : (r : ℕ) → is_register_at f r ≡ true → Fills f k (called g xs r) r
+    pub written_fills : (r : ℕ) → is_register_at f r ≡ true → Fills f k (called g xs (whole r)) r
     written_fills r e = call_fills r (ap (λ (object : Bool). are_known known.Blank k (cond object (r ∷ []) [])) (no_object (slice_get f.locals r) e))
 
     -- .. or brings to life what isn't there
-    pub born_fills : (x : ℕ) → known_at k x ≡ known.Blank → Fills f k (called g xs x) x
+    pub born_fills : (x : ℕ) → known_at k x ≡ known.Blank → Fills f k (called g xs (whole x)) x
     born_fills x blank = call_fills x (go (is_object_at f x))
       where
         go : (object : Bool) → are_known known.Blank k (cond object (x ∷ []) []) ≡ true

@@ -19,9 +19,11 @@ use Rattle.life_proper.specs.WellFormed.{is_well_formed_test}
 use Rattle.life_proper.specs.declared.known.Known.{Known}
 use Rattle.life_proper.specs.declared.known.Known.TheVariants as known
 use Rattle.life_proper.proofs.ReadyTests.{uses_ready}
-use Rattle.life_writer.specs.Conditions.{answer, branched, by_branch, condition_from, joined, negation, non_zero, not_null, tested}
+use Rattle.life_writer.specs.Conditions.{answer, behind_code, branched, by_branch, condition_from, joined, joined_by, negation, non_zero, not_null, tested}
 use Rattle.life_writer.specs.Registers.{constant, target}
-use Rattle.life_writer.specs.Writing.{Gives, State, mapped, with_code}
+use Rattle.life_writer.specs.Writing.{Gives, State, mapped, taken, with_code}
+use Rattle.life_writer.specs.declared.rows.Join.{Join}
+use Rattle.life_writer.specs.declared.rows.Join.TheVariants as join
 use Rattle.life_elab_laws.proofs.Emitting.{IsNameless, Targets, keeps_set, targeted}
 use Rattle.life_elab_laws.proofs.Falling.{Decides, Falls, decides_asks, decides_behind, decides_both, decides_either, decides_negated, falls_acts, falls_choice}
 use Rattle.life_elab_laws.proofs.Gifts.{Gift, a_number, a_pointer, nothing}
@@ -32,6 +34,7 @@ use Rattle.life_elab_laws.proofs.Knowledge.{agreed_length, at_agreed, at_set}
 use Rattle.life_elab_laws.proofs.Making.{Alive, IsBeside, IsOpen, Keeps, alive_later, keeps_then}
 use Rattle.life_elab_laws.proofs.OperandsThere.{number_any}
 use Rattle.life_elab_laws.proofs.Parts.{Goes, Makes, Runs}
+use Rattle.life_elab_laws.proofs.Pending.{same_tested}
 use Rattle.life_elab_laws.proofs.Shaping.{IsFineStep, IsFineTest, fine_acts, fine_asks, fine_behind, fine_both, fine_choice, fine_either, fine_negated}
 use Rattle.life_elab_laws.proofs.WrittenLocals.{AddsRegisters, registers_then}
 
@@ -70,14 +73,10 @@ module _ (types : Types) (texts : ℕ) (fs : List Function) (f : Function) where
   -- ---- single tests
 
   -- of what a part gives
-  pub tested_part : {A : Type 0} (place : Place) (test : A → Test) (value : State → Gives A) (s : State) (Q : Gift types texts fs f A) → ((x : A) (n : ℕ) (k : List Known) → Q.ready x n k → is_node_ready types f k (Question (test x)) ≡ true)
-      → ((x : A) → Q.typed x → (is_well_formed_test types texts fs f (test x) ≡ true) × (is_served_test types f (test x) ≡ true)) → Makes types texts fs f None (with_code [] s) (value (with_code [] s)) Q → Tests s (tested place (λ s. mapped test (value s)) s)
-  tested_part {A = A} place test value s Q ready formed made = record {
-    grown = made.grown;
-    registers = made.registers;
-    unwritten = refl;
-    runs = λ b. subst (λ (c : List Tree). AsksAll s (Then (trees c) (Asks place (test w.given)))) (sym made.written) (all (made.runs b tt));
-  }
+  pub tested_part : {A : Type 0} (place : Place) (ends : Option Place) (test : A → Test) (value : State → Gives A) (s : State) (Q : Gift types texts fs f A) → ((x : A) (n : ℕ) (k : List Known) → Q.ready x n k → is_node_ready types f k (Question (test x)) ≡ true)
+      → ((x : A) → Q.typed x → (is_well_formed_test types texts fs f (test x) ≡ true) × (is_served_test types f (test x) ≡ true)) → Makes types texts fs f None (with_code [] s) (value (with_code [] s)) Q → Tests s (tested place ends (λ s. mapped test (value s)) s)
+  tested_part {A = A} place ends test value s Q ready formed made =
+      subst (λ (x : State). Tests s (behind_code place (test w.given) (taken s x))) (sym (same_tested s w.state ends made.grown.pending)) asked
     where
       w : Gives A
       w = value (with_code [] s)
@@ -94,14 +93,22 @@ module _ (types : Types) (texts : ℕ) (fs : List Function) (f : Function) where
         };
       }
 
-  pub non_zero_part : (place : Place) (t : Ty) (value : State → Gives ℕ) (s : State) → Makes types texts fs f None (with_code [] s) (value (with_code [] s)) (a_number types texts fs f t) → Tests s (non_zero place value s)
-  non_zero_part place t value s made =
-      tested_part place NonZero value s (a_number types texts fs f t) (λ r n k h. uses_ready k (r ∷ []) [] (one_there k r h.1)) (λ r h. (number_any types f t r h, refl)) made
+      asked : Tests s (behind_code place (test w.given) (taken s w.state))
+      asked = record {
+        grown = made.grown;
+        registers = made.registers;
+        unwritten = refl;
+        runs = λ b. subst (λ (c : List Tree). AsksAll s (Then (trees c) (Asks place (test w.given)))) (sym made.written) (all (made.runs b tt));
+      }
 
-  pub not_null_part : (place : Place) (t : Ty) (pointer : State → Gives Location) (s : State) → is_raw t ≡ true → Makes types texts fs f None (with_code [] s) (pointer (with_code [] s)) (a_pointer types texts fs f t)
-      → Tests s (not_null place pointer s)
-  not_null_part place t pointer s raw made =
-      tested_part place NotNull pointer s (a_pointer types texts fs f t) (λ l n k h. uses_ready k (l.local ∷ []) [] (one_there k l.local (ap (λ (q : Location). known_at k q.local) h.is ∙ h.held)))
+  pub non_zero_part : (place : Place) (ends : Option Place) (t : Ty) (value : State → Gives ℕ) (s : State) → Makes types texts fs f None (with_code [] s) (value (with_code [] s)) (a_number types texts fs f t) → Tests s (non_zero place ends value s)
+  non_zero_part place ends t value s made =
+      tested_part place ends NonZero value s (a_number types texts fs f t) (λ r n k h. uses_ready k (r ∷ []) [] (one_there k r h.1)) (λ r h. (number_any types f t r h, refl)) made
+
+  pub not_null_part : (place : Place) (ends : Option Place) (t : Ty) (pointer : State → Gives Location) (s : State) → is_raw t ≡ true → Makes types texts fs f None (with_code [] s) (pointer (with_code [] s)) (a_pointer types texts fs f t)
+      → Tests s (not_null place ends pointer s)
+  not_null_part place ends t pointer s raw made =
+      tested_part place ends NotNull pointer s (a_pointer types texts fs f t) (λ l n k h. uses_ready k (l.local ∷ []) [] (one_there k l.local (ap (λ (q : Location). known_at k q.local) h.is ∙ h.held)))
       (λ l h. (or_left (is_raw (type_in types f l)) (is_unique (type_in types f l)) (ap is_raw h.typed ∙ raw), h.served)) made
 
   -- ---- conditions of others
@@ -187,6 +194,10 @@ module _ (types : Types) (texts : ℕ) (fs : List Function) (f : Function) where
           goes = λ k alive. either_asked k alive (r.goes k alive) q;
         }
 
+  pub joined_part : (by : Join) (left right : State → Gives Tree) (s : State) → IsOpen s → Tests s (left s) → Tests (left s).state (right (left s).state) → Tests s (joined (joined_by by) left right s)
+  joined_part join.Both left right s opened first second = both_part left right s opened first second
+  joined_part join.Either left right s opened first second = either_part left right s opened first second
+
   -- ---- an answer in a register
 
   answered : (place : Place) (n : ℤ) (r : ℕ) (k : List Known) → Falls types f (Acts place (constant n r) ∷ []) k (slice_set k r known.Ready)
@@ -253,14 +264,14 @@ module _ (types : Types) (texts : ℕ) (fs : List Function) (f : Function) where
 
   -- ---- any condition
 
-  pub condition_part : (decision : Option (State → Gives Tree)) (t : Ty) (place : Place) (pointer : State → Gives Location) (value : State → Gives ℕ) (s : State)
+  pub condition_part : (decision : Option (State → Gives Tree)) (t : Ty) (place : Place) (ends : Option Place) (pointer : State → Gives Location) (value : State → Gives ℕ) (s : State)
       → ((w : State → Gives Tree) → decision ≡ Some w → Tests s (w s))
       → (decision ≡ None → is_raw t ≡ true → Makes types texts fs f None (with_code [] s) (pointer (with_code [] s)) (a_pointer types texts fs f t))
       → (decision ≡ None → is_raw t ≡ false → Makes types texts fs f None (with_code [] s) (value (with_code [] s)) (a_number types texts fs f t))
-      → Tests s (condition_from decision t place pointer value s)
-  condition_part (Some w) t place pointer value s decided pointed valued = decided w refl
-  condition_part None t place pointer value s decided pointed valued = go (is_raw t) refl
+      → Tests s (condition_from decision t place ends pointer value s)
+  condition_part (Some w) t place ends pointer value s decided pointed valued = decided w refl
+  condition_part None t place ends pointer value s decided pointed valued = go (is_raw t) refl
     where
-      go : (b : Bool) → is_raw t ≡ b → Tests s (cond b (not_null place pointer s) (non_zero place value s))
-      go true e = not_null_part place t pointer s e (pointed refl e)
-      go false e = non_zero_part place t value s (valued refl e)
+      go : (b : Bool) → is_raw t ≡ b → Tests s (cond b (not_null place ends pointer s) (non_zero place ends value s))
+      go true e = not_null_part place ends t pointer s e (pointed refl e)
+      go false e = non_zero_part place ends t value s (valued refl e)

@@ -13,16 +13,14 @@ use Rattle.life_typed.specs.BaseTypes.{type_at}
 use Rattle.life_typed.specs.Programs.{FunctionForm}
 use Rattle.life_typed.specs.TypedForm.{Typed, whole as whole_form}
 use Rattle.life_typed.specs.TypedStatement.{DeclarationForm, InitialForm, one, several}
-use Rattle.life_typed.specs.declared.typed_expr.ExprType.{ExprType}
-use Rattle.life_typed.specs.declared.typed_expr.ExprType.TheVariants.{Of}
 use Rattle.life_typed.specs.declared.typed_program.TypedLocal.{TypedLocal}
 use Rattle.life_type_stmt.specs.Declarations.{default_fault}
 use Rattle.life_core.specs.Function.{Function}
-use Rattle.life_core.specs.Operands.{Argument, Place as Aimed, object_named, whole}
+use Rattle.life_core.specs.Operands.{Argument, Location, Place as Aimed, object_named, whole}
 use Rattle.life_core.specs.ByValue.{is_pointer as points}
 use Rattle.life_core.specs.Holdings.{AView, AnObject, Holding, sort_of}
 use Rattle.life_core.specs.Served.{is_served_birth}
-use Rattle.life_core.specs.Step.{Live, Save}
+use Rattle.life_core.specs.Step.{Aim, Live, Save, Step}
 use Rattle.life_core.specs.Tree.{Tree, Acts}
 use Rattle.life_core.specs.declared.instr.Form.TheVariants.{Plain}
 use Rattle.life_pset.specs.Shapes.{ty_of}
@@ -39,10 +37,13 @@ use Rattle.life_writer.specs.Around.{Around, own_type, type_of}
 use Rattle.life_writer.specs.Around as around
 use Rattle.life_writer.specs.Calls.{Called, call_of, called}
 use Rattle.life_writer.specs.Expressions.{handed_over, operand, pointing, value}
-use Rattle.life_writer.specs.Pointers.{Pointing, At, pointed}
-use Rattle.life_writer.specs.Variables.{variable_local}
-use Rattle.life_writer.specs.Writing.{State, Gives, emit, gives, mapped, with_code}
-use Rattle.life_elab.specs.Declarations.{declared, declared_as, given_by_call, given_initial, given_one, given_value, live, object_given}
+use Rattle.life_writer.specs.Initialising.{Plan, ByCall, ByValue, begun, initialised, plan_for}
+use Rattle.life_writer.specs.Plans.{live}
+use Rattle.life_writer.specs.Plans as plans
+use Rattle.life_writer.specs.Pointers.{aimed, pointed}
+use Rattle.life_writer.specs.Variables.{end_pending, variable_local}
+use Rattle.life_writer.specs.Writing.{State, Gives, ◌>>◌, emit, gives, with_code}
+use Rattle.life_elab.specs.Declarations.{declared, declared_as, given_initial, variable as home}
 use Rattle.life_elab_laws.proofs.Aiming.{pointed_fills, pointed_fine}
 use Rattle.life_elab_laws.proofs.CallParts.{called_fine}
 use Rattle.life_elab_laws.proofs.Calls.{born_fills}
@@ -54,13 +55,15 @@ use Rattle.life_elab_laws.proofs.Expressions.{expression, result_later, whole_ex
 use Rattle.life_elab_laws.proofs.GivenKinds.{given_number, given_pointer}
 use Rattle.life_elab_laws.proofs.Falling.{Falls, Fills, falls_acts, falls_append, falls_filling}
 use Rattle.life_elab_laws.proofs.Following.{Follows, follows_grown, is_variable_sort}
+use Rattle.life_elab_laws.proofs.Filling.{aimed_filling, filling_fills}
 use Rattle.life_elab_laws.proofs.FormedFits.{IsBoundTo, given_raw, given_reference}
-use Rattle.life_elab_laws.proofs.Gifts.{IsGivenAs, a_number, a_place, a_pointing, arguments, nothing}
+use Rattle.life_elab_laws.proofs.Gifts.{Gift, a_number, a_place, a_pointing, arguments, nothing}
 use Rattle.life_elab_laws.proofs.Growing.{Begins, Grows}
 use Rattle.life_elab_laws.proofs.Held.{blank_there, two_there}
 use Rattle.life_elab_laws.proofs.Knowledge.{at_set, beside_set}
 use Rattle.life_elab_laws.proofs.NewVariables.{bound_given, raw_declared, raw_lives, reference_declared, value_goes, value_lives, value_saved}
-use Rattle.life_elab_laws.proofs.Parts.{Makes, leaf_part, seen_part}
+use Rattle.life_elab_laws.proofs.Parts.{Makes, leaf_part}
+use Rattle.life_elab_laws.proofs.Pending.{same_pending}
 use Rattle.life_elab_laws.proofs.Setting.{Setting}
 use Rattle.life_elab_laws.proofs.Shaping.{IsFineStep, fine_acts, fine_append}
 use Rattle.life_elab_laws.proofs.TypedKinds.{none_some}
@@ -115,7 +118,7 @@ module _ (a : Around) (types : Types) (texts : ℕ) (fs : List Function) (f : Fu
         go (a_raw target constant is) = raw_lives a types texts fs f setting.front u s b target constant is
         go (a_reference target constant is w) = absurd (none_some (sym (subst (λ (t : Ty). default_fault t ≡ None) (type_is (ty.Reference target constant) is) none)))
 
-    live_does : default_fault (type_of a u.ty) ≡ None → Born (live a u s).state
+    live_does : default_fault (type_of a u.ty) ≡ None → Born (live (home a u) s).state
     live_does none =
         declared_does types texts fs f a setting.front v in_loop u s (gives tt s) (nothing types texts fs f) (Acts u.place (Live (length s.locals) Plain) ∷ []) h at built
         (leaf_part types texts fs f tt s (nothing types texts fs f) (λ b. tt) (λ b k alive. tt))
@@ -134,113 +137,128 @@ module _ (a : Around) (types : Types) (texts : ℕ) (fs : List Function) (f : Fu
         (uses_ready j (r ∷ x ∷ []) [] (two_there j r x (beside_set k x r known.Ready (λ e. omega (arith, e, lower)) ∙ number) (at_set k x known.Ready lt))))
 
     -- a value is computed before it lives
-    valued_does : (t : Ty) → slice_get a.program.types.types u.ty.0 ≡ Some t → is_value t ≡ true → (w : Gives ℕ) → Makes types texts fs f None s w (a_number types texts fs f (type_of a u.ty))
+    valued_does : (t : Ty) → slice_get a.program.types.types u.ty.0 ≡ Some t → is_value t ≡ true → (w : Gives ℕ) → Makes types texts fs f None s w (a_number types texts fs f t)
         → Born (emit u.place (Save (object_named (length w.state.locals)) w.given) (emit u.place (Live (length w.state.locals) Plain) (with_new (variable_local a u) w.state)))
     valued_does t is worth w made =
         let x = length w.state.locals in
         let lives = Acts u.place (Live x Plain) ∷ [] in
         let saves = Acts u.place (Save (object_named x) w.given) ∷ [] in
         let value = ap is_value (type_is t is) ∙ worth in
+        let typed : Makes types texts fs f None s w (a_number types texts fs f (type_of a u.ty)) = subst (λ (x : Ty). Makes types texts fs f None s w (a_number types texts fs f x)) (sym (type_is t is)) made in
         subst (λ (c : List Tree). Born (with_code c (with_new (variable_local a u) w.state)))
         (sym (append_assoc w.state.code lives saves))
-        (declared_does types texts fs f a setting.front v in_loop u s w (a_number types texts fs f (type_of a u.ty)) (lives ++ saves) h at built made
+        (declared_does types texts fs f a setting.front v in_loop u s w (a_number types texts fs f (type_of a u.ty)) (lives ++ saves) h at built typed
         (λ b q.
         fine_append types texts fs f lives saves
         (fine_acts types texts fs f u.place (Live x Plain) (live_fine w.state (follows_grown types f a v s w.state made.grown h) b (value_lives a types texts fs f setting.front u w.state b value)))
         (fine_acts types texts fs f u.place (Save (object_named x) w.given) (value_saved a types texts fs f setting.front u w.state b value w.given q)))
         (λ b k size q blank. saved x w.given k (omega (arith, size, below w.state made.grown b)) blank q.0 q.1))
 
-    -- a call brings it to life, where it gives its type
+    -- ---- what one instruction brings to life: a call, a pointer, a reference
+
+    filled_does : {A : Type 0} (place : Place) (w : Gives A) (Q : Gift types texts fs f A) (step : A → Location → Step) → Makes types texts fs f None s w Q
+        → (New w.state → Q.typed w.given → IsFineStep types texts fs f (step w.given (whole (length w.state.locals))))
+        → (New w.state → (k : List Known) → Q.ready w.given (length w.state.locals) k → known_at k (length w.state.locals) ≡ known.Blank → Fills f k (step w.given (whole (length w.state.locals))) (length w.state.locals))
+        → Born (emit place (step w.given (whole (length w.state.locals))) (with_new (variable_local a u) w.state))
+    filled_does place w Q step made fits fills =
+        let x = length w.state.locals in
+        declared_does types texts fs f a setting.front v in_loop u s w Q (Acts place (step w.given (whole x)) ∷ []) h at built made
+        (λ b q. fine_acts types texts fs f place (step w.given (whole x)) (fits b q))
+        (λ b k size q blank. falls_filling types f place (step w.given (whole x)) x k (fills b k q blank))
+
+    -- a call, where it gives the variable's type
     called_does : (t : Ty) → slice_get a.program.types.types u.ty.0 ≡ Some t → is_value t ≡ true → (g : ℕ) (of : FunctionForm) (place : Place) → slice_get a.program.functions g ≡ Some of
         → ty_of types of.result ≡ type_of a u.ty → (w : Gives (List Argument)) → Makes types texts fs f None s w (arguments types texts fs f (parameter_types (Some of)))
-        → Born (emit place (called g w.given (length w.state.locals)) (with_new (variable_local a u) w.state))
+        → Born (emit place (called g w.given (whole (length w.state.locals))) (with_new (variable_local a u) w.state))
     called_does t is worth g of place there same w made =
         let x = length w.state.locals in
         let callee = setting.callees g of there in
-        declared_does types texts fs f a setting.front v in_loop u s w (arguments types texts fs f (parameter_types (Some of))) (Acts place (called g w.given x) ∷ []) h at built made
+        filled_does place w (arguments types texts fs f (parameter_types (Some of))) (called g) made
         (λ b q.
-        fine_acts types texts fs f place (called g w.given x)
-        (called_fine types texts fs f g w.given of x callee q (ap points (object_sort t is worth w.state made.grown b))
-        (ap (λ (r : Ty). goes_to types texts fs f r (Some (whole x))) same ∙ value_goes a types texts fs f setting.front u w.state b (ap is_value (type_is t is) ∙ worth))))
-        (λ b k size q blank. falls_filling types f place (called g w.given x) x k (born_fills f g (parameter_types (Some of)) w.given x k q x blank))
-
-    -- ---- a pointer or a reference
-
-    aimed_does : (place : Place) (from : ExprType) (w : Gives Pointing)
-        → Makes types texts fs f None s w (a_pointing types texts fs f from)
-        → (New w.state → IsGivenAs types texts fs f from w.given → IsFineStep types texts fs f (pointed (whole (length w.state.locals)) w.given))
-        → Born (emit place (pointed (whole (length w.state.locals)) w.given) (with_new (variable_local a u) w.state))
-    aimed_does place from w made fits =
-        let x = length w.state.locals in
-        declared_does types texts fs f a setting.front v in_loop u s w (a_pointing types texts fs f from) (Acts place (pointed (whole x) w.given) ∷ []) h at built made
-        (λ b q. fine_acts types texts fs f place (pointed (whole x) w.given) (fits b q))
-        (λ b k size q blank. falls_filling types f place (pointed (whole x) w.given) x k (pointed_fills f x x w.given k q))
+        called_fine types texts fs f g w.given of x callee q (ap points (object_sort t is worth w.state made.grown b))
+        (ap (λ (r : Ty). goes_to types texts fs f r (Some (whole x))) same ∙ value_goes a types texts fs f setting.front u w.state b (ap is_value (type_is t is) ∙ worth)))
+        (λ b k q blank. born_fills f g (parameter_types (Some of)) w.given x k q x blank)
 
     -- ---- any variable that is given one expression
 
-    module _ (e : Typed) (b : is_built_expression e ≡ true) (he : Whole e) where
+    module _ (e : Typed) (b : is_built_expression e ≡ true) (he : Whole e) (behind : Place) where
       whole_is : IsWhole a v.visible types texts fs f setting (whole_form e)
       whole_is = whole_expression a v.visible types texts fs f setting (whole_form e) b he
 
-      module _ (t : Ty) (is : slice_get a.program.types.types u.ty.0 ≡ Some t) (worth : is_value t ≡ true) (n : is_number e.ty ≡ true) where
-        given_value_does : Born (given_value a u e s)
-        given_value_does =
-            valued_does t is worth (value a (whole_form e) (type_of a u.ty) None s) (whole_is.valued n (type_of a u.ty) (ap is_value (type_is t is) ∙ worth) None s tt h.stands)
+      -- where it is of a type, by a plan
+      abbrev Given : Plan → Ty → State
+      Given plan t = (begun a plan t e behind s >> λ last s. plans.built last (home a u) s).state
 
-        given_by_call_does : (c : Called) → call_of e.form ≡ Some c → compared.eq (own_type e.ty) (type_of a u.ty) ≡ true → Born (given_by_call a u e.place c s)
-        given_by_call_does c found same =
+      abbrev GivenOne : Ty → State
+      GivenOne t = (initialised a t e behind (home a u) s).state
+
+      module _ (t : Ty) (is : slice_get a.program.types.types u.ty.0 ≡ Some t) (worth : is_value t ≡ true) (n : is_number e.ty ≡ true) where
+        by_value_does : Born (Given ByValue t)
+        by_value_does = valued_does t is worth (value a (whole_form e) behind t None s) (whole_is.valued n behind t worth None s tt h.stands)
+
+        by_call_does : (c : Called) → call_of e.form ≡ Some c → compared.eq (own_type e.ty) t ≡ true → Born (Given (ByCall c) t)
+        by_call_does c found same =
             let k = (expression a v.visible types texts fs f setting e.form e b he).calls c found in
             called_does t is worth c.function k.of e.place k.there
-            (result_later a v.visible types texts fs f setting c.function k.of k.there ∙ sym (ap own_type k.own) ∙ same_types (own_type e.ty) (type_of a u.ty) same)
-            (handed_over a c.arguments (around.parameter_types a c.function) s) (k.hands s h.stands)
+            (result_later a v.visible types texts fs f setting c.function k.of k.there ∙ sym (ap own_type k.own) ∙ same_types (own_type e.ty) t same ∙ sym (type_is t is))
+            (handed_over a c.arguments c.closing (around.parameter_types a c.function) s) (k.hands s h.stands)
 
-        object_does : (o : Option Called) → call_of e.form ≡ o → Born (object_given a u e o s)
-        object_does None found = given_value_does
-        object_does (Some c) found = go (compared.eq (own_type e.ty) (type_of a u.ty)) refl
+        -- a call is one where it needs no conversion
+        abbrev chosen : Option Called → Plan
+        chosen None = ByValue
+        chosen (Some c) = cond (compared.eq (own_type e.ty) t) (ByCall c) ByValue
+
+        chosen_does : (o : Option Called) → call_of e.form ≡ o → Born (Given (chosen o) t)
+        chosen_does None found = by_value_does
+        chosen_does (Some c) found = go (compared.eq (own_type e.ty) t) refl
           where
-            go : (b : Bool) → compared.eq (own_type e.ty) (type_of a u.ty) ≡ b → Born (cond b (given_by_call a u e.place c s) (given_value a u e s))
-            go true same = given_by_call_does c found same
-            go false same = given_value_does
+            go : (b : Bool) → compared.eq (own_type e.ty) t ≡ b → Born (Given (cond b (ByCall c) ByValue) t)
+            go true same = by_call_does c found same
+            go false same = by_value_does
 
-      value_given : (t : Ty) → is_value t ≡ true → given_one a u e t s ≡ object_given a u e (call_of (whole_form e)) s
-      value_given = by_values (λ t. given_one a u e t s ≡ object_given a u e (call_of (whole_form e)) s) refl refl refl refl refl
+        planned : (o : Option Called) → plan_for t (own_type e.ty) o ≡ chosen o
+        planned None = by_values (λ x. plan_for x (own_type e.ty) None ≡ ByValue) refl refl refl refl refl t worth
+        planned (Some c) = by_values (λ x. plan_for x (own_type e.ty) (Some c) ≡ cond (compared.eq (own_type e.ty) x) (ByCall c) ByValue) refl refl refl refl refl t worth
 
-      raw_does : (target : TyId) (constant : Bool) → slice_get a.program.types.types u.ty.0 ≡ Some (ty.Raw target constant) → is_given a.program.types (ty.Raw target constant) e ≡ true → Born (given_one a u e (ty.Raw target constant) s)
+        object_does : Born (GivenOne t)
+        object_does = subst (λ (plan : Plan). Born (Given plan t)) (sym (planned (call_of e.form))) (chosen_does (call_of e.form) refl)
+
+      raw_does : (target : TyId) (constant : Bool) → slice_get a.program.types.types u.ty.0 ≡ Some (ty.Raw target constant) → is_given a.program.types (ty.Raw target constant) e ≡ true → Born (GivenOne (ty.Raw target constant))
       raw_does target constant is given =
           let r = ty.Raw target constant in
           let w = pointing a (whole_form e) s in
           let worth : is_value (type_at a.program.types target) ≡ true = subst (λ (t : Ty). (is_value t || is_pointing a.program.types t) ≡ true) (type_is r is) built in
-          aimed_does e.place e.ty w (whole_is.points (given_pointer a.program.types r e refl given) s h.stands)
+          filled_does e.place w (a_pointing types texts fs f e.ty) (λ p l. pointed p l) (whole_is.points (given_pointer a.program.types r e refl given) s h.stands)
           (λ b q.
           pointed_fine types texts fs f (whole (length w.state.locals)) r e.ty w.given refl (raw_declared a types texts fs f setting.front u w.state b target constant is)
           (given_raw a.program.types types setting.front target constant worth e given) q)
+          (λ b k q blank. pointed_fills f (length w.state.locals) (length w.state.locals) w.given k q)
 
       reference_does : (target : TyId) (constant : Bool) → slice_get a.program.types.types u.ty.0 ≡ Some (ty.Reference target constant) → is_value (type_at a.program.types target) ≡ true → IsBoundTo target constant e.category
-          → Born (given_one a u e (ty.Reference target constant) s)
+          → Born (GivenOne (ty.Reference target constant))
       reference_does target constant is worth bound =
-          let r = ty.Reference target constant in
           let w = operand a (whole_form e) s in
-          aimed_does e.place (Of r) (mapped (λ o. At (Aimed o)) w)
-          (seen_part types texts fs f (nothing types texts fs f) tt None s w (a_place types texts fs f (type_at a.program.types target) bound.held) (λ o. At (Aimed o)) (a_pointing types texts fs f (Of r))
-          (whole_is.names target bound.held bound.place worth s h.stands)
-          (λ b q. bound_given a types texts fs f setting.front target constant bound.held w.given worth bound.kept q) (λ n k q. q))
+          filled_does e.place w (a_place types texts fs f (type_at a.program.types target) bound.held) (λ o l. pointed (aimed (Aimed o)) l) (whole_is.names target bound.held bound.place worth s h.stands)
           (λ b q. record {
             plain = refl;
-            formed = ap (λ (t : Ty). is_source_of types texts fs f t (Aimed w.given)) (reference_declared a types texts fs f setting.front u w.state b target constant is worth) ∙ q.fits;
+            formed =
+                ap (λ (t : Ty). is_source_of types texts fs f t (Aimed w.given)) (reference_declared a types texts fs f setting.front u w.state b target constant is worth)
+                ∙ bound_given a types texts fs f setting.front target constant bound.held w.given worth bound.kept q;
             served = q.served;
           })
+          (λ b k q blank. filling_fills f (λ p. Aim p (Aimed w.given)) (length w.state.locals) k (aimed_filling f w.given (length w.state.locals) k q) (length w.state.locals))
 
-      one_does : needs_no_temporary (type_of a u.ty) e ≡ true → is_given a.program.types (type_of a u.ty) e ≡ true → Born (given_one a u e (type_of a u.ty) s)
+      one_does : needs_no_temporary (type_of a u.ty) e ≡ true → is_given a.program.types (type_of a u.ty) e ≡ true → Born (GivenOne (type_of a u.ty))
       one_does temporary given = go (variable_type a.program.types u.ty built)
         where
           as_given : (t : Ty) → slice_get a.program.types.types u.ty.0 ≡ Some t → is_given a.program.types t e ≡ true
           as_given t is = subst (λ (x : Ty). is_given a.program.types x e ≡ true) (type_is t is) given
 
-          as_type : (t : Ty) → slice_get a.program.types.types u.ty.0 ≡ Some t → Born (given_one a u e t s) → Born (given_one a u e (type_of a u.ty) s)
-          as_type t is born = subst (λ (x : Ty). Born (given_one a u e x s)) (sym (type_is t is)) born
+          as_type : (t : Ty) → slice_get a.program.types.types u.ty.0 ≡ Some t → Born (GivenOne t) → Born (GivenOne (type_of a u.ty))
+          as_type t is born = subst (λ (x : Ty). Born (GivenOne x)) (sym (type_is t is)) born
 
-          go : IsVariableType a.program.types u.ty → Born (given_one a u e (type_of a u.ty) s)
-          go (a_value t is w) = as_type t is (subst Born (sym (value_given t w)) (object_does t is w (given_number a.program.types t e w (as_given t is)) (call_of e.form) refl))
+          go : IsVariableType a.program.types u.ty → Born (GivenOne (type_of a u.ty))
+          go (a_value t is w) = as_type t is (object_does t is w (given_number a.program.types t e w (as_given t is)))
           go (a_raw target constant is) = as_type (ty.Raw target constant) is (raw_does target constant is (as_given (ty.Raw target constant) is))
           go (a_reference target constant is w) =
               let r = ty.Reference target constant in
@@ -250,18 +268,22 @@ module _ (a : Around) (types : Types) (texts : ℕ) (fs : List Function) (f : Fu
 
     -- ---- any variable
 
-    initial_does : (initial : Option InitialForm) → is_built_initial (type_of a u.ty) initial ≡ true → IsInitialised a.program a.function.locals a.function.result v.visible (Some u) initial → Born (given_initial a u initial s)
-    initial_does None b i = live_does i
-    initial_does (Some (one e)) b i =
-        let parts = and_parts (is_built_expression e) (needs_no_temporary (type_of a u.ty) e) b in one_does e parts.0 i.1 parts.1 i.0
-    initial_does (Some (several list)) b i = absurd (false≢true b)
+    initial_does : (initial : Option InitialForm) (behind : Place) → is_built_initial (type_of a u.ty) initial ≡ true → IsInitialised a.program a.function.locals a.function.result v.visible (Some u) initial → Born (given_initial a u initial behind s)
+    initial_does None behind b i = live_does i
+    initial_does (Some (one e)) behind b i =
+        let parts = and_parts (is_built_expression e) (needs_no_temporary (type_of a u.ty) e) b in one_does e parts.0 i.1 behind parts.1 i.0
+    initial_does (Some (several list)) behind b i = absurd (false≢true b)
 
-  pub declaration_does : (d : DeclarationForm) (s : State) → Follows types f a v s → is_built_declaration a.program.types a.function.locals d ≡ true → IsDeclaration a.program a.function.locals a.function.result d v
-      → Does types texts fs f a (with_next v) in_loop s (declared a d s)
-  declaration_does d s h b here = go (slice_get a.function.locals d.local) refl b here.1
+  pub declaration_does : (d : DeclarationForm) (behind : Place) (s : State) → Follows types f a v s → is_built_declaration a.program.types a.function.locals d ≡ true → IsDeclaration a.program a.function.locals a.function.result d v
+      → Does types texts fs f a (with_next v) in_loop s (declared a d behind s)
+  declaration_does d behind s h b here = ended (declared_as a (slice_get a.function.locals d.local) d.value behind s) (go (slice_get a.function.locals d.local) refl b here.1)
     where
       go : (o : Option TypedLocal) → slice_get a.function.locals d.local ≡ o → is_built_declared a.program.types o d.value ≡ true → IsInitialised a.program a.function.locals a.function.result v.visible o d.value
-          → Does types texts fs f a (with_next v) in_loop s (declared_as a o d.value s)
+          → Does types texts fs f a (with_next v) in_loop s (declared_as a o d.value behind s)
       go None at b i = absurd i
       go (Some u) at b i =
-          initial_does u s h (sym (ap (slice_get a.function.locals) here.0) ∙ at) (variable_built a.program.types a.function.locals d.local u setting.variables at) d.value b i
+          initial_does u s h (sym (ap (slice_get a.function.locals) here.0) ∙ at) (variable_built a.program.types a.function.locals d.local u setting.variables at) d.value behind b i
+
+      -- it makes no temporaries
+      ended : (s' : State) → Does types texts fs f a (with_next v) in_loop s s' → Does types texts fs f a (with_next v) in_loop s (end_pending (length s.pending) behind s')
+      ended s' does = subst (Does types texts fs f a (with_next v) in_loop s) (sym (same_pending s s' behind does.adds.pending)) does

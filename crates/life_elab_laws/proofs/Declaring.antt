@@ -161,6 +161,7 @@ module _ (types : Types) (f : Function) (a : Around) (front : IsFront a.program.
       table = front_itself s.types.types;
       variables = front_append s.variables (length s.locals ∷ []);
       living = take_before s.living (length s.locals ∷ []);
+      pending = refl;
       outside = refl;
       shaped = λ are. shaped_more types s.locals l are (λ is. record { name = u.name; named = of.named; built = its_type });
     }

@@ -25,12 +25,14 @@ use Rattle.life_well_typed.specs.Given.{is_number, is_pointer}
 use Rattle.life_well_typed.specs.Statements.{ends_in_arguments}
 use Rattle.life_writer.specs.Around.{Around, own_type}
 use Rattle.life_writer.specs.Around as around
+use Rattle.life_writer.specs.Behind.{closed_by, lasting}
 use Rattle.life_writer.specs.Calls.{Called, call_of}
 use Rattle.life_writer.specs.Expressions.{condition, decision, handed_over, made, operand, pointer, pointing, value}
 use Rattle.life_writer.specs.Pointers.{Pointing, located}
 use Rattle.life_writer.specs.Registers.{as_type, computed, conversion}
 use Rattle.life_writer.specs.Values as values
 use Rattle.life_writer.specs.Writing.{Gives, State, with_code}
+use Rattle.life_writer.specs.declared.behind.Behind.{Behind}
 use Rattle.life_elab_laws.proofs.Conditions.{Tests, by_branch_part, condition_part}
 use Rattle.life_elab_laws.proofs.ExpressionTypes.{condition_number, number_no_pointer, own_value, pointer_fits, raw_is}
 use Rattle.life_elab_laws.proofs.Fronts.{front_length, front_then}
@@ -73,22 +75,22 @@ module _ (a : Around) (visible : List ℕ) (types : Types) (texts : ℕ) (fs : L
     pub there : slice_get a.program.functions c.function ≡ Some of
     pub kind : (t ≡ Of ty.Void) ⊎ (is_number t ≡ true)
     pub own : t ≡ Of (type_at a.program.types of.result)
-    pub hands : (s : State) → Standing s → Hands of s (handed_over a c.arguments (around.parameter_types a c.function) s)
+    pub hands : (s : State) → Standing s → Hands of s (handed_over a c.arguments c.closing (around.parameter_types a c.function) s)
 
   -- of what an expression is made by
   pub record IsForm (form : Form) (e : Typed) : Type 0 where
     pub kind : IsKind a.program.types e
     -- a number that is neither a place nor decided by tests is computed
-    pub computes : e.category ≡ category.Value → is_number e.ty ≡ true → (place : Place) → decision a form place ≡ None → (into : Option ℕ) (s : State) → IsIntoOf (own_type e.ty) s into → Standing s
-        → Valued (own_type e.ty) into s (made a form place (own_type e.ty) into s)
+    pub computes : e.category ≡ category.Value → is_number e.ty ≡ true → (place : Place) (b : Behind) → decision a form place b ≡ None → (into : Option ℕ) (s : State) → IsIntoOf (own_type e.ty) s into → Standing s
+        → Valued (own_type e.ty) into s (made a form place b.token (own_type e.ty) into s)
     -- .. in the register that is wanted
-    pub lands : e.category ≡ category.Value → is_number e.ty ≡ true → (place : Place) → decision a form place ≡ None → (r : ℕ) (s : State) → (made a form place (own_type e.ty) (Some r) s).given ≡ r
+    pub lands : e.category ≡ category.Value → is_number e.ty ≡ true → (place : Place) (b : Behind) → decision a form place b ≡ None → (r : ℕ) (s : State) → (made a form place b.token (own_type e.ty) (Some r) s).given ≡ r
     -- a place with a value is named
     pub names : (id : TyId) (constant : Bool) → e.category ≡ category.Place id constant → is_value (type_at a.program.types id) ≡ true → (s : State) → Standing s → Placed (type_at a.program.types id) constant s (operand a form s)
     -- a pointer points
     pub points : is_pointer e.ty ≡ true → (s : State) → Standing s → Points e.ty s (pointing a form s)
     -- what is made of conditions decides
-    pub decides : (place : Place) (w : State → Gives Tree) → decision a form place ≡ Some w → (s : State) → Standing s → Decided s (w s)
+    pub decides : (place : Place) (b : Behind) (w : State → Gives Tree) → decision a form place b ≡ Some w → (s : State) → Standing s → Decided s (w s)
     -- what is a call is one of a function that is there; and what stands alone and is none is a number
     pub calls : (c : Called) → call_of form ≡ Some c → IsCall c e.ty
     pub alone : ends_in_arguments form ≡ true → call_of form ≡ None → is_number e.ty ≡ true
@@ -96,13 +98,13 @@ module _ (a : Around) (visible : List ℕ) (types : Types) (texts : ℕ) (fs : L
   -- of a whole expression
   pub record IsWhole (form : Form) : Type 0 where
     pub kind : IsKind a.program.types (typed_in form)
-    pub valued : is_number (typed_in form).ty ≡ true → (to : Ty) → is_value to ≡ true → (into : Option ℕ) (s : State) → IsIntoOf to s into → Standing s → Valued to into s (value a form to into s)
-    pub lands : is_number (typed_in form).ty ≡ true → (to : Ty) (r : ℕ) (s : State) → (value a form to (Some r) s).given ≡ r
+    pub valued : is_number (typed_in form).ty ≡ true → (behind : Place) (to : Ty) → is_value to ≡ true → (into : Option ℕ) (s : State) → IsIntoOf to s into → Standing s → Valued to into s (value a form behind to into s)
+    pub lands : is_number (typed_in form).ty ≡ true → (behind : Place) (to : Ty) (r : ℕ) (s : State) → (value a form behind to (Some r) s).given ≡ r
     pub names : (id : TyId) (constant : Bool) → (typed_in form).category ≡ category.Place id constant → is_value (type_at a.program.types id) ≡ true → (s : State) → Standing s → Placed (type_at a.program.types id) constant s (operand a form s)
     pub points : is_pointer (typed_in form).ty ≡ true → (s : State) → Standing s → Points (typed_in form).ty s (pointing a form s)
     pub pointers : (u : Ty) → (typed_in form).ty ≡ Of u → is_raw u ≡ true → (s : State) → Standing s → Pointed u s (pointer a form s)
-    pub conditions : is_condition (typed_in form).ty ≡ true → (s : State) → Standing s → Decided s (condition a form s)
-    pub decides : (place : Place) (w : State → Gives Tree) → decision a form place ≡ Some w → (s : State) → Standing s → Decided s (w s)
+    pub conditions : is_condition (typed_in form).ty ≡ true → (b : Behind) (s : State) → Standing s → Decided s (condition a form b s)
+    pub decides : (place : Place) (b : Behind) (w : State → Gives Tree) → decision a form place b ≡ Some w → (s : State) → Standing s → Decided s (w s)
     pub calls : (c : Called) → call_of form ≡ Some c → IsCall c (typed_in form).ty
 
   -- ---- a whole expression, of what it is made by
@@ -146,25 +148,25 @@ module _ (a : Around) (visible : List ℕ) (types : Types) (texts : ℕ) (fs : L
   pub whole_of : (place : Place) (t : ExprType) (c : Category) (form : Form) → IsForm form (record { place = place; ty = t; category = c; form = form }) → IsWhole (typed place t c form)
   whole_of place t c form is = record {
     kind = is.kind;
-    valued = λ n to v into s wanted stands.
-        as_type_part types texts fs f (gifts.nothing types texts fs f) tt (own_type t) to place (values.value_from (own_type t) place c (decision a form place) (operand a form) (made a form place (own_type t))) into s v wanted stands.opened
-        (λ i wanted. own_value_part n i s wanted stands);
-    lands = λ n to r s.
-        lands_as (own_type t) to place (values.value_from (own_type t) place c (decision a form place) (operand a form) (made a form place (own_type t))) r s
-        (lands_from (own_type t) place (decision a form place) c (operand a form) (made a form place (own_type t)) r s (λ none at. is.lands at n place none r s));
+    valued = λ n behind to v into s wanted stands.
+        as_type_part types texts fs f (gifts.nothing types texts fs f) tt (own_type t) to place (values.value_from (own_type t) place c (decision a form place (lasting behind)) (operand a form) (made a form place behind (own_type t))) into s v wanted stands.opened
+        (λ i wanted. own_value_part behind n i s wanted stands);
+    lands = λ n behind to r s.
+        lands_as (own_type t) to place (values.value_from (own_type t) place c (decision a form place (lasting behind)) (operand a form) (made a form place behind (own_type t))) r s
+        (lands_from (own_type t) place (decision a form place (lasting behind)) c (operand a form) (made a form place behind (own_type t)) r s (λ none at. is.lands at n place (lasting behind) none r s));
     names = is.names;
     points = is.points;
     pointers = λ u at raw s stands. pointer_part (pointing a form) t u place s at raw (fits u at raw) stands (is.points (ap is_pointer at ∙ raw) s stands);
-    conditions = λ h s stands.
-        condition_part types texts fs f (decision a form place) (own_type t) place (pointer a (typed place t c form)) (values.read_or_made (own_type t) place c (operand a form) (made a form place (own_type t)) None) s
-        (λ w at. is.decides place w at s stands)
+    conditions = λ h b s stands.
+        condition_part types texts fs f (decision a form place b) (own_type t) place b.ends (pointer a (typed place t c form)) (values.read_or_made (own_type t) place c (operand a form) (made a form place b.token (own_type t)) None) s
+        (λ w at. is.decides place b w at s stands)
         (λ none raw. let at = raw_is t raw in pointer_part (pointing a form) t (own_type t) place (with_code [] s) at raw (fits (own_type t) at raw) stands (is.points (ap is_pointer at ∙ raw) (with_code [] s) stands))
         (λ none raw.
         let n = condition_number a.program.types e is.kind.kind h raw in
-        value_from None (own_type t) place c (operand a form) (made a form place (own_type t)) None (with_code [] s) (own_value t n) tt stands (λ w at. absurd (none_some at))
-        (λ un at. is.computes at n place none None (with_code [] s) tt stands)
+        value_from None (own_type t) place c (operand a form) (made a form place b.token (own_type t)) None (with_code [] s) (own_value t n) tt stands (λ w at. absurd (none_some at))
+        (λ un at. is.computes at n place b none None (with_code [] s) tt stands)
         (λ id constant at. named n id constant at (with_code [] s) stands));
-    decides = λ at w eq s stands. is.decides place w eq s stands;
+    decides = λ at b w eq s stands. is.decides place b w eq s stands;
     calls = is.calls;
   }
     where
@@ -179,12 +181,12 @@ module _ (a : Around) (visible : List ℕ) (types : Types) (texts : ℕ) (fs : L
           let own = is.kind.place id constant at in
           subst (λ (u : Ty). Placed u constant s (operand a form s)) (sym (ap own_type own)) (is.names id constant at (sym (ap is_number own) ∙ n) s stands)
 
-      own_value_part : is_number t ≡ true → (into : Option ℕ) (s : State) → IsIntoOf (own_type t) s into → Standing s
-          → Valued (own_type t) into s (values.value_from (own_type t) place c (decision a form place) (operand a form) (made a form place (own_type t)) into s)
-      own_value_part n into s wanted stands =
-          value_from (decision a form place) (own_type t) place c (operand a form) (made a form place (own_type t)) into s (own_value t n) wanted stands
-          (λ w at. is.decides place w at s stands)
-          (λ none at. is.computes at n place none into s wanted stands)
+      own_value_part : (behind : Place) → is_number t ≡ true → (into : Option ℕ) (s : State) → IsIntoOf (own_type t) s into → Standing s
+          → Valued (own_type t) into s (values.value_from (own_type t) place c (decision a form place (lasting behind)) (operand a form) (made a form place behind (own_type t)) into s)
+      own_value_part behind n into s wanted stands =
+          value_from (decision a form place (lasting behind)) (own_type t) place c (operand a form) (made a form place behind (own_type t)) into s (own_value t n) wanted stands
+          (λ w at. is.decides place (lasting behind) w at s stands)
+          (λ none at. is.computes at n place (lasting behind) none into s wanted stands)
           (λ id constant at. named n id constant at s stands)
 
   -- ---- the ways to make a form
@@ -199,14 +201,14 @@ module _ (a : Around) (visible : List ℕ) (types : Types) (texts : ℕ) (fs : L
 
   -- a value of a type, by tests or not
   pub decided_form : (form : Form) (e : Typed) (t : Ty) → e.ty ≡ Of t → e.category ≡ category.Value → is_value t ≡ true → call_of form ≡ None
-      → ((place : Place) → decision a form place ≡ None → (into : Option ℕ) (s : State) → IsIntoOf t s into → Standing s → Valued t into s (made a form place t into s))
-      → ((place : Place) → decision a form place ≡ None → (r : ℕ) (s : State) → (made a form place t (Some r) s).given ≡ r)
-      → ((place : Place) (w : State → Gives Tree) → decision a form place ≡ Some w → (s : State) → Standing s → Decided s (w s)) → IsForm form e
+      → ((place : Place) (b : Behind) → decision a form place b ≡ None → (into : Option ℕ) (s : State) → IsIntoOf t s into → Standing s → Valued t into s (made a form place b.token t into s))
+      → ((place : Place) (b : Behind) → decision a form place b ≡ None → (r : ℕ) (s : State) → (made a form place b.token t (Some r) s).given ≡ r)
+      → ((place : Place) (b : Behind) (w : State → Gives Tree) → decision a form place b ≡ Some w → (s : State) → Standing s → Decided s (w s)) → IsForm form e
   decided_form form e t is c v none makes lands decides = record {
     kind = record { kind = is_number_kind t is v; place = λ id constant at. absurd (value_place (sym c ∙ at)) };
-    computes = λ at n place un into s wanted stands.
-        subst (λ (u : Ty). IsIntoOf u s into → Valued u into s (made a form place u into s)) (sym (ap own_type is)) (λ w. makes place un into s w stands) wanted;
-    lands = λ at n place un r s. subst (λ (u : Ty). (made a form place u (Some r) s).given ≡ r) (sym (ap own_type is)) (lands place un r s);
+    computes = λ at n place b un into s wanted stands.
+        subst (λ (u : Ty). IsIntoOf u s into → Valued u into s (made a form place b.token u into s)) (sym (ap own_type is)) (λ w. makes place b un into s w stands) wanted;
+    lands = λ at n place b un r s. subst (λ (u : Ty). (made a form place b.token u (Some r) s).given ≡ r) (sym (ap own_type is)) (lands place b un r s);
     names = no_place form e c;
     points = λ p. absurd (number_no_pointer e.ty (of_number e.ty t is v) p);
     decides = decides;
@@ -214,20 +216,20 @@ module _ (a : Around) (visible : List ℕ) (types : Types) (texts : ℕ) (fs : L
     alone = λ ends at. of_number e.ty t is v;
   }
 
-  pub value_form : (form : Form) (e : Typed) (t : Ty) → e.ty ≡ Of t → e.category ≡ category.Value → is_value t ≡ true → call_of form ≡ None → ((place : Place) → decision a form place ≡ None)
-      → ((place : Place) (into : Option ℕ) (s : State) → IsIntoOf t s into → Standing s → Valued t into s (made a form place t into s))
-      → ((place : Place) (r : ℕ) (s : State) → (made a form place t (Some r) s).given ≡ r) → IsForm form e
+  pub value_form : (form : Form) (e : Typed) (t : Ty) → e.ty ≡ Of t → e.category ≡ category.Value → is_value t ≡ true → call_of form ≡ None → ((place : Place) (b : Behind) → decision a form place b ≡ None)
+      → ((place behind : Place) (into : Option ℕ) (s : State) → IsIntoOf t s into → Standing s → Valued t into s (made a form place behind t into s))
+      → ((place behind : Place) (r : ℕ) (s : State) → (made a form place behind t (Some r) s).given ≡ r) → IsForm form e
   value_form form e t is c v none plain makes lands =
-      decided_form form e t is c v none (λ place un. makes place) (λ place un. lands place) (λ place w at. absurd (none_some (sym (plain place) ∙ at)))
+      decided_form form e t is c v none (λ place b un. makes place b.token) (λ place b un. lands place b.token) (λ place b w at. absurd (none_some (sym (plain place b) ∙ at)))
 
   -- a value that is given by its type alone
-  pub literal : (form : Form) (e : Typed) (t : Ty) → e ≡ value_typed e.place t e.form → is_value t ≡ true → call_of form ≡ None → ((place : Place) → decision a form place ≡ None)
-      → ((place : Place) (into : Option ℕ) (s : State) → IsIntoOf t s into → Standing s → Valued t into s (made a form place t into s))
-      → ((place : Place) (r : ℕ) (s : State) → (made a form place t (Some r) s).given ≡ r) → IsForm form e
+  pub literal : (form : Form) (e : Typed) (t : Ty) → e ≡ value_typed e.place t e.form → is_value t ≡ true → call_of form ≡ None → ((place : Place) (b : Behind) → decision a form place b ≡ None)
+      → ((place behind : Place) (into : Option ℕ) (s : State) → IsIntoOf t s into → Standing s → Valued t into s (made a form place behind t into s))
+      → ((place behind : Place) (r : ℕ) (s : State) → (made a form place behind t (Some r) s).given ≡ r) → IsForm form e
   literal form e t is v none plain makes lands = value_form form e t (ap (λ (y : Typed). y.ty) is) (ap (λ (y : Typed). y.category) is) v none plain makes lands
 
   -- a pointer that is no place
-  pub pointer_form : (form : Form) (e : Typed) → IsKind a.program.types e → e.category ≡ category.Value → (is_number e.ty ≡ true → ⊥) → call_of form ≡ None → ends_in_arguments form ≡ false → ((place : Place) → decision a form place ≡ None)
+  pub pointer_form : (form : Form) (e : Typed) → IsKind a.program.types e → e.category ≡ category.Value → (is_number e.ty ≡ true → ⊥) → call_of form ≡ None → ends_in_arguments form ≡ false → ((place : Place) (b : Behind) → decision a form place b ≡ None)
       → (is_pointer e.ty ≡ true → (s : State) → Standing s → Points e.ty s (pointing a form s)) → IsForm form e
   pointer_form form e kind c never none ends plain points = record {
     kind = kind;
@@ -235,13 +237,13 @@ module _ (a : Around) (visible : List ℕ) (types : Types) (texts : ℕ) (fs : L
     lands = λ at n. absurd (never n);
     names = no_place form e c;
     points = points;
-    decides = λ place w at. absurd (none_some (sym (plain place) ∙ at));
+    decides = λ place b w at. absurd (none_some (sym (plain place b) ∙ at));
     calls = λ d at. absurd (none_some (sym none ∙ at));
     alone = λ h at. absurd (false≢true (sym ends ∙ h));
   }
 
   -- a place
-  pub place_form : (form : Form) (e : Typed) → IsKind a.program.types e → (e.category ≡ category.Value → ⊥) → call_of form ≡ None → ends_in_arguments form ≡ false → ((place : Place) → decision a form place ≡ None)
+  pub place_form : (form : Form) (e : Typed) → IsKind a.program.types e → (e.category ≡ category.Value → ⊥) → call_of form ≡ None → ends_in_arguments form ≡ false → ((place : Place) (b : Behind) → decision a form place b ≡ None)
       → ((id : TyId) (constant : Bool) → e.category ≡ category.Place id constant → is_value (type_at a.program.types id) ≡ true → (s : State) → Standing s → Placed (type_at a.program.types id) constant s (operand a form s))
       → (is_pointer e.ty ≡ true → (s : State) → Standing s → Points e.ty s (pointing a form s)) → IsForm form e
   place_form form e kind c none ends plain names points = record {
@@ -250,7 +252,7 @@ module _ (a : Around) (visible : List ℕ) (types : Types) (texts : ℕ) (fs : L
     lands = λ at. absurd (c at);
     names = names;
     points = points;
-    decides = λ place w at. absurd (none_some (sym (plain place) ∙ at));
+    decides = λ place b w at. absurd (none_some (sym (plain place b) ∙ at));
     calls = λ d at. absurd (none_some (sym none ∙ at));
     alone = λ h at. absurd (false≢true (sym ends ∙ h));
   }
@@ -259,11 +261,11 @@ module _ (a : Around) (visible : List ℕ) (types : Types) (texts : ℕ) (fs : L
   pub paren_form : (inner : Form) (closing : Place) (e : Typed) → (typed_in inner).ty ≡ e.ty → (typed_in inner).category ≡ e.category → IsWhole inner → IsForm (paren inner closing) e
   paren_form inner closing e t c is = record {
     kind = kind_same a.program.types (typed_in inner) e (sym t) (sym c) is.kind;
-    computes = λ at n place none into s wanted stands. is.valued (ap is_number t ∙ n) (own_type e.ty) (own_value e.ty n) into s wanted stands;
-    lands = λ at n place none r s. is.lands (ap is_number t ∙ n) (own_type e.ty) r s;
+    computes = λ at n place b none into s wanted stands. is.valued (ap is_number t ∙ n) closing (own_type e.ty) (own_value e.ty n) into s wanted stands;
+    lands = λ at n place b none r s. is.lands (ap is_number t ∙ n) closing (own_type e.ty) r s;
     names = λ id constant at. is.names id constant (c ∙ at);
     points = λ p s stands. subst (λ (x : ExprType). Points x s (pointing a inner s)) t (is.points (ap is_pointer t ∙ p) s stands);
-    decides = is.decides;
+    decides = λ place b. is.decides place (closed_by closing b);
     calls = λ d at. subst (IsCall d) t (is.calls d at);
     alone = λ ends at. absurd (false≢true ends);
   }

@@ -1,25 +1,20 @@
 -- The types of expressions that are built.
-use Rattle.std.proofs.Common.{◌≡◌, ◌⊎◌, inl, inr, ℕ, true, false, ◌||◌, List, refl, sym, ap, ◌∙◌, subst, true≢false, Ok}
+use Rattle.std.proofs.Common.{◌≡◌, ◌⊎◌, inl, inr, true, false, ◌||◌, refl, sym, ap, ◌∙◌, subst, true≢false, Ok}
 use Rattle.std.proofs.lemmas.Bool.{false≢true}
 use Rattle.life_types.specs.TypeTests.{is_raw, is_value, is_void}
 use Rattle.life_types.specs.Types.{Types}
 use Rattle.life_types.specs.declared.ty.Ty.{Ty}
 use Rattle.life_types.specs.declared.ty.Ty.TheVariants as ty
 use Rattle.life_typed.specs.Operators.{is_condition, negated, negated_type, promoted}
-use Rattle.life_typed.specs.Programs.{ProgramForm}
-use Rattle.life_typed.specs.TypedForm.{Form, Typed, typed}
+use Rattle.life_typed.specs.TypedForm.{Typed}
 use Rattle.life_typed.specs.declared.typed_expr.Category.TheVariants as category
 use Rattle.life_typed.specs.declared.typed_expr.ExprType.{ExprType}
 use Rattle.life_typed.specs.declared.typed_expr.ExprType.TheVariants.{NullPointer, Of, TextLiteral}
-use Rattle.life_typed.specs.declared.typed_program.TypedLocal.{TypedLocal}
 use Rattle.life_type_expr.specs.Operands.{answer_of, negated_to}
 use Rattle.life_proper.specs.OperandTypes.{is_promoted}
-use Rattle.life_well_typed.specs.Expressions.{IsExpression, typed_in}
 use Rattle.life_well_typed.specs.Given.{is_number, is_pointer}
 use Rattle.life_writer.specs.Around.{own_type}
-use Rattle.life_writer.specs.Around as around
-use Rattle.life_writer.specs.Conditions.{is_null, stands_for_null}
-use Rattle.life_elab_laws.proofs.OperatorTypes.{promoted_is}
+use Rattle.life_elab_laws.proofs.RowTypes.{promoted_is}
 use Rattle.life_elab_laws.proofs.TypedKinds.{HasKind, IsKind, a_null, a_number, a_pointer, err_ok, no_value, ok_same}
 use Rattle.life_elab_laws.proofs.Values.{by_results, by_values}
 use Rattle.life_elab_laws.proofs.WrittenLocals.{fits_register, value_fits}
@@ -53,15 +48,6 @@ pointer_fits types e (a_pointer target constant is v) r = ap (λ (x : ExprType).
 pointer_fits types e (no_value is v) r = absurd (false≢true (sym (ap (λ (x : ExprType). is_raw (own_type x)) is) ∙ r))
 pointer_fits types e (a_null is v) r = absurd (false≢true (sym (ap (λ (x : ExprType). is_raw (own_type x)) is) ∙ r))
 
-pub null_stands : (p : ProgramForm) (locals : List TypedLocal) (visible : List ℕ) (form : Form) → IsExpression p locals visible form → stands_for_null form ≡ is_null (typed_in form).ty
-null_stands p locals visible (typed place t c form) h = refl
-null_stands p locals visible _ h = absurd h
-
-pub null_type : (t : ExprType) → is_null t ≡ true → t ≡ NullPointer
-null_type (Of u) e = absurd (false≢true e)
-null_type NullPointer e = refl
-null_type TextLiteral e = absurd (false≢true e)
-
 -- what a call gives is no place
 pub result_value : (t : Ty) (types : Types) (e : Typed) → (is_void t || is_value t) ≡ true → e ≡ answer_of t types e.place e.form → e.category ≡ category.Value
 result_value t types e b is = ap (λ (x : Typed). x.category) is ∙ by_results (λ t. (answer_of t types e.place e.form).category ≡ category.Value) refl (by_values (λ t. (answer_of t types e.place e.form).category ≡ category.Value) refl refl refl refl refl) t b
@@ -85,10 +71,6 @@ negated_promoted types inner e k h = go k.kind
     go (a_pointer target constant is v) = absurd (err_ok (sym (ap (λ t. negated_to (negated t) e.place inner) is) ∙ h))
     go (no_value is v) = absurd (err_ok (sym (ap (λ t. negated_to (negated t) e.place inner) is) ∙ h))
     go (a_null is v) = absurd (err_ok (sym (ap (λ t. negated_to (negated t) e.place inner) is) ∙ h))
-
-pub type_in_own : (form : Form) → around.type_in form ≡ own_type (typed_in form).ty
-type_in_own (typed place t c form) = refl
-type_in_own _ = refl
 
 -- what a call gives
 pub result_kind : (t : Ty) (types : Types) (e : Typed) → (is_void t || is_value t) ≡ true → e ≡ answer_of t types e.place e.form

@@ -1,5 +1,5 @@
 -- What is written for a well typed expression, by one recursion: each form says by one way how it is written, and has all laws by that.
-use Rattle.std.proofs.Common.{◌≡◌, ◌⊎◌, inl, inr, ℕ, zero, suc, Bool, true, List, [], ◌∷◌, Contains, slice_get, Option, Some, None, refl, sym, ap, ◌∙◌, subst, unwrap_or}
+use Rattle.std.proofs.Common.{◌≡◌, ◌⊎◌, inl, inr, ℕ, zero, suc, Bool, true, List, [], ◌∷◌, Contains, length, slice_get, Option, Some, None, refl, sym, ap, ◌∙◌, subst, unwrap_or}
 use Rattle.std.proofs.lemmas.Bool.{and_from, and_parts, false≢true}
 use Rattle.std.specs.Prelude.{pos}
 use Rattle.life_types.specs.TypeTests.{is_raw, is_value}
@@ -27,33 +27,41 @@ use Rattle.life_proper.specs.OperandTypes.{aims_at, keeps_const}
 use Rattle.life_proper.specs.OperandTypes as operands
 use Rattle.life_proper.specs.Placed.{is_const_place}
 use Rattle.life_proper.specs.Placed as placed
-use Rattle.life_proper.specs.WellFormed.{answer_of}
 use Rattle.life_well_typed.specs.Expressions.{AreExpressions, HasResult, IsExpression, IsMadeOf, IsVariable, are_given, parameter_types, typed_in}
 use Rattle.life_well_typed.specs.Given.{is_given, is_number, is_pointer}
 use Rattle.life_writer.specs.Around.{Around, own_type, parameters_of}
 use Rattle.life_writer.specs.Around as around
 use Rattle.life_writer.specs.Calls.{Called}
-use Rattle.life_writer.specs.Expressions.{common, condition, decision, handed_over, made, operand, pointer, pointing, value}
-use Rattle.life_writer.specs.Pointers.{As, At, Pointing}
+use Rattle.life_writer.specs.Expressions.{condition, decided_between, handed_over, made, operand, pointer, pointing, value}
+use Rattle.life_writer.specs.Behind.{ending}
+use Rattle.life_writer.specs.Conditions.{not_null, on}
+use Rattle.life_writer.specs.Pointers.{As, Pointing, aimed}
+use Rattle.life_writer.specs.Rows.{row_between}
 use Rattle.life_writer.specs.Values as values
 use Rattle.life_writer.specs.Variables.{variable, variable_place}
-use Rattle.life_writer.specs.Writing.{Gives, State, gives}
+use Rattle.life_writer.specs.Writing.{Gives, State, gives, with_code}
+use Rattle.life_writer.specs.declared.behind.Behind.{Behind}
+use Rattle.life_writer.specs.declared.rows.Row.{Row}
+use Rattle.life_writer.specs.declared.rows.Row.TheVariants.{Computed, Joined, IsNull, NotNull}
+use Rattle.life_writer.specs.declared.rows.Side.{Side}
+use Rattle.life_writer.specs.declared.rows.Side.TheVariants.{Left, Right}
+use Rattle.life_elab_laws.proofs.Aiming.{null_given, place_given}
 use Rattle.life_elab_laws.proofs.CallParts.{call_part, handed_part, none_handed}
-use Rattle.life_elab_laws.proofs.Conditions.{Tests, negation_part}
-use Rattle.life_elab_laws.proofs.Deciding.{binary_decided, binary_numbers, no_test}
+use Rattle.life_elab_laws.proofs.Conditions.{Tests, joined_part, negation_part, not_null_part}
 use Rattle.life_elab_laws.proofs.ExpressionForms.{IsCall, IsForm, IsWhole, decided_form, literal, no_place, of_number, paren_form, place_form, pointer_form, value_form, whole_of}
 use Rattle.life_elab_laws.proofs.ExpressionKinds.{IsAddressed, IsDereferenced, addressed_as, dereferenced_as, function_built, inverted_as, kind_local, negated_as, number_value, result_built, variable_built}
-use Rattle.life_elab_laws.proofs.ExpressionTypes.{negated_promoted, number_no_pointer, own_value, pointer_type, result_kind, result_value, type_in_own}
+use Rattle.life_elab_laws.proofs.ExpressionTypes.{negated_promoted, number_no_pointer, own_value, pointer_type, result_kind, result_value}
+use Rattle.life_elab_laws.proofs.Filling.{aimed_filling, null_filling}
 use Rattle.life_elab_laws.proofs.FormedVariables.{behind_place, const_same, pointer_formed, type_later, variable_formed}
 use Rattle.life_elab_laws.proofs.Gifts.{IsGivenAs, a_number, a_place, a_pointer, a_pointing, arguments}
 use Rattle.life_elab_laws.proofs.Gifts as gifts
 use Rattle.life_elab_laws.proofs.GivenKinds.{given_number}
 use Rattle.life_elab_laws.proofs.Instructions.{IsIntoOf, constant_part, input_part, negated_part, operated_part}
 use Rattle.life_elab_laws.proofs.OperandsThere.{value_same}
-use Rattle.life_elab_laws.proofs.OperatorTypes.{number_answer, promoted_is}
 use Rattle.life_elab_laws.proofs.Parts.{Makes, leaf_part, seen_part}
+use Rattle.life_elab_laws.proofs.RowTypes.{Fits, IsTested, row_fits_between}
 use Rattle.life_elab_laws.proofs.Setting.{Setting}
-use Rattle.life_elab_laws.proofs.TypedKinds.{HasKind, IsCombined, IsKind, IsOperand, a_null, a_number as is_number_kind, a_pointer as is_pointer_kind, answer_value, combined_as, kind_of_place, kind_of_result, no_value, none_some, ok_same, operand_kind, place_same, promoted_value, some_same, value_place}
+use Rattle.life_elab_laws.proofs.TypedKinds.{HasKind, IsCombined, IsKind, IsOperand, a_null, a_number as is_number_kind, a_pointer as is_pointer_kind, answer_value, combined_as, kind_of_place, kind_of_result, no_value, none_some, ok_same, operand_kind, place_same, some_same, value_place}
 use Rattle.life_elab_laws.proofs.VariablePlaces.{Stands, named_raw, pointer_there, stands_later, variable_there}
 
 module _ (a : Around) (visible : List ℕ) (types : Types) (texts : ℕ) (fs : List Function) (f : Function) (setting : Setting a types fs f) where
@@ -143,7 +151,7 @@ module _ (a : Around) (visible : List ℕ) (types : Types) (texts : ℕ) (fs : L
       go (a_null at v) = v
 
   variable_form : (x : ℕ) (e : Typed) → Contains visible x → IsVariable a.program.types x (slice_get a.function.locals x) e → IsForm a visible types texts fs f setting (local x) e
-  variable_form x e c h = place_form a visible types texts fs f setting (local x) e kind (variable_no_value x e h) refl refl (λ place. refl) (λ id constant at v s stands. variable_names x e s stands c h id constant at v) (λ p s stands. go (pointer_type e.ty p) s stands)
+  variable_form x e c h = place_form a visible types texts fs f setting (local x) e kind (variable_no_value x e h) refl refl (λ place b. refl) (λ id constant at v s stands. variable_names x e s stands c h id constant at v) (λ p s stands. go (pointer_type e.ty p) s stands)
     where
       kind : IsKind a.program.types e
       kind = kind_local a.program.types a.function.locals x e setting.variables h
@@ -161,7 +169,7 @@ module _ (a : Around) (visible : List ℕ) (types : Types) (texts : ℕ) (fs : L
       ap shapes.or_void (setting.front of.result.0 t.0 t.1) ∙ sym (ap (λ (o : Option Ty). unwrap_or o ty.Void) t.1)
 
   call_form : (g : ℕ) (given : Form) (closing : Place) (e : Typed) → HasResult a.program.types (slice_get a.program.functions g) e
-      → ((of : FunctionForm) → slice_get a.program.functions g ≡ Some of → (s : State) → Standing s → Hands of s (handed_over a given (parameter_types (Some of)) s)) → IsForm a visible types texts fs f setting (call g given closing) e
+      → ((of : FunctionForm) → slice_get a.program.functions g ≡ Some of → (s : State) → Standing s → Hands of s (handed_over a given closing (parameter_types (Some of)) s)) → IsForm a visible types texts fs f setting (call g given closing) e
   call_form g given closing e h hands = go (slice_get a.program.functions g) refl h
     where
       go : (o : Option FunctionForm) → slice_get a.program.functions g ≡ o → HasResult a.program.types o e → IsForm a visible types texts fs f setting (call g given closing) e
@@ -169,22 +177,22 @@ module _ (a : Around) (visible : List ℕ) (types : Types) (texts : ℕ) (fs : L
       go (Some of) at h =
           let built = result_built a.program.types of (function_built a.program.types a.program.functions g of setting.functions at) in
           let k = result_kind (type_at a.program.types of.result) a.program.types e built h in
-          let is : IsCall a visible types texts fs f setting (record { function = g; arguments = given }) e.ty = record {
+          let is : IsCall a visible types texts fs f setting (record { function = g; arguments = given; closing = closing }) e.ty = record {
             of = of;
             there = at;
             kind = k.0;
             own = k.2;
-            hands = λ s stands. subst (λ (ids : List TyId). Hands of s (handed_over a given ids s)) (sym (ap parameters_of at)) (hands of at s stands);
+            hands = λ s stands. subst (λ (ids : List TyId). Hands of s (handed_over a given closing ids s)) (sym (ap parameters_of at)) (hands of at s stands);
           } in
           record {
             kind = kind_of_result a.program.types e (type_at a.program.types of.result) built h;
-            computes = λ c n place none into s wanted stands.
-                call_part types texts fs f g of into (own_type e.ty) place s (handed_over a given (around.parameter_types a g) s) (setting.callees g of at) (result_later g of at ∙ sym (ap own_type k.2))
+            computes = λ c n place b none into s wanted stands.
+                call_part types texts fs f g of into (own_type e.ty) place s (handed_over a given closing (around.parameter_types a g) s) (setting.callees g of at) (result_later g of at ∙ sym (ap own_type k.2))
                 (own_value e.ty n) wanted stands.opened (is.hands s stands);
-            lands = λ c n place none r s. refl;
+            lands = λ c n place b none r s. refl;
             names = no_place a visible types texts fs f setting (call g given closing) e (result_value (type_at a.program.types of.result) a.program.types e built h);
             points = λ p. absurd (no_pointer k.0 p);
-            decides = λ place w at. absurd (none_some at);
+            decides = λ place b w at. absurd (none_some at);
             calls = λ c at. subst (λ (d : Called). IsCall a visible types texts fs f setting d e.ty) (some_same at) is;
             alone = λ ends none. absurd (none_some (sym none));
           }
@@ -198,7 +206,7 @@ module _ (a : Around) (visible : List ℕ) (types : Types) (texts : ℕ) (fs : L
   dereference_form : (inner : Form) (e : Typed) → (d : IsDereferenced a.program.types (typed_in inner) e) → IsWhole a visible types texts fs f setting inner → IsForm a visible types texts fs f setting (dereference inner) e
   dereference_form inner e d is =
       place_form a visible types texts fs f setting (dereference inner) e (kind_of_place a.program.types e d.target d.constant d.form d.is (is_number_kind (type_at a.program.types d.target) own d.value))
-      (λ at. value_place (sym at ∙ ap (λ (y : Typed). y.category) d.is)) refl refl (λ place. refl) names (λ p. absurd (number_no_pointer e.ty (of_number a visible types texts fs f setting e.ty (type_at a.program.types d.target) own d.value) p))
+      (λ at. value_place (sym at ∙ ap (λ (y : Typed). y.category) d.is)) refl refl (λ place b. refl) names (λ p. absurd (number_no_pointer e.ty (of_number a visible types texts fs f setting e.ty (type_at a.program.types d.target) own d.value) p))
     where
       own : e.ty ≡ Of (type_at a.program.types d.target)
       own = ap (λ (y : Typed). y.ty) d.is
@@ -217,18 +225,16 @@ module _ (a : Around) (visible : List ℕ) (types : Types) (texts : ℕ) (fs : L
 
   address_form : (inner : Form) (e : Typed) → (d : IsAddressed a.program.types (typed_in inner) e) → IsWhole a visible types texts fs f setting inner → IsForm a visible types texts fs f setting (address_of inner) e
   address_form inner e d is =
-      pointer_form a visible types texts fs f setting (address_of inner) e (record { kind = is_pointer_kind d.target d.constant own d.worth; place = λ id c at. absurd (value_place (sym no ∙ at)) }) no (λ n. false≢true (sym (ap is_number own) ∙ n)) refl refl (λ place. refl)
+      pointer_form a visible types texts fs f setting (address_of inner) e (record { kind = is_pointer_kind d.target d.constant own d.worth; place = λ id c at. absurd (value_place (sym no ∙ at)) }) no (λ n. false≢true (sym (ap is_number own) ∙ n)) refl refl (λ place b. refl)
       (λ p s stands. subst (λ (t : ExprType). Points t s (pointing a (address_of inner) s)) (sym own)
-      (seen_part types texts fs f (gifts.nothing types texts fs f) tt None s (operand a inner s) (a_place types texts fs f (type_at a.program.types d.target) d.constant) (λ o. At (Aimed o)) (a_pointing types texts fs f (Of (ty.Raw d.target d.constant)))
+      (seen_part types texts fs f (gifts.nothing types texts fs f) tt None s (operand a inner s) (a_place types texts fs f (type_at a.program.types d.target) d.constant) (λ o. aimed (Aimed o)) (a_pointing types texts fs f (Of (ty.Raw d.target d.constant)))
       (is.names d.target d.constant d.place d.worth s stands)
       (λ b h. let later = type_later a.program.types types setting.front d.target d.worth in
-      record {
-        fits =
-            and_from (aims_at types (ty.Raw d.target d.constant) (placed.type_of types f (operand a inner s).given)) (keeps_const d.constant (is_const_place types f (operand a inner s).given))
-            (ap (aims_at types (ty.Raw d.target d.constant)) (h.typed ∙ sym later) ∙ value_same (shapes.ty_of types d.target) (ap is_value later ∙ d.worth)) h.held;
-        served = h.served;
-      })
-      (λ n k q. q)))
+      place_given types texts fs f (ty.Raw d.target d.constant) (operand a inner s).given
+      (and_from (aims_at types (ty.Raw d.target d.constant) (placed.type_of types f (operand a inner s).given)) (keeps_const d.constant (is_const_place types f (operand a inner s).given))
+      (ap (aims_at types (ty.Raw d.target d.constant)) (h.typed ∙ sym later) ∙ value_same (shapes.ty_of types d.target) (ap is_value later ∙ d.worth)) h.held)
+      h.served)
+      (λ n k q. aimed_filling f (operand a inner s).given n k q)))
     where
       own : e.ty ≡ Of (ty.Raw d.target d.constant)
       own = ap (λ (y : Typed). y.ty) d.is
@@ -238,16 +244,61 @@ module _ (a : Around) (visible : List ℕ) (types : Types) (texts : ℕ) (fs : L
 
   null_form : (e : Typed) → e.ty ≡ NullPointer → e.category ≡ category.Value → IsForm a visible types texts fs f setting null e
   null_form e t c =
-      pointer_form a visible types texts fs f setting null e (record { kind = a_null t c; place = λ id d at. absurd (value_place (sym c ∙ at)) }) c (λ n. false≢true (sym (ap is_number t) ∙ n)) refl refl (λ place. refl)
-      (λ p s stands. subst (λ (u : ExprType). Points u s (gives (At Null) s)) (sym t) (leaf_part types texts fs f (At Null) s (a_pointing types texts fs f NullPointer) (λ b. refl) (λ b k alive. tt)))
+      pointer_form a visible types texts fs f setting null e (record { kind = a_null t c; place = λ id d at. absurd (value_place (sym c ∙ at)) }) c (λ n. false≢true (sym (ap is_number t) ∙ n)) refl refl (λ place b. refl)
+      (λ p s stands. leaf_part types texts fs f (aimed Null) s (a_pointing types texts fs f e.ty) (λ b. null_given types texts fs f e.ty) (λ b k alive. null_filling f (length s.locals) k))
 
-  -- ---- operators
+  -- ---- operators: what is written by each row
 
-  binary_form : (o : BinaryOperator) (left right : Form) (e : Typed) → (c : IsCombined o (typed_in left) (typed_in right) e) → IsExpression a.program a.function.locals visible left → IsExpression a.program a.function.locals visible right
-      → IsWhole a visible types texts fs f setting left → IsWhole a visible types texts fs f setting right → IsForm a visible types texts fs f setting (binary o left right) e
-  binary_form o left right e c hl hr l r =
-      decided_form a visible types texts fs f setting (binary o left right) e c.ty c.is.0 c.is.1 v refl makes (λ place none r s. refl)
-      (λ place w at s stands. binary_decided a visible types texts fs f o place left right e c hl hr lo ro l.conditions r.conditions l.pointers r.pointers w s stands at)
+  module _ (left right : Form) (t : Ty) (l : IsWhole a visible types texts fs f setting left) (r : IsWhole a visible types texts fs f setting right) where
+    abbrev By : Row → Place → Behind → Option (State → Gives Tree)
+    By w place b = decided_between a w place b left right
+
+    -- the pointer that is tested
+    pointer_on : (side : Side) (s : State) → Standing s → (is : IsTested (on side (typed_in left).ty (typed_in right).ty)) → Pointed is.own s (on side (pointer a left) (pointer a right) s)
+    pointer_on Left s stands is = l.pointers is.own is.is is.raw s stands
+    pointer_on Right s stands is = r.pointers is.own is.is is.raw s stands
+
+    not_null_on : (side : Side) (place : Place) (ends : Option Place) (s : State) → Standing s → IsTested (on side (typed_in left).ty (typed_in right).ty) → Decided s (not_null place ends (on side (pointer a left) (pointer a right)) s)
+    not_null_on side place ends s stands is = not_null_part types texts fs f place ends is.own (on side (pointer a left) (pointer a right)) s is.raw (pointer_on side (with_code [] s) stands is)
+
+    row_decides : (w : Row) → Fits w (typed_in left).ty (typed_in right).ty t → (place : Place) (b : Behind) (by : State → Gives Tree) → By w place b ≡ Some by → (s : State) → Standing s → Decided s (by s)
+    row_decides (Joined join) fit place b by at s stands =
+        let first = l.conditions fit.left (ending place) s stands in
+        subst (λ (v : State → Gives Tree). Decided s (v s)) (some_same at)
+        (joined_part types texts fs f join (condition a left (ending place)) (condition a right (ending b.token)) s stands.opened first
+        (r.conditions fit.right (ending b.token) (condition a left (ending place) s).state (stands_later a visible s (condition a left (ending place) s).state first.grown stands)))
+    row_decides (IsNull side) fit place b by at s stands =
+        subst (λ (v : State → Gives Tree). Decided s (v s)) (some_same at)
+        (negation_part types texts fs f (not_null place b.ends (on side (pointer a left) (pointer a right))) s (not_null_on side place b.ends s stands fit))
+    row_decides (NotNull side) fit place b by at s stands = subst (λ (v : State → Gives Tree). Decided s (v s)) (some_same at) (not_null_on side place b.ends s stands fit)
+    row_decides (Computed by common) fit place b w at s stands = absurd (none_some at)
+
+    abbrev operated : Row → Place → Place → Option ℕ → State → Gives ℕ
+    operated w place behind into s = values.operated_by w into t place (λ common s. value a left behind common None s) (λ common s. value a right behind common None s) s
+
+    row_computes : (w : Row) → Fits w (typed_in left).ty (typed_in right).ty t → is_value t ≡ true → (place : Place) (b : Behind) → By w place b ≡ None → (into : Option ℕ) (s : State) → IsIntoOf t s into → Standing s
+        → Valued t into s (operated w place b.token into s)
+    row_computes (Computed by common) fit v place b none into s wanted stands =
+        let first = l.valued fit.left b.token common fit.value None s tt stands in
+        operated_part types texts fs f into common t place by (value a left b.token common None) (value a right b.token common None) s fit.promoted fit.answers v wanted stands.opened first
+        (r.valued fit.right b.token common fit.value None (value a left b.token common None s).state tt (stands_later a visible s (value a left b.token common None s).state first.grown stands))
+    row_computes (Joined join) fit v place b none into s wanted stands = absurd (none_some (sym none))
+    row_computes (IsNull side) fit v place b none into s wanted stands = absurd (none_some (sym none))
+    row_computes (NotNull side) fit v place b none into s wanted stands = absurd (none_some (sym none))
+
+    row_lands : (w : Row) (place : Place) (b : Behind) → By w place b ≡ None → (r : ℕ) (s : State) → (operated w place b.token (Some r) s).given ≡ r
+    row_lands (Computed by common) place b none r s = refl
+    row_lands (Joined join) place b none r s = absurd (none_some (sym none))
+    row_lands (IsNull side) place b none r s = absurd (none_some (sym none))
+    row_lands (NotNull side) place b none r s = absurd (none_some (sym none))
+
+  binary_form : (o : BinaryOperator) (left right : Form) (e : Typed) → IsCombined o (typed_in left) (typed_in right) e → IsWhole a visible types texts fs f setting left → IsWhole a visible types texts fs f setting right
+      → IsForm a visible types texts fs f setting (binary o left right) e
+  binary_form o left right e c l r =
+      decided_form a visible types texts fs f setting (binary o left right) e c.ty c.is.0 c.is.1 v refl
+      (row_computes left right c.ty l r (row_between o left right) fit v)
+      (row_lands left right c.ty l r (row_between o left right))
+      (row_decides left right c.ty l r (row_between o left right) fit)
     where
       lo : IsOperand (typed_in left).ty
       lo = operand_kind a.program.types (typed_in left) l.kind
@@ -258,19 +309,8 @@ module _ (a : Around) (visible : List ℕ) (types : Types) (texts : ℕ) (fs : L
       v : is_value c.ty ≡ true
       v = answer_value o (typed_in left).ty (typed_in right).ty c.ty lo ro c.answer
 
-      makes : (place : Place) → decision a (binary o left right) place ≡ None → (into : Option ℕ) (s : State) → IsIntoOf c.ty s into → Standing s → Valued c.ty into s (made a (binary o left right) place c.ty into s)
-      makes place none into s wanted stands =
-          let both = binary_numbers a visible types texts fs f o place left right e c hl hr lo ro none in
-          let never = no_test a visible types texts fs f o place left right none in
-          let t = common left right in
-          let w = promoted_value (around.type_in left) (around.type_in right) in
-          let first = l.valued both.0 t w None s tt stands in
-          let later = stands_later a visible s (value a left t None s).state first.grown stands in
-          let own : c.ty ≡ answer_of (values.operator_of o) t =
-          number_answer o (typed_in left).ty (typed_in right).ty c.ty both.0 both.1 never.0 never.1 c.answer
-          ∙ sym (ap (λ (x : Ty). answer_of (values.operator_of o) (promoted x (around.type_in right))) (type_in_own left) ∙ ap (λ (x : Ty). answer_of (values.operator_of o) (promoted (own_type (typed_in left).ty) x)) (type_in_own right)) in
-          operated_part types texts fs f into t c.ty place (values.operator_of o) (value a left t None) (value a right t None) s (promoted_is (around.type_in left) (around.type_in right)) (sym own) v wanted stands.opened first
-          (r.valued both.1 t w None (value a left t None s).state tt later)
+      fit : Fits (row_between o left right) (typed_in left).ty (typed_in right).ty c.ty
+      fit = row_fits_between o left right c.ty lo ro c.answer
 
   -- ---- any expression
 
@@ -281,32 +321,32 @@ module _ (a : Around) (visible : List ℕ) (types : Types) (texts : ℕ) (fs : L
 
     -- each form by the way it is made
     pub expression : (form : Form) (e : Typed) → is_built_form form ≡ true → IsMadeOf a.program a.function.locals visible e form → IsForm a visible types texts fs f setting form e
-    expression (number n) e b h = literal a visible types texts fs f setting (number n) e (number_type n) h.0 (number_value n) refl (λ place. refl) (λ place into s wanted stands. constant_part types texts fs f into (number_type n) place (values.long n) s (number_value n) wanted) (λ place r s. refl)
-    expression (character c) e b h = literal a visible types texts fs f setting (character c) e ty.Char h.0 refl refl (λ place. refl) (λ place into s wanted stands. constant_part types texts fs f into ty.Char place (pos c) s refl wanted) (λ place r s. refl)
-    expression (boolean x) e b h = literal a visible types texts fs f setting (boolean x) e ty.Bool h refl refl (λ place. refl) (λ place into s wanted stands. constant_part types texts fs f into ty.Bool place (values.truth x) s refl wanted) (λ place r s. refl)
+    expression (number n) e b h = literal a visible types texts fs f setting (number n) e (number_type n) h.0 (number_value n) refl (λ place b. refl) (λ place behind into s wanted stands. constant_part types texts fs f into (number_type n) place (values.long n) s (number_value n) wanted) (λ place behind r s. refl)
+    expression (character c) e b h = literal a visible types texts fs f setting (character c) e ty.Char h.0 refl refl (λ place b. refl) (λ place behind into s wanted stands. constant_part types texts fs f into ty.Char place (pos c) s refl wanted) (λ place behind r s. refl)
+    expression (boolean x) e b h = literal a visible types texts fs f setting (boolean x) e ty.Bool h refl refl (λ place b. refl) (λ place behind into s wanted stands. constant_part types texts fs f into ty.Bool place (values.truth x) s refl wanted) (λ place behind r s. refl)
     expression null e b h = null_form e h.0 h.1
     expression (local x) e b h = variable_form x e h.0 h.1
-    expression (call g given closing) e b h = call_form g given closing e h.0 (λ of at s stands. handed given b h.2 (parameter_types (Some of)) (subst (λ (o : Option FunctionForm). are_given a.program.types (parameter_types o) given ≡ true) at h.1) (setting.taken g of at) s stands)
+    expression (call g given closing) e b h = call_form g given closing e h.0 (λ of at s stands. handed closing given b h.2 (parameter_types (Some of)) (subst (λ (o : Option FunctionForm). are_given a.program.types (parameter_types o) given ≡ true) at h.1) (setting.taken g of at) s stands)
     expression (paren inner closing) e b h = paren_form a visible types texts fs f setting inner closing e (ap (λ (y : Typed). y.ty) (ok_same h.0)) (ap (λ (y : Typed). y.category) (ok_same h.0)) (whole_expression inner b h.1)
-    expression input e b h = literal a visible types texts fs f setting input e ty.Long h refl refl (λ place. refl) (λ place into s wanted stands. input_part types texts fs f into ty.Long place s refl wanted) (λ place r s. refl)
+    expression input e b h = literal a visible types texts fs f setting input e ty.Long h refl refl (λ place b. refl) (λ place behind into s wanted stands. input_part types texts fs f into ty.Long place s refl wanted) (λ place behind r s. refl)
     expression (dereference inner) e b h = let is = whole_expression inner b h.1 in dereference_form inner e (dereferenced_as a.program.types (typed_in inner) e is.kind h.0) is
     expression (negate inner) e b h =
         let is = whole_expression inner b h.1 in
         let g = negated_as a.program.types (typed_in inner) e is.kind h.0 in
         let own : e.ty ≡ Of g.ty = ap (λ (y : Typed). y.ty) g.is in
-        value_form a visible types texts fs f setting (negate inner) e g.ty own (ap (λ (y : Typed). y.category) g.is) g.worth refl (λ place. refl)
-        (λ place into s wanted stands. negated_part types texts fs f g.ty place (value a inner g.ty None) into s g.worth (sym (ap (λ (t : ExprType). operands.is_promoted (own_type t)) own) ∙ negated_promoted a.program.types (typed_in inner) e is.kind h.0) wanted stands.opened
-        (is.valued g.number g.ty g.worth None s tt stands))
-        (λ place r s. refl)
+        value_form a visible types texts fs f setting (negate inner) e g.ty own (ap (λ (y : Typed). y.category) g.is) g.worth refl (λ place b. refl)
+        (λ place behind into s wanted stands. negated_part types texts fs f g.ty place (value a inner behind g.ty None) into s g.worth (sym (ap (λ (t : ExprType). operands.is_promoted (own_type t)) own) ∙ negated_promoted a.program.types (typed_in inner) e is.kind h.0) wanted stands.opened
+        (is.valued g.number behind g.ty g.worth None s tt stands))
+        (λ place behind r s. refl)
     expression (not inner) e b h =
         let is = whole_expression inner b h.1 in
         let g = inverted_as (typed_in inner) e h.0 in
-        decided_form a visible types texts fs f setting (not inner) e ty.Bool (ap (λ (y : Typed). y.ty) g.is) (ap (λ (y : Typed). y.category) g.is) refl refl (λ place none. absurd (none_some (sym none))) (λ place none. absurd (none_some (sym none)))
-        (λ place w at s stands. subst (λ (v : State → Gives Tree). Decided s (v s)) (some_same at) (negation_part types texts fs f (condition a inner) s (is.conditions g.condition s stands)))
+        decided_form a visible types texts fs f setting (not inner) e ty.Bool (ap (λ (y : Typed). y.ty) g.is) (ap (λ (y : Typed). y.category) g.is) refl refl (λ place b none. absurd (none_some (sym none))) (λ place b none. absurd (none_some (sym none)))
+        (λ place b w at s stands. subst (λ (v : State → Gives Tree). Decided s (v s)) (some_same at) (negation_part types texts fs f (condition a inner b) s (is.conditions g.condition b s stands)))
     expression (address_of inner) e b h = let is = whole_expression inner b h.1 in address_form inner e (addressed_as a.program.types (typed_in inner) e is.kind h.0) is
     expression (binary o left right) e b h =
         let parts = and_parts (is_built_form left) (is_built_form right) b in
-        binary_form o left right e (combined_as o e.place (typed_in left) (typed_in right) e h.0) h.1 h.2 (whole_expression left parts.0 h.1) (whole_expression right parts.1 h.2)
+        binary_form o left right e (combined_as o e.place (typed_in left) (typed_in right) e h.0) (whole_expression left parts.0 h.1) (whole_expression right parts.1 h.2)
     expression (text id) e b h = absurd (false≢true b)
     expression (construct structure elements closing) e b h = absurd (false≢true b)
     expression (move x) e b h = absurd (false≢true b)
@@ -320,18 +360,18 @@ module _ (a : Around) (visible : List ℕ) (types : Types) (texts : ℕ) (fs : L
     expression (first ⨟ others) e b h = absurd h
 
     -- arguments
-    pub handed : (form : Form) → is_built_form form ≡ true → AreExpressions a.program a.function.locals visible form → (ids : List TyId) → are_given a.program.types ids form ≡ true
+    pub handed : (closing : Place) (form : Form) → is_built_form form ≡ true → AreExpressions a.program a.function.locals visible form → (ids : List TyId) → are_given a.program.types ids form ≡ true
         → ((n : ℕ) (id : TyId) → slice_get ids n ≡ Some id → is_value (type_at a.program.types id) ≡ true) → (s : State) → Standing s
-        → Makes types texts fs f None s (handed_over a form ids s) (arguments types texts fs f ids)
-    handed nothing b h [] g v s stands = none_handed types texts fs f s
-    handed nothing b h (id ∷ ids) g v s stands = absurd (false≢true g)
-    handed (e ⨟ es) b h [] g v s stands = absurd (false≢true g)
-    handed (e ⨟ es) b h (id ∷ ids) g v s stands =
+        → Makes types texts fs f None s (handed_over a form closing ids s) (arguments types texts fs f ids)
+    handed closing nothing b h [] g v s stands = none_handed types texts fs f s
+    handed closing nothing b h (id ∷ ids) g v s stands = absurd (false≢true g)
+    handed closing (e ⨟ es) b h [] g v s stands = absurd (false≢true g)
+    handed closing (e ⨟ es) b h (id ∷ ids) g v s stands =
         let parts = and_parts (is_built_form e) (is_built_form es) b in
         let given = and_parts (is_given a.program.types (type_at a.program.types id) (typed_in e)) (are_given a.program.types ids es) g in
         let t = type_at a.program.types id in
         let worth = v zero id refl in
-        let first = (whole_expression e parts.0 h.0).valued (given_number a.program.types t (typed_in e) worth given.0) t worth None s tt stands in
-        handed_part types texts fs f id t ids (value a e t None) (handed_over a es ids) s (type_later a.program.types types setting.front id worth) stands.opened first
-        (handed es parts.1 h.1 ids given.1 (λ n. v (suc n)) (value a e t None s).state (stands_later a visible s (value a e t None s).state first.grown stands))
-    handed _ b h ids g v s stands = absurd h
+        let first = (whole_expression e parts.0 h.0).valued (given_number a.program.types t (typed_in e) worth given.0) closing t worth None s tt stands in
+        handed_part types texts fs f id t ids (value a e closing t None) (handed_over a es closing ids) s (type_later a.program.types types setting.front id worth) stands.opened first
+        (handed closing es parts.1 h.1 ids given.1 (λ n. v (suc n)) (value a e closing t None s).state (stands_later a visible s (value a e closing t None s).state first.grown stands))
+    handed closing _ b h ids g v s stands = absurd h

@@ -101,6 +101,7 @@ module _ (types : Types) (f : Function) where
     pub table : IsFront s.types.types s'.types.types
     pub variables : IsFront s.variables s'.variables
     pub living : take (length s.living) s'.living ≡ s.living
+    pub pending : s'.pending ≡ s.pending
     pub outside : s'.outside ≡ s.outside
     pub shaped : AreShaped types s.locals → AreShaped types s'.locals
 
@@ -123,7 +124,7 @@ module _ (types : Types) (f : Function) where
       tail e = ap rest e
 
   pub adds_none : (s : State) → Adds s s
-  adds_none s = record { locals = front_itself s.locals; table = front_itself s.types.types; variables = front_itself s.variables; living = take_itself s.living; outside = refl; shaped = λ h. h }
+  adds_none s = record { locals = front_itself s.locals; table = front_itself s.types.types; variables = front_itself s.variables; living = take_itself s.living; pending = refl; outside = refl; shaped = λ h. h }
 
   pub adds_then : (s t u : State) → Adds s t → Adds t u → Adds s u
   adds_then s t u g h = record {
@@ -133,6 +134,7 @@ module _ (types : Types) (f : Function) where
     living =
         sym (take_front (length s.living) (length t.living) u.living (length_front s.living t.living g.living))
         ∙ ap (take (length s.living)) h.living ∙ g.living;
+    pending = h.pending ∙ g.pending;
     outside = h.outside ∙ g.outside;
     shaped = λ are. h.shaped (g.shaped are);
   }
@@ -143,6 +145,7 @@ module _ (types : Types) (f : Function) where
     table = g.types;
     variables = subst (IsFront s.variables) (sym g.variables) (front_itself s.variables);
     living = ap (take (length s.living)) g.living ∙ take_itself s.living;
+    pending = g.pending;
     outside = g.outside;
     shaped = g.shaped types;
   }

@@ -19,7 +19,7 @@ use Rattle.life_typed.specs.declared.typed_expr.ExprType.TheVariants.{Of, NullPo
 use Rattle.life_type_expr.specs.Lists.{fits_at_all}
 use Rattle.life_well_typed.specs.Given.{is_given}
 use Rattle.life_proper.specs.OperandTypes.{keeps_const, same}
-use Rattle.life_elab_laws.proofs.Aiming.{takes_from}
+use Rattle.life_elab_laws.proofs.Gifts.{takes_from}
 use Rattle.life_elab_laws.proofs.FormedVariables.{type_later}
 use Rattle.life_elab_laws.proofs.Fronts.{IsFront}
 use Rattle.life_elab_laws.proofs.OperandsThere.{value_same}

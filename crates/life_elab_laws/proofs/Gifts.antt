@@ -1,27 +1,38 @@
 -- What a part of an expression gives: which type it has in the finished function, and what is known of it where so many locals are there.
-use Rattle.std.proofs.Common.{◌≡◌, ◌≤◌, ◌&&◌, ℕ, Bool, true, List, [], ◌∷◌, None, ◌∙◌, arith}
+use Rattle.std.proofs.Common.{◌≡◌, ◌≤◌, ◌⊎◌, ℕ, Bool, true, false, List, [], ◌∷◌, None, ◌∙◌, arith}
 use Rattle.std.specs.List.{list_all}
-use Rattle.life_types.specs.TypeTests.{is_constant}
+use Rattle.life_types.specs.TypeTests.{is_raw}
 use Rattle.life_types.specs.Types.{Types}
 use Rattle.life_types.specs.declared.ty.Ty.{Ty}
 use Rattle.life_types.specs.declared.ty.TyId.{TyId}
 use Rattle.life_typed.specs.declared.typed_expr.ExprType.{ExprType}
 use Rattle.life_typed.specs.declared.typed_expr.ExprType.TheVariants.{NullPointer, Of, TextLiteral}
 use Rattle.life_core.specs.Function.{Function}
-use Rattle.life_core.specs.Operands.{Argument, Location, Null, Operand, Place as Aimed, Value}
+use Rattle.life_core.specs.Operands.{Argument, Location, Operand, Value}
 use Rattle.life_core.specs.Served.{is_served_argument, is_served_location, is_served_operand}
-use Rattle.life_proper.specs.OperandTypes.{aims_at, keeps_const}
+use Rattle.life_core.specs.Step.{Step}
+use Rattle.life_proper.specs.OperandTypes.{keeps_const, takes}
 use Rattle.life_proper.specs.Placed.{is_const_place, is_number_of, type_in, type_of}
 use Rattle.life_proper.specs.WellFormed.{are_arguments_for, have_own_slots}
 use Rattle.life_proper.specs.declared.known.Known.{Known}
-use Rattle.life_writer.specs.Pointers.{As, At, Pointing}
-use Rattle.life_elab_laws.proofs.Making.{IsHeld, IsPlace, IsPointer, IsPointing, Keeps}
+use Rattle.life_writer.specs.Pointers.{As, By, Pointing}
+use Rattle.life_elab_laws.proofs.Making.{AreHeld, IsFilling, IsHeld, IsPlace, IsPointer, IsPointing, Keeps}
+use Rattle.life_elab_laws.proofs.Shaping.{IsFineStep}
 
 -- a number in a register for each of these
 abbrev pub AreNumbersFor : List TyId → List Argument → ℕ → List Known → Type 0
 AreNumbersFor [] [] n k = Unit {0}
 AreNumbersFor (id ∷ ids) (Value r ∷ xs) n k = IsHeld r n k × AreNumbersFor ids xs n k
 AreNumbersFor _ _ n k = ⊥
+
+-- what a pointer of a type may be given: what it is itself, a pointer that it takes, or nullptr
+abbrev pub takes_from : Types → Ty → ExprType → Bool
+takes_from types t (Of u) = takes types t u
+takes_from types t NullPointer = true
+takes_from types t TextLiteral = false
+
+abbrev pub IsTakenBy : Types → Ty → ExprType → Type 0
+IsTakenBy types u t = (t ≡ Of u) ⊎ (takes_from types u t ≡ true)
 
 module _ (types : Types) (texts : ℕ) (fs : List Function) (f : Function) where
   -- what is ready stays so where the locals that are there keep what is known of them
@@ -77,33 +88,28 @@ module _ (types : Types) (texts : ℕ) (fs : List Function) (f : Function) where
   abbrev pub a_pointer : Ty → Gift Location
   a_pointer t = record { typed = IsAt t; ready = IsPointer; stays = pointer_stays }
 
-  -- ---- what is given to a pointer of a type
+  -- ---- what is given to a pointer by an expression of a type
 
-  -- a place that it may be aimed at
-  pub record IsAimedAt (t : Ty) (o : Operand) : Type 0 where
-    pub fits : (aims_at types t (type_of types f o) && keeps_const (is_constant t) (is_const_place types f o)) ≡ true
-    pub served : is_served_operand o ≡ true
-
-  abbrev pub IsGivenTo : Ty → Pointing → Type 0
-  IsGivenTo t (At Null) = Unit {0}
-  IsGivenTo t (At (Aimed o)) = IsAimedAt t o
-  IsGivenTo t (At _) = ⊥
-  IsGivenTo t (As l) = IsAt t l
-
-  -- .. by an expression of a type
+  -- an instruction with a hole can stand for each pointer that takes what is given
   abbrev pub IsGivenAs : ExprType → Pointing → Type 0
-  IsGivenAs (Of t) p = IsGivenTo t p
-  IsGivenAs NullPointer p = p ≡ At Null
-  IsGivenAs TextLiteral p = ⊥
+  IsGivenAs t (By step) = (u : Ty) (l : Location) → is_raw u ≡ true → IsAt u l → IsTakenBy types u t → IsFineStep types texts fs f (step l)
+  IsGivenAs (Of t) (As l) = IsAt t l
+  IsGivenAs NullPointer (As l) = ⊥
+  IsGivenAs TextLiteral (As l) = ⊥
 
-  pub pointing_stays : (p : Pointing) (n m : ℕ) (k j : List Known) → n ≤ m → IsPointing p n k → Keeps f n None k j → IsPointing p m j
-  pointing_stays (At Null) n m k j h p keeps = tt
-  pointing_stays (At (Aimed o)) n m k j h p keeps = place_stays o n m k j h p keeps
-  pointing_stays (At _) n m k j h p keeps = absurd p
+  pub all_stay : (xs : List ℕ) (n m : ℕ) (k j : List Known) → n ≤ m → AreHeld xs n k → Keeps f n None k j → AreHeld xs m j
+  all_stay [] n m k j h p keeps = tt
+  all_stay (x ∷ xs) n m k j h p keeps = (held_stays x n m k j h p.0 keeps, all_stay xs n m k j h p.1 keeps)
+
+  pub filling_stays : (step : Location → Step) (n m : ℕ) (k j : List Known) → n ≤ m → IsFilling f step n k → Keeps f n None k j → IsFilling f step m j
+  filling_stays step n m k j h p keeps = record { uses = p.uses; held = all_stay p.uses n m k j h p.held keeps; touches = p.touches }
+
+  pub pointing_stays : (p : Pointing) (n m : ℕ) (k j : List Known) → n ≤ m → IsPointing f p n k → Keeps f n None k j → IsPointing f p m j
+  pointing_stays (By step) n m k j h p keeps = filling_stays step n m k j h p keeps
   pointing_stays (As l) n m k j h p keeps = pointer_stays l n m k j h p keeps
 
   abbrev pub a_pointing : ExprType → Gift Pointing
-  a_pointing t = record { typed = IsGivenAs t; ready = IsPointing; stays = pointing_stays }
+  a_pointing t = record { typed = IsGivenAs t; ready = IsPointing f; stays = pointing_stays }
 
   -- ---- values in registers, for parameters of these types
 

@@ -22,6 +22,7 @@ pub record GrowsBare (s s' : State) : Type 0 where
   pub count : length s.locals ≤ length s'.locals
   pub variables : s'.variables ≡ s.variables
   pub living : s'.living ≡ s.living
+  pub pending : s'.pending ≡ s.pending
   pub outside : s'.outside ≡ s.outside
   pub shaped : (types : Types) → AreShaped types s.locals → AreShaped types s'.locals
 
@@ -35,6 +36,7 @@ grows_none s = record {
   count = omega arith;
   variables = refl;
   living = refl;
+  pending = refl;
   outside = refl;
   shaped = λ types h. h;
 }
@@ -46,6 +48,7 @@ grows_then s t u g h = record {
   count = omega (arith, g.count, h.count);
   variables = h.variables ∙ g.variables;
   living = h.living ∙ g.living;
+  pending = h.pending ∙ g.pending;
   outside = h.outside ∙ g.outside;
   shaped = λ types are. h.shaped types (g.shaped types are);
 }
@@ -79,6 +82,7 @@ register_grows place t s = record {
   count = omega (arith, length-append s.locals (added place t s ∷ []));
   variables = refl;
   living = refl;
+  pending = refl;
   outside = refl;
   shaped = λ types h. shaped_more types s.locals (added place t s) h (λ is. absurd (true≢false is));
 }

@@ -1,5 +1,5 @@
 -- Single instructions that write a register: what is asked of each, and that it is a part behind what its operands give.
-use Rattle.std.proofs.Common.{◌≡◌, ◌<◌, ℕ, Bool, true, false, ◌&&◌, cond, List, [], ◌∷◌, ◌++◌, length, slice_set, Option, Some, None, refl, sym, ap, ◌∙◌, subst, arith}
+use Rattle.std.proofs.Common.{◌≡◌, ◌<◌, inl, ℕ, Bool, true, false, ◌&&◌, cond, List, [], ◌∷◌, ◌++◌, length, slice_set, Option, Some, None, refl, sym, ap, ◌∙◌, subst, arith}
 use Rattle.std.proofs.lemmas.Bool.{and_from, false≢true}
 use Rattle.std.proofs.lemmas.Option.{slice_get_within}
 use Rattle.std.specs.Prelude.{ℤ}
@@ -13,8 +13,8 @@ use Rattle.life_types.specs.declared.ty.Ty.TheVariants as ty
 use Rattle.life_typed.specs.declared.typed_expr.ExprType.TheVariants.{Of}
 use Rattle.life_core.specs.Function.{Function}
 use Rattle.life_core.specs.Kinds.{is_register_at}
-use Rattle.life_core.specs.Operands.{Null, Operand, Place as Aimed, Source, whole}
-use Rattle.life_core.specs.Step.{Aim, Step}
+use Rattle.life_core.specs.Operands.{Operand, whole}
+use Rattle.life_core.specs.Step.{Step}
 use Rattle.life_core.specs.Touched.{operation_uses, place_uses, touched_by}
 use Rattle.life_core.specs.Tree.{Acts}
 use Rattle.life_core.specs.declared.operation.Operation.{Operation}
@@ -25,22 +25,23 @@ use Rattle.life_proper.specs.OperandTypes.{is_promoted}
 use Rattle.life_proper.specs.OperandTypes as operands
 use Rattle.life_proper.specs.Placed.{is_number, is_number_of, type_at}
 use Rattle.life_proper.specs.ReadyKnown.{are_known, are_ready, known_after}
-use Rattle.life_proper.specs.WellFormed.{answer_of, is_operation_of, is_source_of}
+use Rattle.life_proper.specs.WellFormed.{answer_of, is_operation_of}
 use Rattle.life_proper.specs.declared.known.Known.{Known}
 use Rattle.life_proper.specs.declared.known.Known.TheVariants as known
-use Rattle.life_proper.proofs.ReadyTests.{both_known, uses_ready}
-use Rattle.life_writer.specs.Pointers.{As, At, Pointing, located}
+use Rattle.life_proper.proofs.ReadyTests.{uses_ready}
+use Rattle.life_writer.specs.Pointers.{As, By, Pointing, located}
 use Rattle.life_writer.specs.Registers.{as_type, computed, constant, conversion, converted, eval, load, new_register, target}
 use Rattle.life_writer.specs.Values as values
 use Rattle.life_writer.specs.Writing.{Gives, State, emit, gives}
 use Rattle.life_elab_laws.proofs.Emitting.{IsInto, IsNameless, IsWanted, Targets, keeps_set, nameless_register, new_targeted, targeted}
 use Rattle.life_elab_laws.proofs.Falling.{Fills, falls_acts, falls_filling}
 use Rattle.life_elab_laws.proofs.Fronts.{last_there}
-use Rattle.life_elab_laws.proofs.Gifts.{Gift, IsAt, IsGivenTo, a_number, a_place, a_pointer, a_pointing, both, nothing}
+use Rattle.life_elab_laws.proofs.Filling.{filling_fills}
+use Rattle.life_elab_laws.proofs.Gifts.{Gift, IsAt, a_number, a_place, a_pointer, a_pointing, both, nothing}
 use Rattle.life_elab_laws.proofs.Growing.{Begins, Grows, added, grows_none}
 use Rattle.life_elab_laws.proofs.Held.{one_there, place_there, two_there}
 use Rattle.life_elab_laws.proofs.Knowledge.{at_set}
-use Rattle.life_elab_laws.proofs.Making.{IsOpen, IsPointing, Keeps}
+use Rattle.life_elab_laws.proofs.Making.{IsOpen, Keeps}
 use Rattle.life_elab_laws.proofs.OperandsThere.{number_any, number_there, number_typed, type_there, value_same}
 use Rattle.life_elab_laws.proofs.Parts.{Makes, Part, Runs, and_part, gives_part, then_part}
 use Rattle.life_elab_laws.proofs.Shaping.{IsFineStep, fine_acts}
@@ -72,15 +73,6 @@ into_of_later t s s' (Some r) g h = (
 pub is_into : (t : Ty) (s : State) (into : Option ℕ) → IsIntoOf t s into → IsInto s into
 is_into t s None h = tt
 is_into t s (Some r) h = h.0
-
--- a pointer is aimed at nothing, or at a place that is there
-pub aimed_fills : (f : Function) (x n : ℕ) (source : Source) (k : List Known) → IsPointing (At source) n k → Fills f k (Aim (whole x) source) x
-aimed_fills f x n Null k p = record { ready = refl; after = refl }
-aimed_fills f x n (Aimed o) k p = record {
-  ready = uses_ready k (place_uses o ++ []) (x ∷ []) (both_known known.Ready k (place_uses o) [] (place_there o n k p) refl);
-  after = refl;
-}
-aimed_fills f x n _ k p = absurd p
 
 module _ (types : Types) (texts : ℕ) (fs : List Function) (f : Function) where
   abbrev G : Type 0 → Type 1
@@ -272,12 +264,6 @@ module _ (types : Types) (texts : ℕ) (fs : List Function) (f : Function) where
 
   -- ---- pointers
 
-  -- it is aimed at nothing, or at a place that it may be aimed at
-  aimed_fine : (r : ℕ) (t : Ty) (source : Source) → is_raw t ≡ true → IsAt types texts fs f t (whole r) → IsGivenTo types texts fs f t (At source) → IsFineStep types texts fs f (Aim (whole r) source)
-  aimed_fine r t Null raw at h = record { plain = refl; formed = ap (λ (u : Ty). is_source_of types texts fs f u Null) at.typed ∙ raw; served = refl }
-  aimed_fine r t (Aimed o) raw at h = record { plain = refl; formed = ap (λ (u : Ty). is_source_of types texts fs f u (Aimed o)) at.typed ∙ h.fits; served = h.served }
-  aimed_fine r t _ raw at h = absurd h
-
   raw_at : (place : Place) (t : Ty) (s : State) → is_raw t ≡ true → Begins types f (new_register place t s).state → IsAt types texts fs f t (whole (new_register place t s).given)
   raw_at place (ty.Raw target constant) s raw b =
       let t : Ty = ty.Raw target constant in
@@ -290,12 +276,12 @@ module _ (types : Types) (texts : ℕ) (fs : List Function) (f : Function) where
       → Part types texts fs f (a_pointing types texts fs f (Of t)) p None s (located place t p s) (a_pointer types texts fs f t)
   located_part (As l) t place s raw fits below =
       gives_part types texts fs f (a_pointing types texts fs f (Of t)) (As l) None l s (a_pointer types texts fs f t) (λ b h. h) (λ b k alive h. h)
-  located_part (At source) t place s raw fits below =
+  located_part (By step) t place s raw fits below =
       let w = new_register place t s in
-      emit_part (a_pointing types texts fs f (Of t)) (At source) None s w place (λ r. Aim (whole r) source) (whole w.given) (a_pointer types texts fs f t)
+      emit_part (a_pointing types texts fs f (Of t)) (By step) None s w place (λ r. step (whole r)) (whole w.given) (a_pointer types texts fs f t)
       (new_targeted types f place t s fits below)
-      (λ b h. let at = raw_at place t s raw b in (aimed_fine w.given t source raw at h, at))
-      (λ r n k e h. aimed_fills f r n source k h)
+      (λ b h. let at = raw_at place t s raw b in (h t (whole w.given) raw at (inl refl), at))
+      (λ r n k e h. filling_fills f step n k h r)
       (λ k lt e. record { local = w.given; is = refl; below = lt; held = e })
 
   -- ---- an instruction that leaves all that is known

@@ -110,6 +110,7 @@ module _ (types : Types) (texts : ℕ) (fs : List Function) (f : Function) where
         table = inner.adds.table;
         variables = inner.adds.variables;
         living = ap (take (length s.living)) inner.adds.living ∙ take_itself s.living;
+        pending = inner.adds.pending;
         outside = inner.adds.outside;
         shaped = inner.adds.shaped;
       };

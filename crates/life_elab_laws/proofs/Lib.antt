@@ -6,7 +6,6 @@ pub mod CallParts
 pub mod Callees
 pub mod Calls
 pub mod Conditions
-pub mod Deciding
 pub mod DeclarationWriting
 pub mod Declaring
 pub mod Doing
@@ -18,6 +17,7 @@ pub mod ExpressionKinds
 pub mod ExpressionTypes
 pub mod Expressions
 pub mod Falling
+pub mod Filling
 pub mod FlatLocals
 pub mod Following
 pub mod FormedEnds
@@ -40,14 +40,15 @@ pub mod Making
 pub mod NewVariables
 pub mod Nowhere
 pub mod OperandsThere
-pub mod OperatorTypes
 pub mod OrderedTypes
 pub mod Outputs
 pub mod Parts
+pub mod Pending
 pub mod ProgramNames
 pub mod Programs
 pub mod ProperTranslations
 pub mod Returning
+pub mod RowTypes
 pub mod ServedLocals
 pub mod Setting
 pub mod Shaped

@@ -134,6 +134,7 @@ module _ (types : Types) (texts : ℕ) (fs : List Function) (f : Function) where
         table = body.does.adds.table;
         variables = body.does.adds.variables;
         living = body.does.adds.living;
+        pending = body.does.adds.pending;
         outside = refl;
         shaped = body.does.adds.shaped;
       }

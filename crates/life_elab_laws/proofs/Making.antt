@@ -2,13 +2,14 @@
 use Rattle.std.proofs.Common.{◌≡◌, ◌<◌, ◌≤◌, ℕ, List, [], ◌∷◌, Contains, length, slice_get, Option, Some, None, refl, ◌∙◌, subst, arith}
 use Rattle.life_types.specs.declared.ty.NameId.{NameId}
 use Rattle.life_core.specs.Function.{Function}
-use Rattle.life_core.specs.Operands.{Location, Operand, Null, Place as Aimed, whole}
-use Rattle.life_core.specs.Touched.{place_uses}
+use Rattle.life_core.specs.Operands.{Location, Operand, whole}
+use Rattle.life_core.specs.Step.{Step}
+use Rattle.life_core.specs.Touched.{nothing, place_uses, touched_by}
 use Rattle.life_core.specs.declared.program.Local.{Local}
 use Rattle.life_proper.specs.declared.known.Known.{Known}
 use Rattle.life_proper.specs.declared.known.Known.TheVariants as known
 use Rattle.life_proper.specs.Knowing.{known_at}
-use Rattle.life_writer.specs.Pointers.{Pointing, At, As}
+use Rattle.life_writer.specs.Pointers.{Pointing, By, As}
 use Rattle.life_writer.specs.Writing.{State}
 use Rattle.life_elab_laws.proofs.Growing.{Grows, bare}
 
@@ -32,12 +33,21 @@ pub record IsPlace (o : Operand) (n : ℕ) (k : List Known) : Type 0 where
   pub below : local < n
   pub held : known_at k local ≡ known.Ready
 
+-- locals that are there
+abbrev pub AreHeld : List ℕ → ℕ → List Known → Type 0
+AreHeld [] n k = Unit {0}
+AreHeld (x ∷ xs) n k = IsHeld x n k × AreHeld xs n k
+
+-- an instruction with a hole uses locals that are there, and writes the one in the hole
+pub record IsFilling (f : Function) (step : Location → Step) (n : ℕ) (k : List Known) : Type 0 where
+  pub uses : List ℕ
+  pub held : AreHeld uses n k
+  pub touches : (x : ℕ) → touched_by f (step (whole x)) ≡ record nothing { uses = uses; writes = x ∷ [] }
+
 -- what a pointer may be given
-abbrev pub IsPointing : Pointing → ℕ → List Known → Type 0
-IsPointing (At Null) n k = Unit {0}
-IsPointing (At (Aimed o)) n k = IsPlace o n k
-IsPointing (At _) n k = ⊥
-IsPointing (As l) n k = IsPointer l n k
+abbrev pub IsPointing : Function → Pointing → ℕ → List Known → Type 0
+IsPointing f (By step) n k = IsFilling f step n k
+IsPointing f (As l) n k = IsPointer l n k
 
 -- ---- where a part begins
 

@@ -1,5 +1,5 @@
 -- The variable that is declared next: its kind and its type in the finished function, so it can live, and what it is given fits it.
-use Rattle.std.proofs.Common.{◌≡◌, ℕ, Bool, true, false, not, List, length, slice_get, Option, Some, refl, sym, ap, ◌∙◌}
+use Rattle.std.proofs.Common.{◌≡◌, ℕ, Bool, true, false, not, ◌&&◌, List, length, slice_get, Option, Some, refl, sym, ap, ◌∙◌}
 use Rattle.std.proofs.lemmas.Bool.{and_from, or_left, or_right}
 use Rattle.life_types.specs.TypeTests.{is_pointer, is_reference, is_value}
 use Rattle.life_types.specs.Types.{Types, class}
@@ -7,10 +7,9 @@ use Rattle.life_types.specs.declared.ty.Ty.{Ty}
 use Rattle.life_types.specs.declared.ty.Ty.TheVariants as ty
 use Rattle.life_types.specs.declared.ty.TyId.{TyId}
 use Rattle.life_typed.specs.BaseTypes.{type_at}
-use Rattle.life_typed.specs.declared.typed_expr.ExprType.TheVariants.{Of}
 use Rattle.life_typed.specs.declared.typed_program.TypedLocal.{TypedLocal}
 use Rattle.life_core.specs.Function.{Function}
-use Rattle.life_core.specs.Operands.{Operand, Place as Aimed, object_named, whole}
+use Rattle.life_core.specs.Operands.{Operand, object_named, whole}
 use Rattle.life_core.specs.Step.{Save}
 use Rattle.life_core.specs.declared.program.LocalKind.TheVariants.{Object}
 use Rattle.life_pset.specs.Shapes as shapes
@@ -19,7 +18,6 @@ use Rattle.life_proper.specs.Placed.{is_const_place, is_number_of, object_at, re
 use Rattle.life_proper.specs.Placed as placed
 use Rattle.life_proper.specs.WellFormed.{can_live, goes_to}
 use Rattle.life_writer.specs.Around.{Around}
-use Rattle.life_writer.specs.Pointers.{At}
 use Rattle.life_writer.specs.Variables.{kind, variable_local}
 use Rattle.life_writer.specs.Writing.{State}
 use Rattle.life_elab_laws.proofs.Aiming.{keeps_further}
@@ -27,7 +25,7 @@ use Rattle.life_elab_laws.proofs.CallParts.{goes_object}
 use Rattle.life_elab_laws.proofs.Declaring.{with_new}
 use Rattle.life_elab_laws.proofs.FormedVariables.{object_place, reference_there, type_found, type_later}
 use Rattle.life_elab_laws.proofs.Fronts.{IsFront, front_itself, last_there}
-use Rattle.life_elab_laws.proofs.Gifts.{IsAt, IsGivenAs, IsPlaceOf}
+use Rattle.life_elab_laws.proofs.Gifts.{IsAt, IsPlaceOf}
 use Rattle.life_elab_laws.proofs.Growing.{Begins}
 use Rattle.life_elab_laws.proofs.OperandsThere.{object_there, register_there, type_there, value_no_reference, value_same}
 use Rattle.life_elab_laws.proofs.Shaping.{IsFineStep}
@@ -36,16 +34,12 @@ use Rattle.life_elab_laws.proofs.Types.{value_kind}
 module _ (a : Around) (types : Types) (texts : ℕ) (fs : List Function) (f : Function) (front : IsFront a.program.types.types types.types) where
   -- what a reference is bound to fits it
   pub bound_given : (target : TyId) (constant held : Bool) (o : Operand) → is_value (type_at a.program.types target) ≡ true → keeps_const constant held ≡ true
-      → IsPlaceOf types texts fs f (type_at a.program.types target) held o → IsGivenAs types texts fs f (Of (ty.Reference target constant)) (At (Aimed o))
+      → IsPlaceOf types texts fs f (type_at a.program.types target) held o → (same (shapes.ty_of types target) (placed.type_of types f o) && keeps_const constant (is_const_place types f o)) ≡ true
   bound_given target constant held o worth kept place =
       let later = type_later a.program.types types front target worth in
-      record {
-        fits =
-            and_from (same (shapes.ty_of types target) (placed.type_of types f o)) (keeps_const constant (is_const_place types f o))
-            (ap (same (shapes.ty_of types target)) (place.typed ∙ sym later) ∙ value_same (shapes.ty_of types target) (ap is_value later ∙ worth))
-            (keeps_further constant held (is_const_place types f o) kept place.held);
-        served = place.served;
-      }
+      and_from (same (shapes.ty_of types target) (placed.type_of types f o)) (keeps_const constant (is_const_place types f o))
+      (ap (same (shapes.ty_of types target)) (place.typed ∙ sym later) ∙ value_same (shapes.ty_of types target) (ap is_value later ∙ worth))
+      (keeps_further constant held (is_const_place types f o) kept place.held)
 
   module _ (v : TypedLocal) (s : State) (b : Begins types f (with_new (variable_local a v) s)) where
     there : slice_get f.locals (length s.locals) ≡ Some (variable_local a v)

@@ -50,8 +50,8 @@ module _ (a : Around) (visible : List ℕ) (types : Types) (texts : ℕ) (fs : L
   }
 
   -- the end of a line is the last text
-  line_part : (place : Place) (s : State) → nat_lt (end_line a) texts ≡ true → Stands a visible s → Acts a visible types texts fs f setting s (item a (line_end place) s)
-  line_part place s few stands =
+  line_part : (place behind : Place) (s : State) → nat_lt (end_line a) texts ≡ true → Stands a visible s → Acts a visible types texts fs f setting s (item a (line_end place) behind s)
+  line_part place behind s few stands =
       let w = new_register place ty.View s in
       let aimed : State = emit place (Aim (whole_local w.given) (Text (end_line a))) w.state in
       then_part types texts fs f (nothing types texts fs f) tt None s (gives w.given aimed) _ a_view (nothing types texts fs f) stands.opened
@@ -77,14 +77,14 @@ module _ (a : Around) (visible : List ℕ) (types : Types) (texts : ℕ) (fs : L
           type_there types f (length s.locals) (added place ty.View s) ty.View (b.locals (length s.locals) (added place ty.View s) (last_there s.locals (added place ty.View s)))
           (b.table (added place ty.View s).ty.0 ty.View (type_added s.types.types ty.View)) refl
 
-  printed_part : (e : Typed) (s : State) → IsWhole a visible types texts fs f setting (whole_form e) → is_number e.ty ≡ true → Stands a visible s → Acts a visible types texts fs f setting s (item a (printed e) s)
-  printed_part e s is n stands =
+  printed_part : (e : Typed) (behind : Place) (s : State) → IsWhole a visible types texts fs f setting (whole_form e) → is_number e.ty ≡ true → Stands a visible s → Acts a visible types texts fs f setting s (item a (printed e) behind s)
+  printed_part e behind s is n stands =
       let t = own_type e.ty in
-      let w = value a (whole_form e) t None s in
-      then_part types texts fs f (nothing types texts fs f) tt None s w _ (a_number types texts fs f t) (nothing types texts fs f) stands.opened (is.valued n t (own_value e.ty n) None s tt stands)
+      let w = value a (whole_form e) behind t None s in
+      then_part types texts fs f (nothing types texts fs f) tt None s w _ (a_number types texts fs f t) (nothing types texts fs f) stands.opened (is.valued n behind t (own_value e.ty n) None s tt stands)
       (acted_part types texts fs f (a_number types texts fs f t) w.given e.place (Ports (Writes w.given)) w.state (λ h. record { plain = refl; formed = number_any types f t w.given h; served = refl })
       (λ n k p. uses_ready k (w.given ∷ []) [] (one_there k w.given p.1)) (λ n m k p. keeps_all f m None k))
 
-  pub item_part : nat_lt (end_line a) texts ≡ true → (i : ItemForm) (s : State) → is_built_item i ≡ true → IsItem a.program a.function.locals a.function.result visible i → Stands a visible s → Acts a visible types texts fs f setting s (item a i s)
-  item_part lines (printed e) s b h stands = let is = whole_expression a visible types texts fs f setting (whole_form e) b h.1 in printed_part e s is (printed_number a.program.types e is.kind.kind h.0) stands
-  item_part lines (line_end place) s b h stands = line_part place s lines stands
+  pub item_part : nat_lt (end_line a) texts ≡ true → (i : ItemForm) (behind : Place) (s : State) → is_built_item i ≡ true → IsItem a.program a.function.locals a.function.result visible i → Stands a visible s → Acts a visible types texts fs f setting s (item a i behind s)
+  item_part lines (printed e) behind s b h stands = let is = whole_expression a visible types texts fs f setting (whole_form e) b h.1 in printed_part e behind s is (printed_number a.program.types e is.kind.kind h.0) stands
+  item_part lines (line_end place) behind s b h stands = line_part place behind s lines stands

@@ -41,6 +41,7 @@ use Rattle.life_elab_laws.proofs.Gifts.{a_number}
 use Rattle.life_elab_laws.proofs.Leaving.{IsEnded, ended, left_acts, left_does, left_level, past_fine}
 use Rattle.life_elab_laws.proofs.Nowhere.{nowhere_flows}
 use Rattle.life_elab_laws.proofs.Parts.{Makes}
+use Rattle.life_elab_laws.proofs.Pending.{same_pending}
 use Rattle.life_elab_laws.proofs.Setting.{Setting}
 use Rattle.life_elab_laws.proofs.Values.{by_results}
 use Rattle.life_elab_laws.proofs.WrittenLocals.{locals_added}
@@ -103,12 +104,12 @@ module _ (a : Around) (types : Types) (texts : ℕ) (fs : List Function) (f : Fu
     }
 
     -- .. and behind the value that is given back
-    module _ (register : HasRegister a s) (e : Typed) (keyword : Place) (b_e : is_built_expression e ≡ true) (r : IsReturned a.program a.function.locals a.function.result v.visible (Some e)) where
+    module _ (register : HasRegister a s) (e : Typed) (keyword token : Place) (b_e : is_built_expression e ≡ true) (r : IsReturned a.program a.function.locals a.function.result v.visible (Some e)) where
       abbrev t : Ty
       t = type_at a.program.types a.function.result
 
       abbrev w : Gives ℕ
-      w = value a (whole_form e) t (Some (result_local a)) s
+      w = value a (whole_form e) token t (Some (result_local a)) s
 
       worth : is_value t ≡ true
       worth = not_void t setting.result r.0
@@ -117,7 +118,7 @@ module _ (a : Around) (types : Types) (texts : ℕ) (fs : List Function) (f : Fu
       whole_is = whole_expression a v.visible types texts fs f setting (whole_form e) b_e r.2
 
       made : Makes types texts fs f (Some (result_local a)) s w (a_number types texts fs f t)
-      made = whole_is.valued (given_number a.program.types t e worth r.1) t worth (Some (result_local a)) s (register worth) h.stands
+      made = whole_is.valued (given_number a.program.types t e worth r.1) token t worth (Some (result_local a)) s (register worth) h.stands
 
       later : Follows types f a v w.state
       later = follows_grown types f a v s w.state made.grown h
@@ -153,7 +154,7 @@ module _ (a : Around) (types : Types) (texts : ℕ) (fs : List Function) (f : Fu
             subst (λ (q : Flow). IsKnownReady (result_local a) (flow types f (trees d.code) q.next).next) (sym g.falls)
             (subst (λ (q : Flow). IsKnownReady (result_local a) q.next) (sym (d.falls g.after (end_ready f w.state.living 0 0 later.ascend g.after mid)))
             (blank_beside ending g.after (result_local a) not_ending
-            ∙ ap (known_at g.after) (sym (whole_is.lands (given_number a.program.types t e worth r.1) t (result_local a) s))
+            ∙ ap (known_at g.after) (sym (whole_is.lands (given_number a.program.types t e worth r.1) token t (result_local a) s))
             ∙ g.gives.1))
 
         returned_from : Does types texts fs f a v in_loop s behind
@@ -189,11 +190,15 @@ module _ (a : Around) (types : Types) (texts : ℕ) (fs : List Function) (f : Fu
             level = left_level types texts fs f w.state 0 keyword (Returns keyword) ∙ made.grown.living;
           }
 
+      -- it makes no temporaries
+      pub result_returned : DoesLevel types texts fs f a v in_loop s (left 0 keyword (Returns keyword) (result_given a (Some e) token s))
+      result_returned = subst (λ (x : State). DoesLevel types texts fs f a v in_loop s (left 0 keyword (Returns keyword) x)) (sym (same_pending s w.state token made.grown.pending)) value_returned
+
     no_value : (x : Ty) → is_void x ≡ true → is_value x ≡ false
     no_value ty.Void e = refl
     no_value _ e = absurd (false≢true e)
 
-    pub returned_does : HasRegister a s → (keyword : Place) (given : Option Typed) → is_built_if_any given ≡ true → IsReturned a.program a.function.locals a.function.result v.visible given
-        → DoesLevel types texts fs f a v in_loop s (left 0 keyword (Returns keyword) (result_given a given s))
-    returned_does register keyword None b r = return_does (λ gives. false≢true (sym (no_value (type_at a.program.types a.function.result) r) ∙ gives.0)) keyword
-    returned_does register keyword (Some e) b r = value_returned register e keyword b r
+    pub returned_does : HasRegister a s → (keyword : Place) (given : Option Typed) (token : Place) → is_built_if_any given ≡ true → IsReturned a.program a.function.locals a.function.result v.visible given
+        → DoesLevel types texts fs f a v in_loop s (left 0 keyword (Returns keyword) (result_given a given token s))
+    returned_does register keyword None token b r = return_does (λ gives. false≢true (sym (no_value (type_at a.program.types a.function.result) r) ∙ gives.0)) keyword
+    returned_does register keyword (Some e) token b r = result_returned register e keyword token b r

@@ -1,7 +1,8 @@
 -- Assignments, steps, calls and output as statements.
-use Rattle.std.proofs.Common.{◌≡◌, ℕ, Bool, true, List, [], ◌∷◌, None, nat_lt}
+use Rattle.std.proofs.Common.{◌≡◌, ℕ, Bool, true, List, [], ◌∷◌, None, nat_lt, sym, subst}
 use Rattle.std.proofs.lemmas.Bool.{and_parts}
 use Rattle.life_types.specs.Types.{Types}
+use Rattle.life_types.specs.declared.place.Place.{Place}
 use Rattle.life_built.specs.Built.{are_built_items, is_built_item, is_built_simple}
 use Rattle.life_typed.specs.TypedStatement.{ItemForm, SimpleForm}
 use Rattle.life_core.specs.Function.{Function}
@@ -10,11 +11,12 @@ use Rattle.life_well_typed.specs.Visible.{Visible}
 use Rattle.life_writer.specs.Around.{Around}
 use Rattle.life_writer.specs.Writing.{State, gives}
 use Rattle.life_elab.specs.Simples.{simple}
-use Rattle.life_elab.specs.Statements.{end_line, item, items}
+use Rattle.life_elab.specs.Statements.{end_line, item, items, output}
 use Rattle.life_elab_laws.proofs.Doing.{DoesLevel, does_made}
 use Rattle.life_elab_laws.proofs.Following.{Follows}
 use Rattle.life_elab_laws.proofs.Gifts.{nothing}
 use Rattle.life_elab_laws.proofs.Parts.{leaf_part, then_part}
+use Rattle.life_elab_laws.proofs.Pending.{same_pending}
 use Rattle.life_elab_laws.proofs.Setting.{Setting}
 use Rattle.life_elab_laws.proofs.Outputs.{item_part}
 use Rattle.life_elab_laws.proofs.Simples.{Acts, simple_part}
@@ -24,19 +26,23 @@ module _ (a : Around) (types : Types) (texts : ℕ) (fs : List Function) (f : Fu
   acts_does : (s s' : State) → Follows types f a v s → Acts a v.visible types texts fs f setting s s' → DoesLevel types texts fs f a v in_loop s s'
   acts_does s s' follows part = record { does = does_made types texts fs f a v in_loop None s (gives tt s') (nothing types texts fs f) follows part; level = part.grown.living }
 
-  pub simple_does : (it : SimpleForm) (s : State) → is_built_simple it ≡ true → IsSimple a.program a.function.locals a.function.result v.visible it → Follows types f a v s → DoesLevel types texts fs f a v in_loop s (simple a it s)
-  simple_does it s b h follows = acts_does s (simple a it s) follows (simple_part a v.visible types texts fs f setting it s b h follows.stands)
+  pub simple_does : (it : SimpleForm) (behind : Place) (s : State) → is_built_simple it ≡ true → IsSimple a.program a.function.locals a.function.result v.visible it → Follows types f a v s → DoesLevel types texts fs f a v in_loop s (simple a it behind s)
+  simple_does it behind s b h follows = acts_does s (simple a it behind s) follows (simple_part a v.visible types texts fs f setting it behind s b h follows.stands)
 
-  pub items_do : nat_lt (end_line a) texts ≡ true → (these : List ItemForm) (s : State) → are_built_items these ≡ true → AreItems a.program a.function.locals a.function.result v.visible these → Follows types f a v s
-      → DoesLevel types texts fs f a v in_loop s (items a these s)
-  items_do lines these s b h follows = acts_does s (items a these s) follows (go these s b h follows.stands)
+  pub items_do : nat_lt (end_line a) texts ≡ true → (these : List ItemForm) (behind : Place) (s : State) → are_built_items these ≡ true → AreItems a.program a.function.locals a.function.result v.visible these → Follows types f a v s
+      → DoesLevel types texts fs f a v in_loop s (output a these behind s)
+  items_do lines these behind s b h follows = acts_does s (output a these behind s) follows ended
     where
       go : (these : List ItemForm) (s : State) → are_built_items these ≡ true → AreItems a.program a.function.locals a.function.result v.visible these → Stands a v.visible s
-          → Acts a v.visible types texts fs f setting s (items a these s)
+          → Acts a v.visible types texts fs f setting s (items a these behind s)
       go [] s b h stands = leaf_part types texts fs f tt s (nothing types texts fs f) (λ b. tt) (λ b k alive. tt)
       go (i ∷ others) s b h stands =
           let parts = and_parts (is_built_item i) (are_built_items others) b in
-          let first = item_part a v.visible types texts fs f setting lines i s parts.0 h.0 stands in
+          let first = item_part a v.visible types texts fs f setting lines i behind s parts.0 h.0 stands in
           let none = nothing types texts fs f in
-          then_part types texts fs f none tt None s (gives tt (item a i s)) (gives tt (items a others (item a i s))) none none stands.opened first
-          (go others (item a i s) parts.1 h.1 (stands_later a v.visible s (item a i s) first.grown stands))
+          then_part types texts fs f none tt None s (gives tt (item a i behind s)) (gives tt (items a others behind (item a i behind s))) none none stands.opened first
+          (go others (item a i behind s) parts.1 h.1 (stands_later a v.visible s (item a i behind s) first.grown stands))
+
+      -- they make no temporaries
+      ended : Acts a v.visible types texts fs f setting s (output a these behind s)
+      ended = let part = go these s b h follows.stands in subst (Acts a v.visible types texts fs f setting s) (sym (same_pending s (items a these behind s) behind part.grown.pending)) part

@@ -44,7 +44,7 @@ use Rattle.life_writer.specs.Registers.{computed, constant as constant_step, con
 use Rattle.life_writer.specs.Values.{read}
 use Rattle.life_writer.specs.Values as values
 use Rattle.life_writer.specs.Writing.{State, emit, gives}
-use Rattle.life_elab.specs.Simples.{assigned, called_for_nothing, combined, compound_operator, discarded as written_alone, discarded_as, held, pointer_assigned, put_back, simple, step_operator, stepped, value_assigned}
+use Rattle.life_elab.specs.Simples.{assigned, called_for_nothing, combined, compound_operator, discarded as written_alone, discarded_as, done, held, pointer_assigned, put_back, simple, step_operator, stepped, value_assigned}
 use Rattle.life_elab_laws.proofs.Aiming.{pointed_fine, pointed_keeps, pointed_ready}
 use Rattle.life_elab_laws.proofs.CallParts.{alone_fine}
 use Rattle.life_elab_laws.proofs.Calls.{alone_after, alone_ready}
@@ -58,8 +58,9 @@ use Rattle.life_elab_laws.proofs.Growing.{Grows}
 use Rattle.life_elab_laws.proofs.Held.{place_there, ready_there}
 use Rattle.life_elab_laws.proofs.Instructions.{acted_part, as_type_part, constant_part, converted_part, load_part, operator_part}
 use Rattle.life_elab_laws.proofs.Making.{IsHeld, IsOpen, IsPlace, Keeps, keeps_all}
-use Rattle.life_elab_laws.proofs.OperatorTypes.{promoted_is}
 use Rattle.life_elab_laws.proofs.Parts.{Makes, Part, and_part, gives_part, keep_part, seen_part, then_part, under_part}
+use Rattle.life_elab_laws.proofs.Pending.{same_pending}
+use Rattle.life_elab_laws.proofs.RowTypes.{promoted_is}
 use Rattle.life_elab_laws.proofs.Setting.{Setting}
 use Rattle.life_elab_laws.proofs.SimpleTypes.{IsFree, compound_answer, compounded_numbers, free_place, own_counts, own_plain, own_same, step_answer, step_value}
 use Rattle.life_elab_laws.proofs.TypedKinds.{HasKind, a_null, a_number as of_number, a_pointer as of_pointer, no_value, operand_kind, promoted_value, value_place}
@@ -120,14 +121,14 @@ module _ (a : Around) (visible : List ℕ) (types : Types) (texts : ℕ) (fs : L
 
   -- ---- assignments: the right side, the place, and what gives it that
 
-  value_assigned_part : (target e : Typed) (equals : Place) (s : State) → IsWhole a visible types texts fs f setting (whole_form target) → IsWhole a visible types texts fs f setting (whole_form e) → IsFree a.program.types target → is_number target.ty ≡ true
-      → is_given a.program.types (own_type target.ty) e ≡ true → Standing s → Acts s (value_assigned a target equals e s)
-  value_assigned_part target e equals s to from at n given stands =
+  value_assigned_part : (target e : Typed) (equals behind : Place) (s : State) → IsWhole a visible types texts fs f setting (whole_form target) → IsWhole a visible types texts fs f setting (whole_form e) → IsFree a.program.types target → is_number target.ty ≡ true
+      → is_given a.program.types (own_type target.ty) e ≡ true → Standing s → Acts s (value_assigned a target equals e behind s)
+  value_assigned_part target e equals behind s to from at n given stands =
       let t = own_type target.ty in
       let v = own_value target.ty n in
-      let w = value a (whole_form e) t None s in
+      let w = value a (whole_form e) behind t None s in
       let u = operand a (whole_form target) w.state in
-      let first = from.valued (given_number a.program.types t e v given) t v None s tt stands in
+      let first = from.valued (given_number a.program.types t e v given) behind t v None s tt stands in
       let second = free_target target at to v w.state (stands_later a visible s w.state first.grown stands) in
       then_part types texts fs f no_gift tt None s (gives (w.given, u.given) u.state) _ (both_of (a_value t) (a_target t)) no_gift stands.opened
       (and_part types texts fs f no_gift tt s w u (a_value t) (a_target t) stands.opened first second)
@@ -145,14 +146,14 @@ module _ (a : Around) (visible : List ℕ) (types : Types) (texts : ℕ) (fs : L
       let second = at.pointers u is refl w.state (stands_later a visible s w.state first.grown stands) in
       then_part types texts fs f no_gift tt None s (gives (w.given, l.given) l.state) _ (both_of P Q) no_gift stands.opened
       (and_part types texts fs f no_gift tt s w l P Q stands.opened first second)
-      (acted_part types texts fs f (both_of P Q) (w.given, l.given) e.place (pointed l.given w.given) l.state
+      (acted_part types texts fs f (both_of P Q) (w.given, l.given) e.place (pointed w.given l.given) l.state
       (λ h. pointed_fine types texts fs f l.given u e.ty w.given refl h.1 (given_raw a.program.types types setting.front to constant worth e given) h.0)
       (λ n k p. pointed_ready f l.given n n w.given k p.1 p.0)
       (λ n m k p. pointed_keeps f l.given n n m w.given k p.1 p.0))
 
-  assigned_part : (target e : Typed) (equals : Place) (s : State) → (bt : is_built_expression target ≡ true) → (be : is_built_expression e ≡ true) → IsSimple a.program a.function.locals a.function.result visible (assign target equals (one e)) → Standing s
-      → Acts s (assigned a target equals (one e) s)
-  assigned_part target e equals s bt be h stands = go is.kind.kind
+  assigned_part : (target e : Typed) (equals behind : Place) (s : State) → (bt : is_built_expression target ≡ true) → (be : is_built_expression e ≡ true) → IsSimple a.program a.function.locals a.function.result visible (assign target equals (one e)) → Standing s
+      → Acts s (assigned a target equals (one e) behind s)
+  assigned_part target e equals behind s bt be h stands = go is.kind.kind
     where
       is : IsWhole a visible types texts fs f setting (whole_form target)
       is = whole target bt h.0.1
@@ -163,11 +164,11 @@ module _ (a : Around) (visible : List ℕ) (types : Types) (texts : ℕ) (fs : L
       given : is_given a.program.types (own_type target.ty) e ≡ true
       given = subst (λ (t : Ty). is_given a.program.types t e ≡ true) (own_same target.ty) h.1.0
 
-      chosen : (b : Bool) → is_raw (own_type target.ty) ≡ b → Acts s (cond b (pointer_assigned a target e s) (value_assigned a target equals e s)) → Acts s (assigned a target equals (one e) s)
-      chosen b is part = subst (λ (c : Bool). Acts s (cond c (pointer_assigned a target e s) (value_assigned a target equals e s))) (sym is) part
+      chosen : (b : Bool) → is_raw (own_type target.ty) ≡ b → Acts s (cond b (pointer_assigned a target e s) (value_assigned a target equals e behind s)) → Acts s (assigned a target equals (one e) behind s)
+      chosen b is part = subst (λ (c : Bool). Acts s (cond c (pointer_assigned a target e s) (value_assigned a target equals e behind s))) (sym is) part
 
-      go : HasKind a.program.types target → Acts s (assigned a target equals (one e) s)
-      go (of_number t own v) = chosen false (ap (λ (x : ExprType). is_raw (own_type x)) own ∙ value_no_raw t v) (value_assigned_part target e equals s is (whole e be h.1.1) at (ap is_number own ∙ v) given stands)
+      go : HasKind a.program.types target → Acts s (assigned a target equals (one e) behind s)
+      go (of_number t own v) = chosen false (ap (λ (x : ExprType). is_raw (own_type x)) own ∙ value_no_raw t v) (value_assigned_part target e equals behind s is (whole e be h.1.1) at (ap is_number own ∙ v) given stands)
       go (of_pointer to constant own v) =
           chosen true (ap (λ (x : ExprType). is_raw (own_type x)) own)
           (pointer_assigned_part target e s to constant is (whole e be h.1.1) own v (subst (λ (x : ExprType). is_given a.program.types (own_type x) e ≡ true) own given) stands)
@@ -200,15 +201,15 @@ module _ (a : Around) (visible : List ℕ) (types : Types) (texts : ℕ) (fs : L
       (saved_part (both_of (both_of P (a_value t)) (a_value u)) ((x, y.given), z.given) u z.given x.1 place z.state (λ h. h.1) (λ h. h.0.0.1) (λ n k h. (h.1, h.0.0.1)))
 
   -- the right side, the place, what it holds, and the operator
-  combined_part : (target e : Typed) (o : CompoundOperator) (place : Place) (t : Ty) (s : State) → IsWhole a visible types texts fs f setting (whole_form target) → IsWhole a visible types texts fs f setting (whole_form e) → IsFree a.program.types target
-      → is_number target.ty ≡ true → is_number e.ty ≡ true → is_value t ≡ true → is_promoted t ≡ true → Standing s → Acts s (combined a target o place e t s)
-  combined_part target e o place t s to from at n m w p stands =
+  combined_part : (target e : Typed) (o : CompoundOperator) (place behind : Place) (t : Ty) (s : State) → IsWhole a visible types texts fs f setting (whole_form target) → IsWhole a visible types texts fs f setting (whole_form e) → IsFree a.program.types target
+      → is_number target.ty ≡ true → is_number e.ty ≡ true → is_value t ≡ true → is_promoted t ≡ true → Standing s → Acts s (combined a target o place e behind t s)
+  combined_part target e o place behind t s to from at n m w p stands =
       let u = own_type target.ty in
       let v = own_value target.ty n in
-      let r = value a (whole_form e) t None s in
+      let r = value a (whole_form e) behind t None s in
       let l = operand a (whole_form target) r.state in
       let h = held target l.given t l.state in
-      let first = from.valued m t w None s tt stands in
+      let first = from.valued m behind t w None s tt stands in
       let second = free_target target at to v r.state (stands_later a visible s r.state first.grown stands) in
       let P = both_of (a_value t) (a_target u) in
       let Q = both_of P (a_value t) in
@@ -246,13 +247,13 @@ module _ (a : Around) (visible : List ℕ) (types : Types) (texts : ℕ) (fs : L
   -- ---- calls whose answer is thrown away
 
   -- a value that nothing is done with
-  kept_part : (e : Typed) (s : State) → IsWhole a visible types texts fs f setting (whole_form e) → is_number e.ty ≡ true → Standing s → Acts s (value a (whole_form e) (own_type e.ty) None s).state
-  kept_part e s is n stands =
-      seen_part types texts fs f no_gift tt None s (value a (whole_form e) (own_type e.ty) None s) (a_value (own_type e.ty)) (λ (r : ℕ). tt) no_gift (is.valued n (own_type e.ty) (own_value e.ty n) None s tt stands) (λ b h. tt) (λ n k h. tt)
+  kept_part : (e : Typed) (behind : Place) (s : State) → IsWhole a visible types texts fs f setting (whole_form e) → is_number e.ty ≡ true → Standing s → Acts s (value a (whole_form e) behind (own_type e.ty) None s).state
+  kept_part e behind s is n stands =
+      seen_part types texts fs f no_gift tt None s (value a (whole_form e) behind (own_type e.ty) None s) (a_value (own_type e.ty)) (λ (r : ℕ). tt) no_gift (is.valued n behind (own_type e.ty) (own_value e.ty n) None s tt stands) (λ b h. tt) (λ n k h. tt)
 
   alone_part : (e : Typed) (c : Called) (s : State) → IsCall a visible types texts fs f setting c e.ty → e.ty ≡ Of ty.Void → Standing s → Acts s (called_for_nothing a e.place c s)
   alone_part e c s is void stands =
-      let w = handed_over a c.arguments (around.parameter_types a c.function) s in
+      let w = handed_over a c.arguments c.closing (around.parameter_types a c.function) s in
       let P = arguments types texts fs f (parameter_types (Some is.of)) in
       let callee = setting.callees c.function is.of is.there in
       then_part types texts fs f no_gift tt None s w _ P no_gift stands.opened (is.hands s stands)
@@ -261,46 +262,50 @@ module _ (a : Around) (visible : List ℕ) (types : Types) (texts : ℕ) (fs : L
       (λ n k p. alone_ready f c.function (parameter_types (Some is.of)) w.given n k p)
       (λ n m k p. subst (Keeps f m None k) (sym (alone_after f c.function (parameter_types (Some is.of)) w.given n k p)) (keeps_all f m None k)))
 
-  not_void : (e : Typed) (c : Called) (t : Ty) (s : State) → is_value t ≡ true → discarded_as a e (Some c) t s ≡ (value a (whole_form e) t None s).state
-  not_void e c t s = by_values (λ t. discarded_as a e (Some c) t s ≡ (value a (whole_form e) t None s).state) refl refl refl refl refl t
+  not_void : (e : Typed) (c : Called) (behind : Place) (t : Ty) (s : State) → is_value t ≡ true → discarded_as a e (Some c) behind t s ≡ (value a (whole_form e) behind t None s).state
+  not_void e c behind t s = by_values (λ t. discarded_as a e (Some c) behind t s ≡ (value a (whole_form e) behind t None s).state) refl refl refl refl refl t
 
-  discarded_part : (e : Typed) (s : State) → is_built_expression e ≡ true → Whole e → ends_in_arguments e.form ≡ true → Standing s → Acts s (written_alone a e s)
-  discarded_part e s b h ends stands = go (call_of e.form) refl
+  discarded_part : (e : Typed) (behind : Place) (s : State) → is_built_expression e ≡ true → Whole e → ends_in_arguments e.form ≡ true → Standing s → Acts s (written_alone a e behind s)
+  discarded_part e behind s b h ends stands = go (call_of e.form) refl
     where
       form : IsForm a visible types texts fs f setting e.form e
       form = expression a visible types texts fs f setting e.form e b h
 
-      kept : is_number e.ty ≡ true → Acts s (value a (whole_form e) (own_type e.ty) None s).state
-      kept n = kept_part e s (whole e b h) n stands
+      kept : is_number e.ty ≡ true → Acts s (value a (whole_form e) behind (own_type e.ty) None s).state
+      kept n = kept_part e behind s (whole e b h) n stands
 
-      go : (o : Option Called) → call_of e.form ≡ o → Acts s (discarded_as a e o (own_type e.ty) s)
+      go : (o : Option Called) → call_of e.form ≡ o → Acts s (discarded_as a e o behind (own_type e.ty) s)
       go None none_is = kept (form.alone ends none_is)
       go (Some c) at = kind is.kind
         where
           is : IsCall a visible types texts fs f setting c e.ty
           is = form.calls c at
 
-          kind : (e.ty ≡ Of ty.Void) ⊎ (is_number e.ty ≡ true) → Acts s (discarded_as a e (Some c) (own_type e.ty) s)
-          kind (inl void) = subst (λ (t : ExprType). Acts s (discarded_as a e (Some c) (own_type t) s)) (sym void) (alone_part e c s is void stands)
-          kind (inr n) = subst (Acts s) (sym (not_void e c (own_type e.ty) s (own_value e.ty n))) (kept n)
+          kind : (e.ty ≡ Of ty.Void) ⊎ (is_number e.ty ≡ true) → Acts s (discarded_as a e (Some c) behind (own_type e.ty) s)
+          kind (inl void) = subst (λ (t : ExprType). Acts s (discarded_as a e (Some c) behind (own_type t) s)) (sym void) (alone_part e c s is void stands)
+          kind (inr n) = subst (Acts s) (sym (not_void e c behind (own_type e.ty) s (own_value e.ty n))) (kept n)
 
   -- ---- any of these
 
-  pub simple_part : (it : SimpleForm) (s : State) → is_built_simple it ≡ true → IsSimple a.program a.function.locals a.function.result visible it → Standing s → Acts s (simple a it s)
-  simple_part (assign target equals (one e)) s b h stands =
-      let parts = and_parts (is_built_expression target) (is_built_expression e) b in assigned_part target e equals s parts.0 parts.1 h stands
-  simple_part (assign target equals (several list)) s b h stands = absurd (false≢true (and_parts (is_built_expression target) false b).1)
-  simple_part (compound target o place e) s b h stands =
+  done_part : (it : SimpleForm) (behind : Place) (s : State) → is_built_simple it ≡ true → IsSimple a.program a.function.locals a.function.result visible it → Standing s → Acts s (done a it behind s)
+  done_part (assign target equals (one e)) behind s b h stands =
+      let parts = and_parts (is_built_expression target) (is_built_expression e) b in assigned_part target e equals behind s parts.0 parts.1 h stands
+  done_part (assign target equals (several list)) behind s b h stands = absurd (false≢true (and_parts (is_built_expression target) false b).1)
+  done_part (compound target o place e) behind s b h stands =
       let parts = and_parts (is_built_expression target) (is_built_expression e) b in
       let is = whole target parts.0 h.1.1 in
       let plain = own_plain target.ty (operand_kind a.program.types target is.kind) in
       let n = compounded_numbers o (own_type target.ty) e.ty plain.text (subst (λ (t : Ty). fits_at_all (compounded o t e.ty) ≡ true) (own_same target.ty) h.0) in
-      combined_part target e o place (promoted (own_type target.ty) (own_type e.ty)) s is (whole e parts.1 h.2) (free_place a.program.types target is.kind h.1.0) (own_counts target.ty n.0) n.1
+      combined_part target e o place behind (promoted (own_type target.ty) (own_type e.ty)) s is (whole e parts.1 h.2) (free_place a.program.types target is.kind h.1.0) (own_counts target.ty n.0) n.1
       (promoted_value (own_type target.ty) (own_type e.ty)) (promoted_is (own_type target.ty) (own_type e.ty)) stands
-  simple_part (step target o place) s b h stands =
+  done_part (step target o place) behind s b h stands =
       let is = whole target b h.1.1 in
       let plain = own_plain target.ty (operand_kind a.program.types target is.kind) in
       let n = step_value (own_type target.ty) plain.iterator (subst (λ (t : Ty). can_step t ≡ true) (own_same target.ty) h.0) in
       stepped_part target o place (promoted (own_type target.ty) (own_type target.ty)) s is (free_place a.program.types target is.kind h.1.0) (own_counts target.ty n)
       (promoted_value (own_type target.ty) (own_type target.ty)) (promoted_is (own_type target.ty) (own_type target.ty)) stands
-  simple_part (discarded e) s b h stands = discarded_part e s b h.1 h.0 stands
+  done_part (discarded e) behind s b h stands = discarded_part e behind s b h.1 h.0 stands
+
+  -- .. makes no temporaries
+  pub simple_part : (it : SimpleForm) (behind : Place) (s : State) → is_built_simple it ≡ true → IsSimple a.program a.function.locals a.function.result visible it → Standing s → Acts s (simple a it behind s)
+  simple_part it behind s b h stands = let part = done_part it behind s b h stands in subst (Acts s) (sym (same_pending s (done a it behind s) behind part.grown.pending)) part

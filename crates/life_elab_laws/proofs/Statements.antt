@@ -13,6 +13,7 @@ use Rattle.life_core.specs.Tree.{Tree, Choice, Returns, trees}
 use Rattle.life_well_typed.specs.Statements.{AreBranches, Decides, DecidesIfAny, IsSimpleIfAny, IsStart, IsStatement, is_one}
 use Rattle.life_well_typed.specs.Visible.{Visible, after, after_start, behind, with_next}
 use Rattle.life_writer.specs.Around.{Around}
+use Rattle.life_writer.specs.Behind.{ending}
 use Rattle.life_writer.specs.Expressions.{condition}
 use Rattle.life_writer.specs.Registers.{computed, constant}
 use Rattle.life_writer.specs.Variables.{end_past}
@@ -71,24 +72,24 @@ module _ (a : Around) (types : Types) (texts : ℕ) (fs : List Function) (f : Fu
 
   -- ---- the parts of loops
 
-  pub decided : (v : Visible) (e : Typed) (s : State) → is_built_expression e ≡ true → Decides a.program a.function.locals a.function.result v.visible e → Follows types f a v s → Tests types texts fs f s (condition a (whole_form e) s)
-  decided v e s b h follows = (whole_expression a v.visible types texts fs f setting (whole_form e) b h.1).conditions h.0 s follows.stands
+  pub decided : (v : Visible) (e : Typed) (behind : Place) (s : State) → is_built_expression e ≡ true → Decides a.program a.function.locals a.function.result v.visible e → Follows types f a v s → Tests types texts fs f s (condition a (whole_form e) (ending behind) s)
+  decided v e behind s b h follows = (whole_expression a v.visible types texts fs f setting (whole_form e) b h.1).conditions h.0 (ending behind) s follows.stands
 
-  pub decided_or_true : (v : Visible) (keyword : Place) (e : Option Typed) (s : State) → is_built_if_any e ≡ true → DecidesIfAny a.program a.function.locals a.function.result v.visible e → Follows types f a v s
-      → Tests types texts fs f s (condition_or_true a keyword e s)
-  decided_or_true v keyword None s b h follows =
-      non_zero_part types texts fs f keyword ty.Bool (computed None ty.Bool keyword (constant (pos 1))) s (constant_part types texts fs f None ty.Bool keyword (pos 1) (with_code [] s) refl tt)
-  decided_or_true v keyword (Some e) s b h follows = decided v e s b h follows
+  pub decided_or_true : (v : Visible) (keyword : Place) (e : Option Typed) (behind : Place) (s : State) → is_built_if_any e ≡ true → DecidesIfAny a.program a.function.locals a.function.result v.visible e → Follows types f a v s
+      → Tests types texts fs f s (condition_or_true a keyword e behind s)
+  decided_or_true v keyword None behind s b h follows =
+      non_zero_part types texts fs f keyword None ty.Bool (computed None ty.Bool keyword (constant (pos 1))) s (constant_part types texts fs f None ty.Bool keyword (pos 1) (with_code [] s) refl tt)
+  decided_or_true v keyword (Some e) behind s b h follows = decided v e behind s b h follows
 
-  pub stepped : (v : Visible) (it : Option SimpleForm) (s : State) → is_built_step it ≡ true → IsSimpleIfAny a.program a.function.locals a.function.result v.visible it → Follows types f a v s → DoesLevel types texts fs f a v false s (simple_if a it s)
-  stepped v None s b h follows = record { does = does_nothing types texts fs f a v false s follows; level = refl }
-  stepped v (Some it) s b h follows = simple_does a types texts fs f setting v false it s b h follows
+  pub stepped : (v : Visible) (it : Option SimpleForm) (place : Place) (s : State) → is_built_step it ≡ true → IsSimpleIfAny a.program a.function.locals a.function.result v.visible it → Follows types f a v s → DoesLevel types texts fs f a v false s (simple_if a it place s)
+  stepped v None place s b h follows = record { does = does_nothing types texts fs f a v false s follows; level = refl }
+  stepped v (Some it) place s b h follows = simple_does a types texts fs f setting v false it place s b h follows
 
-  pub begun : (v : Visible) (in_loop : Bool) (start : Option ForStartForm) (s : State) → is_built_start a.program.types a.function.locals start ≡ true → IsStart a.program a.function.locals a.function.result start v → Follows types f a v s
-      → Does types texts fs f a (after_start start v) in_loop s (started a start s)
-  begun v in_loop None s b h follows = does_nothing types texts fs f a v in_loop s follows
-  begun v in_loop (Some (declared_first d)) s b h follows = declaration_does a types texts fs f setting v in_loop d s follows b h
-  begun v in_loop (Some (done_first it)) s b h follows = (simple_does a types texts fs f setting v in_loop it s b h follows).does
+  pub begun : (v : Visible) (in_loop : Bool) (start : Option ForStartForm) (place : Place) (s : State) → is_built_start a.program.types a.function.locals start ≡ true → IsStart a.program a.function.locals a.function.result start v → Follows types f a v s
+      → Does types texts fs f a (after_start start v) in_loop s (started a start place s)
+  begun v in_loop None place s b h follows = does_nothing types texts fs f a v in_loop s follows
+  begun v in_loop (Some (declared_first d)) place s b h follows = declaration_does a types texts fs f setting v in_loop d place s follows b h
+  begun v in_loop (Some (done_first it)) place s b h follows = (simple_does a types texts fs f setting v in_loop it place s b h follows).does
 
   -- a loop whose body and step are done
   pub loop_done : (v u : Visible) (in_loop : Bool) (test : State → Gives Tree) (body step : State → State) (s : State) → Follows types f a v s → HasRegister a s → (h : Tests types texts fs f s (test s))
@@ -119,7 +120,7 @@ module _ (a : Around) (types : Types) (texts : ℕ) (fs : List Function) (f : Fu
     statement_does (empty place) in_loop v s b h follows register =
         done_alone (empty place) in_loop v s (record { does = does_nothing types texts fs f a v in_loop s follows; level = refl }) (λ e. runs_on e) (λ before e. e)
     statement_does (sentence it semicolon) in_loop v s b h follows register =
-        done_alone (sentence it semicolon) in_loop v s (simple_does a types texts fs f setting v in_loop it s b h follows) (λ e. runs_on e) (λ before e. e)
+        done_alone (sentence it semicolon) in_loop v s (simple_does a types texts fs f setting v in_loop it semicolon s b h follows) (λ e. runs_on e) (λ before e. e)
     statement_does (branching branches last) in_loop v s b h follows register =
         let parts = and_parts (is_built_statement a.program.types a.function.locals branches) (is_built_statement a.program.types a.function.locals last) b in
         let all = branches_do branches in_loop v s parts.0 h.0 follows register (statement a last) (after last (after branches v)) (ends last)
@@ -130,7 +131,7 @@ module _ (a : Around) (types : Types) (texts : ℕ) (fs : List Function) (f : Fu
     statement_does (while_loop keyword decides closing body) in_loop v s b h follows register =
         let parts = and_parts (is_built_expression decides) (is_built_statement a.program.types a.function.locals body) b in
         done_alone (while_loop keyword decides closing body) in_loop v s
-        (loop_done v (after body v) in_loop (condition a (whole_form decides)) (statement a body) (λ t. t) s follows register (decided v decides s parts.0 h.0 follows)
+        (loop_done v (after body v) in_loop (condition a (whole_form decides) (ending closing)) (statement a body) (λ t. t) s follows register (decided v decides closing s parts.0 h.0 follows)
         (λ t later there. level_of body true v t (statement_does body true v t parts.1 h.2 later there) h.1)
         (λ t later. record { does = does_nothing types texts fs f a (behind v (after body v)) false t later; level = refl }))
         (λ e. runs_on e)
@@ -140,14 +141,14 @@ module _ (a : Around) (types : Types) (texts : ℕ) (fs : List Function) (f : Fu
         let two = and_parts (is_built_if_any decides) _ one.1 in
         let three = and_parts (is_built_step stepping) (is_built_statement a.program.types a.function.locals body) two.1 in
         let v1 = after_start start v in
-        let begins = begun v in_loop start s one.0 h.0 follows in
-        let s1 = started a start s in
-        let turns = loop_done v1 (after body v1) in_loop (condition_or_true a keyword decides) (statement a body) (simple_if a stepping) s1 begins.follows
+        let begins = begun v in_loop start first s one.0 h.0 follows in
+        let s1 = started a start first s in
+        let turns = loop_done v1 (after body v1) in_loop (condition_or_true a keyword decides second) (statement a body) (simple_if a stepping closing) s1 begins.follows
         (register_later a s s1 begins.adds.locals begins.adds.table register)
-        (decided_or_true v1 keyword decides s1 two.0 h.1 begins.follows)
+        (decided_or_true v1 keyword decides second s1 two.0 h.1 begins.follows)
         (λ t later there. level_of body true v1 t (statement_does body true v1 t three.1 h.4 later there) h.3)
-        (λ t later. stepped (behind v1 (after body v1)) stepping t three.0 h.2 later) in
-        let s2 = looped (condition_or_true a keyword decides) (statement a body) (simple_if a stepping) s1 in
+        (λ t later. stepped (behind v1 (after body v1)) stepping closing t three.0 h.2 later) in
+        let s2 = looped (condition_or_true a keyword decides second) (statement a body) (simple_if a stepping closing) s1 in
         let all = does_then types texts fs f a v1 (behind v1 (after body v1)) in_loop s s1 s2 follows.outside begins turns.does in
         done_alone (for_loop keyword start first decides second stepping closing body) in_loop v s
         (record {
@@ -162,23 +163,23 @@ module _ (a : Around) (types : Types) (texts : ℕ) (fs : List Function) (f : Fu
     statement_does (loop_continue keyword semicolon) in_loop v s b h follows register =
         done_alone (loop_continue keyword semicolon) in_loop v s (continue_does a types texts fs f setting v in_loop s follows h keyword) (λ e. runs_on e) (λ before e. e)
     statement_does (returned keyword value semicolon) in_loop v s b h follows register =
-        let t = result_given a value s in
-        done_alone (returned keyword value semicolon) in_loop v s (returned_does a types texts fs f setting v in_loop s follows register keyword value b h)
+        let t = result_given a value semicolon s in
+        done_alone (returned keyword value semicolon) in_loop v s (returned_does a types texts fs f setting v in_loop s follows register keyword value semicolon b h)
         (λ e. stops_right (end_past 0 keyword t).code (Returns keyword ∷ []) refl)
         (λ before e. e)
     statement_does (print items semicolon) in_loop v s b h follows register =
-        done_alone (print items semicolon) in_loop v s (items_do a types texts fs f setting v in_loop lines items s b h follows) (λ e. runs_on e) (λ before e. e)
+        done_alone (print items semicolon) in_loop v s (items_do a types texts fs f setting v in_loop lines items semicolon s b h follows) (λ e. runs_on e) (λ before e. e)
     statement_does (assertion keyword decides closing semicolon) in_loop v s b h follows register =
         done_alone (assertion keyword decides closing semicolon) in_loop v s
-        (asserted_does types texts fs f a v in_loop s (condition a (whole_form decides) s) follows (decided v decides s b h follows) keyword) (λ e. runs_on e) (λ before e. e)
+        (asserted_does types texts fs f a v in_loop s (condition a (whole_form decides) (ending closing) s) follows (decided v decides closing s b h follows) keyword) (λ e. runs_on e) (λ before e. e)
     statement_does (branch keyword decides closing body) in_loop v s b h follows register = absurd h
     statement_does (declaration d semicolon) in_loop v s b h follows register =
-        let does = declaration_does a types texts fs f setting v in_loop d s follows b h in
+        let does = declaration_does a types texts fs f setting v in_loop d semicolon s follows b h in
         record {
           does = does;
           level = λ one. runs_on one;
           over = λ e. runs_on e;
-          last = λ before p e. still_stops types texts fs f a (with_next v) in_loop s (declared a d s) does (p e);
+          last = λ before p e. still_stops types texts fs f a (with_next v) in_loop s (declared a d semicolon s) does (p e);
         }
     statement_does no_more in_loop v s b h follows register =
         record { does = does_nothing types texts fs f a v in_loop s follows; level = λ one. refl; over = λ e. runs_on e; last = λ before p e. p e }
@@ -201,8 +202,8 @@ module _ (a : Around) (types : Types) (texts : ℕ) (fs : List Function) (f : Fu
     branches_do (chain (branch keyword decides closing body) others) in_loop v s b h follows register last x over end =
         let parts = and_parts (is_built_expression decides && is_built_statement a.program.types a.function.locals body) (is_built_statement a.program.types a.function.locals others) b in
         let inner = and_parts (is_built_expression decides) (is_built_statement a.program.types a.function.locals body) parts.0 in
-        let w = condition a (whole_form decides) s in
-        let test = decided v decides s inner.0 h.0 follows in
+        let w = condition a (whole_form decides) (ending closing) s in
+        let test = decided v decides closing s inner.0 h.0 follows in
         let ready = tested_follows types texts fs f a v in_loop s w follows test in
         let there = register_later a s (with_code [] w.state) test.grown.locals test.grown.types register in
         let one = statement_does body in_loop v (with_code [] w.state) inner.1 h.2 ready there in

@@ -1,14 +1,13 @@
 -- Chains of operators: what is written of an operator is what is written of its left operand, and then the rest.
-use Rattle.std.proofs.Common.{◌≡◌, ◌+◌, ◌-◌, ◌<◌, ◌⊎◌, inl, inr, ℕ, Bool, true, false, not as negated, List, Option, Some, None, length, take, refl, sym, ap, subst, ◌∙◌, arith, true≢false}
+use Rattle.std.proofs.Common.{◌≡◌, ◌+◌, ◌-◌, ◌<◌, ◌⊎◌, inl, inr, ℕ, Bool, true, false, List, Option, None, length, take, refl, sym, ap, subst, ◌∙◌, arith, true≢false}
 use Rattle.std.proofs.Math.Nat.{eq-or-lt_of_le}
 use Rattle.std.proofs.lemmas.List.{length-take-le, take-take}
-use Rattle.std.specs.Prelude.{IsTrue, ◌||◌, if◌then◌else◌}
+use Rattle.std.specs.Prelude.{IsTrue, if◌then◌else◌}
 use Rattle.life_types.specs.contracts.ty.TyPartialEq.TheImpl.{ghosts as compared}
 use Rattle.life_types.specs.declared.place.Place.{Place}
 use Rattle.life_types.specs.declared.ty.Ty.{Ty}
 use Rattle.life_typed.specs.TypedForm.{Form, number, character, boolean, text, null, local, call, construct, paren, move, make_unique, text_of, input, member, dereference, index, method, negate, not, address_of, binary, typed, nothing, ◌⨟◌, whole}
 use Rattle.life_typed.specs.declared.typed_expr.BinaryOperator.{BinaryOperator}
-use Rattle.life_typed.specs.declared.typed_expr.BinaryOperator.TheVariants as operator
 use Rattle.life_typed.specs.declared.typed_expr.Category.{Category}
 use Rattle.life_typed.specs.declared.typed_expr.Category.TheVariants as category
 use Rattle.life_typed.specs.declared.typed_expr.ExprType.{ExprType}
@@ -16,17 +15,22 @@ use Rattle.life_typed.specs.declared.typed_expr.TypedOperand.{TypedOperand}
 use Rattle.life_core.specs.Operands.{Location}
 use Rattle.life_core.specs.Tree.{Tree}
 use Rattle.life_writer.specs.Around.{Around, own_type}
-use Rattle.life_writer.specs.Chains.{Follows, Runs, converted_in, is_between, is_computed, is_decided, is_link, joined_on, joins, links, operated_on, own_of}
-use Rattle.life_writer.specs.Conditions.{beside_null, decided, null_compared, stands_for_null}
-use Rattle.life_writer.specs.Expressions.{common, condition, made, operand, pointer, value}
+use Rattle.life_writer.specs.Behind.{ending}
+use Rattle.life_writer.specs.Chains.{Follows, Runs, converted_in, is_between, is_computed, is_link, joined_on, joined_with, links, operated_on, operated_with, own_of}
+use Rattle.life_writer.specs.Conditions.{condition_from, decided, nowhere}
+use Rattle.life_writer.specs.Expressions.{condition, operand, pointer, value}
 use Rattle.life_writer.specs.Parts.{HasLeft, inside, node_view, part_view, shape_form}
 use Rattle.life_writer.specs.Registers.{as_type, computed, conversion, converted}
+use Rattle.life_writer.specs.Rows.{computes, joins, row_between}
 use Rattle.life_writer.specs.Values as values
 use Rattle.life_writer.specs.Writing.{State, Gives, gives, ◌>>◌}
+use Rattle.life_writer.specs.declared.behind.Behind.{Behind}
 use Rattle.life_writer.specs.declared.chains.Chain.{Chain}
 use Rattle.life_writer.specs.declared.chains.Chain.TheVariants as chain
 use Rattle.life_writer.specs.declared.parts.Node.{Node}
 use Rattle.life_writer.specs.declared.parts.Part.{Part}
+use Rattle.life_writer.specs.declared.rows.Row.{Row}
+use Rattle.life_writer.specs.declared.rows.Row.TheVariants as row
 use Rattle.life_writer.specs.declared.parts.Shape.{Shape}
 use Rattle.life_writer.specs.declared.parts.Shape.TheVariants as shape
 
@@ -62,7 +66,7 @@ module _ (which : Chain) where
     by = o;
     right = whole (part_view right);
     between = ap (λ (f : Form). typed place t category (binary o f (whole (part_view right)))) beside;
-    link = subst (λ (f : Form). IsTrue (is_between which category o f (whole (part_view right)))) beside link;
+    link = subst (λ (f : Form). IsTrue (is_between which category (row_between o f (whole (part_view right))))) beside link;
   }
 
   linked_by : (place : Place) (t : ExprType) (category : Category) (s : Shape) → is_link which category s ≡ links which (typed place t category (shape_form s))
@@ -131,99 +135,90 @@ as_type_behind from to place of s = go (compared.eq from to)
     go true = refl
     go false = refl
 
-operand_value : (a : Around) (e : Form) (to : Ty) (s : State) → value a e to None s ≡ (own_of a e None s >> λ r s. converted_in e to r s)
-operand_value a (typed place t category form) to s = as_type_behind (own_type t) to place (own_of a (typed place t category form)) s
-operand_value a (number n) to s = refl
-operand_value a (character c) to s = refl
-operand_value a (boolean b) to s = refl
-operand_value a (text t) to s = refl
-operand_value a null to s = refl
-operand_value a (local x) to s = refl
-operand_value a (call f arguments closing) to s = refl
-operand_value a (construct n elements closing) to s = refl
-operand_value a (paren inner closing) to s = refl
-operand_value a (move x) to s = refl
-operand_value a (make_unique t argument closing) to s = refl
-operand_value a (text_of inner closing) to s = refl
-operand_value a input to s = refl
-operand_value a (member base which) to s = refl
-operand_value a (dereference e) to s = refl
-operand_value a (index base position closing) to s = refl
-operand_value a (method base called arguments closing) to s = refl
-operand_value a (negate e) to s = refl
-operand_value a (not e) to s = refl
-operand_value a (address_of e) to s = refl
-operand_value a (binary o left right) to s = refl
-operand_value a nothing to s = refl
-operand_value a (e ⨟ es) to s = refl
+operand_value : (a : Around) (e : Form) (behind : Place) (to : Ty) (s : State) → value a e behind to None s ≡ (own_of a e behind None s >> λ r s. converted_in e to r s)
+operand_value a (typed place t category form) behind to s = as_type_behind (own_type t) to place (own_of a (typed place t category form) behind) s
+operand_value a (number n) behind to s = refl
+operand_value a (character c) behind to s = refl
+operand_value a (boolean b) behind to s = refl
+operand_value a (text t) behind to s = refl
+operand_value a null behind to s = refl
+operand_value a (local x) behind to s = refl
+operand_value a (call f arguments closing) behind to s = refl
+operand_value a (construct n elements closing) behind to s = refl
+operand_value a (paren inner closing) behind to s = refl
+operand_value a (move x) behind to s = refl
+operand_value a (make_unique t argument closing) behind to s = refl
+operand_value a (text_of inner closing) behind to s = refl
+operand_value a input behind to s = refl
+operand_value a (member base which) behind to s = refl
+operand_value a (dereference e) behind to s = refl
+operand_value a (index base position closing) behind to s = refl
+operand_value a (method base called arguments closing) behind to s = refl
+operand_value a (negate e) behind to s = refl
+operand_value a (not e) behind to s = refl
+operand_value a (address_of e) behind to s = refl
+operand_value a (binary o left right) behind to s = refl
+operand_value a nothing behind to s = refl
+operand_value a (e ⨟ es) behind to s = refl
 
--- an operator that isn't decided by tests
-none_beside : (left right : Form) (p q : State → Gives Location) → stands_for_null left || stands_for_null right ≡ false → beside_null left right p q ≡ None
-none_beside left right p q = go (stands_for_null left) (stands_for_null right)
-  where
-    go : (b c : Bool) → b || c ≡ false → (if b then Some q else (if c then Some p else None)) ≡ None
-    go true c h = absurd (true≢false h)
-    go false true h = absurd (true≢false h)
-    go false false h = refl
+-- an operator that computes
+module _ (a : Around) (place behind : Place) (t : ExprType) (o : BinaryOperator) (left right : Form) (into : Option ℕ) (s : State) where
+  abbrev Between : Row → Type 0
+  Between w =
+      values.value_from (own_type t) place category.Value
+      (decided w place None (condition a left (ending place)) (condition a right (ending behind)) (pointer a left) (pointer a right))
+      (operand a (binary o left right))
+      (λ into s. values.operated_by w into (own_type t) place (λ common s. value a left behind common None s) (λ common s. value a right behind common None s) s)
+      into s
+      ≡ (own_of a left behind None s >> λ r s. operated_with w left r into (own_type t) place (λ common s. value a right behind common None s) s)
 
-undecided : (o : BinaryOperator) (place : Place) (left right : Form) (l r : State → Gives Tree) (p q : State → Gives Location) → is_decided o left right ≡ false
-    → decided o place l r (beside_null left right p q) ≡ None
-undecided operator.Or place left right l r p q h = absurd (true≢false h)
-undecided operator.And place left right l r p q h = absurd (true≢false h)
-undecided operator.Equal place left right l r p q h = ap (λ (x : Option (State → Gives Location)). null_compared true place x) (none_beside left right p q h)
-undecided operator.NotEqual place left right l r p q h = ap (λ (x : Option (State → Gives Location)). null_compared false place x) (none_beside left right p q h)
-undecided operator.Less place left right l r p q h = refl
-undecided operator.LessEqual place left right l r p q h = refl
-undecided operator.Greater place left right l r p q h = refl
-undecided operator.GreaterEqual place left right l r p q h = refl
-undecided operator.Add place left right l r p q h = refl
-undecided operator.Subtract place left right l r p q h = refl
-undecided operator.Multiply place left right l r p q h = refl
-undecided operator.Divide place left right l r p q h = refl
-undecided operator.Remainder place left right l r p q h = refl
+  between : (w : Row) → IsTrue (computes w) → Between w
+  between (row.Computed by common) h =
+      ap (λ (w : Gives ℕ). w >> λ x s. value a right behind common None s >> λ y s. computed into (own_type t) place (values.binary by x y) s) (operand_value a left behind common s)
+  between (row.Joined by) h = absurd (true≢false (sym h))
+  between (row.IsNull side) h = absurd (true≢false (sym h))
+  between (row.NotNull side) h = absurd (true≢false (sym h))
 
-not_true : (b : Bool) → IsTrue (negated b) → b ≡ false
-not_true true h = absurd (true≢false (sym h))
-not_true false h = refl
+value_between : (a : Around) (place behind : Place) (t : ExprType) (category : Category) (o : BinaryOperator) (left right : Form) (into : Option ℕ) (s : State)
+    → IsTrue (is_computed category (row_between o left right))
+    → own_of a (typed place t category (binary o left right)) behind into s ≡ (own_of a left behind None s >> λ r s. operated_on a (typed place t category (binary o left right)) behind r into s)
+value_between a place behind t (category.Place ty constant) o left right into s h = absurd (true≢false (sym h))
+value_between a place behind t category.Value o left right into s h = between a place behind t o left right into s (row_between o left right) h
 
-value_between : (a : Around) (place : Place) (t : ExprType) (category : Category) (o : BinaryOperator) (left right : Form) (into : Option ℕ) (s : State)
-    → IsTrue (is_computed category o left right)
-    → own_of a (typed place t category (binary o left right)) into s ≡ (own_of a left None s >> λ r s. operated_on a (typed place t category (binary o left right)) r into s)
-value_between a place t (category.Place ty constant) o left right into s h = absurd (true≢false (sym h))
-value_between a place t category.Value o left right into s h =
-    ap (λ (d : Option (State → Gives Tree)). values.value_from (own_type t) place category.Value d (operand a (binary o left right)) (made a (binary o left right) place (own_type t)) into s)
-    (undecided o place left right (condition a left) (condition a right) (pointer a left) (pointer a right) (not_true (is_decided o left right) h))
-    ∙ ap (λ (w : Gives ℕ). w >> λ x s. value a right (common left right) None s >> λ y s. computed into (own_type t) place (values.binary (values.operator_of o) x y) s)
-    (operand_value a left (common left right) s)
-
-pub next_value : (a : Around) (first second : Form) (into : Option ℕ) (s0 s : State) (r : ℕ) → Follows chain.Computed first second → own_of a first None s0 ≡ gives r s
-    → own_of a second into s0 ≡ operated_on a second r into s
-next_value a first second into s0 s r h so_far =
-    subst (λ (f : Form). own_of a f into s0 ≡ operated_on a f r into s) (sym h.between)
-    (value_between a h.place h.ty h.kind h.by first h.right into s0 h.link
-    ∙ ap (λ (w : Gives ℕ). operated_on a (typed h.place h.ty h.kind (binary h.by first h.right)) w.given into w.state) so_far)
+pub next_value : (a : Around) (behind : Place) (first second : Form) (into : Option ℕ) (s0 s : State) (r : ℕ) → Follows chain.Computed first second → own_of a first behind None s0 ≡ gives r s
+    → own_of a second behind into s0 ≡ operated_on a second behind r into s
+next_value a behind first second into s0 s r h so_far =
+    subst (λ (f : Form). own_of a f behind into s0 ≡ operated_on a f behind r into s) (sym h.between)
+    (value_between a h.place behind h.ty h.kind h.by first h.right into s0 h.link
+    ∙ ap (λ (w : Gives ℕ). operated_on a (typed h.place h.ty h.kind (binary h.by first h.right)) behind w.given into w.state) so_far)
 
 -- ---- conditions
 
-condition_between : (a : Around) (place : Place) (t : ExprType) (category : Category) (o : BinaryOperator) (left right : Form) (s : State) → IsTrue (joins o)
-    → condition a (typed place t category (binary o left right)) s ≡ (condition a left s >> λ test s. joined_on a (typed place t category (binary o left right)) test s)
-condition_between a place t category operator.Or left right s h = refl
-condition_between a place t category operator.And left right s h = refl
-condition_between a place t category operator.Equal left right s h = absurd (true≢false (sym h))
-condition_between a place t category operator.NotEqual left right s h = absurd (true≢false (sym h))
-condition_between a place t category operator.Less left right s h = absurd (true≢false (sym h))
-condition_between a place t category operator.LessEqual left right s h = absurd (true≢false (sym h))
-condition_between a place t category operator.Greater left right s h = absurd (true≢false (sym h))
-condition_between a place t category operator.GreaterEqual left right s h = absurd (true≢false (sym h))
-condition_between a place t category operator.Add left right s h = absurd (true≢false (sym h))
-condition_between a place t category operator.Subtract left right s h = absurd (true≢false (sym h))
-condition_between a place t category operator.Multiply left right s h = absurd (true≢false (sym h))
-condition_between a place t category operator.Divide left right s h = absurd (true≢false (sym h))
-condition_between a place t category operator.Remainder left right s h = absurd (true≢false (sym h))
+joined_between : (a : Around) (place : Place) (b : Behind) (t : ExprType) (left right : Form) (pointer value_of : State → Gives Location) (p : State → Gives Location) (v : State → Gives ℕ) (s : State) (w : Row) → IsTrue (joins w)
+    → condition_from (decided w place b.ends (condition a left (ending place)) (condition a right (ending b.token)) pointer value_of) (own_type t) place b.ends p v s
+    ≡ (condition a left (ending place) s >> λ test s. joined_with w test (condition a right (ending b.token)) s)
+joined_between a place b t left right pointer value_of p v s (row.Joined by) h = refl
+joined_between a place b t left right pointer value_of p v s (row.Computed by common) h = absurd (true≢false (sym h))
+joined_between a place b t left right pointer value_of p v s (row.IsNull side) h = absurd (true≢false (sym h))
+joined_between a place b t left right pointer value_of p v s (row.NotNull side) h = absurd (true≢false (sym h))
 
-pub next_condition : (a : Around) (first second : Form) (s0 s : State) (test : Tree) → Follows chain.Joined first second → condition a first s0 ≡ gives test s
-    → condition a second s0 ≡ joined_on a second test s
-next_condition a first second s0 s test h so_far =
-    subst (λ (f : Form). condition a f s0 ≡ joined_on a f test s) (sym h.between)
-    (condition_between a h.place h.ty h.kind h.by first h.right s0 h.link
-    ∙ ap (λ (w : Gives Tree). joined_on a (typed h.place h.ty h.kind (binary h.by first h.right)) w.given w.state) so_far)
+condition_between : (a : Around) (place : Place) (b : Behind) (t : ExprType) (category : Category) (o : BinaryOperator) (left right : Form) (s : State) → IsTrue (joins (row_between o left right))
+    → condition a (typed place t category (binary o left right)) b s ≡ (condition a left (ending place) s >> λ test s. joined_on a (typed place t category (binary o left right)) b.token test s)
+condition_between a place b t category o left right s h =
+    joined_between a place b t left right (pointer a left) (pointer a right) _ _ s (row_between o left right) h
+
+-- the place of an expression
+abbrev pub form_place : Form → Place
+form_place (typed place t category form) = place
+form_place _ = nowhere
+
+pub follows_place : (which : Chain) (first second : Form) (h : Follows which first second) → h.place ≡ form_place second
+follows_place which first second h = sym (ap form_place h.between)
+
+pub next_condition : (a : Around) (b : Behind) (first second : Form) (s0 s : State) (test : Tree) → Follows chain.Joined first second → condition a first (ending (form_place second)) s0 ≡ gives test s
+    → condition a second b s0 ≡ joined_on a second b.token test s
+next_condition a b first second s0 s test h so_far =
+    subst (λ (f : Form). condition a f b s0 ≡ joined_on a f b.token test s) (sym h.between)
+    (condition_between a h.place b h.ty h.kind h.by first h.right s0 h.link
+    ∙ ap (λ (w : Gives Tree). joined_on a (typed h.place h.ty h.kind (binary h.by first h.right)) b.token w.given w.state)
+    (ap (λ (place : Place). condition a first (ending place) s0) (follows_place chain.Joined first second h) ∙ so_far))

@@ -45,6 +45,6 @@ own_type expr_type.NullPointer = ty.Void
 own_type expr_type.TextLiteral = ty.Void
 
 -- the type of an operand
-abbrev pub type_in : Form → Ty
-type_in (typed place t category form) = own_type t
-type_in _ = ty.Void
+abbrev pub operand_type : Form → ExprType
+operand_type (typed place t category form) = t
+operand_type _ = expr_type.NullPointer

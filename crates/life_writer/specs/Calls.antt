@@ -1,13 +1,14 @@
 -- Calls.
 use Rattle.std.specs.Prelude.{ℕ, List, ◌∷◌, Option, Some, None}
+use Rattle.life_types.specs.declared.place.Place.{Place}
 use Rattle.life_typed.specs.TypedForm.{Form, typed, call, paren}
-use Rattle.life_core.specs.Operands.{Argument, Value, whole}
+use Rattle.life_core.specs.Operands.{Argument, Location, Value}
 use Rattle.life_core.specs.Step.{Step, Call}
 use Rattle.life_writer.specs.Writing.{State, Gives, ◌>>◌, mapped}
 
--- a call that gives its result to a register or a variable, and one that has none
-abbrev pub called : ℕ → List Argument → ℕ → Step
-called f given r = Call (Some (whole r)) (record { 0 = f }) given
+-- a call that gives its result somewhere, and one that has none
+abbrev pub called : ℕ → List Argument → Location → Step
+called f given l = Call (Some l) (record { 0 = f }) given
 
 abbrev pub called_alone : ℕ → List Argument → Step
 called_alone f given = Call None (record { 0 = f }) given
@@ -20,9 +21,10 @@ handed first others s = first s >> λ r s. mapped (λ given. Value r ∷ given) 
 pub record Called : Type 0 where
   pub function : ℕ
   pub arguments : Form
+  pub closing : Place
 
 abbrev pub call_of : Form → Option Called
 call_of (typed place t category form) = call_of form
-call_of (call f arguments closing) = Some (record { function = f; arguments = arguments })
+call_of (call f arguments closing) = Some (record { function = f; arguments = arguments; closing = closing })
 call_of (paren inner closing) = call_of inner
 call_of _ = None

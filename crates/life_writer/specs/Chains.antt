@@ -1,61 +1,50 @@
 -- Chains of operators.
-use Rattle.std.specs.Prelude.{◌≡◌, ◌+◌, ◌<◌, ◌≤◌, ℕ, Bool, true, false, ◌||◌, not as negated, IsTrue, List, Option, None, length, take}
+use Rattle.std.specs.Prelude.{◌≡◌, ◌+◌, ◌<◌, ◌≤◌, ℕ, Bool, false, IsTrue, List, Option, Some, None, length, slice_get, take}
 use Rattle.life_types.specs.declared.place.Place.{Place}
 use Rattle.life_types.specs.declared.ty.Ty.{Ty}
 use Rattle.life_typed.specs.TypedForm.{Form, binary, typed, whole}
 use Rattle.life_typed.specs.declared.typed_expr.BinaryOperator.{BinaryOperator}
-use Rattle.life_typed.specs.declared.typed_expr.BinaryOperator.TheVariants as operator
 use Rattle.life_typed.specs.declared.typed_expr.Category.{Category}
 use Rattle.life_typed.specs.declared.typed_expr.Category.TheVariants as category
 use Rattle.life_typed.specs.declared.typed_expr.ExprType.{ExprType}
 use Rattle.life_typed.specs.declared.typed_expr.TypedOperand.{TypedOperand}
-use Rattle.life_core.specs.Tree.{Tree, Both, Either}
+use Rattle.life_core.specs.Tree.{Tree}
 use Rattle.life_writer.specs.declared.chains.Chain.{Chain}
 use Rattle.life_writer.specs.declared.chains.Chain.TheVariants as chain
 use Rattle.life_writer.specs.declared.parts.Shape.{Shape}
 use Rattle.life_writer.specs.declared.parts.Shape.TheVariants as shape
+use Rattle.life_writer.specs.declared.rows.Row.{Row}
+use Rattle.life_writer.specs.declared.rows.Row.TheVariants.{Computed, Joined}
 use Rattle.life_writer.specs.Around.{Around, own_type}
-use Rattle.life_writer.specs.Conditions.{stands_for_null}
-use Rattle.life_writer.specs.Expressions.{common, condition, decision, made, operand, value}
+use Rattle.life_writer.specs.Behind.{ending, lasting}
+use Rattle.life_writer.specs.Conditions.{joined_by}
+use Rattle.life_writer.specs.Expressions.{condition, decision, made, operand, value}
 use Rattle.life_writer.specs.Parts.{inside, part_form, part_view}
 use Rattle.life_writer.specs.Registers.{computed, converted}
+use Rattle.life_writer.specs.Rows.{computes, joins, row_between}
 use Rattle.life_writer.specs.Values as values
 use Rattle.life_writer.specs.Writing.{State, Gives, gives, ◌>>◌, mapped}
 
 -- ---- the operators of a chain
 
--- `&&` and `||`
-abbrev pub joins : BinaryOperator → Bool
-joins operator.Or = true
-joins operator.And = true
-joins _ = false
-
--- .. and comparisons with nullptr
-abbrev pub is_decided : BinaryOperator → (left right : Form) → Bool
-is_decided operator.Or left right = true
-is_decided operator.And left right = true
-is_decided operator.Equal left right = stands_for_null left || stands_for_null right
-is_decided operator.NotEqual left right = stands_for_null left || stands_for_null right
-is_decided _ left right = false
-
 -- a value that is computed from two others
-abbrev pub is_computed : Category → BinaryOperator → (left right : Form) → Bool
-is_computed category.Value o left right = negated (is_decided o left right)
-is_computed (category.Place ty constant) o left right = false
+abbrev pub is_computed : Category → Row → Bool
+is_computed category.Value r = computes r
+is_computed (category.Place ty constant) r = false
 
--- an operator of this kind, between these operands, is one of the chain
-abbrev pub is_between : Chain → Category → BinaryOperator → (left right : Form) → Bool
-is_between chain.Computed kind o left right = is_computed kind o left right
-is_between chain.Joined kind o left right = joins o
+-- an operator with this row is one of the chain
+abbrev pub is_between : Chain → Category → Row → Bool
+is_between chain.Computed kind r = is_computed kind r
+is_between chain.Joined kind r = joins r
 
 -- a node of this shape is an operator of the chain
 abbrev pub is_link : Chain → Category → Shape → Bool
-is_link which kind (shape.Binary o left right) = is_between which kind o (part_form left) (whole (part_view right))
+is_link which kind (shape.Binary o left right) = is_between which kind (row_between o (part_form left) (whole (part_view right)))
 is_link which kind _ = false
 
 -- what an expression is made by is an operator of the chain
 abbrev pub links : Chain → Form → Bool
-links which (typed place ty kind (binary by left right)) = is_between which kind by left right
+links which (typed place ty kind (binary by left right)) = is_between which kind (row_between by left right)
 links which _ = false
 
 -- ---- one around the other
@@ -68,7 +57,7 @@ pub record Follows (which : Chain) (first second : Form) : Type 0 where
   pub by : BinaryOperator
   pub right : Form
   pub between : second ≡ typed place ty kind (binary by first right)
-  pub link : IsTrue (is_between which kind by first right)
+  pub link : IsTrue (is_between which kind (row_between by first right))
 
 -- .. from one operand on
 abbrev pub Runs : Chain → List TypedOperand → ℕ → Type 0
@@ -78,34 +67,46 @@ Runs which operands from = (k : ℕ) → from ≤ k → k < length operands → 
 abbrev pub IsFirst : Chain → List TypedOperand → ℕ → Type 0
 IsFirst which operands from = 0 < from → links which (inside (take from operands)) ≡ false
 
+-- the token behind what stands before the operand with a number: the operator that this is, or the last one
+abbrev pub place_if : Option TypedOperand → (last : Place) → Place
+place_if None last = last
+place_if (Some o) last = o.place
+
+abbrev pub token_behind : List TypedOperand → ℕ → (last : Place) → Place
+token_behind operands number last = place_if (slice_get operands number) last
+
 -- ---- what is written behind the left operand
 
 -- a condition joined with another
-abbrev pub joined_with : BinaryOperator → Tree → Tree → Tree
-joined_with operator.And left right = Both left right
-joined_with _ left right = Either left right
+abbrev pub joined_with : Row → Tree → (State → Gives Tree) → State → Gives Tree
+joined_with (Joined by) test right s = mapped (joined_by by test) (right s)
+joined_with _ test right s = gives test s
 
 -- an operand's value in a register as one of a type
 abbrev pub converted_in : Form → Ty → ℕ → State → Gives ℕ
 converted_in (typed place t category form) to r s = converted (own_type t) to place r s
 converted_in _ to r s = gives r s
 
+-- .. with the other operand behind it
+abbrev pub operated_with : Row → Form → ℕ → Option ℕ → Ty → Place → (right : Ty → State → Gives ℕ) → State → Gives ℕ
+operated_with (Computed operator common) left r into t place right s =
+    converted_in left common r s >> λ x s. right common s >> λ y s. computed into t place (values.binary operator x y) s
+operated_with _ left r into t place right s = gives 0 s
+
 module _ (a : Around) where
   -- the value of an expression, of its own type
-  abbrev pub own_of : Form → Option ℕ → State → Gives ℕ
-  own_of (typed place t category form) into s =
-      values.value_from (own_type t) place category (decision a form place) (operand a form) (made a form place (own_type t)) into s
-  own_of _ into s = gives 0 s
+  abbrev pub own_of : Form → Place → Option ℕ → State → Gives ℕ
+  own_of (typed place t category form) behind into s =
+      values.value_from (own_type t) place category (decision a form place (lasting behind)) (operand a form) (made a form place behind (own_type t)) into s
+  own_of _ behind into s = gives 0 s
 
   -- an operator whose left operand is in a register
-  abbrev pub operated_on : Form → ℕ → Option ℕ → State → Gives ℕ
-  operated_on (typed place t category (binary o left right)) r into s =
-      converted_in left (common left right) r s >> λ x s.
-      value a right (common left right) None s >> λ y s.
-      computed into (own_type t) place (values.binary (values.operator_of o) x y) s
-  operated_on _ r into s = gives 0 s
+  abbrev pub operated_on : Form → Place → ℕ → Option ℕ → State → Gives ℕ
+  operated_on (typed place t category (binary o left right)) behind r into s =
+      operated_with (row_between o left right) left r into (own_type t) place (λ common s. value a right behind common None s) s
+  operated_on _ behind r into s = gives 0 s
 
   -- a condition with the one to its right
-  abbrev pub joined_on : Form → Tree → State → Gives Tree
-  joined_on (typed place t category (binary o left right)) test s = mapped (joined_with o test) (condition a right s)
-  joined_on _ test s = gives test s
+  abbrev pub joined_on : Form → Place → Tree → State → Gives Tree
+  joined_on (typed place t category (binary o left right)) behind test s = joined_with (row_between o left right) test (condition a right (ending behind)) s
+  joined_on _ behind test s = gives test s

@@ -11,7 +11,8 @@ use Rattle.life_core.specs.declared.operation.Operation.{Operation}
 use Rattle.life_core.specs.declared.operation.Operation.TheVariants as operation
 use Rattle.life_core.specs.declared.program.Local.{Local}
 use Rattle.life_core.specs.declared.program.LocalKind.TheVariants.{Register}
-use Rattle.life_writer.specs.Writing.{State, Gives, gives, ◌>>◌, emit}
+use Rattle.life_writer.specs.Plans.{Fill, Destination, built}
+use Rattle.life_writer.specs.Writing.{State, Gives, gives, ◌>>◌}
 
 -- ---- types
 
@@ -51,9 +52,12 @@ abbrev pub target : Place → Option ℕ → Ty → State → Gives ℕ
 target place (Some r) t s = gives r s
 target place None t s = new_register place t s
 
+abbrev pub wanted : Place → Option ℕ → Ty → Destination
+wanted place into t = record { begins = target place into t; place = place }
+
 -- a register that an instruction writes
 abbrev pub computed : Option ℕ → Ty → Place → (ℕ → Step) → State → Gives ℕ
-computed into t place step s = target place into t s >> λ r s. gives r (emit place (step r) s)
+computed into t place step s = built (Fill place (λ l. step l.local)) (wanted place into t) s
 
 abbrev pub eval : Operation → ℕ → Step
 eval operation r = Eval r operation

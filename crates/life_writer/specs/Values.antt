@@ -3,8 +3,6 @@ use Rattle.std.specs.Int.{cast_signed, w64}
 use Rattle.std.specs.Prelude.{ℕ, Bool, true, false, Option, Some, None, ℤ, pos}
 use Rattle.life_types.specs.declared.place.Place.{Place}
 use Rattle.life_types.specs.declared.ty.Ty.{Ty}
-use Rattle.life_typed.specs.declared.typed_expr.BinaryOperator.{BinaryOperator}
-use Rattle.life_typed.specs.declared.typed_expr.BinaryOperator.TheVariants as typed
 use Rattle.life_typed.specs.declared.typed_expr.Category.{Category}
 use Rattle.life_typed.specs.declared.typed_expr.Category.TheVariants as category
 use Rattle.life_core.specs.Operands.{Operand}
@@ -12,10 +10,11 @@ use Rattle.life_core.specs.Step.{Step, Ports, Takes}
 use Rattle.life_core.specs.Tree.{Tree}
 use Rattle.life_core.specs.declared.operation.Operation.TheVariants as operation
 use Rattle.life_core.specs.declared.operation.Operator.{Operator}
-use Rattle.life_core.specs.declared.operation.Operator.TheVariants as core
 use Rattle.life_writer.specs.Conditions.{by_branch}
 use Rattle.life_writer.specs.Registers.{computed, eval, load}
-use Rattle.life_writer.specs.Writing.{State, Gives, ◌>>◌}
+use Rattle.life_writer.specs.Writing.{State, Gives, gives, ◌>>◌}
+use Rattle.life_writer.specs.declared.rows.Row.{Row}
+use Rattle.life_writer.specs.declared.rows.Row.TheVariants.{Computed}
 
 abbrev pub truth : Bool → ℤ
 truth true = pos 1
@@ -34,26 +33,15 @@ binary operator left right = eval (operation.Binary operator left right)
 abbrev pub input : ℕ → Step
 input r = Ports (Takes r)
 
--- the operator between two values; `&&` and `||` are decided by tests
-abbrev pub operator_of : BinaryOperator → Operator
-operator_of typed.Or = core.Add
-operator_of typed.And = core.Add
-operator_of typed.Equal = core.Equal
-operator_of typed.NotEqual = core.NotEqual
-operator_of typed.Less = core.Less
-operator_of typed.LessEqual = core.LessEqual
-operator_of typed.Greater = core.Greater
-operator_of typed.GreaterEqual = core.GreaterEqual
-operator_of typed.Add = core.Add
-operator_of typed.Subtract = core.Subtract
-operator_of typed.Multiply = core.Multiply
-operator_of typed.Divide = core.Divide
-operator_of typed.Remainder = core.Remainder
-
 -- both operands, the left one first, and then the operator
 abbrev pub operated : Option ℕ → Ty → Place → Operator → (left right : State → Gives ℕ) → State → Gives ℕ
 operated into t place operator left right s =
     left s >> λ x s. right s >> λ y s. computed into t place (binary operator x y) s
+
+-- .. by the row: what tests decide isn't computed
+abbrev pub operated_by : Row → Option ℕ → Ty → Place → (left right : Ty → State → Gives ℕ) → State → Gives ℕ
+operated_by (Computed operator common) into t place left right s = operated into t place operator (left common) (right common) s
+operated_by _ into t place left right s = gives 0 s
 
 -- ---- a value of its own type
 

@@ -1,5 +1,5 @@
 -- Parameters and variables: their locals, and where they end.
-use Rattle.std.specs.Prelude.{ℕ, false, List, [], ◌∷◌, ◌++◌, Option, Some, None, drop, take, reverse, slice_get, unwrap_or}
+use Rattle.std.specs.Prelude.{ℕ, false, List, [], ◌∷◌, ◌++◌, Option, Some, None, drop, length, take, reverse, slice_get, unwrap_or}
 use Rattle.life_types.specs.Types.{class_at}
 use Rattle.life_types.specs.declared.place.Place.{Place}
 use Rattle.life_types.specs.declared.ty.Class.{Class}
@@ -11,6 +11,7 @@ use Rattle.life_core.specs.declared.program.Local.{Local}
 use Rattle.life_core.specs.declared.program.LocalKind.{LocalKind}
 use Rattle.life_core.specs.declared.program.LocalKind.TheVariants.{Object, Register, Range}
 use Rattle.life_writer.specs.Around.{Around}
+use Rattle.life_writer.specs.Plans.{Destination}
 use Rattle.life_writer.specs.Registers.{with_local}
 use Rattle.life_writer.specs.Writing.{State, Gives, gives, emit}
 
@@ -43,6 +44,10 @@ declared_local w = gives w.given (with_living w.given w.state)
 
 abbrev pub with_variable : Local → State → Gives ℕ
 with_variable l s = declared_local (with_local l s)
+
+-- it comes to life where its name stands
+abbrev pub named : Local → Place → Destination
+named l place = record { begins = with_variable l; place = place }
 
 -- ---- what is named
 
@@ -80,6 +85,16 @@ with_living_of n s = record s { living = take n s.living }
 
 abbrev pub end_since : Place → ℕ → State → State
 end_since place n s = with_living_of n (end_past n place s)
+
+-- the temporaries that were made past so many end, too, the last first
+abbrev pub end_pending : ℕ → Place → State → State
+end_pending n place s =
+    let ended : State = end (reverse (drop n s.pending)) place s in
+    record ended { pending = take n s.pending }
+
+-- .. with the full expression that is written, at the token behind it
+abbrev pub full : Place → (State → State) → State → State
+full behind expression s = end_pending (length s.pending) behind (expression s)
 
 -- so many stay where the innermost loop is left
 abbrev pub with_outside : ℕ → State → State

@@ -1,15 +1,25 @@
 -- What has been written, as definitions see it.
-use Rattle.std.specs.Prelude.{map}
+use Rattle.std.specs.Prelude.{None, map}
 use Rattle.life_core.specs.Tree.{tree_of}
 use Rattle.life_writer.specs.Around.{Around}
-use Rattle.life_writer.specs.Pointers.{Pointing, At, As}
-use Rattle.life_core.specs.Operands.{location_of, source_of}
+use Rattle.life_writer.specs.Initialising.{Plan, ByCall, ByPlace, ByPointer, ByValue}
+use Rattle.life_writer.specs.Plans.{Last, Fill, Saved, Destination}
+use Rattle.life_writer.specs.Pointers.{Pointing, As, aimed, pointed}
+use Rattle.life_core.specs.Operands.{argument_of, location_of, source_of}
 use Rattle.life_typed.specs.Programs.{function_view, program_view}
+use Rattle.life_writer.specs.Registers.{wanted}
+use Rattle.life_writer.specs.Variables.{named}
 use Rattle.life_writer.specs.Writing.{State}
 use Rattle.life_typed.specs.TypedForm.{forms, typed_views}
-use Rattle.life_writer.specs.Calls.{Called}
+use Rattle.life_writer.specs.Calls.{Called, called}
 use Rattle.life_writer.specs.declared.calls.Called.{Called as Call}
 use Rattle.life_writer.specs.declared.around.Around.{Around as Surroundings}
+use Rattle.life_writer.specs.declared.initialising.Plan.{Plan as Planned}
+use Rattle.life_writer.specs.declared.initialising.Plan.TheVariants as planned
+use Rattle.life_writer.specs.declared.plans.Destination.{Destination as Goal}
+use Rattle.life_writer.specs.declared.plans.Destination.TheVariants as goal
+use Rattle.life_writer.specs.declared.plans.Last.{Last as LastLeft}
+use Rattle.life_writer.specs.declared.plans.Last.TheVariants as last
 use Rattle.life_writer.specs.declared.pointers.Pointing.{Pointing as Pointed}
 use Rattle.life_writer.specs.declared.pointers.Pointing.TheVariants as pointing
 use Rattle.life_writer.specs.declared.writer.Writer.{Writer}
@@ -20,6 +30,7 @@ state_of w = record {
   locals = w.locals.items;
   variables = w.variables.items;
   living = w.living.items;
+  pending = w.pending.items;
   outside = w.outside;
   code = map tree_of w.code.items;
 }
@@ -28,8 +39,23 @@ abbrev pub around_of : Surroundings → Around
 around_of a = record { program = program_view a.program.now; function = function_view a.function.now }
 
 abbrev pub pointing_of : Pointed → Pointing
-pointing_of (pointing.At source) = At (source_of source)
+pointing_of (pointing.At source) = aimed (source_of source)
 pointing_of (pointing.As location) = As (location_of location)
 
+abbrev pub last_of : LastLeft → Last
+last_of (last.Point place p) = Fill place (pointed (pointing_of p))
+last_of (last.Call place f arguments) = Fill place (called f (map argument_of arguments.items))
+last_of (last.Saved r) = Saved r
+
+abbrev pub destination_of : Goal → Destination
+destination_of (goal.Register place t) = wanted place None t
+destination_of (goal.Variable l place) = named l place
+
 abbrev pub called_of : Call → Called
-called_of c = record { function = c.function; arguments = forms (typed_views c.arguments.now) }
+called_of c = record { function = c.function; arguments = forms (typed_views c.arguments.now); closing = c.closing }
+
+abbrev pub plan_of : Planned → Plan
+plan_of planned.Value = ByValue
+plan_of (planned.Call c) = ByCall (called_of c)
+plan_of planned.Pointer = ByPointer
+plan_of planned.Place = ByPlace

@@ -15,14 +15,16 @@ pub record State : Type 0 where
   pub variables : List ℕ
   -- those of them that haven't ended
   pub living : List ℕ
-  -- how many of these stay where the innermost loop is left
+  -- the temporaries that end with the full expression that is being written
+  pub pending : List ℕ
+  -- how many of those that live stay where the innermost loop is left
   pub outside : ℕ
   -- the list of statements that is being written
   pub code : List Tree
 
 -- nothing, where the table has these types
 abbrev pub nothing_written : Types → State
-nothing_written types = record { types = types; locals = []; variables = []; living = []; outside = 0; code = [] }
+nothing_written types = record { types = types; locals = []; variables = []; living = []; pending = []; outside = 0; code = [] }
 
 -- what a part gives, and what has been written by its end
 pub record Gives (A : Type 0) : Type 0 where

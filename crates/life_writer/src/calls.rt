@@ -7,12 +7,14 @@ ghost use Rattle.life_writer.specs.Views.{called_of};
 
 use crate::parts::{Node, Part, Shape, opened};
 use life_typed::TypedExpr;
+use life_types::Place;
 
-/// A call: the number of the function, and the arguments.
+/// A call: the number of the function, the arguments, and the parenthesis that closes them.
 #[derive(Clone, Copy)]
 pub struct Called<'a> {
     pub function: u32,
     pub arguments: &'a [TypedExpr],
+    pub closing: Place,
 }
 
 /// The call that an expression is, also in parentheses.
@@ -38,10 +40,11 @@ fn node_call(node: Option<Node<'_>>) -> Option<Called<'_>>
         Shape::Call {
             function,
             arguments,
-            ..
+            closing,
         } => Some(Called {
             function,
             arguments,
+            closing,
         }),
         Shape::Paren { inner, .. } => part_call(inner),
         _ => None,

@@ -1,16 +1,14 @@
 // Chains of operators, which are written from the innermost operand on: they may be as long as the
 // text, and are no deeper than one of their operands.
 ghost use Rattle.std.specs.Prelude.{◌≡◌, ◌+◌, ◌<◌, ◌≤◌, IsTrue, length, take};
-ghost use Rattle.life_typed.specs.TypedForm.{whole};
-ghost use Rattle.life_writer.specs.Around.{type_in};
 ghost use Rattle.life_writer.specs.Chains as spec;
-ghost use Rattle.life_writer.specs.Parts.{inside, part_form, part_view};
+ghost use Rattle.life_writer.specs.Parts.{inside};
+ghost use Rattle.life_writer.specs.Rows as rows;
 
-use crate::around::own_type;
-use crate::conditions::stands_for_null;
-use crate::parts::{Node, Part, Shape, last_of};
-use life_typed::{BinaryOperator, Category, TypedOperand};
-use life_types::{Place, Ty};
+use crate::parts::{Node, Shape, last_of};
+use crate::rows::{Row, row_between};
+use life_typed::{Category, TypedOperand};
+use life_types::Place;
 
 /// What the operators of a chain have in common.
 #[derive(Clone, Copy)]
@@ -21,55 +19,33 @@ pub(crate) enum Chain {
     Joined,
 }
 
-fn joins(operator: BinaryOperator) -> bool
-    ensures { result ≡ spec.joins operator }
+fn computes(row: Row) -> bool
+    ensures { result ≡ rows.computes row }
 {
-    match operator {
-        BinaryOperator::Or => true,
-        BinaryOperator::And => true,
-        _ => false,
-    }
+    matches!(row, Row::Computed { .. })
 }
 
-// Whether an operator is decided by tests: `&&`, `||`, and a comparison with nullptr.
-fn is_decided(operator: BinaryOperator, left: Option<Part<'_>>, right: Part<'_>) -> bool
-    ensures { result ≡ spec.is_decided operator (part_form left.entry) (whole (part_view right.entry)) }
+fn joins(row: Row) -> bool
+    ensures { result ≡ rows.joins row }
 {
-    match operator {
-        BinaryOperator::Or => true,
-        BinaryOperator::And => true,
-        BinaryOperator::Equal => stands_for_null(left) || stands_for_null(Some(right)),
-        BinaryOperator::NotEqual => stands_for_null(left) || stands_for_null(Some(right)),
-        _ => false,
-    }
+    matches!(row, Row::Joined(_))
 }
 
-fn is_computed(
-    category: Category,
-    operator: BinaryOperator,
-    left: Option<Part<'_>>,
-    right: Part<'_>,
-) -> bool
-    ensures { result ≡ spec.is_computed category operator (part_form left.entry) (whole (part_view right.entry)) }
+fn is_computed(category: Category, row: Row) -> bool
+    ensures { result ≡ spec.is_computed category row }
 {
     match category {
-        Category::Value => !is_decided(operator, left, right),
+        Category::Value => computes(row),
         Category::Place { .. } => false,
     }
 }
 
-fn is_between(
-    chain: Chain,
-    category: Category,
-    operator: BinaryOperator,
-    left: Option<Part<'_>>,
-    right: Part<'_>,
-) -> bool
-    ensures { result ≡ spec.is_between chain category operator (part_form left.entry) (whole (part_view right.entry)) }
+fn is_between(chain: Chain, category: Category, row: Row) -> bool
+    ensures { result ≡ spec.is_between chain category row }
 {
     match chain {
-        Chain::Computed => is_computed(category, operator, left, right),
-        Chain::Joined => joins(operator),
+        Chain::Computed => is_computed(category, row),
+        Chain::Joined => joins(row),
     }
 }
 
@@ -82,7 +58,7 @@ pub(crate) fn is_link(chain: Chain, node: Node<'_>) -> bool
             operator,
             left,
             right,
-        } => is_between(chain, node.category, operator, left, right),
+        } => is_between(chain, node.category, row_between(operator, left, right)),
         _ => false,
     }
 }
@@ -116,13 +92,14 @@ pub(crate) fn chain_begins(chain: Chain, operands: &[TypedOperand]) -> usize
     from
 }
 
-/// The type of an operand, if it is there.
-pub(crate) fn type_in(operand: Option<Part<'_>>) -> Ty
-    ensures { result ≡ type_in (part_form operand.entry) }
+/// The token behind what stands before the operand with this number: the operator that this is, or the
+/// last one.
+pub(crate) fn token_behind(operands: &[TypedOperand], number: usize, last: Place) -> Place
+    ensures { result ≡ spec.token_behind operands.now number last }
 {
-    match operand {
-        Some(part) => own_type(part.ty),
-        None => Ty::Void,
+    match operands.get(number) {
+        Some(operand) => operand.place,
+        None => last,
     }
 }
 

@@ -1,40 +1,17 @@
 // Conditions: tests, and what is decided by them.
-ghost use Rattle.std.specs.Prelude.{◌≡◌, IfOk, map};
+ghost use Rattle.std.specs.Prelude.{◌≡◌, [], IfOk, OnOk, length, map};
 ghost use Rattle.life_core.specs.Step.{asked_of};
-ghost use Rattle.life_core.specs.Tree.{Both, Either, Negated, condition_tree, tree_of};
+ghost use Rattle.life_core.specs.Tree.{Negated, condition_tree, tree_of};
 ghost use Rattle.life_writer.specs.Answers.{Answers};
-ghost use Rattle.life_writer.specs.Chains.{joined_with};
 ghost use Rattle.life_writer.specs.Conditions as spec;
-ghost use Rattle.life_writer.specs.Parts.{part_form};
 ghost use Rattle.life_writer.specs.Views.{state_of};
 ghost use Rattle.life_writer.specs.Writing.{gives, taken, with_code};
 
-use crate::parts::Part;
+use crate::rows::Join;
 use crate::writer::Writer;
 use life_core::{Condition, Instr, Operation, Stmt, Test};
-use life_typed::{BinaryOperator, ExprType};
 use life_types::{NoMemory, Place, Ty};
 use std::alloc::Global;
-
-/// `nullptr`, also in parentheses.
-pub(crate) fn stands_for_null(part: Option<Part<'_>>) -> bool
-    ensures { result ≡ spec.stands_for_null (part_form part.entry) }
-{
-    match part {
-        Some(part) => is_null(part.ty),
-        None => false,
-    }
-}
-
-fn is_null(ty: ExprType) -> bool
-    ensures { result ≡ spec.is_null ty }
-{
-    match ty {
-        ExprType::Of(_) => false,
-        ExprType::NullPointer => true,
-        ExprType::TextLiteral => false,
-    }
-}
 
 /// It doesn't hold (ISO/IEC 14882:2017 [expr.unary.op]/9).
 pub(crate) fn negation(alloc: Global, condition: Condition) -> Result<Condition, NoMemory>
@@ -43,36 +20,20 @@ pub(crate) fn negation(alloc: Global, condition: Condition) -> Result<Condition,
     Ok(Condition::Not(Box::new(alloc, condition)?))
 }
 
-/// Both hold ([expr.log.and]).
-pub(crate) fn both(alloc: Global, left: Condition, right: Condition) -> Result<Condition, NoMemory>
-    ensures { IfOk result (λ c. condition_tree c ≡ Both (condition_tree left) (condition_tree right)) }
-{
-    Ok(Condition::And(Box::new(alloc, left)?, Box::new(alloc, right)?))
-}
-
-/// One of them holds ([expr.log.or]).
-pub(crate) fn either(
-    alloc: Global,
-    left: Condition,
-    right: Condition,
-) -> Result<Condition, NoMemory>
-    ensures { IfOk result (λ c. condition_tree c ≡ Either (condition_tree left) (condition_tree right)) }
-{
-    Ok(Condition::Or(Box::new(alloc, left)?, Box::new(alloc, right)?))
-}
-
-/// Both hold behind `&&`, and one of them behind `||`.
+/// Both hold, or one of them.
 pub(crate) fn join(
     alloc: Global,
-    operator: BinaryOperator,
+    by: Join,
     left: Condition,
     right: Condition,
 ) -> Result<Condition, NoMemory>
-    ensures { IfOk result (λ c. condition_tree c ≡ joined_with operator (condition_tree left) (condition_tree right)) }
+    ensures { IfOk result (λ c. condition_tree c ≡ spec.joined_by by (condition_tree left) (condition_tree right)) }
 {
-    match operator {
-        BinaryOperator::And => both(alloc, left, right),
-        _ => either(alloc, left, right),
+    let left = Box::new(alloc, left)?;
+    let right = Box::new(alloc, right)?;
+    match by {
+        Join::Both => Ok(Condition::And(left, right)),
+        Join::Either => Ok(Condition::Or(left, right)),
     }
 }
 
@@ -86,18 +47,51 @@ fn answer(alloc: Global, place: Place, number: i64, into: u32) -> Result<Stmt, N
     Ok(Stmt::List(code))
 }
 
+/// What stands before a test.
+#[derive(Drop)]
+pub struct Before {
+    /// The list of statements that goes on behind it.
+    pub code: Vec<Stmt>,
+    /// How many temporaries were pending.
+    pub pending: usize,
+}
+
 impl Writer {
+    /// Begins what computes a test, in a list of its own.
+    pub fn begin_test(&mut self) -> Before
+        ensures before { map tree_of result.code.items ≡ (state_of self.old).code }
+        ensures pending { result.pending ≡ length (state_of self.old).pending }
+        ensures state { state_of self.new ≡ with_code [] (state_of self.old) }
+    {
+        let pending = self.pending_count();
+        let code = self.begin_list();
+        Before { code, pending }
+    }
+
+    // What was made for a test ends right before it, where it doesn't last.
+    fn end_tested(&mut self, pending: usize, ends: Option<Place>) -> Result<(), NoMemory>
+        ensures { OnOk result (state_of self.new ≡ spec.end_tested pending ends (state_of self.old)) }
+    {
+        match ends {
+            Some(place) => self.end_pending(pending, place),
+            None => Ok(()),
+        }
+    }
+
     /// A test behind the statements that compute what is tested, which stand in a list of their own;
     /// the list from before goes on.
     pub fn behind_code(
         &mut self,
-        before: Vec<Stmt>,
+        before: Before,
         place: Place,
+        ends: Option<Place>,
         test: Test,
     ) -> Result<Condition, NoMemory>
-        ensures { Answers condition_tree result (spec.behind_code place (asked_of test) (taken (with_code (map tree_of before.items) (state_of self.old)) (state_of self.old))) (state_of self.new) }
+        ensures { Answers condition_tree result (spec.behind_code place (asked_of test) (taken (with_code (map tree_of before.code.items) (state_of self.old)) (spec.end_tested before.pending ends (state_of self.old)))) (state_of self.new) }
     {
-        let code = self.end_list(before);
+        let Before { code, pending } = before;
+        self.end_tested(pending, ends)?;
+        let code = self.end_list(code);
         let test = Box::new(self.alloc, Condition::Single(place, test))?;
         Ok(Condition::After(Box::new(self.alloc, code)?, test))
     }

@@ -1,45 +1,51 @@
 // Expressions: their values, places, pointers and conditions, part by part in the order of evaluation
 // (ISO/IEC 14882:2017 [intro.execution], [expr]; arguments from left to right).
-ghost use Rattle.std.specs.Prelude.{◌≡◌, None, OnOk, false, map, slice_get, true};
-ghost use Rattle.life_core.specs.Operands.{argument_of, location_of, operand_of};
+ghost use Rattle.std.specs.Prelude.{◌≡◌, None, OnOk, map, slice_get};
+ghost use Rattle.life_core.specs.Operands.{argument_of, location_of, operand_of, whole as whole_location};
 ghost use Rattle.life_core.specs.Tree.{condition_tree};
 ghost use Rattle.life_typed.specs.TypedForm.{forms, typed_view, typed_views, whole};
 ghost use Rattle.life_typed.specs.declared.typed_program.TypedLocal.{TypedLocal};
 ghost use Rattle.life_writer.specs.Answers.{Answers, AnswersIf};
 ghost use Rattle.life_writer.specs.Calls.{called};
-ghost use Rattle.life_writer.specs.Chains.{converted_in, joined_on, operated_on, own_of};
+ghost use Rattle.life_writer.specs.Behind.{ending};
+ghost use Rattle.life_writer.specs.Chains.{converted_in, joined_on, joined_with, operated_on, operated_with, own_of};
 ghost use Rattle.life_writer.specs.Conditions as conditions;
 ghost use Rattle.life_writer.specs.Expressions as spec;
 ghost use Rattle.life_writer.specs.Parts.{node_form, node_view, part_form, part_view};
+ghost use Rattle.life_writer.specs.Values.{operated_by};
 ghost use Rattle.life_writer.specs.Views.{around_of, pointing_of, state_of};
 ghost use Rattle.life_writer.specs.Writing.{emit};
 
 use crate::around::{Around, own_type};
-use crate::chains::{Chain, NOWHERE, chain_begins, is_link, type_in};
-use crate::conditions::{both, either, join, negation, stands_for_null};
+use crate::behind::Behind;
+use crate::chains::{Chain, NOWHERE, chain_begins, is_link, token_behind};
+use crate::conditions::{join, negation};
 use crate::parts::{Node, Part, Shape, last_of, opened};
 use crate::pointers::Pointing;
-use crate::values::{operator_of, truth};
+use crate::rows::{Row, Side, row_between};
+use crate::values::truth;
 use crate::writer::Writer;
 use life_core::{
     Argument, Condition, FnId, Instr, Location, Operand, Operation, Port, Source, Test,
 };
-use life_typed::{BinaryOperator, Category, TypedExpr, TypedLocal, promoted};
+use life_typed::{Category, TypedExpr, TypedLocal};
 use life_types::{NoMemory, Place, Ty, TyId, is_raw};
 use std::vec::Vec;
 
 impl Writer {
-    /// The value of an expression as one of a type, in the register that is wanted or one of its own.
+    /// The value of an expression as one of a type, in the register that is wanted or one of its own,
+    /// with the token behind it.
     pub fn value(
         &mut self,
         a: &Around,
         expression: &TypedExpr,
+        behind: Place,
         to: Ty,
         into: Option<u32>,
     ) -> Result<u32, NoMemory>
-        ensures { Answers (λ x. x) result (spec.value (around_of a.now) (whole (typed_view expression.now)) to into (state_of self.old)) (state_of self.new) }
+        ensures { Answers (λ x. x) result (spec.value (around_of a.now) (whole (typed_view expression.now)) behind to into (state_of self.old)) (state_of self.new) }
     {
-        self.part_value(a, Some(Part::of(expression)), to, into)
+        self.part_value(a, Some(Part::of(expression)), behind, to, into)
     }
 
     // The value of a part as one of a type.
@@ -48,18 +54,19 @@ impl Writer {
         &mut self,
         a: &Around,
         part: Option<Part<'_>>,
+        behind: Place,
         to: Ty,
         into: Option<u32>,
     ) -> Result<u32, NoMemory>
-        ensures { Answers (λ x. x) result (spec.value (around_of a.now) (part_form part.entry) to into (state_of self.old)) (state_of self.new) }
+        ensures { Answers (λ x. x) result (spec.value (around_of a.now) (part_form part.entry) behind to into (state_of self.old)) (state_of self.new) }
     {
         let Some(found) = part else {
             return Ok(0);
         };
         if own_type(found.ty) == to {
-            return self.own_value(a, part, into);
+            return self.own_value(a, part, behind, into);
         }
-        let register = self.own_value(a, part, None)?;
+        let register = self.own_value(a, part, behind, None)?;
         self.eval(into, to, found.place, Operation::Convert(register))
     }
 
@@ -69,37 +76,44 @@ impl Writer {
         &mut self,
         a: &Around,
         part: Option<Part<'_>>,
+        behind: Place,
         into: Option<u32>,
     ) -> Result<u32, NoMemory>
-        ensures { Answers (λ x. x) result (own_of (around_of a.now) (part_form part.entry) into (state_of self.old)) (state_of self.new) }
+        ensures { Answers (λ x. x) result (own_of (around_of a.now) (part_form part.entry) behind into (state_of self.old)) (state_of self.new) }
     {
         let Some(part) = part else {
             return Ok(0);
         };
         let node = part.opened();
         if !is_link(Chain::Computed, node) {
-            return self.lone_value(a, node, into);
+            return self.lone_value(a, node, behind, into);
         }
         let within = part.within;
         let from = chain_begins(Chain::Computed, within);
-        let mut register = self.own_value(a, last_of(&within[..from]), None)?;
+        let mut register = self.own_value(a, last_of(&within[..from]), behind, None)?;
         'operators: for number in from..within.len() {
             let next = opened(last_of(&within[..number + 1]));
-            register = self.operated(a, next, register, None)?;
+            register = self.operated(a, next, behind, register, None)?;
         }
-        self.operated(a, Some(node), register, into)
+        self.operated(a, Some(node), behind, register, into)
     }
 
     // .. which no operator computes from two others.
     #[cycle(values)]
-    fn lone_value(&mut self, a: &Around, node: Node<'_>, into: Option<u32>) -> Result<u32, NoMemory>
-        ensures { Answers (λ x. x) result (spec.own_value (around_of a.now) (node_view node.entry) into (state_of self.old)) (state_of self.new) }
+    fn lone_value(
+        &mut self,
+        a: &Around,
+        node: Node<'_>,
+        behind: Place,
+        into: Option<u32>,
+    ) -> Result<u32, NoMemory>
+        ensures { Answers (λ x. x) result (spec.own_value (around_of a.now) (node_view node.entry) behind into (state_of self.old)) (state_of self.new) }
     {
-        if let Some(condition) = self.decision(a, node)? {
+        if let Some(condition) = self.decision(a, node, Behind::lasting(behind))? {
             let ty = own_type(node.ty);
             return self.by_branch(into, ty, node.place, condition);
         }
-        self.read_or_made(a, node, into)
+        self.read_or_made(a, node, behind, into)
     }
 
     // An operator whose left operand's value is in a register.
@@ -108,10 +122,11 @@ impl Writer {
         &mut self,
         a: &Around,
         node: Option<Node<'_>>,
+        behind: Place,
         register: u32,
         into: Option<u32>,
     ) -> Result<u32, NoMemory>
-        ensures { Answers (λ x. x) result (operated_on (around_of a.now) (node_form node.entry) register into (state_of self.old)) (state_of self.new) }
+        ensures { Answers (λ x. x) result (operated_on (around_of a.now) (node_form node.entry) behind register into (state_of self.old)) (state_of self.new) }
     {
         let Some(node) = node else {
             return Ok(0);
@@ -122,15 +137,40 @@ impl Writer {
                 left,
                 right,
             } => {
-                let common = promoted(type_in(left), own_type(right.ty));
+                let row = row_between(operator, left, right);
+                let ty = own_type(node.ty);
+                self.operated_with(a, row, left, register, into, ty, node.place, right, behind)
+            }
+            _ => Ok(0),
+        }
+    }
+
+    // .. by its row.
+    #[cycle(values)]
+    fn operated_with(
+        &mut self,
+        a: &Around,
+        row: Row,
+        left: Option<Part<'_>>,
+        register: u32,
+        into: Option<u32>,
+        ty: Ty,
+        place: Place,
+        right: Part<'_>,
+        behind: Place,
+    ) -> Result<u32, NoMemory>
+        ensures { Answers (λ x. x) result (operated_with row (part_form left.entry) register into ty place (λ common s. spec.value (around_of a.now) (whole (part_view right.entry)) behind common None s) (state_of self.old)) (state_of self.new) }
+    {
+        match row {
+            Row::Computed { operator, common } => {
                 let left = self.converted_in(left, common, register)?;
-                let right = self.part_value(a, Some(right), common, None)?;
+                let right = self.part_value(a, Some(right), behind, common, None)?;
                 let operation = Operation::Binary {
-                    operator: operator_of(operator),
+                    operator,
                     left,
                     right,
                 };
-                self.eval(into, own_type(node.ty), node.place, operation)
+                self.eval(into, ty, place, operation)
             }
             _ => Ok(0),
         }
@@ -157,13 +197,14 @@ impl Writer {
         &mut self,
         a: &Around,
         node: Node<'_>,
+        behind: Place,
         into: Option<u32>,
     ) -> Result<u32, NoMemory>
-        ensures { Answers (λ x. x) result (spec.read_or_made (around_of a.now) (node_view node.entry) into (state_of self.old)) (state_of self.new) }
+        ensures { Answers (λ x. x) result (spec.read_or_made (around_of a.now) (node_view node.entry) behind into (state_of self.old)) (state_of self.new) }
     {
         let ty = own_type(node.ty);
         match node.category {
-            Category::Value => self.made(a, node, ty, into),
+            Category::Value => self.made(a, node, behind, ty, into),
             Category::Place { .. } => {
                 let from = self.node_operand(a, node)?;
                 self.load(into, ty, node.place, from)
@@ -177,10 +218,11 @@ impl Writer {
         &mut self,
         a: &Around,
         node: Node<'_>,
+        behind: Place,
         ty: Ty,
         into: Option<u32>,
     ) -> Result<u32, NoMemory>
-        ensures { Answers (λ x. x) result (spec.made (around_of a.now) (node_view node.entry).form node.entry.place ty into (state_of self.old)) (state_of self.new) }
+        ensures { Answers (λ x. x) result (spec.made (around_of a.now) (node_view node.entry).form node.entry.place behind ty into (state_of self.old)) (state_of self.new) }
     {
         let place = node.place;
         match node.shape {
@@ -195,21 +237,21 @@ impl Writer {
             Shape::Call {
                 function,
                 arguments,
-                ..
+                closing,
             } => {
-                let arguments = self.handed_over(a, arguments, a.parameters(function))?;
+                let arguments = self.handed_over(a, arguments, closing, a.parameters(function))?;
                 let into = self.target(place, into, ty)?;
                 self.call_into(place, into, function, arguments)?;
                 Ok(into)
             }
-            Shape::Paren { inner, .. } => self.part_value(a, inner, ty, into),
+            Shape::Paren { inner, closing } => self.part_value(a, inner, closing, ty, into),
             Shape::Input => {
                 let into = self.target(place, into, ty)?;
                 self.emit(place, Instr::Port(Port::Take(into)))?;
                 Ok(into)
             }
             Shape::Negate(operand) => {
-                let register = self.part_value(a, operand, ty, None)?;
+                let register = self.part_value(a, operand, behind, ty, None)?;
                 self.eval(into, ty, place, Operation::Negate(register))
             }
             Shape::Binary {
@@ -217,11 +259,34 @@ impl Writer {
                 left,
                 right,
             } => {
-                let common = promoted(type_in(left), own_type(right.ty));
-                let left = self.part_value(a, left, common, None)?;
-                let right = self.part_value(a, Some(right), common, None)?;
+                let row = row_between(operator, left, right);
+                self.operated_by(a, row, into, ty, place, left, right, behind)
+            }
+            _ => Ok(0),
+        }
+    }
+
+    // Both operands, and then the operator, by its row.
+    #[cycle(values)]
+    fn operated_by(
+        &mut self,
+        a: &Around,
+        row: Row,
+        into: Option<u32>,
+        ty: Ty,
+        place: Place,
+        left: Option<Part<'_>>,
+        right: Part<'_>,
+        behind: Place,
+    ) -> Result<u32, NoMemory>
+        ensures { Answers (λ x. x) result (operated_by row into ty place (λ common s. spec.value (around_of a.now) (part_form left.entry) behind common None s) (λ common s. spec.value (around_of a.now) (whole (part_view right.entry)) behind common None s) (state_of self.old)) (state_of self.new) }
+    {
+        match row {
+            Row::Computed { operator, common } => {
+                let left = self.part_value(a, left, behind, common, None)?;
+                let right = self.part_value(a, Some(right), behind, common, None)?;
                 let operation = Operation::Binary {
-                    operator: operator_of(operator),
+                    operator,
                     left,
                     right,
                 };
@@ -231,15 +296,15 @@ impl Writer {
         }
     }
 
-    /// Calls a function, and gives its result to a register or a variable.
-    pub fn call_into(
+    // Calls a function, and gives its result to a register.
+    fn call_into(
         &mut self,
         place: Place,
         target: u32,
         function: u32,
         arguments: Vec<Argument>,
     ) -> Result<(), NoMemory>
-        ensures { OnOk result (state_of self.new ≡ emit place (called function (map argument_of arguments.items) target) (state_of self.old)) }
+        ensures { OnOk result (state_of self.new ≡ emit place (called function (map argument_of arguments.items) (whole_location target)) (state_of self.old)) }
     {
         let target = Some(Location::whole(self.alloc, target));
         self.emit(
@@ -259,16 +324,17 @@ impl Writer {
         &mut self,
         a: &Around,
         arguments: &[TypedExpr],
+        closing: Place,
         parameters: &[TypedLocal],
     ) -> Result<Vec<Argument>, NoMemory>
-        ensures { Answers (λ xs. map argument_of xs.items) result (spec.handed_over (around_of a.now) (forms (typed_views arguments.now)) (map (λ (l : TypedLocal). l.ty) parameters.now) (state_of self.old)) (state_of self.new) }
+        ensures { Answers (λ xs. map argument_of xs.items) result (spec.handed_over (around_of a.now) (forms (typed_views arguments.now)) closing (map (λ (l : TypedLocal). l.ty) parameters.now) (state_of self.old)) (state_of self.new) }
     {
         let mut given = Vec::new(self.alloc);
         'arguments: for (number, argument) in arguments.iter().enumerate() {
             match type_of_parameter(parameters, number) {
                 Some(ty) => {
                     let part = Some(Part::of(argument));
-                    let register = self.part_value(a, part, a.type_of(ty), None)?;
+                    let register = self.part_value(a, part, closing, a.type_of(ty), None)?;
                     given.push(Argument::Value(register))?;
                 }
                 None => return Ok(given),
@@ -375,43 +441,60 @@ impl Writer {
     }
 
     /// An expression as a condition ([stmt.select], [conv.bool]).
-    pub fn condition(&mut self, a: &Around, expression: &TypedExpr) -> Result<Condition, NoMemory>
-        ensures { Answers condition_tree result (spec.condition (around_of a.now) (whole (typed_view expression.now)) (state_of self.old)) (state_of self.new) }
+    pub fn condition(
+        &mut self,
+        a: &Around,
+        expression: &TypedExpr,
+        behind: Behind,
+    ) -> Result<Condition, NoMemory>
+        ensures { Answers condition_tree result (spec.condition (around_of a.now) (whole (typed_view expression.now)) behind (state_of self.old)) (state_of self.new) }
     {
-        self.part_condition(a, Some(Part::of(expression)))
+        self.part_condition(a, Some(Part::of(expression)), behind)
     }
 
     // A part as a condition. A chain of `&&` and `||` is written from its innermost operand on.
     #[cycle(values)]
-    fn part_condition(&mut self, a: &Around, part: Option<Part<'_>>) -> Result<Condition, NoMemory>
-        ensures { Answers condition_tree result (spec.condition (around_of a.now) (part_form part.entry) (state_of self.old)) (state_of self.new) }
+    fn part_condition(
+        &mut self,
+        a: &Around,
+        part: Option<Part<'_>>,
+        behind: Behind,
+    ) -> Result<Condition, NoMemory>
+        ensures { Answers condition_tree result (spec.condition (around_of a.now) (part_form part.entry) behind (state_of self.old)) (state_of self.new) }
     {
         let Some(part) = part else {
             return Ok(Condition::Single(NOWHERE, Test::NonZero(0)));
         };
         let node = part.opened();
         if !is_link(Chain::Joined, node) {
-            return self.lone_condition(a, node);
+            return self.lone_condition(a, node, behind);
         }
         let within = part.within;
         let from = chain_begins(Chain::Joined, within);
-        let mut condition = self.part_condition(a, last_of(&within[..from]))?;
+        let first = Behind::ending(token_behind(within, from, part.place));
+        let mut condition = self.part_condition(a, last_of(&within[..from]), first)?;
         'operators: for number in from..within.len() {
             let next = opened(last_of(&within[..number + 1]));
-            condition = self.joined(a, next, condition)?;
+            let token = token_behind(within, number + 1, part.place);
+            condition = self.joined(a, next, token, condition)?;
         }
-        self.joined(a, Some(node), condition)
+        self.joined(a, Some(node), behind.token, condition)
     }
 
     // A condition that `&&` and `||` don't join.
     #[cycle(values)]
-    fn lone_condition(&mut self, a: &Around, node: Node<'_>) -> Result<Condition, NoMemory>
-        ensures { Answers condition_tree result (spec.condition (around_of a.now) (whole (node_view node.entry)) (state_of self.old)) (state_of self.new) }
+    fn lone_condition(
+        &mut self,
+        a: &Around,
+        node: Node<'_>,
+        behind: Behind,
+    ) -> Result<Condition, NoMemory>
+        ensures { Answers condition_tree result (spec.condition (around_of a.now) (whole (node_view node.entry)) behind (state_of self.old)) (state_of self.new) }
     {
-        match self.decision(a, node)? {
+        match self.decision(a, node, behind)? {
             Some(decision) => Ok(decision),
-            None if is_raw(own_type(node.ty)) => self.points(a, node),
-            None => self.non_zero(a, node),
+            None if is_raw(own_type(node.ty)) => self.points(a, node, behind.ends),
+            None => self.non_zero(a, node, behind),
         }
     }
 
@@ -421,9 +504,10 @@ impl Writer {
         &mut self,
         a: &Around,
         node: Option<Node<'_>>,
+        behind: Place,
         condition: Condition,
     ) -> Result<Condition, NoMemory>
-        ensures { Answers condition_tree result (joined_on (around_of a.now) (node_form node.entry) (condition_tree condition) (state_of self.old)) (state_of self.new) }
+        ensures { Answers condition_tree result (joined_on (around_of a.now) (node_form node.entry) behind (condition_tree condition) (state_of self.old)) (state_of self.new) }
     {
         let Some(node) = node else {
             return Ok(condition);
@@ -431,23 +515,52 @@ impl Writer {
         match node.shape {
             Shape::Binary {
                 operator,
+                left,
                 right,
-                ..
-            } => {
-                let right = self.part_condition(a, Some(right))?;
-                join(self.alloc, operator, condition, right)
+            } => self.joined_with(
+                a,
+                row_between(operator, left, right),
+                condition,
+                right,
+                behind,
+            ),
+            _ => Ok(condition),
+        }
+    }
+
+    // .. by its row.
+    #[cycle(values)]
+    fn joined_with(
+        &mut self,
+        a: &Around,
+        row: Row,
+        condition: Condition,
+        right: Part<'_>,
+        behind: Place,
+    ) -> Result<Condition, NoMemory>
+        ensures { Answers condition_tree result (joined_with row (condition_tree condition) (spec.condition (around_of a.now) (whole (part_view right.entry)) (ending behind)) (state_of self.old)) (state_of self.new) }
+    {
+        match row {
+            Row::Joined(by) => {
+                let right = self.part_condition(a, Some(right), Behind::ending(behind))?;
+                join(self.alloc, by, condition, right)
             }
             _ => Ok(condition),
         }
     }
 
     // Whether a part that is a pointer isn't null.
-    fn points(&mut self, a: &Around, node: Node<'_>) -> Result<Condition, NoMemory>
-        ensures { Answers condition_tree result (conditions.not_null node.entry.place (spec.pointer (around_of a.now) (whole (node_view node.entry))) (state_of self.old)) (state_of self.new) }
+    fn points(
+        &mut self,
+        a: &Around,
+        node: Node<'_>,
+        ends: Option<Place>,
+    ) -> Result<Condition, NoMemory>
+        ensures { Answers condition_tree result (conditions.not_null node.entry.place ends (spec.pointer (around_of a.now) (whole (node_view node.entry))) (state_of self.old)) (state_of self.new) }
     {
-        let before = self.begin_list();
+        let before = self.begin_test();
         let location = self.node_pointer(a, node)?;
-        self.behind_code(before, node.place, Test::NotNull(location))
+        self.behind_code(before, node.place, ends, Test::NotNull(location))
     }
 
     // Whether a pointer that is compared with nullptr isn't null.
@@ -455,41 +568,57 @@ impl Writer {
         &mut self,
         a: &Around,
         place: Place,
+        ends: Option<Place>,
         pointer: Option<Part<'_>>,
     ) -> Result<Condition, NoMemory>
-        ensures { Answers condition_tree result (conditions.not_null place (spec.pointer (around_of a.now) (part_form pointer.entry)) (state_of self.old)) (state_of self.new) }
+        ensures { Answers condition_tree result (conditions.not_null place ends (spec.pointer (around_of a.now) (part_form pointer.entry)) (state_of self.old)) (state_of self.new) }
     {
-        let before = self.begin_list();
+        let before = self.begin_test();
         let location = self.part_pointer(a, pointer)?;
-        self.behind_code(before, place, Test::NotNull(location))
+        self.behind_code(before, place, ends, Test::NotNull(location))
     }
 
     // Whether a value that isn't decided by tests isn't 0.
     #[cycle(values)]
-    fn non_zero(&mut self, a: &Around, node: Node<'_>) -> Result<Condition, NoMemory>
-        ensures { Answers condition_tree result (conditions.non_zero node.entry.place (spec.read_or_made (around_of a.now) (node_view node.entry) None) (state_of self.old)) (state_of self.new) }
+    fn non_zero(
+        &mut self,
+        a: &Around,
+        node: Node<'_>,
+        behind: Behind,
+    ) -> Result<Condition, NoMemory>
+        ensures { Answers condition_tree result (conditions.non_zero node.entry.place behind.ends (spec.read_or_made (around_of a.now) (node_view node.entry) behind.token None) (state_of self.old)) (state_of self.new) }
     {
-        let before = self.begin_list();
-        let register = self.read_or_made(a, node, None)?;
-        self.behind_code(before, node.place, Test::NonZero(register))
+        let before = self.begin_test();
+        let register = self.read_or_made(a, node, behind.token, None)?;
+        self.behind_code(before, node.place, behind.ends, Test::NonZero(register))
     }
 
     // What is decided by tests: `!`, `&&`, `||` and comparisons with nullptr.
     #[cycle(values)]
-    fn decision(&mut self, a: &Around, node: Node<'_>) -> Result<Option<Condition>, NoMemory>
-        ensures { AnswersIf condition_tree result (spec.decision (around_of a.now) (node_view node.entry).form node.entry.place) (state_of self.old) (state_of self.new) }
+    fn decision(
+        &mut self,
+        a: &Around,
+        node: Node<'_>,
+        behind: Behind,
+    ) -> Result<Option<Condition>, NoMemory>
+        ensures { AnswersIf condition_tree result (spec.decision (around_of a.now) (node_view node.entry).form node.entry.place behind) (state_of self.old) (state_of self.new) }
     {
         match node.shape {
-            Shape::Paren { inner, .. } => self.part_decision(a, inner, node.place),
+            Shape::Paren { inner, closing } => {
+                self.part_decision(a, inner, node.place, behind.closed_by(closing))
+            }
             Shape::Not(operand) => {
-                let condition = self.part_condition(a, operand)?;
+                let condition = self.part_condition(a, operand, behind)?;
                 Ok(Some(negation(self.alloc, condition)?))
             }
             Shape::Binary {
                 operator,
                 left,
                 right,
-            } => self.decided(a, operator, node.place, left, right),
+            } => {
+                let row = row_between(operator, left, right);
+                self.decided(a, row, node.place, behind, left, right)
+            }
             _ => Ok(None),
         }
     }
@@ -500,79 +629,55 @@ impl Writer {
         a: &Around,
         part: Option<Part<'_>>,
         place: Place,
+        behind: Behind,
     ) -> Result<Option<Condition>, NoMemory>
-        ensures { AnswersIf condition_tree result (spec.decision (around_of a.now) (part_form part.entry) place) (state_of self.old) (state_of self.new) }
+        ensures { AnswersIf condition_tree result (spec.decision (around_of a.now) (part_form part.entry) place behind) (state_of self.old) (state_of self.new) }
     {
         match part {
-            Some(part) => self.decision(a, part.opened()),
+            Some(part) => self.decision(a, part.opened(), behind),
             None => Ok(None),
         }
     }
 
-    // .. of two operands.
+    // .. of two operands, by the row.
     #[cycle(values)]
     fn decided(
         &mut self,
         a: &Around,
-        operator: BinaryOperator,
+        row: Row,
         place: Place,
+        behind: Behind,
         left: Option<Part<'_>>,
         right: Part<'_>,
     ) -> Result<Option<Condition>, NoMemory>
-        ensures { AnswersIf condition_tree result (spec.decided_between (around_of a.now) operator place (part_form left.entry) (whole (part_view right.entry))) (state_of self.old) (state_of self.new) }
+        ensures { AnswersIf condition_tree result (spec.decided_between (around_of a.now) row place behind (part_form left.entry) (whole (part_view right.entry))) (state_of self.old) (state_of self.new) }
     {
-        match operator {
-            BinaryOperator::And => {
-                let left = self.part_condition(a, left)?;
-                let right = self.part_condition(a, Some(right))?;
-                Ok(Some(both(self.alloc, left, right)?))
+        match row {
+            Row::Joined(by) => {
+                let left = self.part_condition(a, left, Behind::ending(place))?;
+                let right = self.part_condition(a, Some(right), Behind::ending(behind.token))?;
+                Ok(Some(join(self.alloc, by, left, right)?))
             }
-            BinaryOperator::Or => {
-                let left = self.part_condition(a, left)?;
-                let right = self.part_condition(a, Some(right))?;
-                Ok(Some(either(self.alloc, left, right)?))
+            Row::IsNull(side) => {
+                let condition = self.not_null(a, place, behind.ends, on(side, left, right))?;
+                Ok(Some(negation(self.alloc, condition)?))
             }
-            BinaryOperator::Equal => self.is_null(a, place, left, right),
-            BinaryOperator::NotEqual => self.beside_null(a, place, left, right),
-            _ => Ok(None),
+            Row::NotNull(side) => {
+                let condition = self.not_null(a, place, behind.ends, on(side, left, right))?;
+                Ok(Some(condition))
+            }
+            Row::Computed { .. } => Ok(None),
         }
     }
+}
 
-    // Whether the pointer that is compared with nullptr is null, if one operand is nullptr.
-    fn is_null(
-        &mut self,
-        a: &Around,
-        place: Place,
-        left: Option<Part<'_>>,
-        right: Part<'_>,
-    ) -> Result<Option<Condition>, NoMemory>
-        ensures { AnswersIf condition_tree result (conditions.null_compared true place (spec.pointer_beside_null (around_of a.now) (part_form left.entry) (whole (part_view right.entry)))) (state_of self.old) (state_of self.new) }
-    {
-        match self.beside_null(a, place, left, right)? {
-            Some(condition) => Ok(Some(negation(self.alloc, condition)?)),
-            None => Ok(None),
-        }
-    }
-
-    // Whether the pointer that is compared with nullptr isn't null, if one operand is nullptr.
-    fn beside_null(
-        &mut self,
-        a: &Around,
-        place: Place,
-        left: Option<Part<'_>>,
-        right: Part<'_>,
-    ) -> Result<Option<Condition>, NoMemory>
-        ensures { AnswersIf condition_tree result (conditions.null_compared false place (spec.pointer_beside_null (around_of a.now) (part_form left.entry) (whole (part_view right.entry)))) (state_of self.old) (state_of self.new) }
-    {
-        if stands_for_null(left) {
-            let condition = self.not_null(a, place, Some(right))?;
-            Ok(Some(condition))
-        } else if stands_for_null(Some(right)) {
-            let condition = self.not_null(a, place, left)?;
-            Ok(Some(condition))
-        } else {
-            Ok(None)
-        }
+// What stands on a side.
+fn on<'a>(side: Side, left: Option<Part<'a>>, right: Part<'a>) -> Option<Part<'a>>
+    ensures { part_form result ≡ conditions.on side (part_form left.entry) (whole (part_view right.entry)) }
+{
+    match side {
+        Side::Left => left,
+        Side::Right => Some(right),
     }
 }
 

@@ -3,26 +3,34 @@
 #![tactic(auto)]
 
 mod around;
+mod behind;
 mod calls;
 mod chains;
 mod conditions;
 mod expressions;
+mod initialising;
 mod numbers;
 mod operands;
 mod parts;
+mod plans;
 mod pointers;
 mod registers;
+mod rows;
 mod types;
 mod values;
 mod variables;
 mod writer;
 
 pub use around::{Around, own_type};
+pub use behind::Behind;
 pub use calls::{Called, call_of};
+pub use conditions::Before;
 pub use numbers::number;
 pub use operands::copied_operand;
+pub use plans::{Destination, Last};
 pub use pointers::Pointing;
 pub use registers::nameless;
+pub use rows::{Join, Row, Side};
 pub use types::add_type;
 pub use variables::variable_local;
 pub use writer::Writer;

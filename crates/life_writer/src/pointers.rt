@@ -7,6 +7,7 @@ ghost use Rattle.life_writer.specs.Pointers as spec;
 ghost use Rattle.life_writer.specs.Views.{pointing_of, state_of};
 ghost use Rattle.life_writer.specs.Writing.{emit};
 
+use crate::plans::{Destination, Last};
 use crate::writer::Writer;
 use life_core::{Instr, Location, Source};
 use life_types::{NoMemory, Place, Ty};
@@ -20,9 +21,9 @@ pub enum Pointing {
     As(Location),
 }
 
-// The instruction that makes a pointer point there.
-fn pointed(pointer: Location, pointing: Pointing) -> Instr
-    ensures { step_of result ≡ spec.pointed (location_of pointer) (pointing_of pointing) }
+/// The instruction that makes a pointer point there.
+pub(crate) fn pointed(pointing: Pointing, pointer: Location) -> Instr
+    ensures { step_of result ≡ spec.pointed (pointing_of pointing) (location_of pointer) }
 {
     match pointing {
         Pointing::At(source) => Instr::Aim { pointer, source },
@@ -38,9 +39,9 @@ impl Writer {
         pointer: Location,
         pointing: Pointing,
     ) -> Result<(), NoMemory>
-        ensures { OnOk result (state_of self.new ≡ emit place (spec.pointed (location_of pointer) (pointing_of pointing)) (state_of self.old)) }
+        ensures { OnOk result (state_of self.new ≡ emit place (spec.pointed (pointing_of pointing) (location_of pointer)) (state_of self.old)) }
     {
-        self.emit(place, pointed(pointer, pointing))
+        self.emit(place, pointed(pointing, pointer))
     }
 
     /// The location of a pointer: a variable is its own, and anything else goes to a register.
@@ -55,9 +56,8 @@ impl Writer {
         match pointing {
             Pointing::As(location) => Ok(location),
             Pointing::At(source) => {
-                let register = self.new_register(place, ty)?;
-                let pointer = Location::whole(self.alloc, register);
-                self.emit(place, Instr::Aim { pointer, source })?;
+                let last = Last::Point(place, Pointing::At(source));
+                let register = self.built(last, Destination::Register(place, ty))?;
                 Ok(Location::whole(self.alloc, register))
             }
         }

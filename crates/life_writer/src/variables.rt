@@ -163,6 +163,37 @@ impl Writer {
         self.end(locals, place)
     }
 
+    /// How many temporaries are pending.
+    #[tactic(auto, unfolding(crate::specs::Views::state_of))]
+    pub fn pending_count(&self) -> usize
+        ensures { result ≡ length (state_of self.now).pending }
+    {
+        self.pending.len()
+    }
+
+    // The temporaries past so many.
+    #[tactic(auto, unfolding(crate::specs::Views::state_of))]
+    fn pending_past(&self, before: usize) -> &[u32]
+        ensures { result.now ≡ drop before (state_of self.now).pending }
+    {
+        match self.pending.get(before..) {
+            Some(locals) => locals,
+            None => &[],
+        }
+    }
+
+    /// The temporaries that were made past so many end, the last first
+    /// ([class.temporary]/4).
+    #[tactic(auto, unfolding(crate::specs::Views::state_of))]
+    pub fn end_pending(&mut self, before: usize, place: Place) -> Result<(), NoMemory>
+        ensures { OnOk result (state_of self.new ≡ spec.end_pending before place (state_of self.old)) }
+    {
+        let locals = reversed(self.alloc, self.pending_past(before))?;
+        self.end(locals, place)?;
+        self.pending.truncate(before);
+        Ok(())
+    }
+
     /// What was declared past so many ends and is left.
     #[tactic(auto, unfolding(crate::specs::Views::state_of))]
     pub fn end_since(&mut self, outside: usize, place: Place) -> Result<(), NoMemory>

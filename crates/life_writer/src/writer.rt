@@ -23,7 +23,9 @@ pub struct Writer {
     pub variables: Vec<u32>,
     /// Those of them that haven't ended.
     pub living: Vec<u32>,
-    /// How many of these stay where the innermost loop is left.
+    /// The temporaries that end with the full expression that is being written.
+    pub pending: Vec<u32>,
+    /// How many of those that live stay where the innermost loop is left.
     pub outside: usize,
     /// The list of statements that is being written.
     pub code: Vec<Stmt>,
@@ -41,6 +43,7 @@ impl Writer {
             locals: Vec::new(alloc),
             variables: Vec::new(alloc),
             living: Vec::new(alloc),
+            pending: Vec::new(alloc),
             outside: 0,
             code: Vec::new(alloc),
         }

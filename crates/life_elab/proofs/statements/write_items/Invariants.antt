@@ -6,4 +6,4 @@ use Rattle.life_elab.proofs.statements.write_items.Given as goal
 
 abbrev pub invariant-items : goal.invariant-items
 invariant-items l =
-    items (around_of l.a) (map item_view (drop l.item-index l.items)) (state_of l.writer) ≡ items (around_of l.a) (map item_view l.items) (state_of l.initial.writer)
+    items (around_of l.a) (map item_view (drop l.item-index l.items)) l.behind (state_of l.writer) ≡ items (around_of l.a) (map item_view l.items) l.behind (state_of l.initial.writer)

@@ -1,30 +1,31 @@
-use Rattle.std.proofs.Common.{rules, ℕ, ◌+◌, ◌∷◌, [], List, None, Option, drop, map, sym, ap, subst, ◌∙◌, arith}
+use Rattle.std.proofs.Common.{rules, ◌+◌, ◌∷◌, [], List, None, Option, drop, map, take, sym, ap, subst, ◌∙◌, arith}
 use Rattle.std.proofs.lemmas.Int.{to_z-of_z}
 use Rattle.std.proofs.lemmas.List.{map-append}
 use Rattle.std.specs.Int.{w64}
 use mir.Val.{SFits}
 use Rattle.life_types.specs.TypeTests.{is_raw}
 use Rattle.life_typed.specs.TypedForm.{Form, Typed, forms, typed_views, whole}
-use Rattle.life_typed.specs.declared.typed_expr.BinaryOperator.{BinaryOperator}
 use Rattle.life_typed.specs.declared.typed_program.TypedLocal.{TypedLocal}
 use Rattle.life_core.specs.Operands.{Argument, argument_of, operand_of}
-use Rattle.life_core.specs.Step.{Eval, NonZero}
-use Rattle.life_core.specs.Tree.{Both, Either, condition_tree, tree_of}
-use Rattle.life_core.specs.declared.operation.Operation.TheVariants as operation
+use Rattle.life_core.specs.Step.{NonZero}
+use Rattle.life_core.specs.Tree.{condition_tree, tree_of}
 use Rattle.life_writer.specs.Around.{own_type}
+use Rattle.life_writer.specs.Behind.{ending, lasting}
 use Rattle.life_writer.specs.Chains.{joined_on, operated_on, own_of}
 use Rattle.life_writer.specs.Expressions.{condition, decided_between, decision, handed_over, made, operand, pointer, read_or_made, value}
-use Rattle.life_writer.specs.Parts.{node_form, node_view, part_form, part_view, shape_form}
+use Rattle.life_writer.specs.Parts.{inside, node_form, node_view, part_form, part_view, shape_form}
 use Rattle.life_writer.specs.Views.{around_of, state_of}
+use Rattle.life_writer.specs.declared.behind.Behind.{Behind}
 use Rattle.life_writer.specs.declared.chains.Chain.TheVariants as chain
 use Rattle.life_writer.specs.declared.parts.Node.{Node}
 use Rattle.life_writer.specs.declared.parts.Part.{Part}
 use Rattle.life_writer.specs.declared.parts.Shape.{Shape}
 use Rattle.life_writer.specs.declared.parts.Shape.TheVariants as shape
-use Rattle.life_writer.proofs.Decided.{condition_decided, condition_pointer, condition_value, decides, leaves, nothing_there, tested_behind, value_decided, value_undecided}
-use Rattle.life_writer.proofs.Giving.{answered_as, answers_as, answers_if_as, joined_gives, negation_gives}
+use Rattle.life_writer.specs.declared.rows.Row.{Row}
+use Rattle.life_writer.proofs.Decided.{condition_decided, condition_pointer, condition_value, decides, decision_behind, leaves, nothing_there, tested_behind, value_decided, value_undecided}
+use Rattle.life_writer.proofs.Giving.{answered_as, answers_as, answers_if_as, negation_gives}
 use Rattle.life_writer.proofs.Handing.{Handed, all_handed, no_parameter, none_handed, turn}
-use Rattle.life_writer.proofs.Made.{both_between, common_of, computed_as, either_between, is_made, is_read, joined_answers, made_as, made_binary, made_called, made_negated, made_number, made_taken, operated_binary}
+use Rattle.life_writer.proofs.Made.{both_decided, is_made, is_read, joined_answers, joined_between, made_as, made_between, made_called, made_negated, made_number, made_taken, null_decided, operated_between, operated_computes, operated_goes_on, some_decided}
 use Rattle.life_writer.proofs.Opened.{opened_decision, opened_form, value_converted, value_same}
 use Rattle.life_writer.proofs.Turns.{condition_turn, last_condition, last_value, value_turn, within_lighter}
 use Rattle.life_writer.proofs.Weights.{argument_lighter, weight}
@@ -34,18 +35,18 @@ use Rattle.life_writer.proofs.writer.Writer.+values.Goals as goal
 
 pub part_value-returns-then-eq : goal.part_value-returns-then-eq
 part_value-returns-then-eq t c =
-    value_same (around_of c.args.a.now) c.args.part c.in-Some.found c.own_type.result c.args.to c.args.into (state_of c.args.self.now) (state_of c.own_value.new.self) c.own_value.result
+    value_same (around_of c.args.a.now) c.args.part c.in-Some.found c.args.behind c.own_type.result c.args.to c.args.into (state_of c.args.self.now) (state_of c.own_value.new.self) c.own_value.result
     c.in-Some.is c.own_type.ensures (sym c.eq.ensures ∙ c.if-eq.true) c.own_value.ensures
 
 pub part_value-returns : goal.part_value-returns
 part_value-returns t c =
-    value_converted (around_of c.args.a.now) c.args.part c.in-Some.found c.own_type.result c.args.to c.args.into (state_of c.args.self.now) (state_of c.own_value-2.new.self) (state_of c.eval.new.self)
+    value_converted (around_of c.args.a.now) c.args.part c.in-Some.found c.args.behind c.own_type.result c.args.to c.args.into (state_of c.args.self.now) (state_of c.own_value-2.new.self) (state_of c.eval.new.self)
     c.in_ok-register.register c.eval.result c.in-Some.is c.own_type.ensures (sym c.eq.ensures ∙ c.if-eq.false) c.in_ok-register.ensures c.eval.ensures
 
 pub own_value-returns-then-not-is_link : goal.own_value-returns-then-not-is_link
 own_value-returns-then-not-is_link t c =
     answers_as (λ x. x) c.lone_value.result _ _ _
-    (ap (λ (f : Form). own_of (around_of c.args.a.now) f c.args.into (state_of c.args.self.now)) (opened_form c.args.part c.in-Some.part c.opened-node.result c.in-Some.is c.opened-node.ensures.node))
+    (ap (λ (f : Form). own_of (around_of c.args.a.now) f c.args.behind c.args.into (state_of c.args.self.now)) (opened_form c.args.part c.in-Some.part c.opened-node.result c.in-Some.is c.opened-node.ensures.node))
     c.lone_value.ensures
 
 pub own_value-own_value-requires : goal.own_value-own_value-requires
@@ -58,7 +59,7 @@ own_value-own_value-requires t c =
 
 pub own_value-operators-init : goal.own_value-operators-init
 own_value-operators-init t c =
-    ap (λ (f : Form). own_of (around_of c.args.a.now) f None (state_of c.args.self.now)) (sym c.last_of.ensures.form) ∙ c.in_ok-register.ensures
+    ap (λ (f : Form). own_of (around_of c.args.a.now) f c.args.behind None (state_of c.args.self.now)) (sym c.last_of.ensures.form) ∙ c.in_ok-register.ensures
 
 pub own_value-operated-requires : goal.own_value-operated-requires
 own_value-operated-requires t c =
@@ -70,55 +71,61 @@ own_value-operated-requires t c =
 
 pub own_value-operators-preserved : goal.own_value-operators-preserved
 own_value-operators-preserved t c =
-    value_turn (around_of c.args.a.now) c.in-Some.part.within.now c.chain_begins-from.result c.operators.number c.chain_begins-from.ensures.links (omega arith) c.operators-test.true
+    value_turn (around_of c.args.a.now) c.args.behind c.in-Some.part.within.now c.chain_begins-from.result c.operators.number c.chain_begins-from.ensures.links (omega arith) c.operators-test.true
     (state_of c.args.self.now) (state_of c.operators.self) (state_of c.operated.new.self) c.operators.register c.in_ok-register-2.register (node_form c.opened-next.result)
     c.operators.invariant (c.opened-next.ensures ∙ c.last_of-in-operators.ensures.form) c.in_ok-register-2.ensures
 
 pub own_value-returns : goal.own_value-returns
 own_value-returns t c =
     answers_as (λ x. x) c.operated-2.result _ _ _
-    (ap (λ (o : Option Part). own_of (around_of c.args.a.now) (part_form o) c.args.into (state_of c.args.self.now)) c.in-Some.is)
-    (last_value c.opened-node.result c.in-Some.part c.opened-node.ensures.node c.opened-node.ensures.left (around_of c.args.a.now) c.is_link.result c.is_link.ensures c.if-not-is_link.false
+    (ap (λ (o : Option Part). own_of (around_of c.args.a.now) (part_form o) c.args.behind c.args.into (state_of c.args.self.now)) c.in-Some.is)
+    (last_value c.opened-node.result c.in-Some.part c.opened-node.ensures.node c.opened-node.ensures.left (around_of c.args.a.now) c.args.behind c.is_link.result c.is_link.ensures c.if-not-is_link.false
     c.operators.number c.operators-test.false c.args.into (state_of c.args.self.now) (state_of c.operators.self) c.operators.register c.operated-2.result (state_of c.operated-2.new.self)
     c.operators.invariant c.operated-2.ensures)
 
 pub lone_value-returns-in-Some : goal.lone_value-returns-in-Some
 lone_value-returns-in-Some t c =
     let a = around_of c.args.a.now in let e = node_view c.args.node in
-    value_decided condition_tree c.in-Some.condition c.args.into c.own_type-ty.result (own_type e.ty) e.place e.category (decision a e.form e.place) (operand a e.form) (made a e.form e.place (own_type e.ty))
+    value_decided condition_tree c.in-Some.condition c.args.into c.own_type-ty.result (own_type e.ty) e.place e.category (decision a e.form e.place (lasting c.args.behind)) (operand a e.form) (made a e.form e.place c.args.behind (own_type e.ty))
     (state_of c.args.self.now) (state_of c.decision.new.self) (state_of c.by_branch.new.self) c.by_branch.result c.own_type-ty.ensures
-    (decides condition_tree c.in_ok-condition.field-0 c.in-Some.condition (decision a e.form e.place) (state_of c.args.self.now) (state_of c.decision.new.self) c.in-Some.is c.in_ok-condition.ensures)
+    (decides condition_tree c.in_ok-condition.field-0 c.in-Some.condition (decision a e.form e.place (lasting c.args.behind)) (state_of c.args.self.now) (state_of c.decision.new.self) c.in-Some.is
+    (decision_behind a e c.in_ok-condition.field-0 c.lasting.result (lasting c.args.behind) (state_of c.args.self.now) (state_of c.decision.new.self) c.lasting.ensures c.in_ok-condition.ensures))
     c.by_branch.ensures
 
 pub lone_value-returns : goal.lone_value-returns
 lone_value-returns t c =
     let a = around_of c.args.a.now in let e = node_view c.args.node in
-    let none = leaves condition_tree c.in_ok-condition.field-0 (decision a e.form e.place) (state_of c.args.self.now) (state_of c.decision.new.self)
-    (nothing_there c.in_ok-condition.field-0 c.in_default.not-Some) c.in_ok-condition.ensures in
-    value_undecided c.args.into (own_type e.ty) e.place e.category (decision a e.form e.place) (operand a e.form) (made a e.form e.place (own_type e.ty))
+    let none = leaves condition_tree c.in_ok-condition.field-0 (decision a e.form e.place (lasting c.args.behind)) (state_of c.args.self.now) (state_of c.decision.new.self)
+    (nothing_there c.in_ok-condition.field-0 c.in_default.not-Some)
+    (decision_behind a e c.in_ok-condition.field-0 c.lasting.result (lasting c.args.behind) (state_of c.args.self.now) (state_of c.decision.new.self) c.lasting.ensures c.in_ok-condition.ensures) in
+    value_undecided c.args.into (own_type e.ty) e.place e.category (decision a e.form e.place (lasting c.args.behind)) (operand a e.form) (made a e.form e.place c.args.behind (own_type e.ty))
     (state_of c.args.self.now) (state_of c.decision.new.self) (state_of c.read_or_made.new.self) c.read_or_made.result none.0 none.1 c.read_or_made.ensures
 
-pub operated-returns-in_ok-right-in-Binary : goal.operated-returns-in_ok-right-in-Binary
-operated-returns-in_ok-right-in-Binary t c =
+pub operated-returns-in-Binary : goal.operated-returns-in-Binary
+operated-returns-in-Binary t c =
     let a = around_of c.args.a.now in let node = c.in-Some.node in
-    let left = part_form c.in-Binary.left in let right = whole (part_view c.in-Binary.right) in
+    answers_as (λ x. x) c.operated_with.result _ _ _
+    (ap (λ (n : Option Node). operated_on a (node_form n) c.args.behind c.args.register c.args.into (state_of c.args.self.now)) c.in-Some.is)
+    (operated_between a c.in-Binary.operator (part_form c.in-Binary.left) (whole (part_view c.in-Binary.right)) (shape_form node.shape) node.place c.args.behind node.ty node.category c.own_type-ty.result c.args.register c.args.into
+    (state_of c.args.self.now) (state_of c.operated_with.new.self) c.row_between-row.result c.operated_with.result (ap shape_form c.in-Binary.is) c.row_between-row.ensures c.own_type-ty.ensures c.operated_with.ensures)
+
+pub operated_with-returns-in_ok-right-in-Computed : goal.operated_with-returns-in_ok-right-in-Computed
+operated_with-returns-in_ok-right-in-Computed t c =
+    let a = around_of c.args.a.now in
     answers_as (λ x. x) c.eval.result _ _ _
-    (ap (λ (n : Option Node). operated_on a (node_form n) c.args.register c.args.into (state_of c.args.self.now)) c.in-Some.is
-    ∙ operated_binary a c.in-Binary.operator left right node.place c.args.into c.promoted-common.result c.in_ok-left-in-Binary.left (state_of c.converted_in.new.self)
-    c.in_ok-right-in-Binary.right (state_of c.part_value.new.self) c.operator_of.result
-    (common_of left right c.type_in.result c.own_type.result c.promoted-common.result c.promoted-common.ensures c.type_in.ensures c.own_type.ensures) c.operator_of.ensures c.in_ok-right-in-Binary.ensures
-    (shape_form node.shape) node.ty node.category c.args.register (state_of c.args.self.now) (ap shape_form c.in-Binary.is) c.in_ok-left-in-Binary.ensures)
-    (computed_as c.args.into c.own_type-in-Binary.result (own_type node.ty) node.place
-    (λ (n : ℕ). Eval n (operation.Binary c.operator_of.result c.in_ok-left-in-Binary.left c.in_ok-right-in-Binary.right)) (state_of c.part_value.new.self) (state_of c.eval.new.self) c.eval.result c.own_type-in-Binary.ensures c.eval.ensures)
+    (operated_goes_on c.args.row c.in-Computed.operator c.in-Computed.common c.in-Computed.is c.args.into c.args.ty c.args.place c.in_ok-left-in-Computed.left c.in_ok-right-in-Computed.right
+    (state_of c.args.self.now) (state_of c.converted_in.new.self) (state_of c.part_value.new.self) (λ common s. value a (whole (part_view c.args.right)) c.args.behind common None s) c.in_ok-right-in-Computed.ensures
+    (part_form c.args.left) c.args.register c.in_ok-left-in-Computed.ensures)
+    c.eval.ensures
 
 pub read_or_made-returns-in-Value : goal.read_or_made-returns-in-Value
 read_or_made-returns-in-Value t c =
-    is_made (around_of c.args.a.now) (node_view c.args.node) c.own_type-ty.result c.args.into (state_of c.args.self.now) (state_of c.made.new.self) c.made.result
+    is_made (around_of c.args.a.now) (node_view c.args.node) c.args.behind c.own_type-ty.result c.args.into (state_of c.args.self.now) (state_of c.made.new.self) c.made.result
     c.in-Value.is c.own_type-ty.ensures c.made.ensures
 
 pub read_or_made-returns-in_ok-from-in-Place : goal.read_or_made-returns-in_ok-from-in-Place
 read_or_made-returns-in_ok-from-in-Place t c =
-    is_read (around_of c.args.a.now) (node_view c.args.node) c.own_type-ty.result c.in-Place.ty c.in-Place.constant c.args.into (state_of c.args.self.now) (state_of c.node_operand.new.self) (state_of c.load.new.self)
+    is_read (around_of c.args.a.now) (node_view c.args.node) c.args.behind c.own_type-ty.result c.in-Place.ty c.in-Place.constant c.args.into (state_of c.args.self.now) (state_of c.node_operand.new.self) (state_of c.load.new.self)
     (operand_of c.in_ok-from-in-Place.from) c.load.result c.in-Place.is c.own_type-ty.ensures c.in_ok-from-in-Place.ensures c.load.ensures
 
 -- ---- values that are made
@@ -126,48 +133,52 @@ read_or_made-returns-in_ok-from-in-Place t c =
 pub made-returns-in-Number : goal.made-returns-in-Number
 made-returns-in-Number t c =
     let fits : SFits w64 c.cast_signed.result = search rules in
-    made_number (around_of c.args.a.now) c.args.node.shape c.in-Number.number _ c.args.node.place c.args.ty c.args.into (state_of c.args.self.now) (state_of c.eval.new.self) c.eval.result
+    made_number (around_of c.args.a.now) c.args.node.shape c.in-Number.number _ c.args.node.place c.args.behind c.args.ty c.args.into (state_of c.args.self.now) (state_of c.eval.new.self) c.eval.result
     c.in-Number.is (to_z-of_z w64 c.cast_signed.result fits ∙ c.cast_signed.ensures) c.eval.ensures
 
 pub made-returns-in_ok-call_into-in-Call : goal.made-returns-in_ok-call_into-in-Call
 made-returns-in_ok-call_into-in-Call t c =
-    made_called (around_of c.args.a.now) (shape_form c.args.node.shape) c.in-Call.function (forms (typed_views c.in-Call.arguments.now)) c.in-Call.closing c.args.node.place c.args.ty c.args.into
+    made_called (around_of c.args.a.now) (shape_form c.args.node.shape) c.in-Call.function (forms (typed_views c.in-Call.arguments.now)) c.in-Call.closing c.args.node.place c.args.behind c.args.ty c.args.into
     (state_of c.args.self.now) (state_of c.handed_over.new.self) (state_of c.target.new.self) (state_of c.call_into.new.self) (map (λ (l : TypedLocal). l.ty) c.parameters.result.now)
     (map argument_of c.in_ok-arguments-in-Call.arguments.items) c.in_ok-into-in-Call.into
     (ap shape_form c.in-Call.is) c.parameters.ensures c.in_ok-arguments-in-Call.ensures c.in_ok-into-in-Call.ensures c.in_ok-call_into-in-Call.ensures
 
 pub made-returns-in-Paren : goal.made-returns-in-Paren
 made-returns-in-Paren t c =
-    made_as (around_of c.args.a.now) c.args.node.shape (shape.Paren c.in-Paren.inner c.in-Paren.closing) c.args.node.place c.args.ty c.args.into (state_of c.args.self.now) (state_of c.part_value.new.self)
+    made_as (around_of c.args.a.now) c.args.node.shape (shape.Paren c.in-Paren.inner c.in-Paren.closing) c.args.node.place c.args.behind c.args.ty c.args.into (state_of c.args.self.now) (state_of c.part_value.new.self)
     c.part_value.result c.in-Paren.is c.part_value.ensures
 
 pub made-returns-in_ok-emit-in-Input : goal.made-returns-in_ok-emit-in-Input
 made-returns-in_ok-emit-in-Input t c =
-    made_taken (around_of c.args.a.now) (shape_form c.args.node.shape) c.args.node.place c.args.ty c.args.into (state_of c.args.self.now) (state_of c.target-in-Input.new.self) (state_of c.emit.new.self)
+    made_taken (around_of c.args.a.now) (shape_form c.args.node.shape) c.args.node.place c.args.behind c.args.ty c.args.into (state_of c.args.self.now) (state_of c.target-in-Input.new.self) (state_of c.emit.new.self)
     c.in_ok-into-in-Input.into (ap shape_form c.in-Input.is) c.in_ok-into-in-Input.ensures c.in_ok-emit-in-Input.ensures
 
 pub made-returns-in_ok-register-in-Negate : goal.made-returns-in_ok-register-in-Negate
 made-returns-in_ok-register-in-Negate t c =
     answers_as (λ x. x) c.eval-in-Negate.result _ _ _
-    (made_negated (around_of c.args.a.now) (shape_form c.args.node.shape) (part_form c.in-Negate.operand) c.args.node.place c.args.ty c.args.into (state_of c.args.self.now)
+    (made_negated (around_of c.args.a.now) (shape_form c.args.node.shape) (part_form c.in-Negate.operand) c.args.node.place c.args.behind c.args.ty c.args.into (state_of c.args.self.now)
     c.in_ok-register-in-Negate.register (state_of c.part_value-in-Negate.new.self) (ap shape_form c.in-Negate.is) c.in_ok-register-in-Negate.ensures)
     c.eval-in-Negate.ensures
 
-pub made-returns-in_ok-right-in-Binary : goal.made-returns-in_ok-right-in-Binary
-made-returns-in_ok-right-in-Binary t c =
-    let left = part_form c.in-Binary.left in let right = whole (part_view c.in-Binary.right) in
-    answers_as (λ x. x) c.eval-in-Binary.result _ _ _
-    (made_binary (around_of c.args.a.now) c.in-Binary.operator left right c.args.node.place c.args.into c.promoted-common.result c.in_ok-left-in-Binary.left (state_of c.part_value-in-Binary.new.self)
-    c.in_ok-right-in-Binary.right (state_of c.part_value-in-Binary-2.new.self) c.operator_of.result
-    (common_of left right c.type_in.result c.own_type.result c.promoted-common.result c.promoted-common.ensures c.type_in.ensures c.own_type.ensures) c.operator_of.ensures c.in_ok-right-in-Binary.ensures
-    (shape_form c.args.node.shape) c.args.ty (state_of c.args.self.now) (ap shape_form c.in-Binary.is) c.in_ok-left-in-Binary.ensures)
-    c.eval-in-Binary.ensures
+pub made-returns-in-Binary : goal.made-returns-in-Binary
+made-returns-in-Binary t c =
+    made_between (around_of c.args.a.now) c.in-Binary.operator (part_form c.in-Binary.left) (whole (part_view c.in-Binary.right)) (shape_form c.args.node.shape) c.args.node.place c.args.behind c.args.ty c.args.into
+    (state_of c.args.self.now) (state_of c.operated_by.new.self) c.row_between-row.result c.operated_by.result (ap shape_form c.in-Binary.is) c.row_between-row.ensures c.operated_by.ensures
+
+pub operated_by-returns-in_ok-right-in-Computed : goal.operated_by-returns-in_ok-right-in-Computed
+operated_by-returns-in_ok-right-in-Computed t c =
+    let a = around_of c.args.a.now in
+    answers_as (λ x. x) c.eval.result _ _ _
+    (operated_computes c.args.row c.in-Computed.operator c.in-Computed.common c.in-Computed.is c.args.into c.args.ty c.args.place c.in_ok-left-in-Computed.left c.in_ok-right-in-Computed.right
+    (state_of c.args.self.now) (state_of c.part_value.new.self) (state_of c.part_value-in-Computed.new.self) (λ common s. value a (whole (part_view c.args.right)) c.args.behind common None s) c.in_ok-right-in-Computed.ensures
+    (λ common s. value a (part_form c.args.left) c.args.behind common None s) c.in_ok-left-in-Computed.ensures)
+    c.eval.ensures
 
 -- ---- arguments
 
 pub handed_over-arguments-init : goal.handed_over-arguments-init
 handed_over-arguments-init t c =
-    none_handed (around_of c.args.a.now) (map argument_of c.new-given.result.items) c.args.arguments.now (map (λ (l : TypedLocal). l.ty) c.args.parameters.now) (state_of c.args.self.now)
+    none_handed (around_of c.args.a.now) c.args.closing (map argument_of c.new-given.result.items) c.args.arguments.now (map (λ (l : TypedLocal). l.ty) c.args.parameters.now) (state_of c.args.self.now)
     (ap (map argument_of) c.new-given.ensures.items)
 
 pub handed_over-part_value-requires : goal.handed_over-part_value-requires
@@ -181,22 +192,22 @@ handed_over-arguments-preserved t c =
     let a = around_of c.args.a.now in
     let given = c.arguments.given.items in
     let types = map (λ (l : TypedLocal). l.ty) c.args.parameters.now in
-    let total = handed_over a (forms (typed_views c.args.arguments.now)) types (state_of c.args.self.now) in
-    let more = turn a (map argument_of given) c.args.arguments.now types c.arguments.number c.index-arguments-number.result c.in-Some.ty c.type_of.result (state_of c.arguments.self)
+    let total = handed_over a (forms (typed_views c.args.arguments.now)) c.args.closing types (state_of c.args.self.now) in
+    let more = turn a c.args.closing (map argument_of given) c.args.arguments.now types c.arguments.number c.index-arguments-number.result c.in-Some.ty c.type_of.result (state_of c.arguments.self)
     c.in_ok-register-in-Some.register (state_of c.part_value.new.self) total c.arguments-test.true c.index-arguments-number.is c.in-Some.ensures c.type_of.ensures
-    (ap (λ (e : Typed). value a (whole e) c.type_of.result None (state_of c.arguments.self)) (sym c.of.ensures) ∙ c.in_ok-register-in-Some.ensures) c.arguments.invariant in
-    subst (λ (xs : List Argument). Handed a xs (drop (c.arguments.number + 1) c.args.arguments.now) (drop (c.arguments.number + 1) types) (state_of c.part_value.new.self) total)
+    (ap (λ (e : Typed). value a (whole e) c.args.closing c.type_of.result None (state_of c.arguments.self)) (sym c.of.ensures) ∙ c.in_ok-register-in-Some.ensures) c.arguments.invariant in
+    subst (λ (xs : List Argument). Handed a c.args.closing xs (drop (c.arguments.number + 1) c.args.arguments.now) (drop (c.arguments.number + 1) types) (state_of c.part_value.new.self) total)
     (sym (ap (map argument_of) c.in_ok-push-in-Some.ensures.items ∙ map-append argument_of given (_ ∷ [])))
     more
 
 pub handed_over-returns-in-None : goal.handed_over-returns-in-None
 handed_over-returns-in-None t c =
-    no_parameter (around_of c.args.a.now) (map argument_of c.arguments.given.items) c.args.arguments.now (map (λ (l : TypedLocal). l.ty) c.args.parameters.now) c.arguments.number
+    no_parameter (around_of c.args.a.now) c.args.closing (map argument_of c.arguments.given.items) c.args.arguments.now (map (λ (l : TypedLocal). l.ty) c.args.parameters.now) c.arguments.number
     (state_of c.arguments.self) _ c.in-None.ensures c.arguments.invariant
 
 pub handed_over-returns : goal.handed_over-returns
 handed_over-returns t c =
-    all_handed (around_of c.args.a.now) (map argument_of c.arguments.given.items) c.args.arguments.now (map (λ (l : TypedLocal). l.ty) c.args.parameters.now) c.arguments.number
+    all_handed (around_of c.args.a.now) c.args.closing (map argument_of c.arguments.given.items) c.args.arguments.now (map (λ (l : TypedLocal). l.ty) c.args.parameters.now) c.arguments.number
     (state_of c.arguments.self) _ c.arguments-test.false c.arguments.invariant
 
 -- ---- conditions
@@ -204,7 +215,7 @@ handed_over-returns t c =
 pub part_condition-returns-then-not-is_link : goal.part_condition-returns-then-not-is_link
 part_condition-returns-then-not-is_link t c =
     answers_as condition_tree c.lone_condition.result _ _ _
-    (ap (λ (f : Form). condition (around_of c.args.a.now) f (state_of c.args.self.now)) (opened_form c.args.part c.in-Some.part c.opened-node.result c.in-Some.is c.opened-node.ensures.node))
+    (ap (λ (f : Form). condition (around_of c.args.a.now) f c.args.behind (state_of c.args.self.now)) (opened_form c.args.part c.in-Some.part c.opened-node.result c.in-Some.is c.opened-node.ensures.node))
     c.lone_condition.ensures
 
 pub part_condition-part_condition-requires : goal.part_condition-part_condition-requires
@@ -217,7 +228,9 @@ part_condition-part_condition-requires t c =
 
 pub part_condition-operators-init : goal.part_condition-operators-init
 part_condition-operators-init t c =
-    ap (λ (f : Form). condition (around_of c.args.a.now) f (state_of c.args.self.now)) (sym c.last_of.ensures.form) ∙ c.in_ok-condition.ensures
+    let a = around_of c.args.a.now in let s = state_of c.args.self.now in
+    ap (λ (b : Behind). condition a (inside (take c.chain_begins-from.result c.in-Some.part.within.now)) b s) (sym (c.ending-first.ensures ∙ ap ending c.token_behind.ensures))
+    ∙ ap (λ (f : Form). condition a f c.ending-first.result s) (sym c.last_of.ensures.form) ∙ c.in_ok-condition.ensures
 
 pub part_condition-joined-requires : goal.part_condition-joined-requires
 part_condition-joined-requires t c =
@@ -229,101 +242,105 @@ part_condition-joined-requires t c =
 
 pub part_condition-operators-preserved : goal.part_condition-operators-preserved
 part_condition-operators-preserved t c =
-    condition_turn (around_of c.args.a.now) c.in-Some.part.within.now c.chain_begins-from.result c.operators.number c.chain_begins-from.ensures.links (omega arith) c.operators-test.true
+    condition_turn (around_of c.args.a.now) c.in-Some.part.place c.in-Some.part.within.now c.chain_begins-from.result c.operators.number c.chain_begins-from.ensures.links (omega arith) c.operators-test.true
     (state_of c.args.self.now) (state_of c.operators.self) (state_of c.joined.new.self) (condition_tree c.operators.condition) (condition_tree c.in_ok-condition-2.condition) (node_form c.opened-next.result)
-    c.operators.invariant (c.opened-next.ensures ∙ c.last_of-in-operators.ensures.form) c.in_ok-condition-2.ensures
+    c.token_behind-token.result c.operators.invariant (c.opened-next.ensures ∙ c.last_of-in-operators.ensures.form) c.token_behind-token.ensures c.in_ok-condition-2.ensures
 
 pub part_condition-returns : goal.part_condition-returns
 part_condition-returns t c =
     answers_as condition_tree c.joined-2.result _ _ _
-    (ap (λ (o : Option Part). condition (around_of c.args.a.now) (part_form o) (state_of c.args.self.now)) c.in-Some.is)
-    (last_condition c.opened-node.result c.in-Some.part c.opened-node.ensures.node c.opened-node.ensures.left (around_of c.args.a.now) c.is_link.result c.is_link.ensures c.if-not-is_link.false
+    (ap (λ (o : Option Part). condition (around_of c.args.a.now) (part_form o) c.args.behind (state_of c.args.self.now)) c.in-Some.is)
+    (last_condition c.opened-node.result c.in-Some.part c.opened-node.ensures.node c.opened-node.ensures.left (around_of c.args.a.now) c.args.behind c.is_link.result c.is_link.ensures c.if-not-is_link.false
     c.operators.number c.operators-test.false condition_tree (state_of c.args.self.now) (state_of c.operators.self) (condition_tree c.operators.condition) c.joined-2.result (state_of c.joined-2.new.self)
     c.operators.invariant c.joined-2.ensures)
 
 pub lone_condition-returns-in-Some : goal.lone_condition-returns-in-Some
 lone_condition-returns-in-Some t c =
-    let a = around_of c.args.a.now in let e = node_view c.args.node in
-    condition_decided condition_tree c.in-Some.decision (decision a e.form e.place) (own_type e.ty) e.place (pointer a (whole e)) (read_or_made a e None) (state_of c.args.self.now) (state_of c.decision.new.self)
-    (decides condition_tree c.in_ok-decision.field-0 c.in-Some.decision (decision a e.form e.place) (state_of c.args.self.now) (state_of c.decision.new.self) c.in-Some.is c.in_ok-decision.ensures)
+    let a = around_of c.args.a.now in let e = node_view c.args.node in let b = c.args.behind in
+    condition_decided condition_tree c.in-Some.decision (decision a e.form e.place b) (own_type e.ty) e.place b.ends (pointer a (whole e)) (read_or_made a e b.token None) (state_of c.args.self.now) (state_of c.decision.new.self)
+    (decides condition_tree c.in_ok-decision.field-0 c.in-Some.decision (decision a e.form e.place b) (state_of c.args.self.now) (state_of c.decision.new.self) c.in-Some.is c.in_ok-decision.ensures)
 
 pub lone_condition-returns-in-None : goal.lone_condition-returns-in-None
 lone_condition-returns-in-None t c =
-    let a = around_of c.args.a.now in let e = node_view c.args.node in
-    let none = leaves condition_tree c.in_ok-decision.field-0 (decision a e.form e.place) (state_of c.args.self.now) (state_of c.decision.new.self) c.in-None.is c.in_ok-decision.ensures in
+    let a = around_of c.args.a.now in let e = node_view c.args.node in let b = c.args.behind in
+    let none = leaves condition_tree c.in_ok-decision.field-0 (decision a e.form e.place b) (state_of c.args.self.now) (state_of c.decision.new.self) c.in-None.is c.in_ok-decision.ensures in
     answers_as condition_tree c.points.result _ _ _
-    (condition_pointer (decision a e.form e.place) (own_type e.ty) e.place (pointer a (whole e)) (read_or_made a e None) (state_of c.args.self.now) (state_of c.decision.new.self) none.0 none.1
+    (condition_pointer (decision a e.form e.place b) (own_type e.ty) e.place b.ends (pointer a (whole e)) (read_or_made a e b.token None) (state_of c.args.self.now) (state_of c.decision.new.self) none.0 none.1
     (ap is_raw (sym c.own_type.ensures) ∙ sym c.is_raw.ensures ∙ c.if-is_raw.true))
     c.points.ensures
 
 pub lone_condition-returns-in-None-2 : goal.lone_condition-returns-in-None-2
 lone_condition-returns-in-None-2 t c =
-    let a = around_of c.args.a.now in let e = node_view c.args.node in
-    let none = leaves condition_tree c.in_ok-decision.field-0 (decision a e.form e.place) (state_of c.args.self.now) (state_of c.decision.new.self) c.in-None.is c.in_ok-decision.ensures in
+    let a = around_of c.args.a.now in let e = node_view c.args.node in let b = c.args.behind in
+    let none = leaves condition_tree c.in_ok-decision.field-0 (decision a e.form e.place b) (state_of c.args.self.now) (state_of c.decision.new.self) c.in-None.is c.in_ok-decision.ensures in
     answers_as condition_tree c.non_zero.result _ _ _
-    (condition_value (decision a e.form e.place) (own_type e.ty) e.place (pointer a (whole e)) (read_or_made a e None) (state_of c.args.self.now) (state_of c.decision.new.self) none.0 none.1
+    (condition_value (decision a e.form e.place b) (own_type e.ty) e.place b.ends (pointer a (whole e)) (read_or_made a e b.token None) (state_of c.args.self.now) (state_of c.decision.new.self) none.0 none.1
     (ap is_raw (sym c.own_type.ensures) ∙ sym c.is_raw.ensures ∙ c.if-is_raw.false))
     c.non_zero.ensures
 
-pub joined-returns-in_ok-right-in-Binary : goal.joined-returns-in_ok-right-in-Binary
-joined-returns-in_ok-right-in-Binary t c =
+pub joined-returns-in-Binary : goal.joined-returns-in-Binary
+joined-returns-in-Binary t c =
     let a = around_of c.args.a.now in let node = c.in-Some.node in
-    answers_as condition_tree c.join.result _ _ _
-    (ap (λ (n : Option Node). joined_on a (node_form n) (condition_tree c.args.condition) (state_of c.args.self.now)) c.in-Some.is)
-    (joined_answers a c.in-Binary.operator (part_form c.in-Binary.left) (whole (part_view c.in-Binary.right)) (shape_form node.shape) node.place node.ty node.category (condition_tree c.args.condition)
-    (condition_tree c.in_ok-right-in-Binary.right) (state_of c.args.self.now) (state_of c.part_condition.new.self) c.join.result (ap shape_form c.in-Binary.is) c.in_ok-right-in-Binary.ensures c.join.ensures)
+    answers_as condition_tree c.joined_with.result _ _ _
+    (ap (λ (n : Option Node). joined_on a (node_form n) c.args.behind (condition_tree c.args.condition) (state_of c.args.self.now)) c.in-Some.is)
+    (joined_between a c.in-Binary.operator (part_form c.in-Binary.left) (whole (part_view c.in-Binary.right)) (shape_form node.shape) node.place c.args.behind node.ty node.category (condition_tree c.args.condition)
+    (state_of c.args.self.now) (state_of c.joined_with.new.self) c.row_between.result c.joined_with.result (ap shape_form c.in-Binary.is) c.row_between.ensures c.joined_with.ensures)
+
+pub joined_with-returns-in_ok-right-in-Joined : goal.joined_with-returns-in_ok-right-in-Joined
+joined_with-returns-in_ok-right-in-Joined t c =
+    joined_answers (around_of c.args.a.now) c.args.row c.in-Joined.by (whole (part_view c.args.right)) c.args.behind c.ending.result (condition_tree c.args.condition) (condition_tree c.in_ok-right-in-Joined.right)
+    (state_of c.args.self.now) (state_of c.part_condition.new.self) c.join.result c.in-Joined.is c.ending.ensures c.in_ok-right-in-Joined.ensures c.join.ensures
 
 pub non_zero-returns : goal.non_zero-returns
 non_zero-returns t c =
-    tested_behind c.args.node.place (read_or_made (around_of c.args.a.now) (node_view c.args.node) None) NonZero (state_of c.args.self.now) (state_of c.begin_list-before.new.self) (state_of c.read_or_made.new.self)
-    (state_of c.behind_code.new.self) c.in_ok-register.register (map tree_of c.begin_list-before.result.items) c.behind_code.result
-    c.begin_list-before.ensures.before c.begin_list-before.ensures.state c.in_ok-register.ensures c.behind_code.ensures
+    tested_behind c.args.node.place c.args.behind.ends (read_or_made (around_of c.args.a.now) (node_view c.args.node) c.args.behind.token None) NonZero (state_of c.args.self.now) (state_of c.begin_test-before.new.self) (state_of c.read_or_made.new.self)
+    (state_of c.behind_code.new.self) c.in_ok-register.register (map tree_of c.begin_test-before.result.code.items) c.begin_test-before.result.pending c.behind_code.result
+    c.begin_test-before.ensures.before c.begin_test-before.ensures.pending c.begin_test-before.ensures.state c.in_ok-register.ensures c.behind_code.ensures
 
 -- ---- what is decided by tests
 
 pub part_decision-returns-in-Some : goal.part_decision-returns-in-Some
 part_decision-returns-in-Some t c =
     answers_if_as condition_tree c.decision.result _ _ _ _
-    (opened_decision (around_of c.args.a.now) c.args.part c.in-Some.part c.opened.result c.args.place c.in-Some.is c.opened.ensures.node)
+    (opened_decision (around_of c.args.a.now) c.args.part c.in-Some.part c.opened.result c.args.place c.args.behind c.in-Some.is c.opened.ensures.node)
     c.decision.ensures
 
 pub decision-returns-in-Paren : goal.decision-returns-in-Paren
 decision-returns-in-Paren t c =
-    answers_if_as condition_tree c.part_decision.result _ _ _ _ (ap (λ (x : Shape). decision (around_of c.args.a.now) (shape_form x) c.args.node.place) c.in-Paren.is) c.part_decision.ensures
+    answers_if_as condition_tree c.part_decision.result _ _ _ _
+    (ap (λ (x : Shape). decision (around_of c.args.a.now) (shape_form x) c.args.node.place c.args.behind) c.in-Paren.is
+    ∙ ap (λ (b : Behind). decision (around_of c.args.a.now) (part_form c.in-Paren.inner) c.args.node.place b) (sym c.closed_by.ensures))
+    c.part_decision.ensures
 
 pub decision-returns-in_ok-negation-in-Not : goal.decision-returns-in_ok-negation-in-Not
 decision-returns-in_ok-negation-in-Not t c =
     let a = around_of c.args.a.now in
-    answered_as condition_tree c.in_ok-negation-in-Not.field-0 _ _ _ _ (ap (λ (x : Shape). decision a (shape_form x) c.args.node.place) c.in-Not.is)
-    (negation_gives (condition a (part_form c.in-Not.operand)) (state_of c.args.self.now) (condition_tree c.in_ok-condition-in-Not.condition) (state_of c.part_condition.new.self)
+    answered_as condition_tree c.in_ok-negation-in-Not.field-0 _ _ _ _ (ap (λ (x : Shape). decision a (shape_form x) c.args.node.place c.args.behind) c.in-Not.is)
+    (negation_gives (condition a (part_form c.in-Not.operand) c.args.behind) (state_of c.args.self.now) (condition_tree c.in_ok-condition-in-Not.condition) (state_of c.part_condition.new.self)
     (condition_tree c.in_ok-negation-in-Not.field-0) c.in_ok-condition-in-Not.ensures c.in_ok-negation-in-Not.ensures)
 
 pub decision-returns-in-Binary : goal.decision-returns-in-Binary
 decision-returns-in-Binary t c =
-    answers_if_as condition_tree c.decided.result _ _ _ _ (ap (λ (x : Shape). decision (around_of c.args.a.now) (shape_form x) c.args.node.place) c.in-Binary.is) c.decided.ensures
+    let a = around_of c.args.a.now in
+    answers_if_as condition_tree c.decided.result _ _ _ _
+    (ap (λ (x : Shape). decision a (shape_form x) c.args.node.place c.args.behind) c.in-Binary.is
+    ∙ ap (λ (w : Row). decided_between a w c.args.node.place c.args.behind (part_form c.in-Binary.left) (whole (part_view c.in-Binary.right))) (sym c.row_between-row.ensures))
+    c.decided.ensures
 
-pub decided-returns-in_ok-both-in-And : goal.decided-returns-in_ok-both-in-And
-decided-returns-in_ok-both-in-And t c =
-    let a = around_of c.args.a.now in let left = part_form c.args.left in let right = whole (part_view c.args.right) in
-    answered_as condition_tree c.in_ok-both-in-And.field-0 _ _ _ _ (both_between a c.args.operator c.args.place left right c.in-And.is)
-    (joined_gives Both (condition a left) (condition a right) (state_of c.args.self.now) (condition_tree c.in_ok-left-in-And.left) (state_of c.part_condition.new.self)
-    (condition_tree c.in_ok-right-in-And.right) (state_of c.part_condition-in-And.new.self) (condition_tree c.in_ok-both-in-And.field-0)
-    c.in_ok-left-in-And.ensures c.in_ok-right-in-And.ensures c.in_ok-both-in-And.ensures)
+pub decided-returns-in_ok-join-in-Joined : goal.decided-returns-in_ok-join-in-Joined
+decided-returns-in_ok-join-in-Joined t c =
+    both_decided (around_of c.args.a.now) c.args.row c.args.place c.args.behind (part_form c.args.left) (whole (part_view c.args.right)) c.in-Joined.by c.ending.result c.ending-in-Joined.result
+    (state_of c.args.self.now) (state_of c.part_condition.new.self) (state_of c.part_condition-in-Joined.new.self) (condition_tree c.in_ok-left-in-Joined.left) (condition_tree c.in_ok-right-in-Joined.right) c.in_ok-join-in-Joined.field-0
+    c.in-Joined.is c.ending.ensures c.ending-in-Joined.ensures c.in_ok-left-in-Joined.ensures c.in_ok-right-in-Joined.ensures c.in_ok-join-in-Joined.ensures
 
-pub decided-returns-in_ok-either-in-Or : goal.decided-returns-in_ok-either-in-Or
-decided-returns-in_ok-either-in-Or t c =
-    let a = around_of c.args.a.now in let left = part_form c.args.left in let right = whole (part_view c.args.right) in
-    answered_as condition_tree c.in_ok-either-in-Or.field-0 _ _ _ _ (either_between a c.args.operator c.args.place left right c.in-Or.is)
-    (joined_gives Either (condition a left) (condition a right) (state_of c.args.self.now) (condition_tree c.in_ok-left-in-Or.left) (state_of c.part_condition-in-Or.new.self)
-    (condition_tree c.in_ok-right-in-Or.right) (state_of c.part_condition-in-Or-2.new.self) (condition_tree c.in_ok-either-in-Or.field-0)
-    c.in_ok-left-in-Or.ensures c.in_ok-right-in-Or.ensures c.in_ok-either-in-Or.ensures)
+pub decided-returns-in_ok-negation-in-IsNull : goal.decided-returns-in_ok-negation-in-IsNull
+decided-returns-in_ok-negation-in-IsNull t c =
+    null_decided (around_of c.args.a.now) c.args.row c.args.place c.args.behind (part_form c.args.left) (whole (part_view c.args.right)) c.in-IsNull.side (part_form c.on.result)
+    (state_of c.args.self.now) (state_of c.not_null.new.self) (condition_tree c.in_ok-condition-in-IsNull.condition) c.in_ok-negation-in-IsNull.field-0
+    c.in-IsNull.is c.on.ensures c.in_ok-condition-in-IsNull.ensures c.in_ok-negation-in-IsNull.ensures
 
-pub decided-returns-in-Equal : goal.decided-returns-in-Equal
-decided-returns-in-Equal t c =
-    answers_if_as condition_tree c.is_null.result _ _ _ _
-    (ap (λ (o : BinaryOperator). decided_between (around_of c.args.a.now) o c.args.place (part_form c.args.left) (whole (part_view c.args.right))) c.in-Equal.is) c.is_null.ensures
-
-pub decided-returns-in-NotEqual : goal.decided-returns-in-NotEqual
-decided-returns-in-NotEqual t c =
-    answers_if_as condition_tree c.beside_null.result _ _ _ _
-    (ap (λ (o : BinaryOperator). decided_between (around_of c.args.a.now) o c.args.place (part_form c.args.left) (whole (part_view c.args.right))) c.in-NotEqual.is) c.beside_null.ensures
+pub decided-returns-in_ok-condition-in-NotNull : goal.decided-returns-in_ok-condition-in-NotNull
+decided-returns-in_ok-condition-in-NotNull t c =
+    some_decided (around_of c.args.a.now) c.args.row c.args.place c.args.behind (part_form c.args.left) (whole (part_view c.args.right)) c.in-NotNull.side (part_form c.on-in-NotNull.result)
+    (state_of c.args.self.now) (state_of c.not_null-in-NotNull.new.self) c.in_ok-condition-in-NotNull.condition
+    c.in-NotNull.is c.on-in-NotNull.ensures c.in_ok-condition-in-NotNull.ensures

@@ -3,7 +3,8 @@ use Rattle.life_typed.specs.TypedForm.{forms, typed_views, whole}
 use Rattle.life_typed.specs.declared.typed_program.TypedLocal.{TypedLocal}
 use Rattle.life_core.specs.Operands.{argument_of}
 use Rattle.life_core.specs.Tree.{condition_tree}
-use Rattle.life_writer.specs.Chains.{own_of}
+use Rattle.life_writer.specs.Behind.{ending}
+use Rattle.life_writer.specs.Chains.{own_of, token_behind}
 use Rattle.life_writer.specs.Expressions.{condition, handed_over}
 use Rattle.life_writer.specs.Parts.{inside, node_form, node_view, part_form, part_view}
 use Rattle.life_writer.specs.Views.{around_of, state_of}
@@ -25,6 +26,12 @@ decreases-lone_value l = weight (whole (node_view l.node)) * 16 + 8
 
 abbrev pub decreases-operated : goal.decreases-operated
 decreases-operated l = weight (node_form l.node) * 16 + 2
+
+abbrev pub decreases-operated_with : goal.decreases-operated_with
+decreases-operated_with l = weight (whole (part_view l.right)) * 16 + 11
+
+abbrev pub decreases-operated_by : goal.decreases-operated_by
+decreases-operated_by l = (weight (part_form l.left) + weight (whole (part_view l.right))) * 16 + 11
 
 abbrev pub decreases-read_or_made : goal.decreases-read_or_made
 decreases-read_or_made l = weight (whole (node_view l.node)) * 16 + 4
@@ -56,17 +63,20 @@ decreases-decided l = (weight (part_form l.left) + weight (whole (part_view l.ri
 abbrev pub decreases-joined : goal.decreases-joined
 decreases-joined l = weight (node_form l.node) * 16 + 2
 
+abbrev pub decreases-joined_with : goal.decreases-joined_with
+decreases-joined_with l = weight (whole (part_view l.right)) * 16 + 11
+
 -- ---- loops
 
 abbrev pub invariant-handed_over-arguments : goal.invariant-handed_over-arguments
 invariant-handed_over-arguments l =
-    Handed (around_of l.a) (map argument_of l.given.items) (drop l.number l.arguments) (drop l.number (map (λ (p : TypedLocal). p.ty) l.parameters)) (state_of l.self)
-    (handed_over (around_of l.a) (forms (typed_views l.arguments)) (map (λ (p : TypedLocal). p.ty) l.parameters) (state_of l.initial.self))
+    Handed (around_of l.a) l.closing (map argument_of l.given.items) (drop l.number l.arguments) (drop l.number (map (λ (p : TypedLocal). p.ty) l.parameters)) (state_of l.self)
+    (handed_over (around_of l.a) (forms (typed_views l.arguments)) l.closing (map (λ (p : TypedLocal). p.ty) l.parameters) (state_of l.initial.self))
 
 -- the operands so far are written
 abbrev pub invariant-own_value-operators : goal.invariant-own_value-operators
-invariant-own_value-operators l = own_of (around_of l.a) (inside (take l.number l.within)) None (state_of l.fn.self) ≡ gives l.register (state_of l.self)
+invariant-own_value-operators l = own_of (around_of l.a) (inside (take l.number l.within)) l.behind None (state_of l.fn.self) ≡ gives l.register (state_of l.self)
 
 abbrev pub invariant-part_condition-operators : goal.invariant-part_condition-operators
 invariant-part_condition-operators l =
-    condition (around_of l.a) (inside (take l.number l.within)) (state_of l.fn.self) ≡ gives (condition_tree l.condition) (state_of l.self)
+    condition (around_of l.a) (inside (take l.number l.within)) (ending (token_behind l.within l.number l.part.place)) (state_of l.fn.self) ≡ gives (condition_tree l.condition) (state_of l.self)

@@ -9,5 +9,5 @@ use Rattle.life_writer.proofs.writer.Writer.condition.Goals as goal
 pub returns : goal.returns
 returns c =
     answers_as condition_tree c.part_condition.result _ _ _
-    (ap (λ (e : Typed). condition (around_of c.args.a.now) (whole e) (state_of c.args.self.now)) (sym c.of.ensures))
+    (ap (λ (e : Typed). condition (around_of c.args.a.now) (whole e) c.args.behind (state_of c.args.self.now)) (sym c.of.ensures))
     c.part_condition.ensures

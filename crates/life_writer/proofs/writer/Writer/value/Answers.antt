@@ -8,5 +8,5 @@ use Rattle.life_writer.proofs.writer.Writer.value.Goals as goal
 pub returns : goal.returns
 returns c =
     answers_as (λ x. x) c.part_value.result _ _ _
-    (ap (λ (e : Typed). value (around_of c.args.a.now) (whole e) c.args.to c.args.into (state_of c.args.self.now)) (sym c.of.ensures))
+    (ap (λ (e : Typed). value (around_of c.args.a.now) (whole e) c.args.behind c.args.to c.args.into (state_of c.args.self.now)) (sym c.of.ensures))
     c.part_value.ensures
