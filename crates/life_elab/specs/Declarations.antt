@@ -5,7 +5,7 @@ use Rattle.life_typed.specs.TypedStatement.{DeclarationForm, InitialForm, one, s
 use Rattle.life_typed.specs.declared.typed_program.TypedLocal.{TypedLocal}
 use Rattle.life_writer.specs.Around.{Around, type_of}
 use Rattle.life_writer.specs.Initialising.{initialised}
-use Rattle.life_writer.specs.Plans.{Destination, live}
+use Rattle.life_writer.specs.Building.{Destination, live}
 use Rattle.life_writer.specs.Variables.{full, named, variable_local}
 use Rattle.life_writer.specs.Writing.{State}
 

@@ -14,7 +14,7 @@ use Rattle.life_elab.specs.Declarations.{declared}
 use Rattle.life_elab.specs.LastTokens.{last_token}
 use Rattle.life_writer.specs.Expressions.{condition, value}
 use Rattle.life_writer.specs.Behind.{ending}
-use Rattle.life_writer.specs.Plans.{Fill, built}
+use Rattle.life_writer.specs.Building.{Fill, built}
 use Rattle.life_writer.specs.Pointers.{aimed, pointed}
 use Rattle.life_writer.specs.Registers.{computed, constant, wanted}
 use Rattle.life_elab.specs.Simples.{simple, simple_if}

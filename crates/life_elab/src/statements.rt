@@ -171,7 +171,7 @@ fn end_line(writer: &mut Writer, a: &Around, place: Place) -> Result<(), NoMemor
 {
     let source = Source::Text(number(a.program.texts.len())?);
     let last = Last::Point(place, Pointing::At(source));
-    let register = writer.built(last, Destination::Register(place, Ty::View))?;
+    let register = writer.built(last, Destination::Register(place, None, Ty::View))?;
     let view = Location::whole(writer.alloc, register);
     writer.emit(place, Instr::Port(Port::View(view)))
 }

@@ -38,8 +38,8 @@ use Rattle.life_writer.specs.Around as around
 use Rattle.life_writer.specs.Calls.{Called, call_of, called}
 use Rattle.life_writer.specs.Expressions.{handed_over, operand, pointing, value}
 use Rattle.life_writer.specs.Initialising.{Plan, ByCall, ByValue, begun, initialised, plan_for}
-use Rattle.life_writer.specs.Plans.{live}
-use Rattle.life_writer.specs.Plans as plans
+use Rattle.life_writer.specs.Building.{live}
+use Rattle.life_writer.specs.Building as building
 use Rattle.life_writer.specs.Pointers.{aimed, pointed}
 use Rattle.life_writer.specs.Variables.{end_pending, variable_local}
 use Rattle.life_writer.specs.Writing.{State, Gives, ◌>>◌, emit, gives, with_code}
@@ -187,7 +187,7 @@ module _ (a : Around) (types : Types) (texts : ℕ) (fs : List Function) (f : Fu
 
       -- where it is of a type, by a plan
       abbrev Given : Plan → Ty → State
-      Given plan t = (begun a plan t e behind s >> λ last s. plans.built last (home a u) s).state
+      Given plan t = (begun a plan t e behind s >> λ last s. building.built last (home a u) s).state
 
       abbrev GivenOne : Ty → State
       GivenOne t = (initialised a t e behind (home a u) s).state

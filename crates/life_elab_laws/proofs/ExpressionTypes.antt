@@ -26,14 +26,6 @@ own_value (Of t) e = e
 own_value NullPointer e = absurd (false≢true e)
 own_value TextLiteral e = absurd (false≢true e)
 
-pub own_raw : (t : ExprType) (u : Ty) → t ≡ Of u → is_raw u ≡ true → is_raw (own_type t) ≡ true
-own_raw t u is raw = ap (λ (x : ExprType). is_raw (own_type x)) is ∙ raw
-
-pub raw_own : (t : ExprType) → is_raw (own_type t) ≡ true → (u : Ty) × (t ≡ Of u) × (is_raw u ≡ true)
-raw_own (Of u) e = (u, refl, e)
-raw_own NullPointer e = absurd (false≢true e)
-raw_own TextLiteral e = absurd (false≢true e)
-
 -- a condition that is no pointer is a number
 pub condition_number : (types : Types) (e : Typed) → HasKind types e → is_condition e.ty ≡ true → is_raw (own_type e.ty) ≡ false → is_number e.ty ≡ true
 condition_number types e (a_number t is v) c r = ap is_number is ∙ v
@@ -51,10 +43,6 @@ pointer_fits types e (a_null is v) r = absurd (false≢true (sym (ap (λ (x : Ex
 -- what a call gives is no place
 pub result_value : (t : Ty) (types : Types) (e : Typed) → (is_void t || is_value t) ≡ true → e ≡ answer_of t types e.place e.form → e.category ≡ category.Value
 result_value t types e b is = ap (λ (x : Typed). x.category) is ∙ by_results (λ t. (answer_of t types e.place e.form).category ≡ category.Value) refl (by_values (λ t. (answer_of t types e.place e.form).category ≡ category.Value) refl refl refl refl refl) t b
-
-pub result_number : (t : Ty) (types : Types) (e : Typed) → (is_void t || is_value t) ≡ true → e ≡ answer_of t types e.place e.form → is_number e.ty ≡ true → is_value t ≡ true
-result_number t types e =
-    by_results (λ t. e ≡ answer_of t types e.place e.form → is_number e.ty ≡ true → is_value t ≡ true) (λ is n. absurd (false≢true (sym (ap (λ (x : Typed). is_number x.ty) is) ∙ n))) (λ t v is n. v) t
 
 pub value_no_raw : (t : Ty) → is_value t ≡ true → is_raw t ≡ false
 value_no_raw = by_values (λ t. is_raw t ≡ false) refl refl refl refl refl

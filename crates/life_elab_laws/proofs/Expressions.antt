@@ -32,7 +32,7 @@ use Rattle.life_well_typed.specs.Given.{is_given, is_number, is_pointer}
 use Rattle.life_writer.specs.Around.{Around, own_type, parameters_of}
 use Rattle.life_writer.specs.Around as around
 use Rattle.life_writer.specs.Calls.{Called}
-use Rattle.life_writer.specs.Expressions.{condition, decided_between, handed_over, made, operand, pointer, pointing, value}
+use Rattle.life_writer.specs.Expressions.{condition, decided_between, handed_over, operand, pointer, pointing, value}
 use Rattle.life_writer.specs.Behind.{ending}
 use Rattle.life_writer.specs.Conditions.{not_null, on}
 use Rattle.life_writer.specs.Pointers.{As, Pointing, aimed}

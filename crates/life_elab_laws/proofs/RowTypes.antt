@@ -107,19 +107,18 @@ both_fit o TextLiteral r t v w e = absurd (false≢true v)
 
 -- ---- the table
 
-equal_fit : (l r : ExprType) (t : Ty) → AreEquated l r → answer operator.Equal l r ≡ Some t → Fits (row_of operator.Equal l r) l r t
-equal_fit l r t (as_numbers x y) e = both_fit operator.Equal l r t x y e
-equal_fit l r t (null_right u is raw other) e =
-    subst (λ (y : ExprType). Fits (row_of operator.Equal l y) l y t) (sym other) (subst (λ (x : ExprType). Fits (row_of operator.Equal x NullPointer) x NullPointer t) (sym is) (record { own = u; is = refl; raw = raw }))
-equal_fit l r t (null_left u other is raw) e =
-    subst (λ (x : ExprType). Fits (row_of operator.Equal x r) x r t) (sym other) (subst (λ (y : ExprType). Fits (row_of operator.Equal NullPointer y) NullPointer y t) (sym is) (record { own = u; is = refl; raw = raw }))
+-- where it is compared with nullptr on one side, or two numbers are
+equated_fit : (o : BinaryOperator) (l r : ExprType) (t : Ty)
+    → ((u : Ty) → is_raw u ≡ true → Fits (row_of o (Of u) NullPointer) (Of u) NullPointer t) → ((u : Ty) → is_raw u ≡ true → Fits (row_of o NullPointer (Of u)) NullPointer (Of u) t)
+    → AreEquated l r → answer o l r ≡ Some t → Fits (row_of o l r) l r t
+equated_fit o l r t on_left on_right (as_numbers x y) e = both_fit o l r t x y e
+equated_fit o l r t on_left on_right (null_right u is raw other) e =
+    subst (λ (y : ExprType). Fits (row_of o l y) l y t) (sym other) (subst (λ (x : ExprType). Fits (row_of o x NullPointer) x NullPointer t) (sym is) (on_left u raw))
+equated_fit o l r t on_left on_right (null_left u other is raw) e =
+    subst (λ (x : ExprType). Fits (row_of o x r) x r t) (sym other) (subst (λ (y : ExprType). Fits (row_of o NullPointer y) NullPointer y t) (sym is) (on_right u raw))
 
-differ_fit : (l r : ExprType) (t : Ty) → AreEquated l r → answer operator.NotEqual l r ≡ Some t → Fits (row_of operator.NotEqual l r) l r t
-differ_fit l r t (as_numbers x y) e = both_fit operator.NotEqual l r t x y e
-differ_fit l r t (null_right u is raw other) e =
-    subst (λ (y : ExprType). Fits (row_of operator.NotEqual l y) l y t) (sym other) (subst (λ (x : ExprType). Fits (row_of operator.NotEqual x NullPointer) x NullPointer t) (sym is) (record { own = u; is = refl; raw = raw }))
-differ_fit l r t (null_left u other is raw) e =
-    subst (λ (x : ExprType). Fits (row_of operator.NotEqual x r) x r t) (sym other) (subst (λ (y : ExprType). Fits (row_of operator.NotEqual NullPointer y) NullPointer y t) (sym is) (record { own = u; is = refl; raw = raw }))
+own_tested : (u : Ty) → is_raw u ≡ true → IsTested (Of u)
+own_tested u raw = record { own = u; is = refl; raw = raw }
 
 numbers_by : (o : BinaryOperator) (l r : ExprType) (t : Ty) → AreNumbers l r t → answer o l r ≡ Some t → Fits (row_of o l r) l r t
 numbers_by o l r t n e = both_fit o l r t n.left n.right e
@@ -127,8 +126,8 @@ numbers_by o l r t n e = both_fit o l r t n.left n.right e
 pub row_fits : (o : BinaryOperator) (l r : ExprType) (t : Ty) → IsOperand l → IsOperand r → answer o l r ≡ Some t → Fits (row_of o l r) l r t
 row_fits operator.Or l r t lo ro e = let h = joined_kinds l r t e in record { left = h.0; right = h.1 }
 row_fits operator.And l r t lo ro e = let h = joined_kinds l r t e in record { left = h.0; right = h.1 }
-row_fits operator.Equal l r t lo ro e = equal_fit l r t (equated_kinds l r t lo ro e) e
-row_fits operator.NotEqual l r t lo ro e = differ_fit l r t (equated_kinds l r t lo ro e) e
+row_fits operator.Equal l r t lo ro e = equated_fit operator.Equal l r t own_tested own_tested (equated_kinds l r t lo ro e) e
+row_fits operator.NotEqual l r t lo ro e = equated_fit operator.NotEqual l r t own_tested own_tested (equated_kinds l r t lo ro e) e
 row_fits operator.Less l r t lo ro e = numbers_by operator.Less l r t (computed_numbers operator.Less l r t refl lo ro e) e
 row_fits operator.LessEqual l r t lo ro e = numbers_by operator.LessEqual l r t (computed_numbers operator.LessEqual l r t refl lo ro e) e
 row_fits operator.Greater l r t lo ro e = numbers_by operator.Greater l r t (computed_numbers operator.Greater l r t refl lo ro e) e

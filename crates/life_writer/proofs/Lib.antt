@@ -9,3 +9,4 @@ pub mod Seen
 pub mod Turns
 pub mod TypeNumbers
 pub mod Weights
+pub mod WorkedTemporaries

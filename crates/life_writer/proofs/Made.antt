@@ -10,7 +10,7 @@ use Rattle.life_typed.specs.declared.typed_expr.BinaryOperator.{BinaryOperator}
 use Rattle.life_typed.specs.declared.typed_expr.Category.{Category}
 use Rattle.life_typed.specs.declared.typed_expr.Category.TheVariants as category
 use Rattle.life_typed.specs.declared.typed_expr.ExprType.{ExprType}
-use Rattle.life_core.specs.Operands.{Argument, Operand, whole as whole_location}
+use Rattle.life_core.specs.Operands.{Argument, Operand}
 use Rattle.life_core.specs.Step.{Eval, Ports, Step, Takes}
 use Rattle.life_core.specs.Tree.{Negated, Tree, condition_tree}
 use Rattle.life_core.specs.declared.operation.Operation.TheVariants as operation
@@ -23,7 +23,7 @@ use Rattle.life_writer.specs.Calls.{called}
 use Rattle.life_writer.specs.Chains.{converted_in, joined_on, joined_with, operated_on, operated_with}
 use Rattle.life_writer.specs.Conditions.{joined, joined_by, negation, not_null, on}
 use Rattle.life_writer.specs.Expressions.{condition, decided_between, handed_over, made, operand, pointer, read_or_made, value}
-use Rattle.life_writer.specs.Plans.{Fill, built}
+use Rattle.life_writer.specs.Building.{Fill, built}
 use Rattle.life_writer.specs.Registers.{computed, constant, load, target, wanted}
 use Rattle.life_writer.specs.Rows.{row_between}
 use Rattle.life_writer.specs.Values.{long}
@@ -56,15 +56,15 @@ pub computed_as : (into : Option ℕ) (u t : Ty) (place : Place) (step : ℕ →
     → Answers (λ n. n) r (computed into u place step s) now → Answers (λ n. n) r (computed into t place step s) now
 computed_as into u t place step s now r same given = subst (λ (x : Ty). Answers (λ n. n) r (computed into x place step s) now) same given
 
-pub made_called : (a : Around) (f : Form) (function : ℕ) (arguments : Form) (closing place behind : Place) (t : Ty) (into : Option ℕ) (s s1 s2 now : State) (types : List TyId) (given : List Argument) (r : ℕ)
-    → f ≡ call function arguments closing → types ≡ parameter_types a function → handed_over a arguments closing types s ≡ gives given s1 → target place into t s1 ≡ gives r s2
-    → now ≡ emit place (called function given (whole_location r)) s2 → made a f place behind t into s ≡ gives r now
-made_called a f function arguments closing place behind t into s s1 s2 now types given r is as_declared first second written =
-    ap (λ (g : Form). made a g place behind t into s) is
+pub made_called : (a : Around) (f : Form) (function : ℕ) (arguments : Form) (closing place behind : Place) (t : Ty) (into : Option ℕ) (s s1 now : State) (types : List TyId) (given : List Argument) (r : Result ℕ NoMemory)
+    → f ≡ call function arguments closing → types ≡ parameter_types a function → handed_over a arguments closing types s ≡ gives given s1
+    → Answers (λ n. n) r (built (Fill place (called function given)) (wanted place into t) s1) now → Answers (λ n. n) r (made a f place behind t into s) now
+made_called a f function arguments closing place behind t into s s1 now types given r is as_declared first answered =
+    answers_as (λ n. n) r _ _ now
+    (ap (λ (g : Form). made a g place behind t into s) is
     ∙ ap (λ (ts : List TyId). handed_over a arguments closing ts s >> λ xs s. built (Fill place (called function xs)) (wanted place into t) s) (sym as_declared)
-    ∙ ap (λ (w : Gives (List Argument)). built (Fill place (called function w.given)) (wanted place into t) w.state) first
-    ∙ ap (λ (w : Gives ℕ). gives w.given (emit place (called function given (whole_location w.given)) w.state)) second
-    ∙ ap (λ (x : State). gives r x) (sym written)
+    ∙ ap (λ (w : Gives (List Argument)). built (Fill place (called function w.given)) (wanted place into t) w.state) first)
+    answered
 
 pub made_taken : (a : Around) (f : Form) (place behind : Place) (t : Ty) (into : Option ℕ) (s s1 now : State) (r : ℕ) → f ≡ input → target place into t s ≡ gives r s1
     → now ≡ emit place (Ports (Takes r)) s1 → made a f place behind t into s ≡ gives r now

@@ -12,7 +12,7 @@ use Rattle.life_writer.specs.Behind.{closed_by, ending, lasting}
 use Rattle.life_writer.specs.Calls.{called, handed}
 use Rattle.life_writer.specs.Conditions.{condition_from, decided, negation, nowhere}
 use Rattle.life_writer.specs.Pointers.{Pointing, As, aimed, located}
-use Rattle.life_writer.specs.Plans.{Fill, built}
+use Rattle.life_writer.specs.Building.{Fill, built}
 use Rattle.life_writer.specs.Registers.{as_type, computed, constant, wanted}
 use Rattle.life_writer.specs.Rows.{row_between}
 use Rattle.life_writer.specs.Values as values

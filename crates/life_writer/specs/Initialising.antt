@@ -9,7 +9,7 @@ use Rattle.life_core.specs.Operands.{Place as Aimed}
 use Rattle.life_writer.specs.Around.{Around, own_type, parameter_types}
 use Rattle.life_writer.specs.Calls.{Called, call_of, called}
 use Rattle.life_writer.specs.Expressions.{handed_over, operand, pointing, value}
-use Rattle.life_writer.specs.Plans.{Last, Fill, Saved, Destination, built}
+use Rattle.life_writer.specs.Building.{Last, Fill, Saved, Destination, built}
 use Rattle.life_writer.specs.Pointers.{aimed, pointed}
 use Rattle.life_writer.specs.Writing.{State, Gives, ◌>>◌, mapped}
 

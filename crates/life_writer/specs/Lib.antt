@@ -1,13 +1,13 @@
 pub mod Answers
 pub mod Around
 pub mod Behind
+pub mod Building
 pub mod Calls
 pub mod Chains
 pub mod Conditions
 pub mod Expressions
 pub mod Initialising
 pub mod Parts
-pub mod Plans
 pub mod Pointers
 pub mod Registers
 pub mod Rows

@@ -4,7 +4,7 @@ use Rattle.life_types.specs.declared.place.Place.{Place}
 use Rattle.life_types.specs.declared.ty.Ty.{Ty}
 use Rattle.life_core.specs.Operands.{Location, Source, whole}
 use Rattle.life_core.specs.Step.{Step, Aim, Repoint}
-use Rattle.life_writer.specs.Plans.{Fill, built}
+use Rattle.life_writer.specs.Building.{Fill, built}
 use Rattle.life_writer.specs.Registers.{wanted}
 use Rattle.life_writer.specs.Writing.{State, Gives, gives, mapped}
 

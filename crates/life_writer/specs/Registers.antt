@@ -11,7 +11,7 @@ use Rattle.life_core.specs.declared.operation.Operation.{Operation}
 use Rattle.life_core.specs.declared.operation.Operation.TheVariants as operation
 use Rattle.life_core.specs.declared.program.Local.{Local}
 use Rattle.life_core.specs.declared.program.LocalKind.TheVariants.{Register}
-use Rattle.life_writer.specs.Plans.{Fill, Destination, built}
+use Rattle.life_writer.specs.Building.{Fill, Destination, built}
 use Rattle.life_writer.specs.Writing.{State, Gives, gives, ◌>>◌}
 
 -- ---- types

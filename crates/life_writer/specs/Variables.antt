@@ -11,7 +11,7 @@ use Rattle.life_core.specs.declared.program.Local.{Local}
 use Rattle.life_core.specs.declared.program.LocalKind.{LocalKind}
 use Rattle.life_core.specs.declared.program.LocalKind.TheVariants.{Object, Register, Range}
 use Rattle.life_writer.specs.Around.{Around}
-use Rattle.life_writer.specs.Plans.{Destination}
+use Rattle.life_writer.specs.Building.{Destination}
 use Rattle.life_writer.specs.Registers.{with_local}
 use Rattle.life_writer.specs.Writing.{State, Gives, gives, emit}
 

@@ -1,9 +1,9 @@
 -- What has been written, as definitions see it.
-use Rattle.std.specs.Prelude.{None, map}
+use Rattle.std.specs.Prelude.{map}
 use Rattle.life_core.specs.Tree.{tree_of}
 use Rattle.life_writer.specs.Around.{Around}
 use Rattle.life_writer.specs.Initialising.{Plan, ByCall, ByPlace, ByPointer, ByValue}
-use Rattle.life_writer.specs.Plans.{Last, Fill, Saved, Destination}
+use Rattle.life_writer.specs.Building.{Last, Fill, Saved, Destination}
 use Rattle.life_writer.specs.Pointers.{Pointing, As, aimed, pointed}
 use Rattle.life_core.specs.Operands.{argument_of, location_of, source_of}
 use Rattle.life_typed.specs.Programs.{function_view, program_view}
@@ -16,10 +16,10 @@ use Rattle.life_writer.specs.declared.calls.Called.{Called as Call}
 use Rattle.life_writer.specs.declared.around.Around.{Around as Surroundings}
 use Rattle.life_writer.specs.declared.initialising.Plan.{Plan as Planned}
 use Rattle.life_writer.specs.declared.initialising.Plan.TheVariants as planned
-use Rattle.life_writer.specs.declared.plans.Destination.{Destination as Goal}
-use Rattle.life_writer.specs.declared.plans.Destination.TheVariants as goal
-use Rattle.life_writer.specs.declared.plans.Last.{Last as LastLeft}
-use Rattle.life_writer.specs.declared.plans.Last.TheVariants as last
+use Rattle.life_writer.specs.declared.building.Destination.{Destination as Goal}
+use Rattle.life_writer.specs.declared.building.Destination.TheVariants as goal
+use Rattle.life_writer.specs.declared.building.Last.{Last as LastLeft}
+use Rattle.life_writer.specs.declared.building.Last.TheVariants as last
 use Rattle.life_writer.specs.declared.pointers.Pointing.{Pointing as Pointed}
 use Rattle.life_writer.specs.declared.pointers.Pointing.TheVariants as pointing
 use Rattle.life_writer.specs.declared.writer.Writer.{Writer}
@@ -48,7 +48,7 @@ last_of (last.Call place f arguments) = Fill place (called f (map argument_of ar
 last_of (last.Saved r) = Saved r
 
 abbrev pub destination_of : Goal → Destination
-destination_of (goal.Register place t) = wanted place None t
+destination_of (goal.Register place into t) = wanted place into t
 destination_of (goal.Variable l place) = named l place
 
 abbrev pub called_of : Call → Called

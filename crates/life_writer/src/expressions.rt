@@ -1,12 +1,11 @@
 // Expressions: their values, places, pointers and conditions, part by part in the order of evaluation
 // (ISO/IEC 14882:2017 [intro.execution], [expr]; arguments from left to right).
-ghost use Rattle.std.specs.Prelude.{◌≡◌, None, OnOk, map, slice_get};
-ghost use Rattle.life_core.specs.Operands.{argument_of, location_of, operand_of, whole as whole_location};
+ghost use Rattle.std.specs.Prelude.{◌≡◌, None, map, slice_get};
+ghost use Rattle.life_core.specs.Operands.{argument_of, location_of, operand_of};
 ghost use Rattle.life_core.specs.Tree.{condition_tree};
 ghost use Rattle.life_typed.specs.TypedForm.{forms, typed_view, typed_views, whole};
 ghost use Rattle.life_typed.specs.declared.typed_program.TypedLocal.{TypedLocal};
 ghost use Rattle.life_writer.specs.Answers.{Answers, AnswersIf};
-ghost use Rattle.life_writer.specs.Calls.{called};
 ghost use Rattle.life_writer.specs.Behind.{ending};
 ghost use Rattle.life_writer.specs.Chains.{converted_in, joined_on, joined_with, operated_on, operated_with, own_of};
 ghost use Rattle.life_writer.specs.Conditions as conditions;
@@ -14,10 +13,10 @@ ghost use Rattle.life_writer.specs.Expressions as spec;
 ghost use Rattle.life_writer.specs.Parts.{node_form, node_view, part_form, part_view};
 ghost use Rattle.life_writer.specs.Values.{operated_by};
 ghost use Rattle.life_writer.specs.Views.{around_of, pointing_of, state_of};
-ghost use Rattle.life_writer.specs.Writing.{emit};
 
 use crate::around::{Around, own_type};
 use crate::behind::Behind;
+use crate::building::{Destination, Last};
 use crate::chains::{Chain, NOWHERE, chain_begins, is_link, token_behind};
 use crate::conditions::{join, negation};
 use crate::parts::{Node, Part, Shape, last_of, opened};
@@ -25,9 +24,7 @@ use crate::pointers::Pointing;
 use crate::rows::{Row, Side, row_between};
 use crate::values::truth;
 use crate::writer::Writer;
-use life_core::{
-    Argument, Condition, FnId, Instr, Location, Operand, Operation, Port, Source, Test,
-};
+use life_core::{Argument, Condition, Instr, Location, Operand, Operation, Port, Source, Test};
 use life_typed::{Category, TypedExpr, TypedLocal};
 use life_types::{NoMemory, Place, Ty, TyId, is_raw};
 use std::vec::Vec;
@@ -240,9 +237,8 @@ impl Writer {
                 closing,
             } => {
                 let arguments = self.handed_over(a, arguments, closing, a.parameters(function))?;
-                let into = self.target(place, into, ty)?;
-                self.call_into(place, into, function, arguments)?;
-                Ok(into)
+                let last = Last::Call(place, function, arguments);
+                self.built(last, Destination::Register(place, into, ty))
             }
             Shape::Paren { inner, closing } => self.part_value(a, inner, closing, ty, into),
             Shape::Input => {
@@ -294,27 +290,6 @@ impl Writer {
             }
             _ => Ok(0),
         }
-    }
-
-    // Calls a function, and gives its result to a register.
-    fn call_into(
-        &mut self,
-        place: Place,
-        target: u32,
-        function: u32,
-        arguments: Vec<Argument>,
-    ) -> Result<(), NoMemory>
-        ensures { OnOk result (state_of self.new ≡ emit place (called function (map argument_of arguments.items) (whole_location target)) (state_of self.old)) }
-    {
-        let target = Some(Location::whole(self.alloc, target));
-        self.emit(
-            place,
-            Instr::Call {
-                target,
-                function: FnId(function),
-                arguments,
-            },
-        )
     }
 
     /// The arguments of a call, from left to right, as the types of its parameters

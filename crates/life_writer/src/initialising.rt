@@ -6,8 +6,8 @@ ghost use Rattle.life_writer.specs.Initialising as spec;
 ghost use Rattle.life_writer.specs.Views.{around_of, called_of, destination_of, last_of, plan_of, state_of};
 
 use crate::around::{Around, own_type};
+use crate::building::{Destination, Last};
 use crate::calls::{Called, call_of};
-use crate::plans::{Destination, Last};
 use crate::pointers::Pointing;
 use crate::writer::Writer;
 use life_core::Source;

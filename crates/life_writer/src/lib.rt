@@ -4,6 +4,7 @@
 
 mod around;
 mod behind;
+mod building;
 mod calls;
 mod chains;
 mod conditions;
@@ -12,7 +13,6 @@ mod initialising;
 mod numbers;
 mod operands;
 mod parts;
-mod plans;
 mod pointers;
 mod registers;
 mod rows;
@@ -23,11 +23,11 @@ mod writer;
 
 pub use around::{Around, own_type};
 pub use behind::Behind;
+pub use building::{Destination, Last};
 pub use calls::{Called, call_of};
 pub use conditions::Before;
 pub use numbers::number;
 pub use operands::copied_operand;
-pub use plans::{Destination, Last};
 pub use pointers::Pointing;
 pub use registers::nameless;
 pub use rows::{Join, Row, Side};

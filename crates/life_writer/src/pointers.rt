@@ -7,7 +7,7 @@ ghost use Rattle.life_writer.specs.Pointers as spec;
 ghost use Rattle.life_writer.specs.Views.{pointing_of, state_of};
 ghost use Rattle.life_writer.specs.Writing.{emit};
 
-use crate::plans::{Destination, Last};
+use crate::building::{Destination, Last};
 use crate::writer::Writer;
 use life_core::{Instr, Location, Source};
 use life_types::{NoMemory, Place, Ty};
@@ -57,7 +57,7 @@ impl Writer {
             Pointing::As(location) => Ok(location),
             Pointing::At(source) => {
                 let last = Last::Point(place, Pointing::At(source));
-                let register = self.built(last, Destination::Register(place, ty))?;
+                let register = self.built(last, Destination::Register(place, None, ty))?;
                 Ok(Location::whole(self.alloc, register))
             }
         }

@@ -136,12 +136,12 @@ made-returns-in-Number t c =
     made_number (around_of c.args.a.now) c.args.node.shape c.in-Number.number _ c.args.node.place c.args.behind c.args.ty c.args.into (state_of c.args.self.now) (state_of c.eval.new.self) c.eval.result
     c.in-Number.is (to_z-of_z w64 c.cast_signed.result fits ∙ c.cast_signed.ensures) c.eval.ensures
 
-pub made-returns-in_ok-call_into-in-Call : goal.made-returns-in_ok-call_into-in-Call
-made-returns-in_ok-call_into-in-Call t c =
+pub made-returns-in_ok-arguments-in-Call : goal.made-returns-in_ok-arguments-in-Call
+made-returns-in_ok-arguments-in-Call t c =
     made_called (around_of c.args.a.now) (shape_form c.args.node.shape) c.in-Call.function (forms (typed_views c.in-Call.arguments.now)) c.in-Call.closing c.args.node.place c.args.behind c.args.ty c.args.into
-    (state_of c.args.self.now) (state_of c.handed_over.new.self) (state_of c.target.new.self) (state_of c.call_into.new.self) (map (λ (l : TypedLocal). l.ty) c.parameters.result.now)
-    (map argument_of c.in_ok-arguments-in-Call.arguments.items) c.in_ok-into-in-Call.into
-    (ap shape_form c.in-Call.is) c.parameters.ensures c.in_ok-arguments-in-Call.ensures c.in_ok-into-in-Call.ensures c.in_ok-call_into-in-Call.ensures
+    (state_of c.args.self.now) (state_of c.handed_over.new.self) (state_of c.built.new.self) (map (λ (l : TypedLocal). l.ty) c.parameters.result.now)
+    (map argument_of c.in_ok-arguments-in-Call.arguments.items) c.built.result
+    (ap shape_form c.in-Call.is) c.parameters.ensures c.in_ok-arguments-in-Call.ensures c.built.ensures
 
 pub made-returns-in-Paren : goal.made-returns-in-Paren
 made-returns-in-Paren t c =
@@ -150,7 +150,7 @@ made-returns-in-Paren t c =
 
 pub made-returns-in_ok-emit-in-Input : goal.made-returns-in_ok-emit-in-Input
 made-returns-in_ok-emit-in-Input t c =
-    made_taken (around_of c.args.a.now) (shape_form c.args.node.shape) c.args.node.place c.args.behind c.args.ty c.args.into (state_of c.args.self.now) (state_of c.target-in-Input.new.self) (state_of c.emit.new.self)
+    made_taken (around_of c.args.a.now) (shape_form c.args.node.shape) c.args.node.place c.args.behind c.args.ty c.args.into (state_of c.args.self.now) (state_of c.target.new.self) (state_of c.emit.new.self)
     c.in_ok-into-in-Input.into (ap shape_form c.in-Input.is) c.in_ok-into-in-Input.ensures c.in_ok-emit-in-Input.ensures
 
 pub made-returns-in_ok-register-in-Negate : goal.made-returns-in_ok-register-in-Negate

@@ -1,7 +1,7 @@
 // How something is initialised: all but the last is written, and then it is built where it goes.
 ghost use Rattle.std.specs.Prelude.{◌≡◌};
 ghost use Rattle.life_writer.specs.Answers.{Answers};
-ghost use Rattle.life_writer.specs.Plans as spec;
+ghost use Rattle.life_writer.specs.Building as spec;
 ghost use Rattle.life_writer.specs.Views.{destination_of, last_of, state_of};
 
 use crate::pointers::{Pointing, pointed};
@@ -23,8 +23,8 @@ pub enum Last {
 /// Where it goes.
 #[derive(Clone, Copy)]
 pub enum Destination {
-    /// A register of a type, which stands where it is written first.
-    Register(Place, Ty),
+    /// The register that is wanted, or a new one of a type, which stands where it is written first.
+    Register(Place, Option<u32>, Ty),
     /// A variable, which comes to life where its name stands.
     Variable(Local, Place),
 }
@@ -33,7 +33,7 @@ fn place_of(destination: Destination) -> Place
     ensures { result ≡ (destination_of destination).place }
 {
     match destination {
-        Destination::Register(place, _ty) => place,
+        Destination::Register(place, _into, _ty) => place,
         Destination::Variable(_local, place) => place,
     }
 }
@@ -44,7 +44,7 @@ impl Writer {
         ensures { Answers (λ x. x) result ((destination_of destination).begins (state_of self.old)) (state_of self.new) }
     {
         match destination {
-            Destination::Register(place, ty) => self.new_register(place, ty),
+            Destination::Register(place, into, ty) => self.target(place, into, ty),
             Destination::Variable(local, _place) => self.add_variable(local),
         }
     }
