@@ -1,5 +1,5 @@
--- Tests of the types that operands of core instructions have: what is a number, what a pointer takes from another one, what has elements, and what stands
--- where. A type that isn't there counts as void, which no operand has.
+-- Tests of the types that operands of core instructions have: what operators compute in, what a pointer takes from another one, what has elements, and
+-- what stands where. A type that isn't there counts as void, which no operand has.
 use Rattle.std.specs.Prelude.{Bool, true, false, ◌&&◌, ◌||◌, not}
 use Rattle.life_types.specs.TypeTests.{is_constant, is_pointer, is_value, is_view, is_void}
 use Rattle.life_types.specs.Types.{Types}

@@ -1,4 +1,5 @@
-//! Places in a file, types and their classes, and the want of memory: what every crate above speaks of.
+//! Places in a file, types, tests of them and their classes, and the want of memory: what every crate
+//! above speaks of.
 #![tactic(auto)]
 
 mod facts;
