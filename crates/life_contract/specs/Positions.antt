@@ -1,11 +1,12 @@
 -- The places that lie at steps from another one, and their types.
 use Rattle.std.specs.Prelude.{ℕ, if◌then◌else◌, nat_eq, List, [], ◌∷◌}
+use Rattle.life_types.specs.Pointees.{ty_of}
 use Rattle.life_types.specs.Types.{Types}
 use Rattle.life_types.specs.declared.ty.Ty.{Ty}
 use Rattle.life_types.specs.declared.ty.Ty.TheVariants as ty
 use Rattle.life_pset.specs.Elements.{Input}
 use Rattle.life_pset.specs.Places.{member_place, owned_place, owned_step, path}
-use Rattle.life_pset.specs.Shapes.{member_of, target_of, ty_if, ty_of}
+use Rattle.life_pset.specs.Shapes.{member_of, target_of, ty_if}
 use Rattle.life_pset.specs.declared.element.AbsPlace.{AbsPlace}
 
 -- ---- places
@@ -36,10 +37,10 @@ steps_type types t [] = t
 steps_type types t (s ∷ ss) = steps_type types (step_type types t s) ss
 
 -- what a pointer points to: a view to characters
-abbrev pub pointee : Types → Ty → Ty
-pointee types ty.View = ty.Char
-pointee types t = ty_if types (target_of t)
+abbrev pub pointed_type : Types → Ty → Ty
+pointed_type types ty.View = ty.Char
+pointed_type types t = ty_if types (target_of t)
 
 -- the type of a place behind an input
 abbrev pub position_type : Types → Input → AbsPlace → Ty
-position_type types i place = steps_type types (pointee types (ty_if types i.ty)) (path place)
+position_type types i place = steps_type types (pointed_type types (ty_if types i.ty)) (path place)

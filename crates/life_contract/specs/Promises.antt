@@ -16,7 +16,7 @@ use Rattle.life_pset.specs.declared.element.Element.{Element}
 use Rattle.life_pset.specs.declared.element.Element.TheVariants as element
 use Rattle.life_pset.specs.declared.element.Fact.{Fact}
 use Rattle.life_contract.specs.Inputs.{inputs_of_signature, parameter_number}
-use Rattle.life_contract.specs.Positions.{pointee, position_type}
+use Rattle.life_contract.specs.Positions.{pointed_type, position_type}
 use Rattle.life_contract.specs.Signatures.{Signature}
 
 -- ---- the places of a pointer of this type
@@ -32,7 +32,7 @@ agrees t input = is_constant t || not (is_constant input)
 
 -- .. and it points to what has its target's type
 abbrev pub fits : Types → Ty → Input → AbsPlace → Bool
-fits types t i place = agrees t (ty_if types i.ty) && type.eq (position_type types i place) (pointee types t)
+fits types t i place = agrees t (ty_if types i.ty) && type.eq (position_type types i place) (pointed_type types t)
 
 abbrev pub place_if : Bool → AbsPlace → List AbsPlace
 place_if here place = cond here (place ∷ []) []

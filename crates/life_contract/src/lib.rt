@@ -15,7 +15,7 @@ pub use breaking::breaks_apart;
 pub use inputs::{admits_null, input_parameter, inputs_of, is_mutating, may_be_null, parameter_in};
 pub use locating::{is_location, is_rooted, located};
 pub use param::Param;
-pub use positions::{pointee, step_type, steps_place};
+pub use positions::{pointed_type, step_type, steps_place};
 pub use promises::{
     admits_static, fixed_elements, lists_null, promised_behind, promised_places, result_locations,
     result_type,

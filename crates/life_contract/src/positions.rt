@@ -1,7 +1,7 @@
 // The places that lie at steps from another one, and their types.
 ghost use Rattle.std.specs.Prelude.{◌≡◌};
 ghost use Rattle.life_pset.specs.Inputs.{input_seen};
-ghost use Rattle.life_contract.specs.Positions.{owned_type, pointee, position_type, step_place, step_type, steps_place, steps_type};
+ghost use Rattle.life_contract.specs.Positions.{owned_type, pointed_type, position_type, step_place, step_type, steps_place, steps_type};
 
 use life_pset::{AbsPlace, InputPointer, OWNED_STEP, member_of, target_of, ty_at, ty_if};
 use life_types::{Ty, TypeTable};
@@ -61,8 +61,8 @@ fn steps_type(types: &TypeTable, ty: Ty, steps: &[u8]) -> Ty
 }
 
 /// The type of what a pointer points to; a view points to characters.
-pub fn pointee(types: &TypeTable, ty: Ty) -> Ty
-    ensures { result ≡ pointee types.now ty }
+pub fn pointed_type(types: &TypeTable, ty: Ty) -> Ty
+    ensures { result ≡ pointed_type types.now ty }
 {
     match ty {
         Ty::View => Ty::Char,
@@ -74,5 +74,9 @@ pub fn pointee(types: &TypeTable, ty: Ty) -> Ty
 pub(crate) fn position_type(types: &TypeTable, input: InputPointer, place: &AbsPlace) -> Ty
     ensures { result ≡ position_type types.now (input_seen input) place.now }
 {
-    steps_type(types, pointee(types, ty_if(types, input.ty)), place.path())
+    steps_type(
+        types,
+        pointed_type(types, ty_if(types, input.ty)),
+        place.path(),
+    )
 }

@@ -7,7 +7,7 @@ ghost use Rattle.life_pset.specs.Inputs.{input_seen};
 ghost use Rattle.life_contract.specs.Promises.{admits_static, agrees, element_if, fits, fitting, fixed_elements, is_listed, lists_null, lists_static, owner_elements, place_if, pointer_elements, promised_behind, promised_places, promises_null, promises_static, result_locations, result_type};
 
 use crate::inputs::{inputs_of, parameter_number};
-use crate::positions::{pointee, position_type};
+use crate::positions::{pointed_type, position_type};
 use crate::signature::Signature;
 use life_core::{LocalKind, Promise};
 use life_pset::{
@@ -39,7 +39,8 @@ fn agrees(ty: Ty, input: Ty) -> bool
 fn fits(types: &TypeTable, ty: Ty, input: InputPointer, place: &AbsPlace) -> bool
     ensures { result ≡ fits types.now ty (input_seen input) place.now }
 {
-    agrees(ty, ty_if(types, input.ty)) && position_type(types, input, place) == pointee(types, ty)
+    agrees(ty, ty_if(types, input.ty))
+        && position_type(types, input, place) == pointed_type(types, ty)
 }
 
 fn push_place_if(here: bool, place: AbsPlace, out: &mut Vec<AbsPlace>) -> Result<(), NoMemory>

@@ -1,6 +1,7 @@
 -- A pointer that is given something: it can be, it is a pointer behind it, and const stays const.
 use Rattle.std.proofs.Common.{◌≡◌, inl, inr, ℕ, Bool, true, false, ◌&&◌, List, [], ◌∷◌, None, refl, sym, ap, ◌∙◌, subst}
 use Rattle.std.proofs.lemmas.Bool.{and_from, and_parts, false≢true}
+use Rattle.life_types.specs.Pointees.{ty_of}
 use Rattle.life_types.specs.TypeTests.{is_constant, is_raw}
 use Rattle.life_types.specs.Types.{Types}
 use Rattle.life_types.specs.declared.ty.Ty.{Ty}
@@ -11,7 +12,6 @@ use Rattle.life_core.specs.Function.{Function}
 use Rattle.life_core.specs.Operands.{Location, Null, Operand, Place as Aimed, whole}
 use Rattle.life_core.specs.Served.{is_served_location, is_served_operand}
 use Rattle.life_core.specs.Touched.{touched_by}
-use Rattle.life_pset.specs.Shapes as shapes
 use Rattle.life_proper.specs.Knowing.{known_at}
 use Rattle.life_proper.specs.OperandTypes.{aims_at, keeps_const, same, takes}
 use Rattle.life_proper.specs.Placed.{is_const_place, type_in, type_of}
@@ -59,10 +59,10 @@ module _ (types : Types) (texts : ℕ) (fs : List Function) (f : Function) where
   aims_further : (t u : Ty) (o : Operand) → is_raw t ≡ true → takes types t u ≡ true → (aims_at types u (type_of types f o) && keeps_const (is_constant u) (is_const_place types f o)) ≡ true
       → (aims_at types t (type_of types f o) && keeps_const (is_constant t) (is_const_place types f o)) ≡ true
   aims_further (ty.Raw target c) (ty.Raw found d) o raw taken aimed =
-      let first = and_parts (same (shapes.ty_of types target) (shapes.ty_of types found)) (keeps_const c d) taken in
-      let second = and_parts (same (shapes.ty_of types found) (type_of types f o)) (keeps_const d (is_const_place types f o)) aimed in
-      and_from (same (shapes.ty_of types target) (type_of types f o)) (keeps_const c (is_const_place types f o))
-      (ap (same (shapes.ty_of types target)) (sym (same_is (shapes.ty_of types found) (type_of types f o) second.0)) ∙ first.0)
+      let first = and_parts (same (ty_of types target) (ty_of types found)) (keeps_const c d) taken in
+      let second = and_parts (same (ty_of types found) (type_of types f o)) (keeps_const d (is_const_place types f o)) aimed in
+      and_from (same (ty_of types target) (type_of types f o)) (keeps_const c (is_const_place types f o))
+      (ap (same (ty_of types target)) (sym (same_is (ty_of types found) (type_of types f o) second.0)) ∙ first.0)
       (keeps_further c d (is_const_place types f o) first.1 second.1)
   aims_further (ty.Raw target c) _ o raw taken aimed = absurd (false≢true taken)
   aims_further _ u o raw taken aimed = absurd (false≢true raw)

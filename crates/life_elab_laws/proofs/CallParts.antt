@@ -1,6 +1,7 @@
 -- Calls: each argument is a number of the parameter's type in a register, and the result goes to a register of its type.
 use Rattle.std.proofs.Common.{◌≡◌, ℕ, Bool, true, false, ◌&&◌, ◌||◌, if◌then◌else◌, List, [], ◌∷◌, slice_get, Option, Some, None, refl, ap, ◌∙◌}
 use Rattle.std.proofs.lemmas.Bool.{and_from, and_parts, or_left, or_right}
+use Rattle.life_types.specs.Pointees.{ty_of}
 use Rattle.life_types.specs.TypeTests.{is_pointer, is_value}
 use Rattle.life_types.specs.Types.{Types}
 use Rattle.life_types.specs.declared.place.Place.{Place}
@@ -12,7 +13,6 @@ use Rattle.life_core.specs.ByValue.{is_pointer as points}
 use Rattle.life_core.specs.Function.{Function}
 use Rattle.life_core.specs.Holdings.{sort_of}
 use Rattle.life_core.specs.Operands.{Argument, Location, Value, whole}
-use Rattle.life_pset.specs.Shapes.{ty_of}
 use Rattle.life_proper.specs.OperandTypes.{same}
 use Rattle.life_proper.specs.OperandTypes as operands
 use Rattle.life_proper.specs.Placed.{is_number, is_number_of, object_at, register_at, type_in}

@@ -2,6 +2,7 @@
 use Rattle.std.proofs.Common.{◌≡◌, ◌⊎◌, inl, inr, ℕ, zero, suc, Bool, true, List, [], ◌∷◌, Contains, length, slice_get, Option, Some, None, refl, sym, ap, ◌∙◌, subst, unwrap_or}
 use Rattle.std.proofs.lemmas.Bool.{and_from, and_parts, false≢true}
 use Rattle.std.specs.Prelude.{pos}
+use Rattle.life_types.specs.Pointees.{or_void, ty_of}
 use Rattle.life_types.specs.TypeTests.{is_raw, is_value}
 use Rattle.life_types.specs.Types.{Types}
 use Rattle.life_types.specs.declared.place.Place.{Place}
@@ -22,7 +23,6 @@ use Rattle.life_type_expr.specs.Operands.{number_type, variable_of}
 use Rattle.life_core.specs.Function.{Function}
 use Rattle.life_core.specs.Operands.{Argument, Location, Null, Operand, Place as Aimed, Through, whole}
 use Rattle.life_core.specs.Tree.{Tree}
-use Rattle.life_pset.specs.Shapes as shapes
 use Rattle.life_proper.specs.OperandTypes.{aims_at, keeps_const}
 use Rattle.life_proper.specs.OperandTypes as operands
 use Rattle.life_proper.specs.Placed.{is_const_place}
@@ -163,10 +163,10 @@ module _ (a : Around) (visible : List ℕ) (types : Types) (texts : ℕ) (fs : L
   -- ---- calls
 
   -- what a function gives back has the type that it has in the program's table
-  pub result_later : (g : ℕ) (of : FunctionForm) → slice_get a.program.functions g ≡ Some of → shapes.ty_of types of.result ≡ type_at a.program.types of.result
+  pub result_later : (g : ℕ) (of : FunctionForm) → slice_get a.program.functions g ≡ Some of → ty_of types of.result ≡ type_at a.program.types of.result
   result_later g of there =
       let t = setting.results g of there in
-      ap shapes.or_void (setting.front of.result.0 t.0 t.1) ∙ sym (ap (λ (o : Option Ty). unwrap_or o ty.Void) t.1)
+      ap or_void (setting.front of.result.0 t.0 t.1) ∙ sym (ap (λ (o : Option Ty). unwrap_or o ty.Void) t.1)
 
   call_form : (g : ℕ) (given : Form) (closing : Place) (e : Typed) → HasResult a.program.types (slice_get a.program.functions g) e
       → ((of : FunctionForm) → slice_get a.program.functions g ≡ Some of → (s : State) → Standing s → Hands of s (handed_over a given closing (parameter_types (Some of)) s)) → IsForm a visible types texts fs f setting (call g given closing) e
@@ -232,7 +232,7 @@ module _ (a : Around) (visible : List ℕ) (types : Types) (texts : ℕ) (fs : L
       (λ b h. let later = type_later a.program.types types setting.front d.target d.worth in
       place_given types texts fs f (ty.Raw d.target d.constant) (operand a inner s).given
       (and_from (aims_at types (ty.Raw d.target d.constant) (placed.type_of types f (operand a inner s).given)) (keeps_const d.constant (is_const_place types f (operand a inner s).given))
-      (ap (aims_at types (ty.Raw d.target d.constant)) (h.typed ∙ sym later) ∙ value_same (shapes.ty_of types d.target) (ap is_value later ∙ d.worth)) h.held)
+      (ap (aims_at types (ty.Raw d.target d.constant)) (h.typed ∙ sym later) ∙ value_same (ty_of types d.target) (ap is_value later ∙ d.worth)) h.held)
       h.served)
       (λ n k q. aimed_filling f (operand a inner s).given n k q)))
     where

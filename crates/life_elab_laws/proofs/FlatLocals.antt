@@ -1,6 +1,7 @@
 -- The locals of a function that is translated are flat: values, pointers and references to them, and views.
 use Rattle.std.proofs.Common.{◌≡◌, ℕ, true, false, slice_get, Option, Some, None, refl, sym, ap, ◌∙◌, subst}
 use Rattle.std.proofs.lemmas.Bool.{false≢true}
+use Rattle.life_types.specs.Pointees.{ty_of}
 use Rattle.life_types.specs.TypeTests.{is_value}
 use Rattle.life_types.specs.Types.{Types}
 use Rattle.life_types.specs.declared.ty.Ty.{Ty}
@@ -10,7 +11,7 @@ use Rattle.life_built.specs.Built.{is_built_variable}
 use Rattle.life_typed.specs.BaseTypes.{type_at}
 use Rattle.life_core.specs.Function.{Function}
 use Rattle.life_core.specs.declared.program.Local.{Local}
-use Rattle.life_pset.specs.Shapes.{shape_of, ty_if, ty_of}
+use Rattle.life_pset.specs.Shapes.{shape_of, ty_if}
 use Rattle.life_proper.specs.OperandTypes.{is_composed}
 use Rattle.life_proper.specs.Placed as placed
 use Rattle.life_elab_laws.proofs.FormedLocals.{variable_fits, variable_found}

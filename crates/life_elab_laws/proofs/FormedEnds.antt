@@ -3,6 +3,7 @@ use Rattle.std.proofs.Common.{◌≡◌, inl, inr, ℕ, Bool, true, false, ◌&&
 use Rattle.std.specs.List.{list_all}
 use Rattle.std.proofs.lemmas.Bool.{and_from, false≢true, or_left, or_right}
 use Rattle.std.proofs.lemmas.Bool.Decides.{nat_tests}
+use Rattle.life_types.specs.Pointees.{ty_of}
 use Rattle.life_types.specs.TypeTests.{is_pointer, is_value, is_void}
 use Rattle.life_types.specs.Types.{Types, class, is_slot_target, is_slot_type}
 use Rattle.life_types.specs.declared.ty.Class.{Class}
@@ -18,7 +19,6 @@ use Rattle.life_core.specs.Kinds.{is_register}
 use Rattle.life_core.specs.declared.program.Local.{Local}
 use Rattle.life_core.specs.declared.program.LocalKind.{LocalKind}
 use Rattle.life_core.specs.declared.program.LocalKind.TheVariants.{Object, Register, Range}
-use Rattle.life_pset.specs.Shapes as shapes
 use Rattle.life_elab_laws.proofs.Among.{Among}
 use Rattle.life_elab_laws.proofs.Shaped.{AreShaped, shaped_at}
 use Rattle.life_elab_laws.proofs.Following.{is_variable_sort}
@@ -63,15 +63,15 @@ value_object t k v h = go k (subst (λ (c : Class). is_variable_sort (held_if c 
     go Range e = absurd (false≢true e)
 
 module _ (types : Types) (texts : ℕ) (fs : List Function) (f : Function) (shaped : AreShaped types f.locals)
-    (nameless : (l : Local) → slice_get f.locals f.parameters ≡ Some l → is_void (shapes.ty_of types f.result) ≡ false → l.name ≡ None) where
+    (nameless : (l : Local) → slice_get f.locals f.parameters ≡ Some l → is_void (ty_of types f.result) ≡ false → l.name ≡ None) where
   -- a local with a name isn't the result
   no_result : (y : ℕ) (l : Local) → slice_get f.locals y ≡ Some l → is_none l.name ≡ false → not (result_at types f y) ≡ true
-  no_result y l at named = go (is_void (shapes.ty_of types f.result)) (nat_eq y f.parameters) refl refl
+  no_result y l at named = go (is_void (ty_of types f.result)) (nat_eq y f.parameters) refl refl
     where
       one : (a b : ℕ) → nat_eq a b ≡ true → a ≡ b
       one a b h = grind (arith, nat_tests)
 
-      go : (v e : Bool) → is_void (shapes.ty_of types f.result) ≡ v → nat_eq y f.parameters ≡ e → not (not v && e) ≡ true
+      go : (v e : Bool) → is_void (ty_of types f.result) ≡ v → nat_eq y f.parameters ≡ e → not (not v && e) ≡ true
       go true e vs es = refl
       go false false vs es = refl
       go false true vs es =

@@ -1,13 +1,13 @@
 -- What the rules of initialisation let a pointer be given it takes, and so does a reference: of one target, and const stays const.
 use Rattle.std.proofs.Common.{◌≡◌, Bool, true, false, ◌&&◌, not, cond, Err, refl, ap, ◌∙◌, subst, rules}
 use Rattle.std.proofs.lemmas.Bool.{and_from, false≢true}
+use Rattle.life_types.specs.Pointees.{ty_of}
 use Rattle.life_types.specs.TypeTests.{is_value}
 use Rattle.life_types.specs.Types.{Types}
 use Rattle.life_types.specs.contracts.ty.TyIdPartialEq.TheImpl.{ghosts as id}
 use Rattle.life_types.specs.declared.ty.Ty.TheVariants as ty
 use Rattle.life_types.specs.declared.ty.TyId.{TyId}
 use Rattle.life_built.specs.Built.{needs_no_temporary}
-use Rattle.life_pset.specs.Shapes.{ty_of}
 use Rattle.life_typed.specs.BaseTypes.{type_at}
 use Rattle.life_typed.specs.Conversions.{fits, initialised, is_place_of, pointer_from, unless}
 use Rattle.life_typed.specs.TypedForm.{Typed}

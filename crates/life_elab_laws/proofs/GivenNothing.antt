@@ -3,6 +3,7 @@ use Rattle.std.proofs.Common.{◌≡◌, ℕ, Bool, true, false, ◌&&◌, not, 
 use Rattle.std.specs.List.{list_all, list_any}
 use Rattle.std.proofs.lemmas.Bool.{and_from, and_parts, false≢true}
 use Rattle.std.proofs.lemmas.Grind.{flat_map-append}
+use Rattle.life_types.specs.Pointees.{pointee, ty_of}
 use Rattle.life_types.specs.TypeTests.{is_unique, is_void}
 use Rattle.life_types.specs.Types.{Types}
 use Rattle.life_types.specs.declared.ty.Ty.{Ty}
@@ -15,9 +16,9 @@ use Rattle.life_core.specs.Operands.{Argument, Value, GivenOver, PointerOf, Slot
 use Rattle.life_core.specs.Operands as source
 use Rattle.life_core.specs.Step.{Step, Move, Aim, Element, Cursor, Changes, Make, Call, Change, Erase}
 use Rattle.life_core.specs.Tree.{Tree, Skip, Then, Acts, Asks, Both, Either, Negated, Choice, Turns, Breaks, Continues, Returns, Stops, Node, Action, Spot, spots}
-use Rattle.life_pset.specs.Shapes.{location_type, member_of, member_type, members_type, target_of, target_type, ty_if, ty_of}
+use Rattle.life_pset.specs.Shapes.{location_type, member_of, member_type, members_type, target_of, target_type, ty_if}
 use Rattle.life_proper.specs.GivenOver.{all_keep_given, given_argument, given_in, given_spot, given_step, is_kept, is_kept_argument, is_kept_base, is_kept_change, is_kept_place, is_kept_source, keeps_given, node_keeps_given, spot_keeps_given}
-use Rattle.life_proper.specs.OperandTypes.{is_composed, owned_target, pointee, same}
+use Rattle.life_proper.specs.OperandTypes.{is_composed, owned_target, same}
 use Rattle.life_proper.specs.Placed.{is_consumed, is_given, object_at, result_at, slot_at, type_at, type_in, type_of}
 use Rattle.life_proper.specs.WellFormed.{are_arguments_for, goes_to, have_own_slots, is_argument_for, is_call, is_change_of, is_made_for, is_well_formed_step, is_well_formed_tree, types_taken}
 use Rattle.life_elab_laws.proofs.OperandsThere.{same_is}

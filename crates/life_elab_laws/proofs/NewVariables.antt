@@ -1,6 +1,7 @@
 -- The variable that is declared next: its kind and its type in the finished function, so it can live, and what it is given fits it.
 use Rattle.std.proofs.Common.{◌≡◌, ℕ, Bool, true, false, not, ◌&&◌, List, length, slice_get, Option, Some, refl, sym, ap, ◌∙◌}
 use Rattle.std.proofs.lemmas.Bool.{and_from, or_left, or_right}
+use Rattle.life_types.specs.Pointees.{ty_of}
 use Rattle.life_types.specs.TypeTests.{is_pointer, is_reference, is_value}
 use Rattle.life_types.specs.Types.{Types, class}
 use Rattle.life_types.specs.declared.ty.Ty.{Ty}
@@ -12,7 +13,6 @@ use Rattle.life_core.specs.Function.{Function}
 use Rattle.life_core.specs.Operands.{Operand, object_named, whole}
 use Rattle.life_core.specs.Step.{Save}
 use Rattle.life_core.specs.declared.program.LocalKind.TheVariants.{Object}
-use Rattle.life_pset.specs.Shapes as shapes
 use Rattle.life_proper.specs.OperandTypes.{keeps_const, same}
 use Rattle.life_proper.specs.Placed.{is_const_place, is_number_of, object_at, register_at, type_in}
 use Rattle.life_proper.specs.Placed as placed
@@ -34,11 +34,11 @@ use Rattle.life_elab_laws.proofs.Types.{value_kind}
 module _ (a : Around) (types : Types) (texts : ℕ) (fs : List Function) (f : Function) (front : IsFront a.program.types.types types.types) where
   -- what a reference is bound to fits it
   pub bound_given : (target : TyId) (constant held : Bool) (o : Operand) → is_value (type_at a.program.types target) ≡ true → keeps_const constant held ≡ true
-      → IsPlaceOf types texts fs f (type_at a.program.types target) held o → (same (shapes.ty_of types target) (placed.type_of types f o) && keeps_const constant (is_const_place types f o)) ≡ true
+      → IsPlaceOf types texts fs f (type_at a.program.types target) held o → (same (ty_of types target) (placed.type_of types f o) && keeps_const constant (is_const_place types f o)) ≡ true
   bound_given target constant held o worth kept place =
       let later = type_later a.program.types types front target worth in
-      and_from (same (shapes.ty_of types target) (placed.type_of types f o)) (keeps_const constant (is_const_place types f o))
-      (ap (same (shapes.ty_of types target)) (place.typed ∙ sym later) ∙ value_same (shapes.ty_of types target) (ap is_value later ∙ worth))
+      and_from (same (ty_of types target) (placed.type_of types f o)) (keeps_const constant (is_const_place types f o))
+      (ap (same (ty_of types target)) (place.typed ∙ sym later) ∙ value_same (ty_of types target) (ap is_value later ∙ worth))
       (keeps_further constant held (is_const_place types f o) kept place.held)
 
   module _ (v : TypedLocal) (s : State) (b : Begins types f (with_new (variable_local a v) s)) where

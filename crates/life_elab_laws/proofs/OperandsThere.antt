@@ -1,6 +1,7 @@
 -- The types that registers and objects have in the finished function.
 use Rattle.std.proofs.Common.{◌≡◌, ℕ, Bool, true, false, ◌&&◌, nat_lt, slice_get, Option, Some, None, refl, sym, ap, ◌∙◌, subst, unwrap_or, rules}
 use Rattle.std.proofs.lemmas.Bool.{and_from, and_parts, false≢true}
+use Rattle.life_types.specs.Pointees.{or_void, ty_of}
 use Rattle.life_types.specs.TypeTests.{is_reference, is_value}
 use Rattle.life_types.specs.Types.{Types, class}
 use Rattle.life_types.specs.declared.ty.Ty.{Ty}
@@ -12,7 +13,7 @@ use Rattle.life_core.specs.declared.program.LocalKind.{LocalKind}
 use Rattle.life_core.specs.declared.program.LocalKind.TheVariants.{Object, Register}
 use Rattle.life_core.specs.Holdings.{ANumber, held_by, held_if, sort_of}
 use Rattle.life_core.specs.Kinds.{has_kind, is_object, is_register}
-use Rattle.life_pset.specs.Shapes.{or_void, referred, shape_if, shape_of, ty_if, ty_of, unslotted}
+use Rattle.life_pset.specs.Shapes.{referred, shape_if, shape_of, ty_if, unslotted}
 use Rattle.life_proper.specs.OperandTypes.{same}
 use Rattle.life_proper.specs.Placed.{is_number, is_number_of, object_at, register_at, type_at}
 use Rattle.life_typed.specs.BaseTypes as base

@@ -1,5 +1,6 @@
 -- Where a function is written: in a program that is built, whose core functions take and give what they should.
 use Rattle.std.proofs.Common.{◌≡◌, ℕ, true, false, List, None, Some, slice_get}
+use Rattle.life_types.specs.Pointees.{ty_of}
 use Rattle.life_types.specs.TypeTests.{is_value, is_void}
 use Rattle.life_types.specs.Types.{Types, class_at}
 use Rattle.life_types.specs.declared.ty.Class.TheVariants.{Value}
@@ -10,7 +11,6 @@ use Rattle.life_typed.specs.BaseTypes.{type_at}
 use Rattle.life_typed.specs.Programs.{FunctionForm}
 use Rattle.life_core.specs.Function.{Function}
 use Rattle.life_core.specs.declared.program.Local.{Local}
-use Rattle.life_pset.specs.Shapes.{ty_of}
 use Rattle.life_well_typed.specs.Expressions.{parameter_types}
 use Rattle.life_writer.specs.Around.{Around}
 use Rattle.life_elab_laws.proofs.Calls.{IsCallee}

@@ -2,6 +2,7 @@
 use Rattle.std.proofs.Common.{◌≡◌, ◌<◌, ◌+◌, ℕ, zero, suc, Bool, true, false, ◌&&◌, ◌||◌, List, [], ◌∷◌, ◌++◌, if◌then◌else◌, flat_map, map, nat_lt, slice_get, Option, Some, None, is_none, refl, ap, ◌∙◌, subst, sym, unwrap_or, arith}
 use Rattle.std.proofs.lemmas.Bool.{false≢true, or_left}
 use Rattle.std.proofs.lemmas.Bool.Decides.{nat_tests}
+use Rattle.life_types.specs.Pointees.{or_void, ty_of}
 use Rattle.life_types.specs.Trees.{tree_at, tree_of, tree_within}
 use Rattle.life_types.specs.TypeTests.{is_value}
 use Rattle.life_types.specs.Types.{Types}
@@ -20,7 +21,7 @@ use Rattle.life_core.specs.declared.program.LocalKind.{LocalKind}
 use Rattle.life_core.specs.declared.program.LocalKind.TheVariants.{Object, Register, Range}
 use Rattle.life_core.specs.Kinds.{is_register}
 use Rattle.life_pset.specs.Elements.{AreShort, causes_of_end, caused_at, caused_elements, elements_of, end_elements, input_places, inputs_among, inputs_from, inputs_of, local_inputs, local_place, locations_in, node_elements, object_places, objects_from, places_in, pointers_in, step_elements}
-use Rattle.life_pset.specs.Shapes.{is_variable, or_void, referred, shape, shape_if, ty_of, unslotted}
+use Rattle.life_pset.specs.Shapes.{is_variable, referred, shape, shape_if, unslotted}
 use Rattle.life_pset.specs.declared.element.AbsPlace.{AbsPlace}
 use Rattle.life_pset.specs.declared.element.Cause.{Cause}
 use Rattle.life_pset.specs.declared.element.Element.{Element}

@@ -2,6 +2,7 @@
 use Rattle.std.proofs.Common.{◌≡◌, ◌⊎◌, inl, inr, ℕ, zero, suc, Bool, true, false, ◌&&◌, ◌||◌, not, List, [], ◌∷◌, Option, Some, None, slice_get, refl, sym, ap, subst, ◌∙◌, rules}
 use Rattle.std.proofs.lemmas.Bool.{and_parts, false≢true}
 use Rattle.std.specs.List.{list_all}
+use Rattle.life_types.specs.Pointees.{or_void, pointee, ty_of}
 use Rattle.life_types.specs.TypeTests.{is_pointer, is_raw, is_unique, is_value, is_view, is_void}
 use Rattle.life_types.specs.Types.{Types, class, is_slot_target, is_slot_type, is_slot_at}
 use Rattle.life_types.specs.contracts.ty.TyPartialEq.TheImpl.{ghosts as compared}
@@ -16,10 +17,10 @@ use Rattle.life_core.specs.Holdings.{Holding, Blank, AnObject, ANumber, APointer
 use Rattle.life_core.specs.Kinds.{has_kind, is_object, is_register}
 use Rattle.life_core.specs.Operands.{Location}
 use Rattle.life_core.specs.Served.{is_served_as, is_served_local}
-use Rattle.life_pset.specs.Shapes.{members_type, or_void, referred, shape_if, shape_of, ty_if, ty_of, unslotted}
+use Rattle.life_pset.specs.Shapes.{members_type, referred, shape_if, shape_of, ty_if, unslotted}
 use Rattle.life_pset.specs.Shapes as shapes
 use Rattle.std.specs.Prelude.{nat_lt}
-use Rattle.life_proper.specs.OperandTypes.{aims_at, are_alike, is_composed, pointee, same}
+use Rattle.life_proper.specs.OperandTypes.{aims_at, are_alike, is_composed, same}
 use Rattle.life_proper.specs.Placed.{type_at, type_in}
 
 -- ---- one type

@@ -4,6 +4,7 @@ use Rattle.std.proofs.lemmas.Bool.{and_parts, false≢true}
 use Rattle.std.proofs.lemmas.Bool.Decides.{nat_tests}
 use Rattle.std.specs.List.{list_all}
 use Rattle.std.specs.Prelude.{flat_map, if◌then◌else◌, nat_eq}
+use Rattle.life_types.specs.Pointees.{or_void, ty_of}
 use Rattle.life_types.specs.TypeTests.{is_void}
 use Rattle.life_types.specs.Types.{Types, class, class_at, is_slot_at}
 use Rattle.life_types.specs.declared.ty.Class.{Class}
@@ -28,7 +29,6 @@ use Rattle.life_core.specs.Step as test
 use Rattle.life_core.specs.Touched.{argument_uses, by_members, if_object, operation_uses, part_uses, place_uses, port_uses, result_uses, source_uses, target_births, target_uses, test_uses, touched_by}
 use Rattle.life_core.specs.Tree.{Node, Action, Question, Return, Stop}
 use Rattle.life_core.proofs.ReadyLemmas.{no_leaves}
-use Rattle.life_pset.specs.Shapes.{or_void, ty_of}
 use Rattle.life_proper.specs.WellFormedPrograms.{is_result_local, is_result_of}
 use Rattle.life_proper.proofs.HeldSorts.{IsPointing, IsServedIf, blank_served, served}
 use Rattle.life_proper.proofs.Sorted.{AreArgumentsSorted, CanEnd, IsArgumentSorted, IsCallSorted, IsEnded, IsNodeSorted, IsOperandSorted, IsOperationSorted, IsPortSorted, IsResultSorted, IsSourceSorted, IsStepSorted, IsTargetSorted, IsTestSorted}

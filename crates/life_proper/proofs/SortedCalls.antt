@@ -4,6 +4,7 @@ use Rattle.std.proofs.lemmas.Bool.{and_parts, false≢true}
 use Rattle.std.proofs.lemmas.Bool.Decides.{nat_tests}
 use Rattle.std.specs.List.{list_all}
 use Rattle.std.specs.Prelude.{flat_map, is_none, is_some, nat_eq, nat_lt}
+use Rattle.life_types.specs.Pointees.{or_void, ty_of}
 use Rattle.life_types.specs.TypeTests.{is_constant, is_pointer, is_value, is_void}
 use Rattle.life_types.specs.Types.{Types, is_slot_at}
 use Rattle.life_types.specs.declared.ty.NameId.{NameId}
@@ -22,7 +23,7 @@ use Rattle.life_core.specs.Ready.{AreBits, Ready}
 use Rattle.life_core.specs.Served.{is_served_argument, is_served_as, is_served_local, is_served_target}
 use Rattle.life_core.specs.Touched.{argument_uses, by_members, if_object, target_births}
 use Rattle.life_core.proofs.ReadyLemmas.{empty_is}
-use Rattle.life_pset.specs.Shapes.{or_void, shape, ty_of}
+use Rattle.life_pset.specs.Shapes.{shape}
 use Rattle.life_proper.specs.OperandTypes.{are_alike, is_composed, keeps_const, same, takes}
 use Rattle.life_proper.specs.Placed.{is_number, object_at, type_in}
 use Rattle.life_proper.specs.WellFormed.{are_arguments_for, goes_to, is_argument_for, is_whole, local_type}

@@ -3,6 +3,7 @@ use Rattle.std.proofs.Common.{◌≡◌, ⊎_elim, inl, inr, ℕ, Bool, true, fa
 use Rattle.std.proofs.lemmas.Bool.{and_parts, false≢true}
 use Rattle.std.specs.List.{list_all}
 use Rattle.std.specs.Prelude.{flat_map}
+use Rattle.life_types.specs.Pointees.{or_void, ty_of}
 use Rattle.life_types.specs.TypeTests.{is_pointer, is_void}
 use Rattle.life_types.specs.Types.{Types, class, class_at}
 use Rattle.life_types.specs.declared.ty.Class.{Class}
@@ -21,7 +22,6 @@ use Rattle.life_core.specs.Step.{Step, Live, End, Eval, Load, Save, Copy, Move, 
 use Rattle.life_core.specs.Touched.{argument_uses, part_uses, result_uses, source_uses, target_births, target_uses, touched_by}
 use Rattle.life_core.specs.Tree.{Node, Action, Question, Return, Stop, spots}
 use Rattle.life_core.proofs.ReadyLemmas.{bits_left, empty_is}
-use Rattle.life_pset.specs.Shapes.{or_void, ty_of}
 use Rattle.life_proper.specs.Placed.{is_const_place, is_number, is_number_of, type_at, type_of}
 use Rattle.life_proper.specs.ProperFunctions.{AreProperFunctions}
 use Rattle.life_proper.specs.WellFormed.{are_arguments_for, goes_to, have_own_slots, is_call, is_operation_of, is_well_formed_node, is_well_formed_step, is_well_formed_tree, types_taken}

@@ -2,6 +2,7 @@
 use Rattle.std.proofs.Common.{◌≡◌, ◌⊎◌, inl, inr, ⊎_elim, ℕ, Bool, true, false, ◌&&◌, ◌||◌, not, if◌then◌else◌, List, [], ◌∷◌, Some, slice_get, slice_set, refl, subst}
 use Rattle.std.proofs.lemmas.Bool.{and_from, and_parts, false≢true}
 use Rattle.std.specs.List.{list_all}
+use Rattle.life_types.specs.Pointees.{pointee}
 use Rattle.life_types.specs.TypeTests.{is_constant, is_pointer, is_raw, is_reference, is_unique, is_value, is_view, is_void}
 use Rattle.life_types.specs.Types.{Types}
 use Rattle.life_types.specs.declared.ty.Ty.{Ty}
@@ -19,7 +20,7 @@ use Rattle.life_core.specs.Step as test
 use Rattle.life_core.specs.Touched.{operation_uses, place_uses, port_uses, source_uses, test_uses}
 use Rattle.life_core.proofs.ReadyLemmas.{empty_is}
 use Rattle.life_pset.specs.Shapes.{operand_type, ty_if}
-use Rattle.life_proper.specs.OperandTypes.{are_alike, aims_at, is_promoted, keeps_const, pointee, same, takes}
+use Rattle.life_proper.specs.OperandTypes.{are_alike, aims_at, is_promoted, keeps_const, same, takes}
 use Rattle.life_proper.specs.Placed.{is_const_place, is_number, is_number_of, is_place, object_at, register_at, result_at, slot_at, type_at, type_in, type_of}
 use Rattle.life_proper.specs.WellFormed.{answer_of, can_end, can_live, is_operation_of, is_port, is_source_of, is_well_formed_test}
 use Rattle.life_proper.proofs.HeldSorts.{AreOneSort, IsPointing, aims_held, aims_void, alike_held, not_unique, number_held, object_held, own_type, pointee_held, pointer_held, raw_held, same_is, same_void, served, type_own, type_whole, view_held}

@@ -1,12 +1,12 @@
 -- Tests of the types that operands of core instructions have: what operators compute in, what a pointer takes from another one, what has elements, and
 -- what stands where. A type that isn't there counts as void, which no operand has.
 use Rattle.std.specs.Prelude.{Bool, true, false, ◌&&◌, ◌||◌, not}
+use Rattle.life_types.specs.Pointees.{ty_of}
 use Rattle.life_types.specs.TypeTests.{is_constant, is_pointer, is_value, is_view, is_void}
 use Rattle.life_types.specs.Types.{Types}
 use Rattle.life_types.specs.contracts.ty.TyPartialEq.TheImpl.{ghosts as compared}
 use Rattle.life_types.specs.declared.ty.Ty.{Ty}
 use Rattle.life_types.specs.declared.ty.Ty.TheVariants as ty
-use Rattle.life_pset.specs.Shapes.{ty_of}
 
 -- ---- values
 
@@ -57,13 +57,6 @@ abbrev pub takes : Types → (to from : Ty) → Bool
 takes types to from = are_alike types to from && keeps_const (is_constant to) (is_constant from)
 
 -- ---- what stands behind
-
--- the object that a pointer points to: a span and a view have elements instead
-abbrev pub pointee : Types → Ty → Ty
-pointee types (ty.Raw target constant) = ty_of types target
-pointee types (ty.Reference target constant) = ty_of types target
-pointee types (ty.Iterator target constant) = ty_of types target
-pointee types _ = ty.Void
 
 -- an element of a vector or a string
 abbrev pub owned_element : Types → Ty → Ty

@@ -1,5 +1,6 @@
 -- What stands in a core function: its locals, and the types of registers, locations, places and bases.
 use Rattle.std.specs.Prelude.{ℕ, Bool, true, false, ◌&&◌, not, if◌then◌else◌, nat_eq, Option, Some, None, slice_get}
+use Rattle.life_types.specs.Pointees.{pointee, ty_of}
 use Rattle.life_types.specs.TypeTests.{is_constant, is_value, is_void}
 use Rattle.life_types.specs.Types.{Types, is_slot_at}
 use Rattle.life_types.specs.declared.ty.Ty.{Ty}
@@ -11,8 +12,8 @@ use Rattle.life_core.specs.Function.{Function}
 use Rattle.life_core.specs.Kinds.{is_object_at, is_register_at}
 use Rattle.life_core.specs.Operands.{Location, Operand, Name, Through, Base}
 use Rattle.life_core.specs.Operands as base
-use Rattle.life_pset.specs.Shapes.{local_type, location_type, operand_type, ty_if, ty_of}
-use Rattle.life_proper.specs.OperandTypes.{owned_element, owned_target, pointee, same, seen_element}
+use Rattle.life_pset.specs.Shapes.{local_type, location_type, operand_type, ty_if}
+use Rattle.life_proper.specs.OperandTypes.{owned_element, owned_target, same, seen_element}
 
 module _ (types : Types) (f : Function) where
   -- ---- locals

@@ -2,6 +2,7 @@
 -- hangs on no way through the text, so it is asked at each point, also where no way comes to.
 use Rattle.std.specs.Prelude.{ℕ, Bool, true, false, ◌&&◌, ◌||◌, not, if◌then◌else◌, nat_eq, nat_lt, List, [], ◌∷◌, map, Option, Some, None, slice_get, take}
 use Rattle.std.specs.List.{list_all, list_any, starts_with}
+use Rattle.life_types.specs.Pointees.{pointee, ty_of}
 use Rattle.life_types.specs.Trees.{holds_unique}
 use Rattle.life_types.specs.TypeTests.{is_constant, is_iterator, is_pointer, is_raw, is_reference, is_unique, is_view, is_void}
 use Rattle.life_types.specs.Types.{Types, is_slot_at}
@@ -20,8 +21,8 @@ use Rattle.life_core.specs.Operands.{Argument, Value, GivenOver, PointerOf, Slot
 use Rattle.life_core.specs.Operands as source
 use Rattle.life_core.specs.Step.{Step, Live, End, Eval, Load, Save, Copy, Move, Aim, Repoint, Element, Cursor, Advance, Cut, Size, Same, Changes, Make, Call, Ports, Change, PushBack, PopBack, Clear, Reserve, Erase, Set, Append, Port, Writes, WritesView, Takes, Test, NonZero, NotNull}
 use Rattle.life_core.specs.Tree.{Tree, Skip, Then, Acts, Asks, Both, Either, Negated, Choice, Turns, Breaks, Continues, Returns, Stops, Node, Action, Question, Spot}
-use Rattle.life_pset.specs.Shapes.{operand_type, tree_if, ty_of}
-use Rattle.life_proper.specs.OperandTypes.{aims_at, are_compared, gets, is_composed, is_owner, is_promoted, is_range, keeps_const, owned_target, pointee, same, spans, takes, walks}
+use Rattle.life_pset.specs.Shapes.{operand_type, tree_if}
+use Rattle.life_proper.specs.OperandTypes.{aims_at, are_compared, gets, is_composed, is_owner, is_promoted, is_range, keeps_const, owned_target, same, spans, takes, walks}
 use Rattle.life_proper.specs.Placed.{element_of, is_const_base, is_const_place, is_consumed, is_given, is_number, is_number_of, is_number_of_if, object_at, register_at, result_at, slot_at, type_at, type_in, type_of, type_of_element}
 
 -- an operator that compares answers a bool, and any other what it computes in

@@ -1,6 +1,7 @@
 -- Well-formed functions and programs: what their numbers name is there, their types may stand, each point is well formed, and no two functions have one name.
 use Rattle.std.specs.Prelude.{◌≡◌, ℕ, ◌+◌, Bool, true, false, ◌&&◌, ◌||◌, not, nat_eq, nat_le, nat_lt, is_none, is_some, length, List, [], ◌∷◌, Option, Some, None, slice_get}
 use Rattle.std.specs.List.{list_all, list_any}
+use Rattle.life_types.specs.Pointees.{ty_of}
 use Rattle.life_types.specs.Trees.{IsOrdered, TypeTree, Void, Vector, Unique, Raw, Reference, Iterator, Span, Member, is_plain, tree_at}
 use Rattle.life_types.specs.TypeTests.{is_pointer, is_value, is_void}
 use Rattle.life_types.specs.Types.{Types}
@@ -13,7 +14,7 @@ use Rattle.life_core.specs.declared.program.LocalKind.{LocalKind}
 use Rattle.life_core.specs.declared.program.LocalKind.TheVariants.{Object, Register, Range}
 use Rattle.life_core.specs.Function.{Function, Program, Promise, Default, Listed}
 use Rattle.life_core.specs.Kinds.{is_register}
-use Rattle.life_pset.specs.Shapes.{shape, ty_of}
+use Rattle.life_pset.specs.Shapes.{shape}
 use Rattle.life_proper.specs.OperandTypes.{is_composed}
 use Rattle.life_proper.specs.WellFormed.{is_well_formed_tree}
 

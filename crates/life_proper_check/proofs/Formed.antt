@@ -3,6 +3,7 @@ use Rattle.std.proofs.Common.{◌≡◌, ℕ, ◌+◌, Bool, true, false, ◌&&�
 use Rattle.std.proofs.lemmas.Bool.{and_from, and_parts, false≢true}
 use Rattle.std.proofs.lemmas.Bool.Decides.{nat_tests}
 use Rattle.std.specs.List.{list_all}
+use Rattle.life_types.specs.Pointees.{ty_of}
 use Rattle.life_types.specs.Trees.{IsOrdered, TypeTree, is_plain, tree_at, tree_of}
 use Rattle.life_types.specs.TypeTests.{is_void}
 use Rattle.life_types.specs.Types.{Types, is_slot_at}
@@ -19,7 +20,6 @@ use Rattle.life_core.specs.Operands as source
 use Rattle.life_core.specs.Served.{is_served, is_served_as, is_served_local, is_served_program, is_served_spot}
 use Rattle.life_core.specs.Step.{Step, Live, End, Eval, Load, Save, Aim, Repoint, Call, Ports}
 use Rattle.life_core.specs.Tree.{Tree, Skip, Then, Acts, Asks, Both, Either, Negated, Choice, Turns, Breaks, Continues, Returns, Stops, Node, Action, Question, Spot, spots}
-use Rattle.life_pset.specs.Shapes.{ty_of}
 use Rattle.life_proper.specs.OperandTypes.{is_composed}
 use Rattle.life_proper.specs.WellFormed.{are_arguments_for, goes_to, have_own_slots, is_argument_for, is_call, is_source_of, is_well_formed_node, is_well_formed_spot, is_well_formed_step, is_well_formed_test, is_well_formed_tree, types_taken}
 use Rattle.life_proper.specs.WellFormedPrograms.{IsWellFormedProgram, are_well_formed_locals, have_names, have_own_names, is_name, is_result_local, is_result_of, is_well_formed_function, is_well_formed_local, may_stand, names_parameters}

@@ -1,6 +1,7 @@
 -- Instructions that are well formed, of the kinds that are served: what passes here is well formed. A kind that files are to reach gets its line here.
 use Rattle.std.specs.Prelude.{ℕ, ◌+◌, Bool, true, false, ◌&&◌, ◌||◌, not, nat_eq, nat_le, nat_lt, length, List, [], ◌∷◌, Option, Some, None, slice_get, is_none, is_some}
 use Rattle.std.specs.List.{list_all}
+use Rattle.life_types.specs.Pointees.{ty_of}
 use Rattle.life_types.specs.TypeTests.{is_constant, is_raw, is_view, is_void}
 use Rattle.life_types.specs.Types.{Types, is_slot_at}
 use Rattle.life_types.specs.declared.ty.Ty.{Ty}
@@ -14,7 +15,6 @@ use Rattle.life_core.specs.Operands as source
 use Rattle.life_core.specs.Step.{Step, Live, End, Eval, Load, Save, Aim, Repoint, Call, Ports}
 use Rattle.life_core.specs.Tree.{Node, Action, Question, Spot, spots}
 use Rattle.life_pset.specs.Elements.{IsWithinLimits}
-use Rattle.life_pset.specs.Shapes.{ty_of}
 use Rattle.life_proper.specs.OperandTypes.{aims_at, keeps_const, takes}
 use Rattle.life_proper.specs.Placed.{is_const_place, is_number, is_number_of, type_at, type_in, type_of}
 use Rattle.life_proper.specs.WellFormed.{can_end, can_live, goes_to, is_operation_of, is_port, is_well_formed_test, types_taken}

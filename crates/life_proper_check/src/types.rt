@@ -1,7 +1,8 @@
 // Tests of the types that operands have.
 ghost use Rattle.std.specs.Prelude.{◌≡◌};
+ghost use Rattle.life_types.specs.Pointees.{pointee};
 ghost use Rattle.life_types.specs.TypeTests.{is_reference};
-ghost use Rattle.life_proper.specs.OperandTypes.{aims_at, are_alike, is_promoted, keeps_const, pointee, same, takes};
+ghost use Rattle.life_proper.specs.OperandTypes.{aims_at, are_alike, is_promoted, keeps_const, same, takes};
 
 use life_pset::ty_at;
 use life_types::{Ty, TypeTable, is_constant};

@@ -7,6 +7,7 @@ use Rattle.std.proofs.lemmas.Bool.Decides.{Decides-ltb}
 use Rattle.std.proofs.lemmas.Grind.{flat_map-append}
 use Rattle.std.proofs.lemmas.List.{length-append, length-map}
 use Rattle.life_types.specs.declared.place.Place.{Place}
+use Rattle.life_types.specs.Pointees.{ty_of}
 use Rattle.life_types.specs.Trees.{TypeTree, View, Vector, Unique, Raw, Reference, Iterator, Span, Member, is_plain, struct_of, tree_at}
 use Rattle.life_types.specs.Types.{Types}
 use Rattle.life_types.specs.declared.ty.TyId.{TyId}
@@ -21,7 +22,7 @@ use Rattle.life_pset.specs.Counts.{caused_count, end_count, end_if_count, ends_c
 use Rattle.life_pset.specs.Elements.{Input, caused_elements, elements_of, end_causes, end_elements, end_if, ended_local, input_places, inputs_from, inputs_of, local_inputs, local_locations, local_place, locations_from, locations_in, object_places, objects_from, places_from, places_in, pointers_from, pointers_in, step_elements}
 use Rattle.life_pset.specs.Causes.{spot_elements}
 use Rattle.life_pset.specs.Places.{member_place, owned_place, root_place}
-use Rattle.life_pset.specs.Shapes.{is_variable, shape, target_type, tree_if, ty_of}
+use Rattle.life_pset.specs.Shapes.{is_variable, shape, target_type, tree_if}
 use Rattle.life_pset.specs.declared.element.AbsPlace.{AbsPlace}
 use Rattle.life_pset.specs.declared.element.Element.TheVariants.{At, Invalid}
 use Rattle.life_pset.proofs.CandidateLemmas.{caused_of_spots}

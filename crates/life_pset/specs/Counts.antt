@@ -1,5 +1,6 @@
 -- How many locations, places and elements with causes there are, so that a test of the limits needs no list of them.
 use Rattle.std.specs.Prelude.{ℕ, ◌+◌, if◌then◌else◌, List, [], ◌∷◌, Option, Some, None, slice_get}
+use Rattle.life_types.specs.Pointees.{ty_of}
 use Rattle.life_types.specs.Trees.{TypeTree, Text, View, Vector, Unique, Raw, Reference, Iterator, Span, Member, tree_at}
 use Rattle.life_types.specs.Types.{Types}
 use Rattle.life_types.specs.declared.ty.TyId.{TyId}
@@ -10,7 +11,7 @@ use Rattle.life_core.specs.Function.{Function}
 use Rattle.life_core.specs.Step.{Step, Live, End, Copy, Move, Changes, Make, Call}
 use Rattle.life_core.specs.Tree.{Tree, Skip, Then, Acts, Asks, Both, Either, Negated, Choice, Turns, Breaks, Continues, Returns, Stops}
 use Rattle.life_pset.specs.Elements.{Input, local_inputs}
-use Rattle.life_pset.specs.Shapes.{is_variable, shape, target_type, tree_if, ty_of}
+use Rattle.life_pset.specs.Shapes.{is_variable, shape, target_type, tree_if}
 
 -- ---- locations
 

@@ -1,6 +1,7 @@
 -- The locations and the elements of a function, in the order of their numbers.
 use Rattle.std.specs.Prelude.{ℕ, ◌+◌, ◌<◌, ◌≤◌, ◌^◌, Bool, true, false, if◌then◌else◌, min, nat_eq, nat_lt, List, [], ◌∷◌, ◌++◌, Option, Some, None, length, map, slice_get}
 use Rattle.std.specs.List.{flat_map}
+use Rattle.life_types.specs.Pointees.{ty_of}
 use Rattle.life_types.specs.Trees.{TypeTree, Text, View, Vector, Unique, Raw, Reference, Iterator, Span, Member, tree_at}
 use Rattle.life_types.specs.TypeTests.{is_pointer}
 use Rattle.life_types.specs.Types.{Types}
@@ -17,7 +18,7 @@ use Rattle.life_core.specs.Operands.{Operand}
 use Rattle.life_core.specs.Step.{Step, Live, End, Copy, Move, Changes, Make, Call}
 use Rattle.life_core.specs.Tree.{Node, Action, Question, Return, Stop}
 use Rattle.life_pset.specs.Places.{path, root_place, member_place, owned_place}
-use Rattle.life_pset.specs.Shapes.{is_variable, members_type, shape, target_type, tree_if, ty_if, ty_of}
+use Rattle.life_pset.specs.Shapes.{is_variable, members_type, shape, target_type, tree_if, ty_if}
 use Rattle.life_pset.specs.declared.element.AbsPlace.{AbsPlace}
 use Rattle.life_pset.specs.declared.element.Cause.{Cause}
 use Rattle.life_pset.specs.declared.element.CauseKind.{CauseKind}

@@ -1,5 +1,6 @@
 -- The types of a function's locals, and of their parts.
 use Rattle.std.specs.Prelude.{ℕ, Bool, true, false, ◌&&◌, nat_eq, nat_lt, List, [], ◌∷◌, Option, Some, None, slice_get}
+use Rattle.life_types.specs.Pointees.{ty_of}
 use Rattle.life_types.specs.Trees.{TypeTree, Void as NoType, members_at, tree_at}
 use Rattle.life_types.specs.Types.{Types}
 use Rattle.life_types.specs.declared.ty.Ty.{Ty}
@@ -16,15 +17,6 @@ use Rattle.life_pset.specs.declared.element.Root.{Root}
 use Rattle.life_pset.specs.declared.element.Root.TheVariants as root
 
 -- ---- types
-
--- what isn't there counts as void
-abbrev pub or_void : Option Ty → Ty
-or_void None = ty.Void
-or_void (Some t) = t
-
--- the type with a number, and what it is made of
-abbrev pub ty_of : Types → TyId → Ty
-ty_of types id = or_void (slice_get types.types id.0)
 
 abbrev pub ty_if : Types → Option TyId → Ty
 ty_if types None = ty.Void

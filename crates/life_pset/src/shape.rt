@@ -1,11 +1,12 @@
 // The types of a function's locals, and of their parts.
 ghost use Rattle.std.specs.Option.{option_copied};
 ghost use Rattle.std.specs.Prelude.{◌≡◌, Some};
+ghost use Rattle.life_types.specs.Pointees.{ty_of};
 ghost use Rattle.life_types.specs.Trees.{holds_owner, members_at, tree_at, tree_of, AllBelow, HasPartsBelow};
 ghost use Rattle.life_types.specs.declared.ty.Ty.TheVariants as kinds;
 ghost use Rattle.life_core.specs.Function.{function_of};
 ghost use Rattle.life_core.specs.Operands.{location_of, operand_of};
-ghost use Rattle.life_pset.specs.Shapes.{has_buffer, is_variable, is_variable_of, is_variable_place, is_variable_root, local_type, location_type, member_of, member_type, members_type, operand_type, place_type, referred, rooted_type, shape, shape_if, shape_of, target_of, target_type, tree_if, ty_if, ty_of, unslotted};
+ghost use Rattle.life_pset.specs.Shapes.{has_buffer, is_variable, is_variable_of, is_variable_place, is_variable_root, local_type, location_type, member_of, member_type, members_type, operand_type, place_type, referred, rooted_type, shape, shape_if, shape_of, target_of, target_type, tree_if, ty_if, unslotted};
 
 use crate::element::{AbsPlace, Root};
 use life_core::{CoreFn, Local, LocalKind, Location, Operand};

@@ -3,6 +3,7 @@ use Rattle.std.proofs.Common.{◌≡◌, ℕ, zero, suc, ◌+◌, Bool, true, fa
 use Rattle.std.specs.Prelude.{◌&&◌, nat_lt, length, slice_get}
 use Rattle.std.specs.List.{flat_map, list_all, list_any}
 use Rattle.std.proofs.lemmas.Bool.{and_parts}
+use Rattle.life_types.specs.Pointees.{or_void, ty_of}
 use Rattle.life_types.specs.Trees.{TypeTree, tree_at, tree_of, tree_within}
 use Rattle.life_types.specs.TypeTests.{is_pointer}
 use Rattle.life_types.specs.Types.{Types, class}
@@ -17,7 +18,7 @@ use Rattle.life_core.specs.declared.program.FnId.{FnId}
 use Rattle.life_core.specs.declared.program.LocalKind.TheVariants.{Object}
 use Rattle.life_pset.specs.Elements.{Input, inputs_among, inputs_from, local_inputs, local_locations, local_place, locations_in, pointers_in}
 use Rattle.life_pset.specs.Places.{path}
-use Rattle.life_pset.specs.Shapes.{has_buffer, member_of, members_type, or_void, shape, shape_if, ty_if, ty_of, unslotted}
+use Rattle.life_pset.specs.Shapes.{has_buffer, member_of, members_type, shape, shape_if, ty_if, unslotted}
 use Rattle.life_pset.specs.declared.element.AbsPlace.{AbsPlace}
 use Rattle.life_pset.specs.declared.element.Element.{Element}
 use Rattle.life_pset.specs.declared.element.Fact.{Fact}

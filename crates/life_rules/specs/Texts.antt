@@ -1,6 +1,7 @@
 -- The texts of places, of elements, of causes and of reasons.
 use Rattle.std.specs.Prelude.{ℕ, Bool, true, false, ◌&&◌, if◌then◌else◌, nat_eq, List, [], ◌∷◌, ◌++◌, Option, Some, None, codes, map, slice_get}
 use Rattle.life_types.specs.Places.{position_text}
+use Rattle.life_types.specs.Pointees.{ty_of}
 use Rattle.life_types.specs.Types.{Types}
 use Rattle.life_types.specs.declared.ty.NameId.{NameId}
 use Rattle.life_types.specs.declared.ty.Ty.{Ty}
@@ -12,7 +13,7 @@ use Rattle.life_core.specs.declared.program.LocalKind.TheVariants as local_kind
 use Rattle.life_core.specs.declared.program.Names.{Names}
 use Rattle.life_pset.specs.Elements.{Input, local_inputs}
 use Rattle.life_pset.specs.Places.{owned_step, path}
-use Rattle.life_pset.specs.Shapes.{local_type, ty_if, ty_of}
+use Rattle.life_pset.specs.Shapes.{local_type, ty_if}
 use Rattle.life_pset.specs.declared.element.AbsPlace.{AbsPlace}
 use Rattle.life_pset.specs.declared.element.Cause.{Cause}
 use Rattle.life_pset.specs.declared.element.CauseKind.{CauseKind}
@@ -22,7 +23,7 @@ use Rattle.life_pset.specs.declared.element.Element.TheVariants as element
 use Rattle.life_pset.specs.declared.element.Root.{Root}
 use Rattle.life_pset.specs.declared.element.Root.TheVariants as root
 use Rattle.life_contract.specs.Inputs.{parameter_in}
-use Rattle.life_contract.specs.Positions.{pointee, step_type}
+use Rattle.life_contract.specs.Positions.{pointed_type, step_type}
 use Rattle.life_contract.specs.Signatures.{Signature, signatures_of}
 use Rattle.life_contract.specs.declared.param.Param.{Param}
 use Rattle.life_rules.specs.declared.diag.Why.{Why}
@@ -128,7 +129,7 @@ input_text names types f q (Some i) = codes "in(" ++ part_text names types f q (
 
 abbrev pub behind_type : Types → Option Input → Ty
 behind_type types None = ty.Void
-behind_type types (Some i) = pointee types (ty_if types i.ty)
+behind_type types (Some i) = pointed_type types (ty_if types i.ty)
 
 abbrev pub rooted_text : Spelling → Types → Function → Root → List ℕ → List ℕ
 rooted_text names types f (root.Local x) steps = part_text names types f x steps

@@ -8,7 +8,7 @@ ghost use Rattle.life_rules.specs.Lines.{kind_text};
 ghost use Rattle.life_rules.specs.Texts.{behind_type, called_text, cause_subject, cause_text, diag_name, element_text, function_text, input_number, input_of, input_text, inputs_at, is_result, local_text, member_text, name_if, name_text, named, nameless, naming_of, parameter_at, parameter_text, part_text, place_text, points_text, spelling_of, step_text, steps_text, why_text};
 
 use crate::diag::{Diag, DiagKind, DiagText, Why};
-use life_contract::{Param, Signature, Signatures, parameter_in, pointee, step_type};
+use life_contract::{Param, Signature, Signatures, parameter_in, pointed_type, step_type};
 use life_core::{CoreFn, FnId, Local, LocalKind, Names};
 use life_pset::{
     AbsPlace, Cause, CauseKind, Element, InputPointer, OWNED_STEP, Root, local_type,
@@ -346,7 +346,7 @@ fn behind_type(types: &TypeTable, input: Option<InputPointer>) -> Ty
 {
     match input {
         None => Ty::Void,
-        Some(input) => pointee(types, ty_if(types, input.ty)),
+        Some(input) => pointed_type(types, ty_if(types, input.ty)),
     }
 }
 

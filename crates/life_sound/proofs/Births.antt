@@ -2,6 +2,7 @@
 use Rattle.std.proofs.Common.{◌≡◌, ◌≢◌, ℕ, ◌+◌, ◌*◌, List, [], Option, Some, None, true, false, refl, sym, ap, subst, ◌∙◌, arith, ⊎_elim}
 use Rattle.std.specs.Prelude.{Contains, slice_get, slice_set, nat_lt}
 use Rattle.std.proofs.lemmas.Bool.{cond_both, false≢true, ne_eqb}
+use Rattle.life_types.specs.Pointees.{or_void}
 use Rattle.life_types.specs.Types.{Types}
 use Rattle.life_types.specs.declared.place.Place.{Place}
 use Rattle.life_types.specs.declared.ty.Ty.{Ty}
@@ -14,7 +15,7 @@ use Rattle.life_core.specs.declared.instr.Form.{Form}
 use Rattle.life_core.specs.declared.instr.Form.TheVariants as way
 use Rattle.life_core.specs.declared.program.Local.{Local}
 use Rattle.life_pset.specs.Elements.{local_place, uninitialised, elements_of}
-use Rattle.life_pset.specs.Shapes.{or_void, ty_if}
+use Rattle.life_pset.specs.Shapes.{ty_if}
 use Rattle.life_pset.specs.declared.element.Element.{Element}
 use Rattle.life_pset.specs.declared.element.Element.TheVariants as element
 use Rattle.life_pset.specs.declared.element.Fact.{Fact}

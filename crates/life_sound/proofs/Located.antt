@@ -2,6 +2,7 @@
 use Rattle.std.proofs.Common.{◌≡◌, List, [], ◌∷◌, Option, Some, Bool, true, false, refl, sym, ap, subst, ◌∙◌}
 use Rattle.std.specs.Prelude.{Contains, slice_get, if◌then◌else◌}
 use Rattle.std.proofs.lemmas.Bool.{false≢true}
+use Rattle.life_types.specs.Pointees.{or_void, ty_of}
 use Rattle.life_types.specs.Trees.{TypeTree, tree_at, tree_of, tree_within}
 use Rattle.life_types.specs.Types.{Types}
 use Rattle.life_types.specs.declared.ty.Ty.{Ty}
@@ -9,7 +10,7 @@ use Rattle.life_types.specs.declared.ty.Ty.TheVariants as variant
 use Rattle.life_types.specs.declared.ty.TyId.{TyId}
 use Rattle.life_core.specs.declared.program.LocalKind.{LocalKind}
 use Rattle.life_pset.specs.Elements.{locations_in, pointers_in}
-use Rattle.life_pset.specs.Shapes.{is_variable, or_void, referred, shape_if, ty_of, unslotted}
+use Rattle.life_pset.specs.Shapes.{is_variable, referred, shape_if, unslotted}
 use Rattle.life_pset.specs.declared.element.AbsPlace.{AbsPlace}
 use Rattle.life_rules.proofs.Giving.{at_head}
 
