@@ -7,7 +7,28 @@ ghost use Rattle.life_lex.specs.Scan as scan;
 fn is_short_mark(b: u8) -> bool
     ensures { result ≡ spec.is_short_mark b }
 {
-    b"{}()[];,.&*+-/%!=<>:".contains(&b)
+    matches!(
+        b,
+        b'{' | b'}'
+            | b'('
+            | b')'
+            | b'['
+            | b']'
+            | b';'
+            | b','
+            | b'.'
+            | b'&'
+            | b'*'
+            | b'+'
+            | b'-'
+            | b'/'
+            | b'%'
+            | b'!'
+            | b'='
+            | b'<'
+            | b'>'
+            | b':'
+    )
 }
 
 fn is_long_mark(first: u8, second: u8) -> bool

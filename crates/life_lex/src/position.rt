@@ -38,32 +38,6 @@ impl Position {
         }
     }
 
-    /// The position behind this byte, which stands here.
-    fn after_byte(self, b: u8) -> Position
-        requires { self.offset < 2 ^ 32 }
-        ensures offset { result.offset ≡ self.offset + 1 }
-        ensures line { result.line ≡ line_after self.line b }
-        ensures column { result.column ≡ column_after self.column b }
-        ensures line_blank { result.line_blank ≡ blank_after self.line_blank b }
-    {
-        let offset = self.offset + 1;
-        if b == b'\n' {
-            Position {
-                offset,
-                line: self.line + 1,
-                column: 1,
-                line_blank: true,
-            }
-        } else {
-            Position {
-                offset,
-                line: self.line,
-                column: self.column + 1,
-                line_blank: self.line_blank && is_blank(b),
-            }
-        }
-    }
-
     /// The position behind these bytes, which stand here.
     pub(crate) fn after(self, bytes: &[u8]) -> Position
         requires { self.offset + length bytes.now < 2 ^ 32 }
@@ -72,11 +46,25 @@ impl Position {
         ensures column { result.column ≡ fold column_after self.column bytes.now }
         ensures line_blank { result.line_blank ≡ fold blank_after self.line_blank bytes.now }
     {
-        let mut position = self;
+        let mut line = self.line;
+        let mut column = self.column;
+        let mut line_blank = self.line_blank;
         for b in bytes {
-            position = position.after_byte(*b);
+            if *b == b'\n' {
+                line += 1;
+                column = 1;
+                line_blank = true;
+            } else {
+                column += 1;
+                line_blank = line_blank && is_blank(*b);
+            }
         }
-        position
+        Position {
+            offset: self.offset + bytes.len(),
+            line,
+            column,
+            line_blank,
+        }
     }
 
     /// The place of the next byte.
