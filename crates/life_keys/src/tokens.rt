@@ -34,7 +34,7 @@ pub fn keyed(alloc: Global, lexed: &[Token]) -> Result<KeyedTokens, NoMemory>
     ensures texts { IfOk result (λ keyed. map (λ text. text.items) keyed.texts.items ≡ (spec.file_tables (map lexeme lexed.now)).texts) }
 {
     let mut keyer = Keyer::new(alloc);
-    let mut tokens = Vec::new(alloc);
+    let mut tokens = Vec::with_capacity(alloc, lexed.len())?;
     for token in lexed {
         let key = keyer.key(token)?;
         tokens.push(TreeToken {

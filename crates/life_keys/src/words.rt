@@ -1,5 +1,5 @@
 // The numbers of the words and marks that rules of the grammar quote, by their texts.
-ghost use Rattle.std.specs.Prelude.{◌≡◌, ℕ, List, ◌∷◌, map};
+ghost use Rattle.std.specs.Prelude.{◌≡◌, ℕ, List, [], ◌∷◌, map};
 ghost use Rattle.life_keys.specs.Keys as keys;
 ghost use Rattle.life_keys.specs.Words as spec;
 
@@ -55,57 +55,85 @@ pub(crate) fn keyword_number(text: &[u8]) -> Option<u16>
     }
 }
 
-/// The marks that begin with this byte.
+/// The number of a mark of one byte.
 #[tactic(auto, unfolding(crate::specs::Words::marks))]
-fn marks_from(first: u8) -> &'static [(u16, &'static [u8])]
-    ensures { (rest : List ℕ) → spec.number_in (map (λ w. (w.0, w.1.now)) result.now) (first ∷ rest) ≡ spec.number_in spec.marks (first ∷ rest) }
+fn short_mark(b: u8) -> Option<u16>
+    ensures { result ≡ spec.number_in spec.marks (b ∷ []) }
 {
-    match first {
-        b'{' => &[(fixed::LEFT_BRACE, b"{")],
-        b'}' => &[(fixed::RIGHT_BRACE, b"}")],
-        b'(' => &[(fixed::LEFT_PAREN, b"(")],
-        b')' => &[(fixed::RIGHT_PAREN, b")")],
-        b'[' => &[(fixed::LEFT_BRACKET, b"[")],
-        b']' => &[(fixed::RIGHT_BRACKET, b"]")],
-        b';' => &[(fixed::SEMICOLON, b";")],
-        b',' => &[(fixed::COMMA, b",")],
-        b'.' => &[(fixed::DOT, b".")],
-        b'-' => &[
-            (fixed::ARROW, b"->"),
-            (fixed::MINUS, b"-"),
-            (fixed::MINUS_MINUS, b"--"),
-            (fixed::MINUS_ASSIGN, b"-="),
-        ],
-        b'&' => &[(fixed::AMPERSAND, b"&"), (fixed::AND_AND, b"&&")],
-        b'|' => &[(fixed::OR_OR, b"||")],
-        b'*' => &[(fixed::STAR, b"*"), (fixed::STAR_ASSIGN, b"*=")],
-        b'+' => &[
-            (fixed::PLUS, b"+"),
-            (fixed::PLUS_PLUS, b"++"),
-            (fixed::PLUS_ASSIGN, b"+="),
-        ],
-        b'/' => &[(fixed::SLASH, b"/"), (fixed::SLASH_ASSIGN, b"/=")],
-        b'%' => &[(fixed::PERCENT, b"%"), (fixed::PERCENT_ASSIGN, b"%=")],
-        b'!' => &[(fixed::NOT, b"!"), (fixed::NOT_EQUAL, b"!=")],
-        b'=' => &[(fixed::ASSIGN, b"="), (fixed::EQUAL, b"==")],
-        b'<' => &[
-            (fixed::LESS, b"<"),
-            (fixed::LESS_EQUAL, b"<="),
-            (fixed::SHIFT_LEFT, b"<<"),
-        ],
-        b'>' => &[(fixed::GREATER, b">"), (fixed::GREATER_EQUAL, b">=")],
-        b':' => &[(fixed::COLON, b":"), (fixed::SCOPE, b"::")],
-        _ => &[],
+    match b {
+        b'{' => Some(fixed::LEFT_BRACE),
+        b'}' => Some(fixed::RIGHT_BRACE),
+        b'(' => Some(fixed::LEFT_PAREN),
+        b')' => Some(fixed::RIGHT_PAREN),
+        b'[' => Some(fixed::LEFT_BRACKET),
+        b']' => Some(fixed::RIGHT_BRACKET),
+        b';' => Some(fixed::SEMICOLON),
+        b',' => Some(fixed::COMMA),
+        b'.' => Some(fixed::DOT),
+        b'-' => Some(fixed::MINUS),
+        b'&' => Some(fixed::AMPERSAND),
+        b'*' => Some(fixed::STAR),
+        b'+' => Some(fixed::PLUS),
+        b'/' => Some(fixed::SLASH),
+        b'%' => Some(fixed::PERCENT),
+        b'!' => Some(fixed::NOT),
+        b'=' => Some(fixed::ASSIGN),
+        b'<' => Some(fixed::LESS),
+        b'>' => Some(fixed::GREATER),
+        b':' => Some(fixed::COLON),
+        _ => None,
+    }
+}
+
+/// The number of a mark of two bytes.
+#[tactic(auto, unfolding(crate::specs::Words::marks))]
+fn long_mark(first: u8, second: u8) -> Option<u16>
+    ensures { result ≡ spec.number_in spec.marks (first ∷ second ∷ []) }
+{
+    match (first, second) {
+        (b'-', b'>') => Some(fixed::ARROW),
+        (b'&', b'&') => Some(fixed::AND_AND),
+        (b'|', b'|') => Some(fixed::OR_OR),
+        (b'=', b'=') => Some(fixed::EQUAL),
+        (b'!', b'=') => Some(fixed::NOT_EQUAL),
+        (b'<', b'=') => Some(fixed::LESS_EQUAL),
+        (b'>', b'=') => Some(fixed::GREATER_EQUAL),
+        (b'<', b'<') => Some(fixed::SHIFT_LEFT),
+        (b'+', b'+') => Some(fixed::PLUS_PLUS),
+        (b'-', b'-') => Some(fixed::MINUS_MINUS),
+        (b'+', b'=') => Some(fixed::PLUS_ASSIGN),
+        (b'-', b'=') => Some(fixed::MINUS_ASSIGN),
+        (b'*', b'=') => Some(fixed::STAR_ASSIGN),
+        (b'/', b'=') => Some(fixed::SLASH_ASSIGN),
+        (b'%', b'=') => Some(fixed::PERCENT_ASSIGN),
+        (b':', b':') => Some(fixed::SCOPE),
+        _ => None,
     }
 }
 
 /// The number of a mark that a rule quotes.
+#[tactic(auto, unfolding(crate::specs::Words::marks))]
 pub(crate) fn mark_number(text: &[u8]) -> Option<u16>
     ensures { result ≡ spec.number_in spec.marks text.now }
 {
     match text {
-        [] => None,
-        [first, ..] => number_in(marks_from(*first), text),
+        [b] => short_mark(*b),
+        [first, second] => long_mark(*first, *second),
+        _ => None,
+    }
+}
+
+/// The names that begin with this byte and are such in attributes alone.
+#[tactic(auto, unfolding(crate::specs::Words::reserved))]
+fn reserved_from(first: u8) -> &'static [(u16, &'static [u8])]
+    ensures { (rest : List ℕ) → spec.number_in (map (λ w. (w.0, w.1.now)) result.now) (first ∷ rest) ≡ spec.number_in spec.reserved (first ∷ rest) }
+{
+    match first {
+        b'a' => &[(fixed::ASSERT, b"assert")],
+        b'g' => &[(fixed::GSL, b"gsl")],
+        b'l' => &[(fixed::LIFE, b"life")],
+        b's' => &[(fixed::STD, b"std")],
+        _ => &[],
     }
 }
 
@@ -113,15 +141,10 @@ pub(crate) fn mark_number(text: &[u8]) -> Option<u16>
 fn reserved_number(text: &[u8]) -> Option<u16>
     ensures { result ≡ spec.number_in spec.reserved text.now }
 {
-    number_in(
-        &[
-            (fixed::STD, b"std"),
-            (fixed::GSL, b"gsl"),
-            (fixed::LIFE, b"life"),
-            (fixed::ASSERT, b"assert"),
-        ],
-        text,
-    )
+    match text {
+        [] => None,
+        [first, ..] => number_in(reserved_from(*first), text),
+    }
 }
 
 /// The number of a name that a rule quotes behind `::`.
