@@ -6,7 +6,7 @@ use Rattle.std.specs.Char.{is_ascii_digit}
 use Rattle.std.specs.Prelude.{All}
 use Rattle.life_lex.specs.Answers.{NumberFits}
 use Rattle.life_lex.specs.Bytes.{is_nondigit}
-use Rattle.life_lex.specs.Cursors.{Cursor, start, advance, rest_of}
+use Rattle.life_lex.specs.Cursors.{Cursor, advance, rest_of}
 use Rattle.life_lex.specs.Keywords.{is_keyword}
 use Rattle.life_lex.specs.Kinds.{kind_of}
 use Rattle.life_lex.specs.Numbers.{is_too_large, value_of}

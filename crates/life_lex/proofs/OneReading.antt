@@ -3,7 +3,7 @@ use Rattle.std.proofs.Common.{◌≡◌, ℕ, refl, sym, ◌∙◌, ap, subst, L
 use Rattle.life_lex.proofs.Beginnings.{begins_is}
 use Rattle.life_lex.specs.Cursors.{Cursor, start, rest_of, advance}
 use Rattle.life_lex.specs.Places.{line_blank_at}
-use Rattle.life_lex.specs.Readings.{Lexeme, Ending, whole, broken, Piece, gap, token, BeginsAt, EndsAt, IsPieces, lexemes_of, Reads, Lexes, Faults, fault_at}
+use Rattle.life_lex.specs.Readings.{Lexeme, Ending, whole, broken, Piece, gap, token, BeginsAt, IsPieces, lexemes_of, Reads, Lexes, Faults, fault_at}
 use Rattle.life_lex.specs.declared.fault.LexFault.{LexFault}
 use Rattle.life_lex.specs.declared.fault.LexFaultKind.{LexFaultKind}
 use Rattle.life_lex.specs.declared.scan.Scanned.{Scanned}
