@@ -1,13 +1,26 @@
 //! The words that no name may be.
 
 ghost use Rattle.std.specs.Prelude.{◌≡◌, ℕ, List, ◌∷◌, map};
+ghost use Rattle.std.specs.Str.{bytes_eq};
 ghost use Rattle.life_lex.specs.Keywords as spec;
+
+/// Whether two words are the same: most differ in their lengths, which costs no call.
+fn is_same(word: &[u8], other: &[u8]) -> bool
+    ensures { result ≡ bytes_eq word.now other.now }
+{
+    word.len() == other.len() && word == other
+}
 
 /// Whether a word is one of these.
 fn is_one_of(word: &[u8], words: &[&[u8]]) -> bool
     ensures { result ≡ spec.is_one_of word.now (map (λ w. w.now) words.now) }
 {
-    words.contains(&word)
+    for other in words {
+        if is_same(other, word) {
+            return true;
+        }
+    }
+    false
 }
 
 /// The keywords that begin with this byte: so a name is compared with a few of them alone.
