@@ -20,11 +20,21 @@ use std::alloc::{AllocError, Global};
 
 /// An expression, where `left` more constructs may be open.
 #[cycle(expr)]
-#[tactic(auto, unfolding(crate::specs::Readers::expr_with))]
+#[tactic(auto, unfolding(crate::specs::Readers::expr_with, crate::specs::Readers::both_with, crate::specs::Readers::equal_with, crate::specs::Readers::order_with, crate::specs::Readers::sum_with, crate::specs::Readers::term_with))]
 pub fn expr<'a>(alloc: Global, left: usize, tokens: &'a [TreeToken]) -> Read<'a, Expr>
     ensures { Gives (λ x. (expr_tree x.0, x.1.now)) result (readers.expr_with left (readers.below left) tokens.now) }
 {
-    let (first, rest) = logical_and(alloc, left, tokens)?;
+    let (first, rest) = unary(alloc, left, tokens)?;
+    let (more, rest) = multiplicative_parts(alloc, left, rest)?;
+    let first = Multiplicative { first, more };
+    let (more, rest) = additive_parts(alloc, left, rest)?;
+    let first = Additive { first, more };
+    let (more, rest) = relational_parts(alloc, left, rest)?;
+    let first = Relational { first, more };
+    let (more, rest) = equality_parts(alloc, left, rest)?;
+    let first = Equality { first, more };
+    let (more, rest) = and_parts(alloc, left, rest)?;
+    let first = LogicalAnd { first, more };
     let (more, rest) = or_parts(alloc, left, rest)?;
     Ok((Expr { first, more }, rest))
 }
