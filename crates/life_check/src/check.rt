@@ -1,8 +1,8 @@
 // The check of the text of a file.
-ghost use Rattle.std.specs.Prelude.{◌≡◌, ◌<◌, ◌^◌, length};
+ghost use Rattle.std.specs.Prelude.{◌≡◌, ◌<◌, ◌^◌, length, map};
 ghost use Rattle.life_core.specs.Function.{program_of};
 ghost use Rattle.life_proper.specs.ProperPrograms.{IsProperProgram};
-ghost use Rattle.life_rules.specs.Listing.{AreProgramDiagnostics};
+ghost use Rattle.life_rules.specs.Listing.{AreProgramDiagnostics, HaveLines, listed_diag, program_line};
 ghost use Rattle.life_typed.specs.Programs.{program_view};
 ghost use Rattle.life_typing.specs.Resolves.{resolved};
 ghost use Rattle.life_check.specs.CheckedText.{ComesOnlyTo, ComesTo, IsListed, Listed, ResolvedComesTo, TypedComesTo};
@@ -20,7 +20,7 @@ use life_elab_laws::{translations_are_proper, translations_have_short_places};
 use life_fix::program_diagnostics;
 use life_parse::parse;
 use life_parse_laws::{trees_have_longs, trees_have_names};
-use life_rules::Diag;
+use life_rules::ListedDiag;
 use life_sound::accept;
 use life_tree::Program;
 use life_typed::Typed;
@@ -108,10 +108,11 @@ fn check_program<L: Ledger>(
 }
 
 // The program is accepted where the list is empty.
-fn decided(program: CoreProgram, diagnostics: Vec<Diag>) -> Checked
+fn decided(program: CoreProgram, diagnostics: Vec<ListedDiag>) -> Checked
     requires proper { IsProperProgram (program_of program) }
-    requires listed { AreProgramDiagnostics (program_of program) diagnostics.items }
-    ensures finding { finding_of result ≡ Listed (program_of program) diagnostics.items }
+    requires listed { AreProgramDiagnostics (program_of program) (map listed_diag diagnostics.items) }
+    requires lines { HaveLines (program_line (program_of program)) diagnostics.items }
+    ensures finding { finding_of result ≡ Listed (program_of program) (map listed_diag diagnostics.items) }
     ensures sound { IsSound result }
 {
     match accept(program, diagnostics) {

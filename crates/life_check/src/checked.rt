@@ -1,6 +1,6 @@
 // What the check of a text gives.
 use life_core::CoreProgram;
-use life_rules::Diag;
+use life_rules::ListedDiag;
 use life_sound::Accepted;
 
 /// What the check of a text gives where it has a program that is checked.
@@ -12,7 +12,7 @@ pub enum Checked {
     Refused {
         /// The program.
         program: CoreProgram,
-        /// What is diagnosed, at least once, in the order of the lines.
-        diagnostics: Vec<Diag>,
+        /// What is diagnosed, at least once, in the order of the lines, and each with its line.
+        diagnostics: Vec<ListedDiag>,
     },
 }

@@ -1,10 +1,12 @@
 -- The arms of a command, by what is diagnosed.
-use Rattle.std.proofs.Common.{◌≡◌, ℕ, true, false, List, [], ◌∷◌, Option, Some, Result, refl, sym, subst}
+use Rattle.std.proofs.Common.{◌≡◌, ℕ, true, false, List, [], ◌∷◌, map, Option, Some, Result, refl, sym, subst}
 use Rattle.std.specs.Prelude.{option_map}
 use Rattle.life_base.specs.Edges.{Directory}
 use Rattle.life_core.specs.Function.{Program}
 use Rattle.life_report.specs.Reports.{report_text}
+use Rattle.life_rules.specs.Listing.{listed_diag}
 use Rattle.life_rules.specs.declared.diag.Diag.{Diag}
+use Rattle.life_rules.specs.declared.diag.ListedDiag.{ListedDiag}
 use Rattle.life_store.specs.NoFault.{NoFault}
 use Rattle.life_cli.proofs.Files.{files_then, for_any}
 use Rattle.life_cli.proofs.Served.{text_serves}
@@ -25,6 +27,11 @@ none_of d ds e = absurd (clash e)
   where
     clash : d ∷ ds ≡ [] → ⊥
     clash h = cc
+
+-- where something is listed, something is diagnosed
+pub some_diagnosed : (xs : List ListedDiag) → (xs ≡ [] → ⊥) → map listed_diag xs ≡ [] → ⊥
+some_diagnosed [] some e = some refl
+some_diagnosed (x ∷ xs) some e = none_of x.diag (map listed_diag xs) e
 
 module _ (p : Program) (held : Option Directory) (reads reads' : ℕ) (out out' : Port) (result : Result Ending Stop) where
   -- a report on out

@@ -1,8 +1,8 @@
 // What a command makes of a program and what is diagnosed in it.
-ghost use Rattle.std.specs.Prelude.{◌≡◌, ◌≢◌, [], IfOk};
+ghost use Rattle.std.specs.Prelude.{◌≡◌, ◌≢◌, [], map, IfOk};
 ghost use Rattle.life_core.specs.Function.{program_of};
-ghost use Rattle.life_report.specs.Reports.{report_text, HaveFunctions};
-ghost use Rattle.life_rules.specs.Listing.{AreProgramDiagnostics};
+ghost use Rattle.life_report.specs.Reports.{report_text};
+ghost use Rattle.life_rules.specs.Listing.{AreProgramDiagnostics, HaveLines, listed_diag, program_line};
 ghost use Rattle.life_store.specs.NoFault.{NoFault};
 ghost use Rattle.life_cli.specs.Answer.{answer_in};
 ghost use Rattle.life_proper.specs.ProperPrograms.{IsProperProgram};
@@ -20,7 +20,7 @@ use crate::stop::{Ending, Stop};
 use life_base::{Files, Sink};
 use life_core::CoreProgram;
 use life_report::text_report;
-use life_rules::Diag;
+use life_rules::ListedDiag;
 use life_types::NoMemory;
 use std::alloc::Global;
 
@@ -52,15 +52,16 @@ pub fn serve_rejected<F: Files, O: Sink>(
     alloc: Global,
     command: Command,
     program: &CoreProgram,
-    found: &[Diag],
+    found: &[ListedDiag],
     files: &mut F,
     out: &mut O,
 ) -> Result<Ending, Stop>
     requires proper { IsProperProgram (program_of program.now) }
-    requires listed { AreProgramDiagnostics (program_of program.now) found.now }
+    requires listed { AreProgramDiagnostics (program_of program.now) (map listed_diag found.now) }
+    requires lines { HaveLines (program_line (program_of program.now)) found.now }
     requires some { found.now ≢ [] }
     requires few { HasFewSteps (command_seen command) }
-    ensures { OfFiles (F.held files.old) (λ held. WorksOn (program_asked (command_seen command.entry) (program_of program.now) found.now held)
+    ensures { OfFiles (F.held files.old) (λ held. WorksOn (program_asked (command_seen command.entry) (program_of program.now) (map listed_diag found.now) held)
         (IsUnchecked (command_seen command.entry)) (F.faults files.old) (F.faults files.new)
         (record { taken = O.taken out.old; faults = O.faults out.old })
         (record { taken = O.taken out.new; faults = O.faults out.new }) result) }
@@ -76,11 +77,11 @@ pub fn serve_rejected<F: Files, O: Sink>(
 fn report<O: Sink>(
     alloc: Global,
     program: &CoreProgram,
-    found: &[Diag],
+    found: &[ListedDiag],
     out: &mut O,
 ) -> Result<Ending, Stop>
-    requires { HaveFunctions (program_of program.now) found.now }
-    ensures { Serves (λ answer. answer ≡ reported (program_of program.now) found.now)
+    requires { HaveLines (program_line (program_of program.now)) found.now }
+    ensures { Serves (λ answer. answer ≡ reported (program_of program.now) (map listed_diag found.now))
         (record { taken = O.taken out.old; faults = O.faults out.old })
         (record { taken = O.taken out.new; faults = O.faults out.new }) result }
 {
@@ -88,11 +89,15 @@ fn report<O: Sink>(
     hand_out(reply, out)
 }
 
-fn report_reply(alloc: Global, program: &CoreProgram, found: &[Diag]) -> Result<Reply, NoMemory>
-    requires { HaveFunctions (program_of program.now) found.now }
-    ensures { IfOk result (λ reply. answer_in reply ≡ reported (program_of program.now) found.now) }
+fn report_reply(
+    alloc: Global,
+    program: &CoreProgram,
+    found: &[ListedDiag],
+) -> Result<Reply, NoMemory>
+    requires { HaveLines (program_line (program_of program.now)) found.now }
+    ensures { IfOk result (λ reply. answer_in reply ≡ reported (program_of program.now) (map listed_diag found.now)) }
 {
-    let text = text_report(alloc, program, found)?;
+    let text = report_of(alloc, program, found)?;
     Ok(Reply {
         status: verdict(found),
         out: text,
@@ -100,8 +105,21 @@ fn report_reply(alloc: Global, program: &CoreProgram, found: &[Diag]) -> Result<
     })
 }
 
-fn verdict(found: &[Diag]) -> Status
-    ensures { result ≡ verdict found.now }
+// The report on the program, each of whose diagnostics has its line.
+fn report_of(
+    alloc: Global,
+    program: &CoreProgram,
+    found: &[ListedDiag],
+) -> Result<Vec<u8>, NoMemory>
+    requires { HaveLines (program_line (program_of program.now)) found.now }
+    ensures { IfOk result
+        (λ text. text.items ≡ report_text (program_of program.now) (map listed_diag found.now)) }
+{
+    text_report(alloc, program.functions.len(), found)
+}
+
+fn verdict(found: &[ListedDiag]) -> Status
+    ensures { result ≡ verdict (map listed_diag found.now) }
 {
     match found {
         [] => Status::Done,
@@ -110,11 +128,15 @@ fn verdict(found: &[Diag]) -> Status
 }
 
 // The report on err, in place of a run.
-fn report_instead(alloc: Global, program: &CoreProgram, found: &[Diag]) -> Result<Ending, Stop>
-    requires { HaveFunctions (program_of program.now) found.now }
-    ensures { Reports Diagnosed (report_text (program_of program.now) found.now) result }
+fn report_instead(
+    alloc: Global,
+    program: &CoreProgram,
+    found: &[ListedDiag],
+) -> Result<Ending, Stop>
+    requires { HaveLines (program_line (program_of program.now)) found.now }
+    ensures { Reports Diagnosed (report_text (program_of program.now) (map listed_diag found.now)) result }
 {
-    let err = text_report(alloc, program, found)?;
+    let err = report_of(alloc, program, found)?;
     Ok(Ending {
         status: Status::Diagnosed,
         err,

@@ -1,8 +1,6 @@
 // A row as it is asked for, against what is derived.
-ghost use Rattle.std.specs.Prelude.{◌<◌, All, IsTrue};
 ghost use Rattle.life_core.specs.Function.{function_of};
 ghost use Rattle.life_pset.specs.Elements.{IsWithinLimits};
-ghost use Rattle.life_rules.specs.declared.diag.Diag.{Diag};
 
 use crate::asked::{Ask, Asked, PROGRAM, compare, count_of};
 use crate::derive::{Found, Given, MOST_POINTS, found_by_bits, found_by_sets};
@@ -13,12 +11,12 @@ use crate::show::{
     stretches,
 };
 use life_contract::Signatures;
-use life_core::{CoreFn, CoreProgram, FnId, Point, edges, links, points};
+use life_core::{CoreFn, FnId, Point, edges, links, points};
 use life_proper::{is_plain_program, is_proper};
 use life_pset::{elements, is_within_limits, locations};
 use life_report::text_report;
 use life_row_text::{Refusal, index, say};
-use life_rules::Diag;
+use life_rules::ListedDiag;
 use life_types::NoMemory;
 use std::alloc::Global;
 
@@ -70,11 +68,11 @@ pub fn check(alloc: Global, row: &AskedRow, said: &mut Vec<u8>) -> Result<Counts
 fn compare_program(
     alloc: Global,
     row: &AskedRow,
-    all: &[Diag],
+    all: &[ListedDiag],
     said: &mut Vec<u8>,
 ) -> Result<(), Refusal> {
     if count_of(&row.asked, PROGRAM, Ask::Report) > 0 {
-        let text = report(alloc, &row.written.program, all)?;
+        let text = text_report(alloc, row.written.program.functions.len(), all)?;
         let lines = lines_of(alloc, &text)?;
         compare(&row.asked, PROGRAM, Ask::Report, &lines, said)?;
     }
@@ -118,26 +116,6 @@ fn compare_answer(
     compare(&row.asked, PROGRAM, ask, &lines, said)
 }
 
-fn report(alloc: Global, program: &CoreProgram, all: &[Diag]) -> Result<Vec<u8>, Refusal> {
-    if are_of(all, program.functions.len()) {
-        Ok(text_report(alloc, program, all)?)
-    } else {
-        Err(Refusal::PastLimit)
-    }
-}
-
-// Whether each diagnostic is of one of so many functions.
-fn are_of(all: &[Diag], functions: usize) -> bool
-    ensures { IsTrue result → All (λ (d : Diag). d.function < functions) all.now }
-{
-    for diagnostic in all {
-        if diagnostic.function as usize >= functions {
-            return false;
-        }
-    }
-    true
-}
-
 // The lines of a text, without their ends.
 fn lines_of(alloc: Global, text: &[u8]) -> Result<Vec<Vec<u8>>, NoMemory> {
     let mut lines = Vec::new(alloc);
@@ -160,12 +138,12 @@ fn check_function(
     named: &CoreFn,
     asked: &[Asked],
     said: &mut Vec<u8>,
-    all: &mut Vec<Diag>,
+    all: &mut Vec<ListedDiag>,
 ) -> Result<Counts, Refusal> {
     if !is_within_limits(given.alloc, given.f, given.types)? {
         return Err(Refusal::PastLimit);
     }
-    let found = found_by_sets(given)?;
+    let mut found = found_by_sets(given)?;
     let again = found_by_bits(given)?;
     if found != again {
         say(said, "  rows of bits have something else", b"")?;
@@ -179,11 +157,12 @@ fn check_function(
     compare_edges(given, asked, said)?;
     compare_points(given, asked, said)?;
     compare_table(given, asked, said)?;
-    all.extend_from_slice(&found.diagnostics)?;
+    let diagnostics = found.diagnostics.len();
+    all.append(&mut found.diagnostics)?;
     Ok(Counts {
         points: points(given.f),
         facts: found.facts.len(),
-        diagnostics: found.diagnostics.len(),
+        diagnostics,
     })
 }
 
@@ -219,7 +198,7 @@ fn compare_diagnostics(
 ) -> Result<(), Refusal> {
     let mut lines = Vec::new(given.alloc);
     for diagnostic in &found.diagnostics {
-        lines.push(diagnostic_line(given, named, diagnostic)?)?;
+        lines.push(diagnostic_line(given, named, &diagnostic.diag)?)?;
     }
     compare(asked, given.id.0, Ask::Wrong, &lines, said)
 }

@@ -11,7 +11,7 @@ use life_core::{CoreFn, Edge, FnId, Names, Point, edges, spots};
 use life_fix::{Solution, diagnostics, solve};
 use life_plan::{facts_in, transfer};
 use life_pset::{ElementTable, Fact};
-use life_rules::Diag;
+use life_rules::ListedDiag;
 use life_sets::{BitRows, Rows, SetRows};
 use life_types::{NoMemory, TypeTable};
 use std::alloc::Global;
@@ -31,7 +31,7 @@ pub struct Carried {
 pub struct Found {
     /// Each fact with its points.
     pub facts: Vec<(Fact, u32)>,
-    pub diagnostics: Vec<Diag>,
+    pub diagnostics: Vec<ListedDiag>,
     pub carried: Vec<Carried>,
     /// Whether each edge said of what it carried that a row gained it, and the second time that it
     /// gained nothing.

@@ -7,7 +7,7 @@ ghost use Rattle.life_pset.specs.Elements.{IsWithinLimits};
 use crate::derive::{Carried, Given};
 use life_core::{CoreFn, Edge, Leads, LinkRef, Point, instr_at, place_at, returns_at, test_at};
 use life_pset::{AbsPlace, Cause, CauseKind, Element, Fact};
-use life_rules::{Diag, Why, element_text, kind_name, place_text, texts_of};
+use life_rules::{Diag, Why, element_text, kind_name, line_of, place_text};
 use life_types::NoMemory;
 use std::alloc::Global;
 
@@ -133,7 +133,7 @@ pub fn diagnostic_line(g: Given, named: &CoreFn, d: &Diag) -> Result<Vec<u8>, No
     let kind = kind_name(d.kind);
     let head = format!(in g.alloc; "{line}:{column}: {kind}: ")?;
     push_text(&mut out, &head)?;
-    let text = texts_of(g.alloc, g.names, named, g.sigs, g.types, d)?;
+    let text = line_of(g.alloc, g.names, named, g.sigs, g.types, d)?;
     out.extend_from_slice(&text.name)?;
     push_text(&mut out, ": ")?;
     out.extend_from_slice(&text.why)?;

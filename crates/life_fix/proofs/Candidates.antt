@@ -2,53 +2,22 @@
 use Rattle.std.proofs.Common.{◌≡◌, ℕ, ◌+◌, ◌<◌, refl, ap, sym, ◌∙◌, Bool, true, false, arith, subst, List, [], ◌∷◌, length, get_or, map, cond}
 use Rattle.std.specs.List.{dedup, dedup_from}
 use Rattle.std.specs.List.Sorted.{IsSorted}
-use Rattle.std.specs.Cmp.Lexicographic.{slice_cmp}
-use Rattle.std.specs.Ordering.{is_eq, is_lt, nat_cmp, ordering_then}
+use Rattle.std.specs.Ordering.{is_eq, is_lt, ordering_then}
 use Rattle.std.specs.declared.cmp.Ordering.{Ordering}
 use Rattle.std.proofs.lemmas.List.{length-map, get_or-map}
-use Rattle.life_rules.specs.Lines.{kind_number, line_cmp}
-use Rattle.life_rules.specs.contracts.diag.DiagKindOrd.TheImpl.{ghosts as kind}
+use Rattle.life_rules.proofs.PrintedLines.{printed_cmp}
 use Rattle.life_rules.specs.contracts.diag.DiagOrd.TheImpl.{ghosts as diag}
-use Rattle.life_rules.specs.declared.diag.DiagKind.{DiagKind}
-use Rattle.life_rules.specs.declared.diag.DiagKind.TheVariants.{NullUse, DanglingUse, MovedUse, ArgNull, ArgDangling, ArgOverlap, ReturnDangling, ReturnWidens, KeepsBroken}
-use Rattle.life_fix.specs.contracts.listing.CandidateOrd.TheImpl.{ghosts as candidate}
-use Rattle.life_fix.specs.contracts.listing.PrintedLineOrd.TheImpl.{ghosts as printed}
-use Rattle.life_fix.specs.contracts.listing.PrintedLineOrd.TheImpl.Laws.{lawful}
-use Rattle.life_fix.specs.contracts.listing.PrintedLinePartialEq.TheImpl.{ghosts as printed_eq}
-use Rattle.life_fix.specs.declared.listing.Candidate.{Candidate}
-use Rattle.life_fix.specs.declared.listing.PrintedLine.{PrintedLine}
-use Rattle.life_fix.specs.Candidates.{candidate_seen, is_same_line, line_seen, lined_cmp}
+use Rattle.life_rules.specs.contracts.diag.ListedDiagOrd.TheImpl.{ghosts as candidate}
+use Rattle.life_rules.specs.contracts.diag.PrintedLineOrd.TheImpl.Laws.{lawful}
+use Rattle.life_rules.specs.contracts.diag.PrintedLinePartialEq.TheImpl.{ghosts as printed_eq}
+use Rattle.life_rules.specs.declared.diag.ListedDiag.{ListedDiag}
+use Rattle.life_fix.specs.Candidates.{candidate_seen, is_same_line, lined_cmp}
 
-kind_cmp : (x y : DiagKind) → kind.cmp x y ≡ nat_cmp (kind_number x) (kind_number y)
-kind_cmp NullUse NullUse = refl
-kind_cmp NullUse _ = refl
-kind_cmp DanglingUse NullUse = refl
-kind_cmp DanglingUse _ = refl
-kind_cmp MovedUse NullUse = refl
-kind_cmp MovedUse _ = refl
-kind_cmp ArgNull NullUse = refl
-kind_cmp ArgNull _ = refl
-kind_cmp ArgDangling NullUse = refl
-kind_cmp ArgDangling _ = refl
-kind_cmp ArgOverlap NullUse = refl
-kind_cmp ArgOverlap _ = refl
-kind_cmp ReturnDangling NullUse = refl
-kind_cmp ReturnDangling _ = refl
-kind_cmp ReturnWidens NullUse = refl
-kind_cmp ReturnWidens _ = refl
-kind_cmp KeepsBroken NullUse = refl
-kind_cmp KeepsBroken _ = refl
-
-printed_cmp : (x y : PrintedLine) → printed.cmp x y ≡ line_cmp (line_seen x) (line_seen y)
-printed_cmp x y =
-    ap (λ (o : Ordering). ordering_then (nat_cmp x.line y.line) (ordering_then (nat_cmp x.column y.column) (ordering_then o (ordering_then (slice_cmp nat_cmp x.name.items y.name.items) (slice_cmp nat_cmp x.why.items y.why.items)))))
-    (kind_cmp x.kind y.kind)
-
-candidate_cmp : (x y : Candidate) → candidate.cmp x y ≡ lined_cmp (candidate_seen x) (candidate_seen y)
+candidate_cmp : (x y : ListedDiag) → candidate.cmp x y ≡ lined_cmp (candidate_seen x) (candidate_seen y)
 candidate_cmp x y = ap (λ (o : Ordering). ordering_then o (diag.cmp x.diag y.diag)) (printed_cmp x.line y.line)
 
 -- `==` of two lines tells whether they print alike
-pub same_printed : (x y : Candidate) → printed_eq.eq x.line y.line ≡ is_same_line (candidate_seen x) (candidate_seen y)
+pub same_printed : (x y : ListedDiag) → printed_eq.eq x.line y.line ≡ is_same_line (candidate_seen x) (candidate_seen y)
 same_printed x y = lawful.matches_eq x.line y.line ∙ ap is_eq (printed_cmp x.line y.line)
 
 -- ---- lists seen through a function
@@ -77,5 +46,5 @@ pub map_dedup : {A B : Type 0} (f : A → B) (E : A → A → Bool) (F : B → B
 map_dedup f E F same [] = refl
 map_dedup f E F same (x ∷ xs) = map_dedup_from f E F same x xs
 
-pub sorted_seen : (cs : List Candidate) → IsSorted candidate.cmp cs → IsSorted lined_cmp (map candidate_seen cs)
+pub sorted_seen : (cs : List ListedDiag) → IsSorted candidate.cmp cs → IsSorted lined_cmp (map candidate_seen cs)
 sorted_seen cs sorted = sorted_map candidate.cmp lined_cmp candidate_seen candidate_cmp cs sorted

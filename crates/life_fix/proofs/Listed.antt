@@ -9,16 +9,18 @@ use Rattle.std.specs.declared.cmp.Ordering.{Ordering}
 use Rattle.std.specs.declared.cmp.Ordering.TheVariants.{Less, Equal, Greater}
 use Rattle.std.proofs.lemmas.Bool.{eqb-true}
 use Rattle.std.proofs.lemmas.Cmp.{eq_by_cmp_equiv, on_total, tied_itself, then_total}
+use Rattle.std.proofs.lemmas.List.Elements.{All-contains_itself, All-weaker}
 use Rattle.std.proofs.lemmas.List.Kept.{Contains-from_dedup, IsStrictlySortedBy-dedup}
 use Rattle.std.proofs.lemmas.List.Sorted.{Contains-permutation, IsPermutation-sym}
 use Rattle.life_pset.proofs.Members.{cons_cases, in_head, in_tail, none_in_empty}
 use Rattle.life_rules.proofs.Unique.{lines_total}
-use Rattle.life_rules.specs.Lines.{Line, line_cmp}
-use Rattle.life_rules.specs.Listing.{IsListing}
+use Rattle.life_rules.specs.Lines.{Line, line_cmp, line_seen}
+use Rattle.life_rules.specs.Listing.{HaveLines, IsListing, listed_diag}
 use Rattle.life_rules.specs.contracts.diag.DiagOrd.TheImpl.{ghosts as diag}
 use Rattle.life_rules.specs.contracts.diag.DiagOrd.TheImpl.Laws.{lawful}
 use Rattle.life_rules.specs.declared.diag.Diag.{Diag}
-use Rattle.life_fix.specs.Candidates.{Lined, diag_part, is_same_line, line_part, lined, lined_cmp, KeepsLines, Sorts}
+use Rattle.life_rules.specs.declared.diag.ListedDiag.{ListedDiag}
+use Rattle.life_fix.specs.Candidates.{Lined, candidate_seen, diag_part, is_same_line, line_part, lined, lined_cmp, KeepsLines, Sorts}
 use Rattle.life_fix.proofs.FirstKept.{kept_for_each}
 
 lined_total : IsTotalOrder lined_cmp
@@ -125,23 +127,31 @@ kept before sorted sorts =
     }
 
 -- each has the line of its diagnostic
-abbrev HaveLines : (Diag → Line) → List Lined → Type 0
-HaveLines line xs = (x : Lined) → Contains xs x → x.line ≡ line x.diag
+abbrev AreLined : (Diag → Line) → List Lined → Type 0
+AreLined line xs = (x : Lined) → Contains xs x → x.line ≡ line x.diag
 
-own_lines : (line : Diag → Line) (xs : List Lined) → HaveLines line xs → map line_part xs ≡ map line (map diag_part xs)
+own_lines : (line : Diag → Line) (xs : List Lined) → AreLined line xs → map line_part xs ≡ map line (map diag_part xs)
 own_lines line [] have = refl
 own_lines line (x ∷ xs) have = λ i. have x (in_head x xs) i ∷ own_lines line xs (λ z h. have z (in_tail x xs z h)) i
 
+-- .. as those that were kept
+origin : (line : Diag → Line) (ds : List Diag) (xs : List Lined) → KeepsLines (map (lined line) ds) xs → (x : Lined) → Contains xs x → (d : Diag) × (Contains ds d × (lined line d ≡ x))
+origin line ds xs keeps x h = from_map (lined line) ds x (keeps.only x h)
+
+lined_kept : (line : Diag → Line) (ds : List Diag) (xs : List Lined) → KeepsLines (map (lined line) ds) xs → AreLined line xs
+lined_kept line ds xs keeps x h =
+    let d = origin line ds xs keeps x h in
+    ap line_part (sym d.1.1) ∙ ap (λ (z : Lined). line z.diag) d.1.1
+
 -- the diagnostics whose lines were kept
-pub listed : (line : Diag → Line) (ds : List Diag) (xs : List Lined) → KeepsLines (map (lined line) ds) xs → IsListing (Contains ds) line (map diag_part xs)
+listed : (line : Diag → Line) (ds : List Diag) (xs : List Lined) → KeepsLines (map (lined line) ds) xs → IsListing (Contains ds) line (map diag_part xs)
 listed line ds xs keeps =
-    let origin : (x : Lined) → Contains xs x → (d : Diag) × (Contains ds d × (lined line d ≡ x)) = λ x h. from_map (lined line) ds x (keeps.only x h) in
-    let have : HaveLines line xs = λ x h. let d = origin x h in ap line_part (sym d.1.1) ∙ ap (λ (z : Lined). line z.diag) d.1.1 in
+    let have = lined_kept line ds xs keeps in
     record {
       sorted = subst (λ (ls : List Line). IsStrictlySortedBy line_cmp ls) (own_lines line xs have) keeps.sorted;
       only = λ d h.
           let x = from_map diag_part xs d h in
-          let from = origin x.0 x.1.0 in
+          let from = origin line ds xs keeps x.0 x.1.0 in
           subst (λ (z : Diag). Contains ds z) (ap diag_part from.1.1 ∙ x.1.1) from.1.0;
       each = λ d h.
           let y = keeps.each (lined line d) (into_map (lined line) ds d h) in (
@@ -155,3 +165,21 @@ listed line ds xs keeps =
             ),
           );
     }
+
+-- ---- .. of candidates
+
+diags_seen : (xs : List ListedDiag) → map diag_part (map candidate_seen xs) ≡ map listed_diag xs
+diags_seen [] = refl
+diags_seen (x ∷ xs) = ap (λ (ds : List Diag). x.diag ∷ ds) (diags_seen xs)
+
+module _ (line : Diag → Line) (ds : List Diag) (before after : List ListedDiag) (found : map candidate_seen before ≡ map (lined line) ds) (keeps : KeepsLines (map candidate_seen before) (map candidate_seen after)) where
+  keeps_found : KeepsLines (map (lined line) ds) (map candidate_seen after)
+  keeps_found = subst (λ (old : List Lined). KeepsLines old (map candidate_seen after)) found keeps
+
+  pub listed_kept : IsListing (Contains ds) line (map listed_diag after)
+  listed_kept = subst (λ (es : List Diag). IsListing (Contains ds) line es) (diags_seen after) (listed line ds (map candidate_seen after) keeps_found)
+
+  pub kept_lines : HaveLines line after
+  kept_lines =
+      All-weaker (Contains after) (λ (x : ListedDiag). line_seen x.line ≡ line x.diag)
+      (λ x h. lined_kept line ds (map candidate_seen after) keeps_found (candidate_seen x) (into_map candidate_seen after x h)) after (All-contains_itself after)

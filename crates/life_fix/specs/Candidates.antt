@@ -3,11 +3,10 @@ use Rattle.std.specs.Prelude.{◌≡◌, Bool, true, List, map, Contains}
 use Rattle.std.specs.List.Sorted.{IsPermutation, IsSorted, IsStrictlySortedBy}
 use Rattle.std.specs.Ordering.{eq_by_cmp, is_le, ordering_then}
 use Rattle.std.specs.declared.cmp.Ordering.{Ordering}
-use Rattle.life_rules.specs.Lines.{Line, kind_number, line_cmp}
+use Rattle.life_rules.specs.Lines.{Line, line_cmp, line_seen}
 use Rattle.life_rules.specs.contracts.diag.DiagOrd.TheImpl.{ghosts as diag}
 use Rattle.life_rules.specs.declared.diag.Diag.{Diag}
-use Rattle.life_fix.specs.declared.listing.Candidate.{Candidate}
-use Rattle.life_fix.specs.declared.listing.PrintedLine.{PrintedLine}
+use Rattle.life_rules.specs.declared.diag.ListedDiag.{ListedDiag}
 
 -- a diagnostic and its line
 pub record Lined : Type 0 where
@@ -47,8 +46,5 @@ pub record KeepsLines (before after : List Lined) : Type 0 where
   pub only : (x : Lined) → Contains after x → Contains before x
   pub each : (x : Lined) → Contains before x → (y : Lined) × (Contains after y × Replaces y x)
 
-abbrev pub line_seen : PrintedLine → Line
-line_seen l = record { line = l.line; column = l.column; kind = kind_number l.kind; name = l.name.items; why = l.why.items }
-
-abbrev pub candidate_seen : Candidate → Lined
+abbrev pub candidate_seen : ListedDiag → Lined
 candidate_seen c = record { line = line_seen c.line; diag = c.diag }

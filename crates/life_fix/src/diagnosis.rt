@@ -1,7 +1,7 @@
 // The diagnostics of a function.
 ghost use Rattle.std.specs.List.{flat_map};
 ghost use Rattle.std.specs.Option.{option_copied};
-ghost use Rattle.std.specs.Prelude.{◌≡◌, ◌++◌, ◌⊎◌, ◌↔◌, Contains, IfOk, IfSome, OnOk, Some, length};
+ghost use Rattle.std.specs.Prelude.{◌≡◌, ◌++◌, ◌⊎◌, ◌↔◌, Contains, IfOk, IfSome, OnOk, Some, length, map};
 ghost use Rattle.life_core.specs.Function.{function_of};
 ghost use Rattle.life_core.specs.Linked.{points_of};
 ghost use Rattle.life_core.specs.Node.{spot_seen};
@@ -9,7 +9,8 @@ ghost use Rattle.life_pset.specs.Causes.{AreSpotsOf};
 ghost use Rattle.life_pset.specs.Elements.{IsWithinLimits};
 ghost use Rattle.life_rules.specs.Along.{node_tells_first};
 ghost use Rattle.life_rules.specs.Diagnosing.{diags_at, diags_of_two, IsDiagnosed};
-ghost use Rattle.life_rules.specs.Listing.{AreDiagnostics};
+ghost use Rattle.life_rules.specs.Lines.{line_of};
+ghost use Rattle.life_rules.specs.Listing.{AreDiagnostics, HaveLines, listed_diag};
 ghost use Rattle.life_rules.specs.Texts.{naming_of};
 ghost use Rattle.life_rules.specs.declared.diag.Diag.{Diag};
 ghost use Rattle.life_fix.specs.Finding.{all_wrong, IsWrongBy, IsWrongIn};
@@ -21,7 +22,7 @@ use crate::told::told_facts;
 use life_contract::Signatures;
 use life_core::{CoreFn, FnId, Names, Point, SpotRef, spots};
 use life_pset::{ElementTable, Fact};
-use life_rules::{Diag, push_diags, push_diags_of_two, tells_first};
+use life_rules::{Diag, ListedDiag, push_diags, push_diags_of_two, tells_first};
 use life_sets::{NumberSet, Rows};
 use life_types::{NoMemory, TypeTable};
 use std::alloc::Global;
@@ -29,8 +30,8 @@ use std::alloc::Global;
 /// The diagnostics of the function with this number: what its derived facts make wrong at its points.
 /// They stand in the order of the lines that they print, which is by line, column, kind, bytes of the
 /// name and bytes of the reason. Each line stands once, by the least diagnostic that prints it in the
-/// order of `Diag`. `sigs` are the signatures of the program's functions, by their numbers. The only error
-/// is the want of memory.
+/// order of `Diag`, and each with its line. `sigs` are the signatures of the program's functions, by their
+/// numbers. The only error is the want of memory.
 pub fn diagnostics<R: Rows>(
     alloc: Global,
     f: &CoreFn,
@@ -39,17 +40,19 @@ pub fn diagnostics<R: Rows>(
     types: &TypeTable,
     names: &Names,
     sol: &Solution<R>,
-) -> Result<Vec<Diag>, NoMemory>
+) -> Result<Vec<ListedDiag>, NoMemory>
     requires limits { IsWithinLimits types.now (function_of f.now) }
     requires solution { IsSolution R.has R.location_limit R.element_limit sigs.now types.now (function_of f.now) sol.now }
-    ensures { IfOk result
-        (λ all. AreDiagnostics (naming_of names.now sigs.now) types.now id.0 (function_of f.now) all.items) }
+    ensures listed { IfOk result
+        (λ all. AreDiagnostics (naming_of names.now sigs.now) types.now id.0 (function_of f.now) (map listed_diag all.items)) }
+    ensures lines { IfOk result
+        (λ all. HaveLines (line_of (naming_of names.now sigs.now) types.now (function_of f.now)) all.items) }
 {
     let spots = spots(alloc, f)?;
     let found = found(alloc, f, id, sigs, types, &spots, sol)?;
     let mut candidates = Vec::new(alloc);
     push_candidates(alloc, names, f, sigs, types, &found, &mut candidates)?;
-    listed(alloc, candidates)
+    Ok(listed(candidates))
 }
 
 /// All that is wrong, in the order of the points, and maybe more than once. `spots` are the points.

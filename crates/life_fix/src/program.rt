@@ -7,17 +7,17 @@ ghost use Rattle.life_fix.specs.Solving.{most_steps};
 ghost use Rattle.life_pset.specs.Elements.{IsWithinLimits};
 ghost use Rattle.life_pset.specs.Limits.{IsProgramWithinLimits};
 ghost use Rattle.life_rules.specs.Diagnosing.{IsDiagnosed};
-ghost use Rattle.life_rules.specs.Listing.{AreProgramDiagnostics};
+ghost use Rattle.life_rules.specs.Listing.{AreProgramDiagnostics, HaveLines, listed_diag, program_line};
 ghost use Rattle.life_rules.specs.Texts.{naming_of};
 ghost use Rattle.life_rules.specs.declared.diag.Diag.{Diag};
 
 use crate::diagnosis::found;
-use crate::listing::{Candidate, listed, push_candidates};
+use crate::listing::{listed, push_candidates};
 use crate::solver::solve_listed;
 use life_base::Steps;
 use life_contract::Signatures;
 use life_core::{CoreFn, CoreProgram, FnId, Names, spots};
-use life_rules::Diag;
+use life_rules::{Diag, ListedDiag};
 use life_sets::BitRows;
 use life_types::{NoMemory, TypeTable};
 use std::alloc::Global;
@@ -25,15 +25,17 @@ use std::sync::ledger::Ledger;
 
 /// The diagnostics of a program: those of its functions, each by its own body, the signatures, the types
 /// and the names alone. They stand in the order of the lines that they print, each line once, by the
-/// least diagnostic that prints it in the order of `Diag`. Each function is solved once, and takes the
-/// steps of that. The only error is the want of memory.
+/// least diagnostic that prints it in the order of `Diag`, and each with its line. Each function is solved
+/// once, and takes the steps of that. The only error is the want of memory.
 pub fn program_diagnostics<L: Ledger>(
     alloc: Global,
     program: &CoreProgram,
     steps: &mut Steps<L>,
-) -> Result<Vec<Diag>, NoMemory>
+) -> Result<Vec<ListedDiag>, NoMemory>
     requires { IsProgramWithinLimits (program_of program.now) }
-    ensures listed { IfOk result (λ all. AreProgramDiagnostics (program_of program.now) all.items) }
+    ensures listed { IfOk result
+        (λ all. AreProgramDiagnostics (program_of program.now) (map listed_diag all.items)) }
+    ensures lines { IfOk result (λ all. HaveLines (program_line (program_of program.now)) all.items) }
     ensures ticks { steps.new ≤ steps.old + most_program_steps (program_of program.now) }
 {
     let sigs = Signatures::of(alloc, program)?;
@@ -51,7 +53,7 @@ pub fn program_diagnostics<L: Ledger>(
             &mut candidates,
         )?;
     }
-    listed(alloc, candidates)
+    Ok(listed(candidates))
 }
 
 // Adds the diagnostics of one function, with their lines.
@@ -63,7 +65,7 @@ fn push_diagnosed<L: Ledger>(
     types: &TypeTable,
     names: &Names,
     steps: &mut Steps<L>,
-    out: &mut Vec<Candidate>,
+    out: &mut Vec<ListedDiag>,
 ) -> Result<(), NoMemory>
     requires { IsWithinLimits types.now (function_of f.now) }
     ensures adds { OnOk result (AddsDiagnosed (naming_of names.now sigs.now) types.now id.0 (function_of f.now)

@@ -4,6 +4,7 @@ pub mod Kept
 pub mod Nothing
 pub mod OneFact
 pub mod OneFunction
+pub mod PrintedLines
 pub mod Spots
 pub mod TwoFacts
 pub mod Unique

@@ -10,6 +10,7 @@ use Rattle.life_rules.specs.Texts.{Naming, diag_name, why_text}
 use Rattle.life_rules.specs.declared.diag.Diag.{Diag}
 use Rattle.life_rules.specs.declared.diag.DiagKind.{DiagKind}
 use Rattle.life_rules.specs.declared.diag.DiagKind.TheVariants.{NullUse, DanglingUse, MovedUse, ArgNull, ArgDangling, ArgOverlap, ReturnDangling, ReturnWidens, KeepsBroken}
+use Rattle.life_rules.specs.declared.diag.PrintedLine.{PrintedLine}
 
 -- what is printed of a diagnostic: nothing else tells two of them apart
 pub record Line : Type 0 where
@@ -50,6 +51,9 @@ line_of names types f d = record {
   why = why_text names types f d.why;
 }
 
+abbrev pub line_seen : PrintedLine → Line
+line_seen l = record { line = l.line; column = l.column; kind = kind_number l.kind; name = l.name.items; why = l.why.items }
+
 -- by line, column, kind, name and reason
 abbrev pub line_cmp : Line → Line → Ordering
 line_cmp x y =
@@ -57,7 +61,6 @@ line_cmp x y =
     (ordering_then (nat_cmp x.column y.column)
     (ordering_then (nat_cmp x.kind y.kind) (ordering_then (slice_cmp nat_cmp x.name y.name) (slice_cmp nat_cmp x.why y.why))))
 
--- what the line prints: place, kind, name and reason, parted by a colon and a space
-abbrev pub printed : Naming → Types → Function → Diag → List ℕ
-printed names types f d =
-    position_text d.place ++ codes ": " ++ kind_text d.kind ++ codes ": " ++ diag_name names types f d.called d.name ++ codes ": " ++ why_text names types f d.why ++ codes "\n"
+-- what the diagnostic's line prints: place, kind, name and reason, parted by a colon and a space
+abbrev pub printed : Diag → Line → List ℕ
+printed d line = position_text d.place ++ codes ": " ++ kind_text d.kind ++ codes ": " ++ line.name ++ codes ": " ++ line.why ++ codes "\n"

@@ -1,15 +1,16 @@
 -- The list of diagnostics: in the order of their lines, each line once.
-use Rattle.std.specs.Prelude.{◌≡◌, ℕ, List, [], Option, Some, None, Contains, map, slice_get, true}
+use Rattle.std.specs.Prelude.{◌≡◌, ℕ, List, [], Option, Some, None, All, Contains, map, slice_get, true}
 use Rattle.std.specs.List.Sorted.{IsStrictlySortedBy}
 use Rattle.std.specs.Ordering.{is_le}
 use Rattle.life_types.specs.Types.{Types}
 use Rattle.life_core.specs.Function.{Function, Program}
 use Rattle.life_contract.specs.Signatures.{signatures_of}
 use Rattle.life_rules.specs.Diagnosing.{IsDiagnosed}
-use Rattle.life_rules.specs.Lines.{Line, kind_number, line_of, line_cmp}
+use Rattle.life_rules.specs.Lines.{Line, kind_number, line_of, line_cmp, line_seen}
 use Rattle.life_rules.specs.Texts.{Naming, naming_in}
 use Rattle.life_rules.specs.contracts.diag.DiagOrd.TheImpl.{ghosts as diag}
 use Rattle.life_rules.specs.declared.diag.Diag.{Diag}
+use Rattle.life_rules.specs.declared.diag.ListedDiag.{ListedDiag}
 
 -- the diagnostic stands for itself: it prints the same line, and none before it in the order of its fields does
 pub record Represents (line : Diag → Line) (e d : Diag) : Type 0 where
@@ -21,6 +22,13 @@ pub record IsListing (IsWrong : Diag → Type 0) (line : Diag → Line) (ds : Li
   pub sorted : IsStrictlySortedBy line_cmp (map line ds)
   pub only : (d : Diag) → Contains ds d → IsWrong d
   pub each : (d : Diag) → IsWrong d → (e : Diag) × (Contains ds e × Represents line e d)
+
+abbrev pub listed_diag : ListedDiag → Diag
+listed_diag x = x.diag
+
+-- each has the line of its diagnostic
+abbrev pub HaveLines : (Diag → Line) → List ListedDiag → Type 0
+HaveLines line xs = All (λ (x : ListedDiag). line_seen x.line ≡ line x.diag) xs
 
 -- the diagnostics of the function with this number
 abbrev pub AreDiagnostics : Naming → Types → ℕ → Function → List Diag → Type 0

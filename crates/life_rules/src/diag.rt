@@ -52,9 +52,21 @@ pub struct Diag {
     pub why: Why,
 }
 
-/// What a diagnostic is printed with: the location's name, and the reason.
-#[derive(Debug, Drop)]
-pub struct DiagText {
+/// The line that a diagnostic prints: its place, the kind, the name of the location and the reason. The
+/// order of the fields is the order of lines.
+#[derive(Debug, PartialEq, Eq, PartialOrd, Ord, Drop)]
+pub struct PrintedLine {
+    pub line: u32,
+    pub column: u32,
+    pub kind: DiagKind,
     pub name: Vec<u8>,
     pub why: Vec<u8>,
+}
+
+/// A diagnostic with the line that it prints, as lists of diagnostics have it. Those of one line are
+/// ordered by their diagnostics.
+#[derive(Debug, PartialEq, Eq, PartialOrd, Ord, Drop)]
+pub struct ListedDiag {
+    pub line: PrintedLine,
+    pub diag: Diag,
 }

@@ -26,7 +26,7 @@ mod writes;
 mod wrong;
 mod wrong_two;
 
-pub use diag::{Diag, DiagKind, DiagText, Why};
+pub use diag::{Diag, DiagKind, ListedDiag, PrintedLine, Why};
 pub use entry::entry_facts;
 pub use laws::{
     one_fact_stays_or_is_read, one_function_is_the_program, only_what_is_told_is_wrong,
@@ -38,7 +38,7 @@ pub use staying::{
     is_marked, is_read_at, is_removed, is_target_at, is_written_at, keeps_all, mark_at,
     moves_elements, push_made, push_staying,
 };
-pub use texts::{element_text, kind_name, place_text, texts_of};
+pub use texts::{element_text, kind_name, line_of, place_text};
 pub use told_at::{is_told_at, tells_some};
 pub use wrong::push_diags;
 pub use wrong_two::{push_diags_of_two, tells_first};

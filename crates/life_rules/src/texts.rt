@@ -4,10 +4,10 @@ ghost use Rattle.std.specs.Prelude.{◌≡◌, ◌++◌, map, option_map, IfOk, 
 ghost use Rattle.life_core.specs.Function.{function_of, member_name, member_names};
 ghost use Rattle.life_types.specs.Places.{position_text};
 ghost use Rattle.life_pset.specs.Inputs.{input_seen};
-ghost use Rattle.life_rules.specs.Lines.{kind_text};
+ghost use Rattle.life_rules.specs.Lines.{kind_text, line_of, line_seen};
 ghost use Rattle.life_rules.specs.Texts.{behind_type, called_text, cause_subject, cause_text, diag_name, element_text, function_text, input_number, input_of, input_text, inputs_at, is_result, local_text, member_text, name_if, name_text, named, nameless, naming_of, parameter_at, parameter_text, part_text, place_text, points_text, spelling_of, step_text, steps_text, why_text};
 
-use crate::diag::{Diag, DiagKind, DiagText, Why};
+use crate::diag::{Diag, DiagKind, PrintedLine, Why};
 use life_contract::{Param, Signature, Signatures, parameter_in, pointed_type, step_type};
 use life_core::{CoreFn, FnId, Local, LocalKind, Names};
 use life_pset::{
@@ -73,29 +73,33 @@ pub fn element_text(
     Ok(text)
 }
 
-/// What a diagnostic of a function is printed with: the text of its location, or of that of the called
-/// function's parameter, which is the parameter's name with a dot and a name for each member, and the
-/// reason: that it
-/// may be null, what made the pointer invalid or the owner moved from, and where, with which parameter
-/// another one overlaps, or what a result may point to. The only error is the want of memory.
-pub fn texts_of(
+/// The line that a diagnostic of a function prints: its place and kind, the text of its location, or of
+/// that of the called function's parameter, which is the parameter's name with a dot and a name for each
+/// member, and the reason: that it may be null, what made the pointer invalid or the owner moved from, and
+/// where, with which parameter another one overlaps, or what a result may point to. The only error is the
+/// want of memory.
+pub fn line_of(
     alloc: Global,
     names: &Names,
     f: &CoreFn,
     sigs: &Signatures,
     types: &TypeTable,
     d: &Diag,
-) -> Result<DiagText, NoMemory>
-    ensures name { IfOk result (λ text.
-        text.name.items ≡ diag_name (naming_of names.now sigs.now) types.now (function_of f.now) d.now.called d.now.name) }
-    ensures why { IfOk result (λ text.
-        text.why.items ≡ why_text (naming_of names.now sigs.now) types.now (function_of f.now) d.now.why) }
+) -> Result<PrintedLine, NoMemory>
+    ensures { IfOk result (λ line.
+        line_seen line ≡ line_of (naming_of names.now sigs.now) types.now (function_of f.now) d.now) }
 {
     let mut name = Vec::new(alloc);
     push_diag_name(alloc, names, f, sigs, types, d.called, &d.name, &mut name)?;
     let mut why = Vec::new(alloc);
     push_why(alloc, names, f, sigs, types, d.why, &mut why)?;
-    Ok(DiagText { name, why })
+    Ok(PrintedLine {
+        line: d.place.line,
+        column: d.place.column,
+        kind: d.kind,
+        name,
+        why,
+    })
 }
 
 // ---- names

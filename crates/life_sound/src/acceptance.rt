@@ -1,12 +1,12 @@
 // Programs that are accepted, and programs that are rejected.
-ghost use Rattle.std.specs.Prelude.{◌≡◌, ◌≢◌, [], MatchResult};
+ghost use Rattle.std.specs.Prelude.{◌≡◌, ◌≢◌, [], map, MatchResult};
 ghost use Rattle.life_core.specs.Function.{program_of};
 ghost use Rattle.life_proper.specs.ProperPrograms.{IsProperProgram};
-ghost use Rattle.life_rules.specs.Listing.{AreProgramDiagnostics};
+ghost use Rattle.life_rules.specs.Listing.{AreProgramDiagnostics, listed_diag};
 ghost use Rattle.life_store.specs.NoFault.{NoFault};
 
 use life_core::CoreProgram;
-use life_rules::Diag;
+use life_rules::ListedDiag;
 use std::marker::Model;
 
 /// A program of which no run uses anything null or dangling: whatever its entry, of those that are
@@ -32,18 +32,18 @@ impl Model for Accepted {
     ghost invariant = { λ accepted. NoFault (program_of accepted.program) };
 }
 
-/// A program that isn't accepted, with what was found in it.
+/// A program that isn't accepted, with what was found in it and the lines of that.
 #[derive(Drop)]
 pub struct Rejected {
     pub program: CoreProgram,
-    pub diagnostics: Vec<Diag>,
+    pub diagnostics: Vec<ListedDiag>,
 }
 
 /// Accepts a proper program of which nothing is diagnosed. Either way the program, and what was found, come
 /// back as they were. It takes no memory.
-pub fn accept(program: CoreProgram, diagnostics: Vec<Diag>) -> Result<Accepted, Rejected>
+pub fn accept(program: CoreProgram, diagnostics: Vec<ListedDiag>) -> Result<Accepted, Rejected>
     requires proper { IsProperProgram (program_of program) }
-    requires all { AreProgramDiagnostics (program_of program) diagnostics.items }
+    requires all { AreProgramDiagnostics (program_of program) (map listed_diag diagnostics.items) }
     ensures { MatchResult result
         (λ accepted. (accepted ≡ program) × (diagnostics.items ≡ []))
         (λ rejected. (rejected.program ≡ program) × (rejected.diagnostics ≡ diagnostics) × (diagnostics.items ≢ [])) }

@@ -1,8 +1,9 @@
-use Rattle.std.proofs.Common.{List, [], refl, subst, sym}
+use Rattle.std.proofs.Common.{List, [], map, refl, subst, sym}
 use Rattle.life_check.specs.CheckedText.{ComesTo, Listed}
 use Rattle.life_core.specs.Function.{program_of}
 use Rattle.life_core.specs.declared.program.CoreProgram.{CoreProgram}
-use Rattle.life_rules.specs.declared.diag.Diag.{Diag}
+use Rattle.life_rules.specs.Listing.{listed_diag}
+use Rattle.life_rules.specs.declared.diag.ListedDiag.{ListedDiag}
 use Rattle.life_cli.proofs.Leaves.{checked_file, faulty_file}
 use Rattle.life_cli.specs.Words.{job_seen}
 use Rattle.life_cli.proofs.work.serve_bytes.Goals as goal
@@ -37,11 +38,16 @@ serve_rejected-requires-clause-some g c =
     let is = rw c.in-Ok-Refused.field-0-is at c.in-Ok-Refused.ensures in
     rw c.deref.ensures.value is.1.1
 
+pub serve_rejected-requires-clause-lines : goal.serve_rejected-requires-clause-lines
+serve_rejected-requires-clause-lines g c =
+    let is = rw c.in-Ok-Refused.field-0-is at c.in-Ok-Refused.ensures in
+    rw c.deref.ensures.value is.1.2
+
 pub returns-in-Ok-Refused : goal.returns-in-Ok-Refused
 returns-in-Ok-Refused g c =
     let is = rw c.in-Ok-Refused.field-0-is at c.in-Ok-Refused.ensures in
-    let file = subst (λ (ds : List Diag). ComesTo c.args.bytes.now (Listed (program_of c.in-Ok-Refused.program) ds)) (sym c.deref.ensures.value) is.0.is in
-    checked_file (job_seen c.args.job) c.args.bytes.now _ _ _ _ _ (program_of c.in-Ok-Refused.program) c.deref.result.now file _ c.serve_rejected.result c.serve_rejected.ensures
+    let file = subst (λ (xs : List ListedDiag). ComesTo c.args.bytes.now (Listed (program_of c.in-Ok-Refused.program) (map listed_diag xs))) (sym c.deref.ensures.value) is.0.is in
+    checked_file (job_seen c.args.job) c.args.bytes.now _ _ _ _ _ (program_of c.in-Ok-Refused.program) (map listed_diag c.deref.result.now) file _ c.serve_rejected.result c.serve_rejected.ensures
 
 pub returns-in-Err : goal.returns-in-Err
 returns-in-Err g c = faulty_file (job_seen c.args.job) c.args.bytes.now _ _ _ _ _ c.in-Err.fault c.refuse_text.result c.in-Err.ensures refl c.refuse_text.ensures

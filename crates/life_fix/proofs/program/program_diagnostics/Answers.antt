@@ -1,12 +1,12 @@
 use Rattle.std.proofs.Common.{◌≡◌, ◌+◌, ◌≤◌, ◌<◌, ℕ, Some, List, map, length, drop, get_or, slice_get, ap, subst, sym, ◌∙◌, arith}
 use Rattle.std.proofs.lemmas.List.{length-map}
 use Rattle.std.proofs.lemmas.Option.{slice_get-get_or, slice_get-map}
-use Rattle.std.proofs.lemmas.Result.{IfOk-weaker}
 use Rattle.std.specs.Prelude.{option_map}
 use Rattle.life_types.specs.Types.{Types}
 use Rattle.life_core.specs.Function.{function_of, program_of}
 use Rattle.life_core.specs.declared.program.CoreFn.{CoreFn}
 use Rattle.life_contract.specs.Signatures.{Signature}
+use Rattle.life_rules.specs.Listing.{program_line}
 use Rattle.life_rules.specs.Texts.{naming_of}
 use Rattle.life_fix.specs.Candidates.{candidate_seen}
 use Rattle.life_fix.specs.Programs.{AddsDiagnosed, most_steps_in}
@@ -61,4 +61,9 @@ returns-clause-listed g c =
     let count : length p.functions ≤ c.loop-index.index =
     omega (arith, length-map c.args.program.now.functions.items function_of, c.loop-index-test.false, ap (λ (fs : List CoreFn). length fs) c.deref-f-items.ensures.value) in
     let found = found_in_all p c.loop-index.index (map candidate_seen c.loop-index.candidates.items) count c.loop-index.invariant.found in
-    IfOk-weaker _ _ _ (λ all listing. same_wrongs found.all (listing _ found.found found.are)) c.listed.ensures
+    same_wrongs found.all (c.listed.ensures.listed (program_line p) found.found found.are)
+
+pub returns-clause-lines : goal.returns-clause-lines
+returns-clause-lines g c =
+    let p = program_of c.args.program.now in
+    c.listed.ensures.lines (program_line p) c.loop-index.invariant.found.found c.loop-index.invariant.found.are
