@@ -56,7 +56,7 @@ pub fn run_all<R: Rows, L: Ledger>(
             &mut workspace,
             steps,
         )?;
-        next = k;
+        next = k + 1;
     }
     Ok(())
 }
