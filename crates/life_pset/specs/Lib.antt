@@ -1,6 +1,7 @@
 pub mod Causes
 pub mod Counts
 pub mod Elements
+pub mod Hashing
 pub mod Inputs
 pub mod Limits
 pub mod Places

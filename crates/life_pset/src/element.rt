@@ -1,7 +1,11 @@
 // Abstract places, and what a pointer may be.
+ghost use Rattle.std.proofs.Common.{rules};
 ghost use Rattle.std.specs.Prelude.{◌≡◌, ◌<◌};
+ghost use Rattle.std.specs.Cmp.Rules.{hashing};
+ghost use Rattle.life_pset.specs.Hashing.{cause_fed, element_fed, place_fed, root_number};
 
 use life_types::Place;
+use std::hash::{Hash, Hasher};
 
 /// Where an abstract place begins. `member` numbers the pointers of a struct parameter from 0.
 #[derive(Clone, Copy, Debug, PartialEq, Eq, PartialOrd, Ord, Hash)]
@@ -13,13 +17,37 @@ pub enum Root {
     Input { parameter: u32, member: Option<u8> },
 }
 
+impl Root {
+    // Its number among those of its kind.
+    fn number(self) -> u32
+        ensures { result ≡ root_number self }
+    {
+        match self {
+            Root::Local(local) => local,
+            Root::Input { parameter, .. } => parameter,
+        }
+    }
+}
+
 /// An abstract place (WG21 P1179R1, 2.3): a root, and from there at most 8 steps. A step is a member's
 /// number, or 255 for a step from an owner to what it owns; steps past the length are 0.
-#[derive(Clone, Copy, Debug, PartialEq, Eq, PartialOrd, Ord, Hash)]
+#[derive(Clone, Copy, Debug, PartialEq, Eq, PartialOrd, Ord)]
 pub struct AbsPlace {
     pub root: Root,
     pub length: u8,
     pub steps: [u8; 8],
+}
+
+// Places are looked up often, so no more is fed than tells most of them apart.
+impl Hash for AbsPlace {
+    ghost hash_input = { place_fed };
+
+    ghost respects_eq = { Prim.search (hashing, rules) };
+
+    fn hash<H: Hasher>(&self, state: &mut H) {
+        state.write_u32(self.root.number());
+        state.write(&self.steps);
+    }
 }
 
 /// The step from an owner to what it owns.
@@ -163,15 +191,28 @@ pub enum CauseKind {
 
 /// Why a pointer is invalid, or an owner moved from, and where that came about. `root` is the local that
 /// it is about, for a call the number of the function, and 0 for a change through a pointer.
-#[derive(Clone, Copy, Debug, PartialEq, Eq, PartialOrd, Ord, Hash)]
+#[derive(Clone, Copy, Debug, PartialEq, Eq, PartialOrd, Ord)]
 pub struct Cause {
     pub kind: CauseKind,
     pub place: Place,
     pub root: u32,
 }
 
+// As for places: what made a pointer invalid follows from where that was, and of which local, nearly
+// always.
+impl Hash for Cause {
+    ghost hash_input = { cause_fed };
+
+    ghost respects_eq = { Prim.search (hashing, rules) };
+
+    fn hash<H: Hasher>(&self, state: &mut H) {
+        state.write_u64(self.place.line as u64 * (1 << 32) + self.place.column as u64);
+        state.write_u32(self.root);
+    }
+}
+
 /// An element of a points-to set (WG21 P1179R1, 2.3).
-#[derive(Clone, Copy, Debug, PartialEq, Eq, PartialOrd, Ord, Hash)]
+#[derive(Clone, Copy, Debug, PartialEq, Eq, PartialOrd, Ord)]
 pub enum Element {
     /// It may be null.
     Null,
@@ -185,6 +226,22 @@ pub enum Element {
     Static,
     /// It may point to this place.
     At(AbsPlace),
+}
+
+impl Hash for Element {
+    ghost hash_input = { element_fed };
+
+    ghost respects_eq = { Prim.search (hashing, rules) };
+
+    fn hash<H: Hasher>(&self, state: &mut H) {
+        match self {
+            Element::Null => state.write_u8(0),
+            Element::Invalid(cause) | Element::Moved(cause) => cause.hash(state),
+            Element::Own => state.write_u8(1),
+            Element::Static => state.write_u8(2),
+            Element::At(place) => place.hash(state),
+        }
+    }
 }
 
 /// One element of one location's set.
