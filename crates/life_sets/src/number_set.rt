@@ -39,6 +39,17 @@ impl NumberSet {
         Ok(NumberSet { limit, words })
     }
 
+    /// A set with the same limit and the same numbers.
+    pub fn copy(&self, alloc: Global) -> Result<Self, NoMemory>
+        ensures { IfOk result (λ set. set ≡ self.now) }
+    {
+        let words = SmallVec::from_slice(alloc, &self.words)?;
+        Ok(NumberSet {
+            limit: self.limit,
+            words,
+        })
+    }
+
     /// What all of its numbers are below.
     pub fn limit(&self) -> u32
         ensures { result ≡ self.now.limit }
