@@ -91,9 +91,7 @@ pub fn all_due(alloc: Global, locations: u32, count: usize) -> Result<Vec<Number
     let all = all_below(alloc, locations)?;
     let mut dues = Vec::with_capacity(alloc, count)?;
     for _ in 0..count {
-        let mut due = NumberSet::empty(alloc, locations)?;
-        due.add_all(&all);
-        dues.push(due)?;
+        dues.push(all.copy(alloc)?)?;
     }
     Ok(dues)
 }
