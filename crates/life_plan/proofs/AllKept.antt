@@ -1,5 +1,5 @@
 -- Where nothing comes of facts but each fact itself.
-use Rattle.std.proofs.Common.{◌≡◌, ◌≢◌, ◌<◌, ◌+◌, ◌||◌, ℕ, Bool, true, false, List, [], length, Some, inl, inr, ap, refl, sym, ◌∙◌, subst, arith, nat_eq}
+use Rattle.std.proofs.Common.{◌≡◌, ◌≢◌, ◌<◌, ◌+◌, ◌||◌, ℕ, Bool, false, List, [], length, Some, inl, inr, ap, refl, sym, ◌∙◌, subst, arith, nat_eq}
 use Rattle.std.proofs.lemmas.Bool.{and_from, and_parts, both_ways, cases_Bool, eq-eqb, eqb-true, or_left}
 use Rattle.std.proofs.lemmas.Option.{slice_get_within}
 use Rattle.std.specs.Prelude.{Contains, IsTrue, slice_get}
@@ -10,29 +10,28 @@ use Rattle.life_core.specs.Function.{function_of}
 use Rattle.life_sets.specs.Pairs.{pairs_from, IsBetween}
 use Rattle.life_rules.specs.FactSets.{CarriesPair, GainsSome}
 use Rattle.life_rules.specs.Matching.{fact_at}
-use Rattle.life_rules.specs.Staying.{spot_keeps}
 use Rattle.life_plan.specs.Carried.{AreKept}
 use Rattle.life_plan.specs.Crossing.{Crosses, Crossing, IsContext, crossing_in}
 use Rattle.life_plan.specs.Numbered.{IsAmong}
+use Rattle.life_plan.specs.Still.{IsStill}
 use Rattle.life_plan.specs.declared.context.EdgeContext.{EdgeContext}
 use Rattle.life_plan.proofs.Crossings.{crosses_carries, crossing_is}
 use Rattle.life_plan.proofs.Growing.{some_as}
-use Rattle.life_plan.proofs.Laws.{IsKeptAt, kept}
 use Rattle.life_plan.proofs.Naming.{at_number}
 
 -- each pair of the table's limits is carried
-pub whole_crosses : (c : Crossing) → spot_keeps c.spot ≡ true → (from : ℕ → ℕ → Bool) (l m : ℕ) → IsAmong (length c.table.locations) (length c.table.elements) from l m → Crosses c from l m
-whole_crosses c keeps from l m h =
+pub whole_crosses : (c : Crossing) → IsStill c → (from : ℕ → ℕ → Bool) (l m : ℕ) → IsAmong (length c.table.locations) (length c.table.elements) from l m → Crosses c from l m
+whole_crosses c still from l m h =
     let a = at_number c.table.locations l h.0 in
     let e = at_number c.table.elements m h.1.0 in
     let x = fact_at a.0 e.0 in
-    inr (inl (x, ((l, (m, ((a.1, e.1), h.1.1))), (x, ((a.1, e.1), subst (λ (xs : List Fact). Contains xs x) (sym ((kept c.sigs c.types c.f c.spot keeps).one c.branch x)) (in_head x []))))))
+    inr (inl (x, ((l, (m, ((a.1, e.1), h.1.1))), (x, ((a.1, e.1), subst (λ (xs : List Fact). Contains xs x) (sym (still.one x l a.1)) (in_head x []))))))
 
 -- where nothing is due, all that comes of the first set is in the second
 pub whole_settled : (c : Crossing) → HasOneNumber c.table.locations → HasOneNumber c.table.elements → (due : ℕ → Bool) (from into : ℕ → ℕ → Bool) → AreKept c due from into → ((l : ℕ) → due l ≡ false) → (l m : ℕ) → Crosses c from l m → IsTrue (into l m)
 whole_settled c one_location one_element due from into are none l m h =
     elim h [
-      | inl new ↦ absurd (none_in_empty new.0 (subst (λ (xs : List Fact). Contains xs new.0) all.none new.1.1))
+      | inl new ↦ absurd (none_in_empty new.0 (subst (λ (xs : List Fact). Contains xs new.0) are.still.none new.1.1))
       | inr some ↦ elim some [
         | inl one ↦
             let x = one.0 in
@@ -40,20 +39,17 @@ whole_settled c one_location one_element due from into are none l m h =
             let named = one.1.1.1.0 in
             let k = one.1.0.0 in
             let e = one.1.0.1.0 in
-            elim (cons_cases x [] y (subst (λ (xs : List Fact). Contains xs y) (all.one c.branch x) one.1.1.1.1)) [
+            elim (cons_cases x [] y (subst (λ (xs : List Fact). Contains xs y) (are.still.one x k one.1.0.1.1.0.0) one.1.1.1.1)) [
               | inl is ↦
                   let at : k ≡ l = one_location k l x.location one.1.0.1.1.0.0 (named.0 ∙ ap (λ (z : Fact). Some z.location) (sym is)) in
                   let to : e ≡ m = one_element e m x.element one.1.0.1.1.0.1 (named.1 ∙ ap (λ (z : Fact). Some z.element) (sym is)) in
                   subst (λ (n : ℕ). IsTrue (into n m)) at (subst (λ (n : ℕ). IsTrue (into k n)) to (are.kept k e (none k) (within k x one.1.0.1.1.0.0) one.1.0.1.1.1))
               | inr there ↦ absurd (none_in_empty y there)
             ]
-        | inr two ↦ absurd (none_in_empty two.1.1.1.1.0 (subst (λ (xs : List Fact). Contains xs two.1.1.1.1.0) (all.two two.0 two.1.0) two.1.1.1.1.1.1))
+        | inr two ↦ absurd (none_in_empty two.1.1.1.1.0 (subst (λ (xs : List Fact). Contains xs two.1.1.1.1.0) (are.still.two two.0 two.1.0) two.1.1.1.1.1.1))
       ]
     ]
   where
-    all : IsKeptAt c.sigs c.types c.f c.spot
-    all = kept c.sigs c.types c.f c.spot are.keeps
-
     within : (k : ℕ) (x : Fact) → slice_get c.table.locations k ≡ Some x.location → k < length c.table.locations
     within k x at = slice_get_within c.table.locations k x.location at
 
@@ -90,9 +86,9 @@ among_joined from l a b joined m h = joined l m ∙ or_left (pairs_from from l l
 
 -- ---- what is kept is carried
 
-pub whole_carried : (x : EdgeContext) → IsContext x → spot_keeps (crossing_in x).spot ≡ true → (locations elements : ℕ) → locations ≡ length x.table.now.locations → elements ≡ length x.table.now.elements → (from a b : ℕ → ℕ → Bool)
+pub whole_carried : (x : EdgeContext) → IsContext x → IsStill (crossing_in x) → (locations elements : ℕ) → locations ≡ length x.table.now.locations → elements ≡ length x.table.now.elements → (from a b : ℕ → ℕ → Bool)
     → GainsSome a b (IsAmong locations elements from) → GainsSome a b (CarriesPair x.sigs.now x.types.now (function_of x.f.now) x.edge from)
-whole_carried x is keeps locations elements ls es from a b some =
+whole_carried x is still locations elements ls es from a b some =
     some_as a b (IsAmong locations elements from) (CarriesPair x.sigs.now x.types.now (function_of x.f.now) x.edge from) (λ l m h.
     crosses_carries x.sigs.now x.types.now (function_of x.f.now) x.edge from l m (subst (λ (c : Crossing). Crosses c from l m) (crossing_is x is)
-    (whole_crosses (crossing_in x) keeps from l m (subst (λ (n : ℕ). l < n) ls h.0, (subst (λ (n : ℕ). m < n) es h.1.0, h.1.1))))) some
+    (whole_crosses (crossing_in x) still from l m (subst (λ (n : ℕ). l < n) ls h.0, (subst (λ (n : ℕ). m < n) es h.1.0, h.1.1))))) some

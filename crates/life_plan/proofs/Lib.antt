@@ -14,4 +14,5 @@ pub mod Seeing
 pub mod Settled
 pub mod Sound
 pub mod Starting
+pub mod Stillness
 pub mod Tabulating

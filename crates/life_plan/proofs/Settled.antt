@@ -136,7 +136,7 @@ carried_due c plan due now_due from now_from into more grown same was = by plan.
     before l not_due = false_from_ne_true (due l) (λ t. both_ways (now_due l) not_due (more l t))
 
     by : (o : Option (Box Tabulated Global)) → carried_by c o due from into → carried_by c o now_due now_from into
-    by None was = record { keeps = was.keeps; kept = λ l m not_due lt h. was.kept l m (before l not_due) lt (same l m not_due h) }
+    by None was = record { still = was.still; kept = λ l m not_due lt h. was.kept l m (before l not_due) lt (same l m not_due h) }
     by (Some t) was = record {
       means = was.means;
       fresh = λ fresh l within. more l (was.fresh fresh l within);
@@ -158,7 +158,7 @@ pub carried_into : (c : Crossing) (plan : Plan) (due : ℕ → Bool) (from into 
 carried_into c plan due from into now_into grown was = by plan.tabulated was
   where
     by : (o : Option (Box Tabulated Global)) → carried_by c o due from into → carried_by c o due from now_into
-    by None was = record { keeps = was.keeps; kept = λ l m not_due lt h. grown l m (was.kept l m not_due lt h) }
+    by None was = record { still = was.still; kept = λ l m not_due lt h. grown l m (was.kept l m not_due lt h) }
     by (Some t) was = record {
       means = was.means;
       fresh = was.fresh;

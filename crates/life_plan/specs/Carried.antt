@@ -1,9 +1,9 @@
 -- How far a plan has been carried.
 use Rattle.std.specs.Prelude.{◌≡◌, ◌<◌, ◌⊎◌, ℕ, Bool, true, false, IsTrue, List, Box, Option, Some, None, length, nat_le, ◌&&◌, slice_get}
 use Rattle.life_sets.specs.NumberSets.{holds}
-use Rattle.life_rules.specs.Staying.{spot_keeps}
 use Rattle.life_plan.specs.Crossing.{Crossing, FromNone}
 use Rattle.life_plan.specs.Numbered.{IsMarked, IsTabulated, KeepsFrom, MakesAt, MarksNumber}
+use Rattle.life_plan.specs.Still.{IsStill}
 use Rattle.life_plan.specs.declared.marking.Marking.{Marking}
 use Rattle.life_plan.specs.declared.plan.Plan.{Plan}
 use Rattle.life_plan.specs.declared.reading.Reading.{Reading}
@@ -38,7 +38,7 @@ pub record AreCarried (c : Crossing) (plan : Tabulated) (due : ℕ → Bool) (fr
 
 -- where nothing comes of facts but each fact itself, the pairs of the first set are in the second, save for those at the locations that are due
 pub record AreKept (c : Crossing) (due : ℕ → Bool) (from into : ℕ → ℕ → Bool) : Type 0 where
-  pub keeps : spot_keeps c.spot ≡ true
+  pub still : IsStill c
   pub kept : (l m : ℕ) → due l ≡ false → l < length c.table.locations → IsTrue (from l m) → IsTrue (into l m)
 
 abbrev pub carried_by : {Z : Type 0} → Crossing → Option (Box Tabulated Z) → (due : ℕ → Bool) → (from into : ℕ → ℕ → Bool) → Type 0

@@ -10,6 +10,7 @@ mod plan;
 mod reading;
 mod row_facts;
 mod staying;
+mod still;
 mod tabulated;
 mod whole;
 mod workspace;

@@ -8,11 +8,11 @@ ghost use Rattle.life_plan.specs.Crossing.{crossing_in, IsContext};
 ghost use Rattle.life_plan.specs.Noted.{Notes};
 
 use crate::context::EdgeContext;
+use crate::still::is_still;
 use crate::tabulated::Tabulated;
 use crate::whole::carry_whole;
 use crate::workspace::Workspace;
 use life_base::Steps;
-use life_rules::keeps_all;
 use life_sets::{NumberSet, Rows};
 use life_types::NoMemory;
 use std::alloc::Global;
@@ -35,7 +35,8 @@ impl Plan {
             → ((l : ℕ) → l < length context.now.table.now.locations → due l ≡ true)
             → IsCarried (crossing_in context.now) plan due from into) }
     {
-        if keeps_all(context.spot) {
+        let still = is_still(alloc, context)?;
+        if still {
             return Ok(Plan { tabulated: None });
         }
         let tabulated = Box::new(alloc, Tabulated::of(alloc, context)?)?;

@@ -69,7 +69,7 @@ fn written_locations(alloc: Global, context: &EdgeContext) -> Result<NumberSet, 
 }
 
 // Whether the location with this number is written.
-fn is_written(context: &EdgeContext, n: u32) -> bool
+pub(crate) fn is_written(context: &EdgeContext, n: u32) -> bool
     ensures { result ≡ passes (spot_writes (option_map spot_seen context.now.spot)) (slice_get context.now.table.now.locations n) }
 {
     match context.table.location_at(n) {

@@ -10,4 +10,4 @@ pub returns-in-None-clause-sound : goal.returns-in-None-clause-sound
 returns-in-None-clause-sound g c =
     let has = g.R.Rows.has in
     let kept = subst (λ (o : Option (Box Tabulated Global)). carried_by (crossing_in c.args.context.now) o (holds c.args.due.now) (has c.args.from.now) (has c.args.into.now)) c.in-None.is c.requires.carried in
-    whole_carried c.args.context.now c.requires.context kept.keeps (g.R.Rows.location_limit c.args.from.now) (g.R.Rows.element_limit c.args.from.now) c.requires.from_locations c.requires.from_elements (has c.args.from.now) (has c.args.into.now) (has c.carry_whole.new.into) c.carry_whole.ensures.some
+    whole_carried c.args.context.now c.requires.context kept.still (g.R.Rows.location_limit c.args.from.now) (g.R.Rows.element_limit c.args.from.now) c.requires.from_locations c.requires.from_elements (has c.args.from.now) (has c.args.into.now) (has c.carry_whole.new.into) c.carry_whole.ensures.some
