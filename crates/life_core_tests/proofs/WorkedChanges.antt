@@ -27,7 +27,7 @@ use Rattle.life_store.specs.declared.run.TrapKind.TheVariants as trap
 abbrev id : ℕ → TyId
 id n = record { 0 = n }
 
--- 0 int, 1 std::vector<int>, 2 std::string, 3 std::vector<int>::iterator, 4 std::string_view
+-- 0 int, 1 std::vector<int>, 2 std::string, 3 std::vector<int>::iterator, 4 std::string_view, and 5 for characters of strings
 abbrev table : Types
 table = record { types = variant.Int ∷ variant.Vector (id 0) ∷ variant.Text ∷ variant.Iterator (id 0) false ∷ variant.View ∷ []; structs = [] }
 
@@ -66,7 +66,7 @@ buffer n capacity slots end = record { ty = id n; width = 1; capacity = capacity
 -- ---- a vector is the object 1, whose buffer is the object 3: the elements 1, 2, 3, with room for a fourth, or full
 
 abbrev three : (capacity : ℕ) → Object
-three n = buffer 1 n (slot 1 5 ∷ slot 2 5 ∷ slot 3 5 ∷ []) 5
+three n = buffer 0 n (slot 1 5 ∷ slot 2 5 ∷ slot 3 5 ∷ []) 5
 
 abbrev HasVector : Content → Object → Type 0
 HasVector c b = (at c.objects 1 ≡ Some (single 1 4)) × (at c.objects 3 ≡ Some b)
@@ -91,7 +91,7 @@ pushed c has = rw (has.0, has.0, has.1) refl
 
 -- a full one goes over to another, of twice its room
 abbrev larger : Content → Content
-larger c = without 3 (filled c.births ((1 ∷ []) ∷ (2 ∷ []) ∷ (3 ∷ []) ∷ []) (resized_at c.births 4 0 (with_birth (id 1) 1 6 c)))
+larger c = without 3 (filled c.births ((1 ∷ []) ∷ (2 ∷ []) ∷ (3 ∷ []) ∷ []) (resized_at c.births 4 0 (with_birth (id 0) 1 6 c)))
 
 pushed_full : (c : Content) → HasVector c (three 3) → live_words_of c ≡ 8 → does (within 20) table f (Changes (object_named 0) (PushBack 3)) (state c (with_number (pos 9)))
     ≡ Next (state (put_last the_vector c.births 3 (9 ∷ [], larger c)) (with_number (pos 9)))
@@ -105,7 +105,7 @@ popped : (c : Content) → HasVector c (three 4) → does (within 20) table f (C
     ≡ Next (state (resized_at 3 2 2 c) (with_number (pos 9)))
 popped c has = rw (has.0, has.0, has.1, has.1) refl
 
-popped_empty : (c : Content) → HasVector c (buffer 1 4 [] 5) → does (within 20) table f (Changes (object_named 0) PopBack) (state c (with_number (pos 9))) ≡ Traps trap.Bounds
+popped_empty : (c : Content) → HasVector c (buffer 0 4 [] 5) → does (within 20) table f (Changes (object_named 0) PopBack) (state c (with_number (pos 9))) ≡ Traps trap.Bounds
 popped_empty c has = rw (has.0, has.0, has.1) refl
 
 cleared : (c : Content) → HasVector c (three 4) → does (within 20) table f (Changes (object_named 0) Clear) (state c (with_number (pos 9)))
@@ -117,7 +117,7 @@ reserved : (c : Content) → HasVector c (three 4) → does (within 20) table f 
 reserved c has = rw (has.0, has.0, has.1) refl
 
 abbrev roomier : Content → Content
-roomier c = without 3 (filled c.births ((1 ∷ []) ∷ (2 ∷ []) ∷ (3 ∷ []) ∷ []) (resized_at c.births 3 0 (with_birth (id 1) 1 8 c)))
+roomier c = without 3 (filled c.births ((1 ∷ []) ∷ (2 ∷ []) ∷ (3 ∷ []) ∷ []) (resized_at c.births 3 0 (with_birth (id 0) 1 8 c)))
 
 reserved_past : (c : Content) → HasVector c (three 4) → live_words_of c ≡ 9 → does (within 20) table f (Changes (object_named 0) (Reserve 3)) (state c (with_number (pos 8)))
     ≡ Next (state (owns the_vector c.births (roomier c)) (with_number (pos 8)))
@@ -144,13 +144,13 @@ changed_moved c owner = rw (owner, owner) refl
 -- ---- a string is the object 1, whose characters are the object 3
 
 abbrev HasString : Content → Type 0
-HasString c = (at c.objects 1 ≡ Some (single 2 4)) × (at c.objects 3 ≡ Some (buffer 2 2 (slot 97 5 ∷ slot 98 5 ∷ []) 5))
+HasString c = (at c.objects 1 ≡ Some (single 2 4)) × (at c.objects 3 ≡ Some (buffer 5 2 (slot 97 5 ∷ slot 98 5 ∷ []) 5))
 
 abbrev with_string : (number : ℤ) → (view : Pointer) → List Cell
 with_string z v = Empty ∷ Empty ∷ Named 1 ∷ Number z ∷ Points Wild ∷ Points Wild ∷ Points v ∷ []
 
 abbrev characters : List (List ℕ) → Content → Content
-characters words c = owns the_vector c.births (without 3 (filled c.births words (resized_at c.births (length words) 0 (with_birth (id 2) 1 (length words) c))))
+characters words c = owns the_vector c.births (without 3 (filled c.births words (resized_at c.births (length words) 0 (with_birth (id 5) 1 (length words) c))))
 
 appended : (c : Content) → HasString c → live_words_of c ≡ 7 → does (within 20) table f (Changes (object_named 2) (Append (Single 3))) (state c (with_string (pos 120) Wild))
     ≡ Next (state (characters ((97 ∷ []) ∷ (98 ∷ []) ∷ (120 ∷ []) ∷ []) c) (with_string (pos 120) Wild))
@@ -176,10 +176,10 @@ with_vectors = Named 1 ∷ Named 2 ∷ Empty ∷ Number (pos 0) ∷ Points Wild 
 
 -- the copy has just the room that it wants, and stands before what the destination had ends
 abbrev copy_of : Content → Words
-copy_of c = owning (c.births, filled c.births ((1 ∷ []) ∷ (2 ∷ []) ∷ (3 ∷ []) ∷ []) (resized_at c.births 3 0 (with_birth (id 1) 1 3 c)))
+copy_of c = owning (c.births, filled c.births ((1 ∷ []) ∷ (2 ∷ []) ∷ (3 ∷ []) ∷ []) (resized_at c.births 3 0 (with_birth (id 0) 1 3 c)))
 
 copied : (c : Content) → HaveVectors c → live_words_of c ≡ 10 → does (within 20) table f (Copy (object_named 0) (object_named 1)) (state c with_vectors)
-    ≡ Next (state (replaced (Vector (id 1) Value) the_vector (copy_of c)) with_vectors)
+    ≡ Next (state (replaced (Vector (id 0) Value) the_vector (copy_of c)) with_vectors)
 copied c has words = rw (has.0, has.1.0, has.1.0, has.1.1, words) refl
 
 copied_past : (c : Content) → HaveVectors c → live_words_of c ≡ 10 → does (within 14) table f (Copy (object_named 0) (object_named 1)) (state c with_vectors) ≡ Traps trap.Cells

@@ -32,8 +32,8 @@ view_clash e = cc
 
 module _ (types : Types) (l : Local) where
   -- a type that is no pointer, owner or struct is one word
-  single : (t : Option Ty) → slice_get types.types l.ty.0 ≡ t → parts_of types (parts_within l.ty.0 types) l.ty t ≡ Single → parts_if types (Some l.ty) ≡ Single
-  single t e is = ap (parts_of types (parts_within l.ty.0 types) l.ty) e ∙ is
+  single : (t : Option Ty) → slice_get types.types l.ty.0 ≡ t → parts_of types (parts_within l.ty.0 types) t ≡ Single → parts_if types (Some l.ty) ≡ Single
+  single t e is = ap (parts_of types (parts_within l.ty.0 types)) e ∙ is
 
   value_single : (t : Option Ty) → slice_get types.types l.ty.0 ≡ t → held_if (class t) l.kind t ≡ AnObject → parts_if types (Some (variable_type types l.ty t)) ≡ Single
   value_single None e is = single None e refl

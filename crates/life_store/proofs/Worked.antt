@@ -83,7 +83,7 @@ single n word = record { ty = id n; width = 1; capacity = 1; slots = slot word �
 
 -- a buffer with room for so many ints
 abbrev pub buffer : (capacity : ℕ) → List Slot → Object
-buffer capacity slots = record { ty = id 1; width = 1; capacity = capacity; slots = slots; end = 5 }
+buffer capacity slots = record { ty = id 0; width = 1; capacity = capacity; slots = slots; end = 5 }
 
 abbrev pub three : Object
 three = buffer 4 (slot 1 ∷ slot 2 ∷ slot 3 ∷ [])

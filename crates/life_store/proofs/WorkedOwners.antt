@@ -23,7 +23,8 @@ use Rattle.life_store.proofs.Worked.{id, object, register, single, state, table,
 
 -- ---- types: struct S of the table, and its unique_ptr's struct S'
 
-struct_parts : parts_at table (id 6) ≡ Member Single (Member (Vector (id 1) Single) (Member Raw (Member (Unique (id 5) (Member (Text (id 3)) NoMember)) NoMember)))
+-- an owner has the type of what it owns, and a string that of characters, which the table doesn't have
+struct_parts : parts_at table (id 6) ≡ Member Single (Member (Vector (id 0) Single) (Member Raw (Member (Unique (id 4) (Member (Text (id 12)) NoMember)) NoMember)))
 struct_parts = refl
 
 struct_width : width (parts_at table (id 6)) ≡ 8
@@ -106,7 +107,7 @@ moved_from : got_or (owned_in 0) (GotFault fault.Moved) ≡ GotFault fault.Moved
 moved_from = refl
 
 -- it may not be moved again; a unique_ptr may, being null then, and what it owns is null
-moved_again : (giving (Text (id 3)) None ≡ GotFault fault.Moved) × (giving (Unique (id 5) Single) None ≡ Got None)
+moved_again : (giving (Text (id 12)) None ≡ GotFault fault.Moved) × (giving (Unique (id 4) Single) None ≡ Got None)
 moved_again = (refl, refl)
 
 no_target : (types : Types) (f : Function) (p : Location) (st : State) → target_at types f p None st ≡ Faults fault.Null
@@ -140,13 +141,13 @@ with_string s = cells Empty Empty Empty s (pos 9) Wild Wild
 abbrev first_of : ℕ → Spot
 first_of n = record { object = n; index = 0; word = 0 }
 
--- ---- Live, End: a vector is born with a buffer of no room, and ends with what it has
+-- ---- Live, End: a vector is born with a buffer of no room, which has the type of the elements, and ends with what it has
 
 abbrev newly : Content → Content
 newly c = resized_at c.births 1 0 (with_birth (id 1) 1 1 c)
 
 born : (c : Content) → live_words_of c ≡ 7 → live_words_of (newly c) ≡ 10 → does (within 12) table f (Live 0 form.Plain) (state c (with_vectors Empty Empty (pos 0)))
-    ≡ Next (state (wrote c.births 0 0 (owner_word (Some (newly c).births) ∷ []) (with_birth (id 1) 1 0 (newly c))) (with_vectors (Named c.births) Empty (pos 0)))
+    ≡ Next (state (wrote c.births 0 0 (owner_word (Some (newly c).births) ∷ []) (with_birth (id 0) 1 0 (newly c))) (with_vectors (Named c.births) Empty (pos 0)))
 born c first second = rw (first, second) refl
 
 no_room : (c : Content) → live_words_of c ≡ 7 → live_words_of (newly c) ≡ 10 → does (within 11) table f (Live 0 form.Plain) (state c (with_vectors Empty Empty (pos 0))) ≡ Traps trap.Cells
@@ -167,16 +168,16 @@ moved c to from held =
     rw (to, from, other, old, left) refl
 
 -- a string's buffer has another number then, so what pointed to its characters dangles
-string_taken : (c : Content) → at c.objects 3 ≡ Some three → taken (Text (id 3)) (owner_word (Some 3) ∷ []) c ≡ (owner_word (Some c.births) ∷ [], with_rename 3 three c)
+string_taken : (c : Content) → at c.objects 3 ≡ Some three → taken (Text (id 12)) (owner_word (Some 3) ∷ []) c ≡ (owner_word (Some c.births) ∷ [], with_rename 3 three c)
 string_taken c held = rw held refl
 
 -- ---- Make
 
-made_null : (c : Content) → at c.objects 1 ≡ Some (single 11 4) → at c.objects 3 ≡ Some (single 11 7) → does (within 9) table f (Make (whole 2) made.Null) (state c (with_pointer (Named 1)))
+made_null : (c : Content) → at c.objects 1 ≡ Some (single 11 4) → at c.objects 3 ≡ Some (single 0 7) → does (within 9) table f (Make (whole 2) made.Null) (state c (with_pointer (Named 1)))
     ≡ Next (state (wrote_spot (first_of 1) (owner_word None ∷ []) (without 3 c)) (with_pointer (Named 1)))
 made_null c owner held = rw (owner, held) refl
 
--- the new target is there before the old one ends
+-- the new target, an int, is there before the old one ends
 made_of : (c : Content) → live_words_of c ≡ 7 → does (within 10) table f (Make (whole 2) (made.Of 4)) (state c (with_pointer (Named 1)))
-    ≡ Next (remade (Unique (id 11) Single) (first_of 1) (c.births, wrote c.births 0 0 (9 ∷ []) (resized_at c.births 1 0 (with_birth (id 11) 1 1 c))) (state c (with_pointer (Named 1))))
+    ≡ Next (remade (Unique (id 0) Single) (first_of 1) (c.births, wrote c.births 0 0 (9 ∷ []) (resized_at c.births 1 0 (with_birth (id 0) 1 1 c))) (state c (with_pointer (Named 1))))
 made_of c full = rw full refl

@@ -41,7 +41,7 @@ born_pointer form.Zero = Null
 abbrev pub empty_view : Pointer
 empty_view = Static (record { text = None; index = 0; count = 0 })
 
--- a value as it comes to life: a vector and a string have a buffer without room, and their type is the buffer's
+-- a value as it comes to life: a vector and a string have a buffer without room, of the type of what it will hold
 abbrev pub fresh : Setting → Form → Parts → Content → Attempt Words
 fresh s form Single c = Got (0 ∷ [], c)
 fresh s form Raw c = Got (pointer_words (born_pointer form), c)

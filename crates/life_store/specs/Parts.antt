@@ -1,5 +1,5 @@
 -- How a value of a type lies in the words of a slot: the parts of the type, and where each member begins.
-use Rattle.std.specs.Prelude.{ℕ, zero, suc, ◌+◌, false, cond, List, [], ◌∷◌, Option, Some, None, slice_get, take, sum_by}
+use Rattle.std.specs.Prelude.{ℕ, zero, suc, ◌+◌, false, cond, List, [], ◌∷◌, Option, Some, None, length, slice_get, take, sum_by}
 use Rattle.life_types.specs.Trees.{members_at}
 use Rattle.life_types.specs.Types.{Types, is_slot_target}
 use Rattle.life_types.specs.declared.ty.Ty.{Ty}
@@ -9,8 +9,8 @@ use Rattle.life_core.specs.declared.program.Local.{Local}
 use Rattle.life_core.specs.Function.{Function}
 use Rattle.life_core.specs.Operands.{Location, Operand, Name, Through}
 
--- a value; a raw pointer or reference, an iterator, a span or a view; an owner with the number of its own type; a struct as its first
--- member, and the struct of the members behind it
+-- a value; a raw pointer or reference, an iterator, a span or a view; an owner with the number of the type of what it owns; a struct as
+-- its first member, and the struct of the members behind it
 pub data Parts : Type 0 where
   Single : Parts
   Raw : Parts
@@ -40,23 +40,27 @@ abbrev pub struct_of : (TyId → Parts) → List TyId → Parts
 struct_of part [] = NoMember
 struct_of part (id ∷ ids) = Member (part id) (struct_of part ids)
 
+-- the type of the characters of a string: the first number that the table doesn't have, since it need not have a char
+abbrev pub characters_type : Types → TyId
+characters_type types = record { 0 = length types.types }
+
 -- a type with the parts of its own parts; what the table doesn't have is like a value
-abbrev pub parts_of : Types → (TyId → Parts) → TyId → Option Ty → Parts
-parts_of types part id (Some variant.Text) = Text id
-parts_of types part id (Some variant.View) = Views
-parts_of types part id (Some (variant.Vector element)) = Vector id (part element)
-parts_of types part id (Some (variant.Unique target)) = Unique id (part target)
-parts_of types part id (Some (variant.Raw target constant)) = Raw
-parts_of types part id (Some (variant.Reference target constant)) = Raw
-parts_of types part id (Some (variant.Iterator target constant)) = Iterates
-parts_of types part id (Some (variant.Span target constant)) = Views
-parts_of types part id (Some (variant.Struct number)) = struct_of part (members_at types number)
-parts_of types part id _ = Single
+abbrev pub parts_of : Types → (TyId → Parts) → Option Ty → Parts
+parts_of types part (Some variant.Text) = Text (characters_type types)
+parts_of types part (Some variant.View) = Views
+parts_of types part (Some (variant.Vector element)) = Vector element (part element)
+parts_of types part (Some (variant.Unique target)) = Unique target (part target)
+parts_of types part (Some (variant.Raw target constant)) = Raw
+parts_of types part (Some (variant.Reference target constant)) = Raw
+parts_of types part (Some (variant.Iterator target constant)) = Iterates
+parts_of types part (Some (variant.Span target constant)) = Views
+parts_of types part (Some (variant.Struct number)) = struct_of part (members_at types number)
+parts_of types part _ = Single
 
 -- .. so many steps deep
 abbrev pub parts_within : ℕ → Types → TyId → Parts
 parts_within zero types id = Single
-parts_within (suc n) types id = parts_of types (parts_within n types) id (slice_get types.types id.0)
+parts_within (suc n) types id = parts_of types (parts_within n types) (slice_get types.types id.0)
 
 -- the parts of a type have smaller numbers, so its own number is deep enough
 abbrev pub parts_at : Types → TyId → Parts
