@@ -1,5 +1,5 @@
 // The table of types, as it grows.
-ghost use Rattle.std.specs.Prelude.{◌≡◌, ◌<◌, ◌-◌, ◌^◌, length, IfOk, IsTrue, OnOk};
+ghost use Rattle.std.specs.Prelude.{◌≡◌, ◌<◌, ◌-◌, ◌^◌, length, IfOk, IfSome, IsTrue, OnOk};
 ghost use Rattle.life_types.specs.Types.{HasParts, HasType, with_type};
 ghost use Rattle.life_writer.specs.Registers.{number_of};
 
@@ -7,6 +7,9 @@ use life_types::{NoMemory, Ty, TyId, TypeTable};
 
 // A table that has this type is full.
 const LAST: TyId = TyId(u32::MAX - 1);
+
+// So many types are looked at one by one, before any is hashed: most registers have one of the first.
+const FIRST: u32 = 4;
 
 #[tactic(auto, using(crate::proofs::TypeNumbers::room))]
 fn has_room(types: &TypeTable) -> bool
@@ -39,6 +42,21 @@ fn has_parts(types: &TypeTable, ty: Ty) -> bool
     }
 }
 
+// The number of a type that is among the first.
+fn early_number(types: &TypeTable, ty: Ty) -> Option<TyId>
+    ensures number { IfSome result (λ id. id ≡ record { 0 = number_of types.now.types ty }) }
+    ensures there { IfSome result (λ id. types.now ≡ record types.now { types = with_type types.now.types ty }) }
+{
+    'first: for number in 0..FIRST {
+        match types.get(TyId(number)) {
+            Some(found) if ty == found => return Some(TyId(number)),
+            Some(_) => {}
+            None => return None,
+        }
+    }
+    None
+}
+
 /// The number of a type, which is added if the table doesn't have it.
 ///
 /// # Errors
@@ -49,6 +67,9 @@ pub fn add_type(types: &mut TypeTable, ty: Ty) -> Result<TyId, NoMemory>
     ensures number { IfOk result (λ id. id ≡ record { 0 = number_of types.new.types ty }) }
     ensures grown { OnOk result (types.new ≡ record types.old { types = with_type types.old.types ty }) }
 {
+    if let Some(number) = early_number(types, ty) {
+        return Ok(number);
+    }
     if has_room(types) && has_parts(types, ty) {
         types.add(ty)
     } else {
