@@ -4,6 +4,7 @@ pub mod Giving
 pub mod Handing
 pub mod LongLiterals
 pub mod Made
+pub mod NothingPending
 pub mod Opened
 pub mod Seen
 pub mod Turns

@@ -188,6 +188,9 @@ impl Writer {
     pub fn end_pending(&mut self, before: usize, place: Place) -> Result<(), NoMemory>
         ensures { OnOk result (state_of self.new ≡ spec.end_pending before place (state_of self.old)) }
     {
+        if self.pending.len() <= before {
+            return Ok(());
+        }
         let locals = reversed(self.alloc, self.pending_past(before))?;
         self.end(locals, place)?;
         self.pending.truncate(before);
