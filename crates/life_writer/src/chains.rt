@@ -50,8 +50,8 @@ fn is_between(chain: Chain, category: Category, row: Row) -> bool
 }
 
 /// Whether a part is one of a chain's operators.
-pub(crate) fn is_link(chain: Chain, node: Node<'_>) -> bool
-    ensures { result ≡ spec.is_link chain node.entry.category node.entry.shape }
+pub(crate) fn is_link(chain: Chain, node: &Node<'_>) -> bool
+    ensures { result ≡ spec.is_link chain node.now.category node.now.shape }
 {
     match node.shape {
         Shape::Binary {
@@ -70,7 +70,7 @@ fn is_link_at(chain: Chain, operands: &[TypedOperand], number: usize) -> bool
     ensures follows { IsTrue result → spec.Follows chain (inside (take number operands.now)) (inside (take (number + 1) operands.now)) }
 {
     match last_of(&operands[..number + 1]) {
-        Some(part) => is_link(chain, part.opened()),
+        Some(part) => is_link(chain, &part.opened()),
         None => false,
     }
 }

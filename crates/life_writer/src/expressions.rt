@@ -82,8 +82,8 @@ impl Writer {
             return Ok(0);
         };
         let node = part.opened();
-        if !is_link(Chain::Computed, node) {
-            return self.lone_value(a, node, behind, into);
+        if !is_link(Chain::Computed, &node) {
+            return self.lone_value(a, &node, behind, into);
         }
         let within = part.within;
         let from = chain_begins(Chain::Computed, within);
@@ -100,11 +100,11 @@ impl Writer {
     fn lone_value(
         &mut self,
         a: &Around,
-        node: Node<'_>,
+        node: &Node<'_>,
         behind: Place,
         into: Option<u32>,
     ) -> Result<u32, NoMemory>
-        ensures { Answers (λ x. x) result (spec.own_value (around_of a.now) (node_view node.entry) behind into (state_of self.old)) (state_of self.new) }
+        ensures { Answers (λ x. x) result (spec.own_value (around_of a.now) (node_view node.now) behind into (state_of self.old)) (state_of self.new) }
     {
         if let Some(condition) = self.decision(a, node, Behind::lasting(behind))? {
             let ty = own_type(node.ty);
@@ -193,11 +193,11 @@ impl Writer {
     fn read_or_made(
         &mut self,
         a: &Around,
-        node: Node<'_>,
+        node: &Node<'_>,
         behind: Place,
         into: Option<u32>,
     ) -> Result<u32, NoMemory>
-        ensures { Answers (λ x. x) result (spec.read_or_made (around_of a.now) (node_view node.entry) behind into (state_of self.old)) (state_of self.new) }
+        ensures { Answers (λ x. x) result (spec.read_or_made (around_of a.now) (node_view node.now) behind into (state_of self.old)) (state_of self.new) }
     {
         let ty = own_type(node.ty);
         match node.category {
@@ -214,12 +214,12 @@ impl Writer {
     fn made(
         &mut self,
         a: &Around,
-        node: Node<'_>,
+        node: &Node<'_>,
         behind: Place,
         ty: Ty,
         into: Option<u32>,
     ) -> Result<u32, NoMemory>
-        ensures { Answers (λ x. x) result (spec.made (around_of a.now) (node_view node.entry).form node.entry.place behind ty into (state_of self.old)) (state_of self.new) }
+        ensures { Answers (λ x. x) result (spec.made (around_of a.now) (node_view node.now).form node.now.place behind ty into (state_of self.old)) (state_of self.new) }
     {
         let place = node.place;
         match node.shape {
@@ -330,15 +330,15 @@ impl Writer {
         ensures { Answers operand_of result (spec.operand (around_of a.now) (part_form part.entry) (state_of self.old)) (state_of self.new) }
     {
         match part {
-            Some(part) => self.node_operand(a, part.opened()),
+            Some(part) => self.node_operand(a, &part.opened()),
             None => Ok(Operand::name(self.alloc, 0)),
         }
     }
 
     // The place that a part is.
     #[cycle(pointers)]
-    fn node_operand(&mut self, a: &Around, node: Node<'_>) -> Result<Operand, NoMemory>
-        ensures { Answers operand_of result (spec.operand (around_of a.now) (node_view node.entry).form (state_of self.old)) (state_of self.new) }
+    fn node_operand(&mut self, a: &Around, node: &Node<'_>) -> Result<Operand, NoMemory>
+        ensures { Answers operand_of result (spec.operand (around_of a.now) (node_view node.now).form (state_of self.old)) (state_of self.new) }
     {
         match node.shape {
             Shape::Local(number) => Ok(self.variable_place(number)),
@@ -366,14 +366,14 @@ impl Writer {
         ensures { Answers pointing_of result (spec.pointing (around_of a.now) (part_form part.entry) (state_of self.old)) (state_of self.new) }
     {
         match part {
-            Some(part) => self.node_pointing(a, part.opened()),
+            Some(part) => self.node_pointing(a, &part.opened()),
             None => Ok(Pointing::At(Source::Null)),
         }
     }
 
     #[cycle(pointers)]
-    fn node_pointing(&mut self, a: &Around, node: Node<'_>) -> Result<Pointing, NoMemory>
-        ensures { Answers pointing_of result (spec.pointing (around_of a.now) (node_view node.entry).form (state_of self.old)) (state_of self.new) }
+    fn node_pointing(&mut self, a: &Around, node: &Node<'_>) -> Result<Pointing, NoMemory>
+        ensures { Answers pointing_of result (spec.pointing (around_of a.now) (node_view node.now).form (state_of self.old)) (state_of self.new) }
     {
         match node.shape {
             Shape::Null => Ok(Pointing::At(Source::Null)),
@@ -402,14 +402,14 @@ impl Writer {
         ensures { Answers location_of result (spec.pointer (around_of a.now) (part_form part.entry) (state_of self.old)) (state_of self.new) }
     {
         match part {
-            Some(part) => self.node_pointer(a, part.opened()),
+            Some(part) => self.node_pointer(a, &part.opened()),
             None => Ok(Location::whole(self.alloc, 0)),
         }
     }
 
     #[cycle(pointers)]
-    fn node_pointer(&mut self, a: &Around, node: Node<'_>) -> Result<Location, NoMemory>
-        ensures { Answers location_of result (spec.pointer (around_of a.now) (whole (node_view node.entry)) (state_of self.old)) (state_of self.new) }
+    fn node_pointer(&mut self, a: &Around, node: &Node<'_>) -> Result<Location, NoMemory>
+        ensures { Answers location_of result (spec.pointer (around_of a.now) (whole (node_view node.now)) (state_of self.old)) (state_of self.new) }
     {
         let pointing = self.node_pointing(a, node)?;
         self.located(node.place, own_type(node.ty), pointing)
@@ -441,8 +441,8 @@ impl Writer {
             return Ok(Condition::Single(NOWHERE, Test::NonZero(0)));
         };
         let node = part.opened();
-        if !is_link(Chain::Joined, node) {
-            return self.lone_condition(a, node, behind);
+        if !is_link(Chain::Joined, &node) {
+            return self.lone_condition(a, &node, behind);
         }
         let within = part.within;
         let from = chain_begins(Chain::Joined, within);
@@ -461,10 +461,10 @@ impl Writer {
     fn lone_condition(
         &mut self,
         a: &Around,
-        node: Node<'_>,
+        node: &Node<'_>,
         behind: Behind,
     ) -> Result<Condition, NoMemory>
-        ensures { Answers condition_tree result (spec.condition (around_of a.now) (whole (node_view node.entry)) behind (state_of self.old)) (state_of self.new) }
+        ensures { Answers condition_tree result (spec.condition (around_of a.now) (whole (node_view node.now)) behind (state_of self.old)) (state_of self.new) }
     {
         match self.decision(a, node, behind)? {
             Some(decision) => Ok(decision),
@@ -528,10 +528,10 @@ impl Writer {
     fn points(
         &mut self,
         a: &Around,
-        node: Node<'_>,
+        node: &Node<'_>,
         ends: Option<Place>,
     ) -> Result<Condition, NoMemory>
-        ensures { Answers condition_tree result (conditions.not_null node.entry.place ends (spec.pointer (around_of a.now) (whole (node_view node.entry))) (state_of self.old)) (state_of self.new) }
+        ensures { Answers condition_tree result (conditions.not_null node.now.place ends (spec.pointer (around_of a.now) (whole (node_view node.now))) (state_of self.old)) (state_of self.new) }
     {
         let before = self.begin_test();
         let location = self.node_pointer(a, node)?;
@@ -558,10 +558,10 @@ impl Writer {
     fn non_zero(
         &mut self,
         a: &Around,
-        node: Node<'_>,
+        node: &Node<'_>,
         behind: Behind,
     ) -> Result<Condition, NoMemory>
-        ensures { Answers condition_tree result (conditions.non_zero node.entry.place behind.ends (spec.read_or_made (around_of a.now) (node_view node.entry) behind.token None) (state_of self.old)) (state_of self.new) }
+        ensures { Answers condition_tree result (conditions.non_zero node.now.place behind.ends (spec.read_or_made (around_of a.now) (node_view node.now) behind.token None) (state_of self.old)) (state_of self.new) }
     {
         let before = self.begin_test();
         let register = self.read_or_made(a, node, behind.token, None)?;
@@ -573,10 +573,10 @@ impl Writer {
     fn decision(
         &mut self,
         a: &Around,
-        node: Node<'_>,
+        node: &Node<'_>,
         behind: Behind,
     ) -> Result<Option<Condition>, NoMemory>
-        ensures { AnswersIf condition_tree result (spec.decision (around_of a.now) (node_view node.entry).form node.entry.place behind) (state_of self.old) (state_of self.new) }
+        ensures { AnswersIf condition_tree result (spec.decision (around_of a.now) (node_view node.now).form node.now.place behind) (state_of self.old) (state_of self.new) }
     {
         match node.shape {
             Shape::Paren { inner, closing } => {
@@ -609,7 +609,7 @@ impl Writer {
         ensures { AnswersIf condition_tree result (spec.decision (around_of a.now) (part_form part.entry) place behind) (state_of self.old) (state_of self.new) }
     {
         match part {
-            Some(part) => self.decision(a, part.opened(), behind),
+            Some(part) => self.decision(a, &part.opened(), behind),
             None => Ok(None),
         }
     }

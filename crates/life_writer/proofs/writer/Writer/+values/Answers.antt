@@ -85,7 +85,7 @@ own_value-returns t c =
 
 pub lone_value-returns-in-Some : goal.lone_value-returns-in-Some
 lone_value-returns-in-Some t c =
-    let a = around_of c.args.a.now in let e = node_view c.args.node in
+    let a = around_of c.args.a.now in let e = node_view c.args.node.now in
     value_decided condition_tree c.in-Some.condition c.args.into c.own_type-ty.result (own_type e.ty) e.place e.category (decision a e.form e.place (lasting c.args.behind)) (operand a e.form) (made a e.form e.place c.args.behind (own_type e.ty))
     (state_of c.args.self.now) (state_of c.decision.new.self) (state_of c.by_branch.new.self) c.by_branch.result c.own_type-ty.ensures
     (decides condition_tree c.in_ok-condition.field-0 c.in-Some.condition (decision a e.form e.place (lasting c.args.behind)) (state_of c.args.self.now) (state_of c.decision.new.self) c.in-Some.is
@@ -94,7 +94,7 @@ lone_value-returns-in-Some t c =
 
 pub lone_value-returns : goal.lone_value-returns
 lone_value-returns t c =
-    let a = around_of c.args.a.now in let e = node_view c.args.node in
+    let a = around_of c.args.a.now in let e = node_view c.args.node.now in
     let none = leaves condition_tree c.in_ok-condition.field-0 (decision a e.form e.place (lasting c.args.behind)) (state_of c.args.self.now) (state_of c.decision.new.self)
     (nothing_there c.in_ok-condition.field-0 c.in_default.not-Some)
     (decision_behind a e c.in_ok-condition.field-0 c.lasting.result (lasting c.args.behind) (state_of c.args.self.now) (state_of c.decision.new.self) c.lasting.ensures c.in_ok-condition.ensures) in
@@ -120,12 +120,12 @@ operated_with-returns-in_ok-right-in-Computed t c =
 
 pub read_or_made-returns-in-Value : goal.read_or_made-returns-in-Value
 read_or_made-returns-in-Value t c =
-    is_made (around_of c.args.a.now) (node_view c.args.node) c.args.behind c.own_type-ty.result c.args.into (state_of c.args.self.now) (state_of c.made.new.self) c.made.result
+    is_made (around_of c.args.a.now) (node_view c.args.node.now) c.args.behind c.own_type-ty.result c.args.into (state_of c.args.self.now) (state_of c.made.new.self) c.made.result
     c.in-Value.is c.own_type-ty.ensures c.made.ensures
 
 pub read_or_made-returns-in_ok-from-in-Place : goal.read_or_made-returns-in_ok-from-in-Place
 read_or_made-returns-in_ok-from-in-Place t c =
-    is_read (around_of c.args.a.now) (node_view c.args.node) c.args.behind c.own_type-ty.result c.in-Place.ty c.in-Place.constant c.args.into (state_of c.args.self.now) (state_of c.node_operand.new.self) (state_of c.load.new.self)
+    is_read (around_of c.args.a.now) (node_view c.args.node.now) c.args.behind c.own_type-ty.result c.in-Place.ty c.in-Place.constant c.args.into (state_of c.args.self.now) (state_of c.node_operand.new.self) (state_of c.load.new.self)
     (operand_of c.in_ok-from-in-Place.from) c.load.result c.in-Place.is c.own_type-ty.ensures c.in_ok-from-in-Place.ensures c.load.ensures
 
 -- ---- values that are made
@@ -133,36 +133,36 @@ read_or_made-returns-in_ok-from-in-Place t c =
 pub made-returns-in-Number : goal.made-returns-in-Number
 made-returns-in-Number t c =
     let fits : SFits w64 c.cast_signed.result = search rules in
-    made_number (around_of c.args.a.now) c.args.node.shape c.in-Number.number _ c.args.node.place c.args.behind c.args.ty c.args.into (state_of c.args.self.now) (state_of c.eval.new.self) c.eval.result
+    made_number (around_of c.args.a.now) c.args.node.now.shape c.in-Number.number _ c.args.node.now.place c.args.behind c.args.ty c.args.into (state_of c.args.self.now) (state_of c.eval.new.self) c.eval.result
     c.in-Number.is (to_z-of_z w64 c.cast_signed.result fits ∙ c.cast_signed.ensures) c.eval.ensures
 
 pub made-returns-in_ok-arguments-in-Call : goal.made-returns-in_ok-arguments-in-Call
 made-returns-in_ok-arguments-in-Call t c =
-    made_called (around_of c.args.a.now) (shape_form c.args.node.shape) c.in-Call.function (forms (typed_views c.in-Call.arguments.now)) c.in-Call.closing c.args.node.place c.args.behind c.args.ty c.args.into
+    made_called (around_of c.args.a.now) (shape_form c.args.node.now.shape) c.in-Call.function (forms (typed_views c.in-Call.arguments.now)) c.in-Call.closing c.args.node.now.place c.args.behind c.args.ty c.args.into
     (state_of c.args.self.now) (state_of c.handed_over.new.self) (state_of c.built.new.self) (map (λ (l : TypedLocal). l.ty) c.parameters.result.now)
     (map argument_of c.in_ok-arguments-in-Call.arguments.items) c.built.result
     (ap shape_form c.in-Call.is) c.parameters.ensures c.in_ok-arguments-in-Call.ensures c.built.ensures
 
 pub made-returns-in-Paren : goal.made-returns-in-Paren
 made-returns-in-Paren t c =
-    made_as (around_of c.args.a.now) c.args.node.shape (shape.Paren c.in-Paren.inner c.in-Paren.closing) c.args.node.place c.args.behind c.args.ty c.args.into (state_of c.args.self.now) (state_of c.part_value.new.self)
+    made_as (around_of c.args.a.now) c.args.node.now.shape (shape.Paren c.in-Paren.inner c.in-Paren.closing) c.args.node.now.place c.args.behind c.args.ty c.args.into (state_of c.args.self.now) (state_of c.part_value.new.self)
     c.part_value.result c.in-Paren.is c.part_value.ensures
 
 pub made-returns-in_ok-emit-in-Input : goal.made-returns-in_ok-emit-in-Input
 made-returns-in_ok-emit-in-Input t c =
-    made_taken (around_of c.args.a.now) (shape_form c.args.node.shape) c.args.node.place c.args.behind c.args.ty c.args.into (state_of c.args.self.now) (state_of c.target.new.self) (state_of c.emit.new.self)
+    made_taken (around_of c.args.a.now) (shape_form c.args.node.now.shape) c.args.node.now.place c.args.behind c.args.ty c.args.into (state_of c.args.self.now) (state_of c.target.new.self) (state_of c.emit.new.self)
     c.in_ok-into-in-Input.into (ap shape_form c.in-Input.is) c.in_ok-into-in-Input.ensures c.in_ok-emit-in-Input.ensures
 
 pub made-returns-in_ok-register-in-Negate : goal.made-returns-in_ok-register-in-Negate
 made-returns-in_ok-register-in-Negate t c =
     answers_as (λ x. x) c.eval-in-Negate.result _ _ _
-    (made_negated (around_of c.args.a.now) (shape_form c.args.node.shape) (part_form c.in-Negate.operand) c.args.node.place c.args.behind c.args.ty c.args.into (state_of c.args.self.now)
+    (made_negated (around_of c.args.a.now) (shape_form c.args.node.now.shape) (part_form c.in-Negate.operand) c.args.node.now.place c.args.behind c.args.ty c.args.into (state_of c.args.self.now)
     c.in_ok-register-in-Negate.register (state_of c.part_value-in-Negate.new.self) (ap shape_form c.in-Negate.is) c.in_ok-register-in-Negate.ensures)
     c.eval-in-Negate.ensures
 
 pub made-returns-in-Binary : goal.made-returns-in-Binary
 made-returns-in-Binary t c =
-    made_between (around_of c.args.a.now) c.in-Binary.operator (part_form c.in-Binary.left) (whole (part_view c.in-Binary.right)) (shape_form c.args.node.shape) c.args.node.place c.args.behind c.args.ty c.args.into
+    made_between (around_of c.args.a.now) c.in-Binary.operator (part_form c.in-Binary.left) (whole (part_view c.in-Binary.right)) (shape_form c.args.node.now.shape) c.args.node.now.place c.args.behind c.args.ty c.args.into
     (state_of c.args.self.now) (state_of c.operated_by.new.self) c.row_between-row.result c.operated_by.result (ap shape_form c.in-Binary.is) c.row_between-row.ensures c.operated_by.ensures
 
 pub operated_by-returns-in_ok-right-in-Computed : goal.operated_by-returns-in_ok-right-in-Computed
@@ -256,13 +256,13 @@ part_condition-returns t c =
 
 pub lone_condition-returns-in-Some : goal.lone_condition-returns-in-Some
 lone_condition-returns-in-Some t c =
-    let a = around_of c.args.a.now in let e = node_view c.args.node in let b = c.args.behind in
+    let a = around_of c.args.a.now in let e = node_view c.args.node.now in let b = c.args.behind in
     condition_decided condition_tree c.in-Some.decision (decision a e.form e.place b) (own_type e.ty) e.place b.ends (pointer a (whole e)) (read_or_made a e b.token None) (state_of c.args.self.now) (state_of c.decision.new.self)
     (decides condition_tree c.in_ok-decision.field-0 c.in-Some.decision (decision a e.form e.place b) (state_of c.args.self.now) (state_of c.decision.new.self) c.in-Some.is c.in_ok-decision.ensures)
 
 pub lone_condition-returns-in-None : goal.lone_condition-returns-in-None
 lone_condition-returns-in-None t c =
-    let a = around_of c.args.a.now in let e = node_view c.args.node in let b = c.args.behind in
+    let a = around_of c.args.a.now in let e = node_view c.args.node.now in let b = c.args.behind in
     let none = leaves condition_tree c.in_ok-decision.field-0 (decision a e.form e.place b) (state_of c.args.self.now) (state_of c.decision.new.self) c.in-None.is c.in_ok-decision.ensures in
     answers_as condition_tree c.points.result _ _ _
     (condition_pointer (decision a e.form e.place b) (own_type e.ty) e.place b.ends (pointer a (whole e)) (read_or_made a e b.token None) (state_of c.args.self.now) (state_of c.decision.new.self) none.0 none.1
@@ -271,7 +271,7 @@ lone_condition-returns-in-None t c =
 
 pub lone_condition-returns-in-None-2 : goal.lone_condition-returns-in-None-2
 lone_condition-returns-in-None-2 t c =
-    let a = around_of c.args.a.now in let e = node_view c.args.node in let b = c.args.behind in
+    let a = around_of c.args.a.now in let e = node_view c.args.node.now in let b = c.args.behind in
     let none = leaves condition_tree c.in_ok-decision.field-0 (decision a e.form e.place b) (state_of c.args.self.now) (state_of c.decision.new.self) c.in-None.is c.in_ok-decision.ensures in
     answers_as condition_tree c.non_zero.result _ _ _
     (condition_value (decision a e.form e.place b) (own_type e.ty) e.place b.ends (pointer a (whole e)) (read_or_made a e b.token None) (state_of c.args.self.now) (state_of c.decision.new.self) none.0 none.1
@@ -293,7 +293,7 @@ joined_with-returns-in_ok-right-in-Joined t c =
 
 pub non_zero-returns : goal.non_zero-returns
 non_zero-returns t c =
-    tested_behind c.args.node.place c.args.behind.ends (read_or_made (around_of c.args.a.now) (node_view c.args.node) c.args.behind.token None) NonZero (state_of c.args.self.now) (state_of c.begin_test-before.new.self) (state_of c.read_or_made.new.self)
+    tested_behind c.args.node.now.place c.args.behind.ends (read_or_made (around_of c.args.a.now) (node_view c.args.node.now) c.args.behind.token None) NonZero (state_of c.args.self.now) (state_of c.begin_test-before.new.self) (state_of c.read_or_made.new.self)
     (state_of c.behind_code.new.self) c.in_ok-register.register (map tree_of c.begin_test-before.result.code.items) c.begin_test-before.result.pending c.behind_code.result
     c.begin_test-before.ensures.before c.begin_test-before.ensures.pending c.begin_test-before.ensures.state c.in_ok-register.ensures c.behind_code.ensures
 
@@ -308,14 +308,14 @@ part_decision-returns-in-Some t c =
 pub decision-returns-in-Paren : goal.decision-returns-in-Paren
 decision-returns-in-Paren t c =
     answers_if_as condition_tree c.part_decision.result _ _ _ _
-    (ap (λ (x : Shape). decision (around_of c.args.a.now) (shape_form x) c.args.node.place c.args.behind) c.in-Paren.is
-    ∙ ap (λ (b : Behind). decision (around_of c.args.a.now) (part_form c.in-Paren.inner) c.args.node.place b) (sym c.closed_by.ensures))
+    (ap (λ (x : Shape). decision (around_of c.args.a.now) (shape_form x) c.args.node.now.place c.args.behind) c.in-Paren.is
+    ∙ ap (λ (b : Behind). decision (around_of c.args.a.now) (part_form c.in-Paren.inner) c.args.node.now.place b) (sym c.closed_by.ensures))
     c.part_decision.ensures
 
 pub decision-returns-in_ok-negation-in-Not : goal.decision-returns-in_ok-negation-in-Not
 decision-returns-in_ok-negation-in-Not t c =
     let a = around_of c.args.a.now in
-    answered_as condition_tree c.in_ok-negation-in-Not.field-0 _ _ _ _ (ap (λ (x : Shape). decision a (shape_form x) c.args.node.place c.args.behind) c.in-Not.is)
+    answered_as condition_tree c.in_ok-negation-in-Not.field-0 _ _ _ _ (ap (λ (x : Shape). decision a (shape_form x) c.args.node.now.place c.args.behind) c.in-Not.is)
     (negation_gives (condition a (part_form c.in-Not.operand) c.args.behind) (state_of c.args.self.now) (condition_tree c.in_ok-condition-in-Not.condition) (state_of c.part_condition.new.self)
     (condition_tree c.in_ok-negation-in-Not.field-0) c.in_ok-condition-in-Not.ensures c.in_ok-negation-in-Not.ensures)
 
@@ -323,8 +323,8 @@ pub decision-returns-in-Binary : goal.decision-returns-in-Binary
 decision-returns-in-Binary t c =
     let a = around_of c.args.a.now in
     answers_if_as condition_tree c.decided.result _ _ _ _
-    (ap (λ (x : Shape). decision a (shape_form x) c.args.node.place c.args.behind) c.in-Binary.is
-    ∙ ap (λ (w : Row). decided_between a w c.args.node.place c.args.behind (part_form c.in-Binary.left) (whole (part_view c.in-Binary.right))) (sym c.row_between-row.ensures))
+    (ap (λ (x : Shape). decision a (shape_form x) c.args.node.now.place c.args.behind) c.in-Binary.is
+    ∙ ap (λ (w : Row). decided_between a w c.args.node.now.place c.args.behind (part_form c.in-Binary.left) (whole (part_view c.in-Binary.right))) (sym c.row_between-row.ensures))
     c.decided.ensures
 
 pub decided-returns-in_ok-join-in-Joined : goal.decided-returns-in_ok-join-in-Joined

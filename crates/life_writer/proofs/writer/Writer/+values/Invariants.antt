@@ -22,7 +22,7 @@ abbrev pub decreases-own_value : goal.decreases-own_value
 decreases-own_value l = weight (part_form l.part) * 16 + 9
 
 abbrev pub decreases-lone_value : goal.decreases-lone_value
-decreases-lone_value l = weight (whole (node_view l.node)) * 16 + 8
+decreases-lone_value l = weight (whole (node_view l.node.now)) * 16 + 8
 
 abbrev pub decreases-operated : goal.decreases-operated
 decreases-operated l = weight (node_form l.node) * 16 + 2
@@ -34,10 +34,10 @@ abbrev pub decreases-operated_by : goal.decreases-operated_by
 decreases-operated_by l = (weight (part_form l.left) + weight (whole (part_view l.right))) * 16 + 11
 
 abbrev pub decreases-read_or_made : goal.decreases-read_or_made
-decreases-read_or_made l = weight (whole (node_view l.node)) * 16 + 4
+decreases-read_or_made l = weight (whole (node_view l.node.now)) * 16 + 4
 
 abbrev pub decreases-made : goal.decreases-made
-decreases-made l = weight (whole (node_view l.node)) * 16 + 3
+decreases-made l = weight (whole (node_view l.node.now)) * 16 + 3
 
 abbrev pub decreases-handed_over : goal.decreases-handed_over
 decreases-handed_over l = weight (forms (typed_views l.arguments.now)) * 16 + 1
@@ -46,13 +46,13 @@ abbrev pub decreases-part_condition : goal.decreases-part_condition
 decreases-part_condition l = weight (part_form l.part) * 16 + 10
 
 abbrev pub decreases-lone_condition : goal.decreases-lone_condition
-decreases-lone_condition l = weight (whole (node_view l.node)) * 16 + 8
+decreases-lone_condition l = weight (whole (node_view l.node.now)) * 16 + 8
 
 abbrev pub decreases-non_zero : goal.decreases-non_zero
-decreases-non_zero l = weight (whole (node_view l.node)) * 16 + 6
+decreases-non_zero l = weight (whole (node_view l.node.now)) * 16 + 6
 
 abbrev pub decreases-decision : goal.decreases-decision
-decreases-decision l = weight (whole (node_view l.node)) * 16 + 5
+decreases-decision l = weight (whole (node_view l.node.now)) * 16 + 5
 
 abbrev pub decreases-part_decision : goal.decreases-part_decision
 decreases-part_decision l = weight (part_form l.part) * 16 + 6
