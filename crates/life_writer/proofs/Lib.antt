@@ -4,7 +4,7 @@ pub mod Giving
 pub mod Handing
 pub mod LongLiterals
 pub mod Made
-pub mod NothingPending
+pub mod NothingEnds
 pub mod Opened
 pub mod Seen
 pub mod Turns

@@ -159,6 +159,9 @@ impl Writer {
     pub fn end_past(&mut self, outside: usize, place: Place) -> Result<(), NoMemory>
         ensures { OnOk result (state_of self.new ≡ spec.end_past outside place (state_of self.old)) }
     {
+        if self.living.len() <= outside {
+            return Ok(());
+        }
         let locals = reversed(self.alloc, self.past(outside))?;
         self.end(locals, place)
     }

@@ -1,6 +1,6 @@
 use Rattle.std.proofs.Common.{sym, arith}
 use Rattle.life_writer.specs.Views.{state_of}
-use Rattle.life_writer.proofs.NothingPending.{nothing_pending}
+use Rattle.life_writer.proofs.NothingEnds.{nothing_pending}
 use Rattle.life_writer.proofs.writer.Writer.end_pending.Goals as goal
 
 pub returns-then-len-before : goal.returns-then-len-before

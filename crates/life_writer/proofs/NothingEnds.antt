@@ -1,9 +1,12 @@
--- Where no temporary is pending, none ends.
+-- Where nothing has been declared since, and no temporary is pending, nothing ends.
 use Rattle.std.proofs.Common.{◌≡◌, ℕ, ◌≤◌, List, length, take, reverse, ap, ◌∙◌}
 use Rattle.std.proofs.lemmas.List.{drop_all, take_all}
 use Rattle.life_types.specs.declared.place.Place.{Place}
-use Rattle.life_writer.specs.Variables.{end, end_pending}
+use Rattle.life_writer.specs.Variables.{end, end_past, end_pending}
 use Rattle.life_writer.specs.Writing.{State}
+
+pub nothing_living : (n : ℕ) (place : Place) (s : State) → length s.living ≤ n → end_past n place s ≡ s
+nothing_living n place s few = ap (λ (xs : List ℕ). end (reverse xs) place s) (drop_all n s.living few)
 
 pub nothing_pending : (n : ℕ) (place : Place) (s : State) → length s.pending ≤ n → end_pending n place s ≡ s
 nothing_pending n place s few =
