@@ -1,4 +1,5 @@
 pub mod Below
+pub mod Chained
 pub mod ExprShrinks
 pub mod Loop
 pub mod Shrinks

@@ -1,12 +1,13 @@
 -- How reading goes, which nobody need believe: readers of parts of expressions, each as a function of the program reads one.
 use Rattle.std.specs.Prelude.{ℕ, Bool, false, ◌==◌, ◌||◌, Ok}
 use Rattle.life_expr.specs.Heads.{heads}
-use Rattle.life_expr.specs.Read.{Reader, Read, ◌>>=◌, as_many, made, reads}
+use Rattle.life_expr.specs.Read.{Reader, Read, ◌>>=◌, as_many, made, reads, starts}
 use Rattle.life_expr.specs.Readers.{Readers, no_reader, args_with, both_with, equal_with, order_with, sum_with, term_with, unary_with, postfix_parts, primary_parts}
 use Rattle.life_expr.specs.Types.{flat}
 use Rattle.life_tree.specs.Grammar.{Form, quoted, name, ◌then◌, ◌or◌, opens, rule, optional, parenthesized, separated, namespaced}
 use Rattle.life_tree.specs.Rules as rules
-use Rattle.life_tree.specs.Tree.{node, ◌⨾◌}
+use Rattle.life_tree.specs.Rules.{Rule}
+use Rattle.life_tree.specs.Tree.{node, nothing, ◌⨾◌, Tree, Tokens}
 use Rattle.life_tree.specs.Views.{at}
 use Rattle.life_tree.specs.declared.fixed.TheConstants as fixed
 use Rattle.life_types.specs.declared.place.Place.{Place}
@@ -68,6 +69,33 @@ multiplicative_part_with n inside us = reads n inside (λ r. unary_with n inside
 
 abbrev pub multiplicative_parts_with : ℕ → Readers → Reader
 multiplicative_parts_with n inside ts = as_many (heads multiplicative_form) (λ us. multiplicative_part_with n inside us) ts
+
+-- an operator of some level stands in front
+abbrev pub starts_operator : Tokens → Bool
+starts_operator ts =
+    starts (heads multiplicative_form) ts || (starts (heads additive_form) ts || (starts (heads relational_form) ts
+    || (starts (heads equality_form) ts || (starts (heads and_form) ts || starts (heads or_form) ts))))
+
+-- ---- an expression behind its first operand
+
+-- what was read, and the parts behind it
+abbrev pub with_parts : Reader → Read → Read
+with_parts parts read = read >>= λ x. parts x.1 >>= λ y. Ok (x.0 ⨾ y.0, y.1)
+
+-- .. as what a rule derives
+abbrev pub level : Rule → Reader → Read → Read
+level r parts read = with_parts parts read >>= λ x. Ok (node r x.0, x.1)
+
+-- an expression, level by level, of what reading its first operand gave
+abbrev pub chained_with : ℕ → Readers → Read → Read
+chained_with n inside read =
+    level rules.expr (or_parts_with n inside) (level rules.both (and_parts_with n inside) (level rules.equal (equality_parts_with n inside)
+    (level rules.order (relational_parts_with n inside) (level rules.sum (additive_parts_with n inside) (level rules.term (multiplicative_parts_with n inside) read)))))
+
+-- .. of one operand
+abbrev pub alone : Tree → Tree
+alone t =
+    node rules.expr (node rules.both (node rules.equal (node rules.order (node rules.sum (node rules.term (t ⨾ nothing) ⨾ nothing) ⨾ nothing) ⨾ nothing) ⨾ nothing) ⨾ nothing)
 
 -- ---- operands
 

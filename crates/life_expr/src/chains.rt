@@ -1,20 +1,20 @@
 // Operands and the operators between them: each function mirrors the reader of its rule.
-ghost use Rattle.std.specs.Prelude.{◌≡◌, [], map, IfOk};
+ghost use Rattle.std.specs.Prelude.{◌≡◌, [], map, IfOk, Ok};
 ghost use Rattle.life_expr.specs.Exprs as spec;
 ghost use Rattle.life_expr.specs.Gives.{Gives};
 ghost use Rattle.life_expr.specs.Readers as readers;
-ghost use Rattle.life_tree.specs.Views.{additive_part_tree, additive_tree, and_part_tree, equality_part_tree, equality_tree, expr_tree, list_tree, logical_and_tree, multiplicative_part_tree, multiplicative_tree, or_part_tree, relational_part_tree, relational_tree};
+ghost use Rattle.life_tree.specs.Views.{additive_part_tree, additive_tree, and_part_tree, equality_part_tree, equality_tree, expr_tree, list_tree, logical_and_tree, multiplicative_part_tree, multiplicative_tree, or_part_tree, relational_part_tree, relational_tree, unary_tree};
 
 use crate::marks::{mark, starts};
 use crate::operands::unary;
 use crate::operators::{
     additive_operator, equality_operator, multiplicative_operator, relational_operator,
-    starts_additive, starts_equality, starts_multiplicative, starts_relational,
+    starts_additive, starts_equality, starts_multiplicative, starts_operator, starts_relational,
 };
 use crate::stop::Read;
 use life_tree::{
     Additive, AdditivePart, AndPart, Equality, EqualityPart, Expr, LogicalAnd, Multiplicative,
-    MultiplicativePart, OrPart, Relational, RelationalPart, TreeToken, fixed,
+    MultiplicativePart, OrPart, Relational, RelationalPart, TreeToken, Unary, fixed,
 };
 use std::alloc::{AllocError, Global};
 
@@ -25,7 +25,48 @@ pub fn expr<'a>(alloc: Global, left: usize, tokens: &'a [TreeToken]) -> Read<'a,
     ensures { Gives (λ x. (expr_tree x.0, x.1.now)) result (readers.expr_with left (readers.below left) tokens.now) }
 {
     let (first, rest) = unary(alloc, left, tokens)?;
-    let (more, rest) = multiplicative_parts(alloc, left, rest)?;
+    if starts_operator(rest) {
+        return chained(alloc, left, first, rest);
+    }
+    Ok((alone(alloc, first), rest))
+}
+
+/// An expression of one operand.
+fn alone(alloc: Global, first: Unary) -> Expr
+    ensures { expr_tree result ≡ spec.alone (unary_tree first) }
+{
+    let first = Multiplicative {
+        first,
+        more: Vec::new(alloc),
+    };
+    let first = Additive {
+        first,
+        more: Vec::new(alloc),
+    };
+    let first = Relational {
+        first,
+        more: Vec::new(alloc),
+    };
+    let first = Equality {
+        first,
+        more: Vec::new(alloc),
+    };
+    let first = LogicalAnd {
+        first,
+        more: Vec::new(alloc),
+    };
+    Expr {
+        first,
+        more: Vec::new(alloc),
+    }
+}
+
+/// An expression behind its first operand, level by level.
+#[cycle(expr)]
+fn chained<'a>(alloc: Global, left: usize, first: Unary, tokens: &'a [TreeToken]) -> Read<'a, Expr>
+    ensures { Gives (λ x. (expr_tree x.0, x.1.now)) result (spec.chained_with left (readers.below left) (Ok (unary_tree first, tokens.now))) }
+{
+    let (more, rest) = multiplicative_parts(alloc, left, tokens)?;
     let first = Multiplicative { first, more };
     let (more, rest) = additive_parts(alloc, left, rest)?;
     let first = Additive { first, more };

@@ -15,6 +15,18 @@ use life_tree::{
 };
 use life_types::Place;
 
+/// Whether the next token is an operator between operands.
+pub fn starts_operator(tokens: &[TreeToken]) -> bool
+    ensures { result ≡ spec.starts_operator tokens.now }
+{
+    starts_multiplicative(tokens)
+        || starts_additive(tokens)
+        || starts_relational(tokens)
+        || starts_equality(tokens)
+        || starts(tokens, fixed::AND_AND)
+        || starts(tokens, fixed::OR_OR)
+}
+
 /// Whether the next token is `==` or `!=`.
 pub fn starts_equality(tokens: &[TreeToken]) -> bool
     ensures { result ≡ reading.starts (heads spec.equality_form) tokens.now }

@@ -1,11 +1,12 @@
 use Rattle.std.proofs.Common.{◌≡◌, map, true, false}
 use Rattle.std.proofs.lemmas.Result.{err_from_is_err_and}
 use Rattle.life_expr.proofs.Below.{below_rule}
+use Rattle.life_expr.proofs.Chained.{expr_alone}
 use Rattle.life_expr.proofs.ExprShrinks.{additive_part_shrinks, and_part_shrinks, equality_part_shrinks, later_expression_shrinks, multiplicative_part_shrinks, or_part_shrinks, part_shrinks, relational_part_shrinks}
 use Rattle.life_expr.proofs.Loop.{ends, fails, goes_on, reads_on}
 use Rattle.life_expr.proofs.+expr.Goals as goal
 use Rattle.life_expr.specs.Exprs as spec
-use Rattle.life_expr.specs.Exprs.{additive_form, and_form, comma_form, equality_form, multiplicative_form, or_form, relational_form}
+use Rattle.life_expr.specs.Exprs.{additive_form, and_form, comma_form, equality_form, multiplicative_form, or_form, relational_form, starts_operator}
 use Rattle.life_expr.specs.Heads.{heads}
 use Rattle.life_expr.specs.Read.{starts}
 use Rattle.life_expr.specs.Readers.{below}
@@ -13,7 +14,7 @@ use Rattle.life_tree.proofs.SeparatedTrees.{as_many_more, one_more}
 use Rattle.life_tree.specs.Grammar.{rule}
 use Rattle.life_tree.specs.Rules as rules
 use Rattle.life_tree.specs.Tree.{◌⨾◌}
-use Rattle.life_tree.specs.Views.{additive_part_tree, and_part_tree, at, equality_part_tree, expr_tree, later_trees, multiplicative_part_tree, or_part_tree, postfix_part_tree, relational_part_tree}
+use Rattle.life_tree.specs.Views.{additive_part_tree, and_part_tree, at, equality_part_tree, expr_tree, later_trees, multiplicative_part_tree, or_part_tree, postfix_part_tree, relational_part_tree, unary_tree}
 use Rattle.life_tree.specs.declared.fixed.TheConstants.{COMMA}
 
 pub lists::expr_below-returns : goal.lists::expr_below-returns
@@ -23,6 +24,11 @@ lists::expr_below-returns t c = rw (← below_rule c.args.left rules.expr c.args
 pub operands::unary_below-returns : goal.operands::unary_below-returns
 unfolding Rattle.life_expr.specs.Readers.rule_with
 operands::unary_below-returns t c = rw (← below_rule c.args.left rules.unary c.args.tokens.now c.requires) c.unary.ensures
+
+pub chains::expr-returns : goal.chains::expr-returns
+chains::expr-returns t c =
+    let h : starts_operator c.in_ok-first.rest.now ≡ false = cc in
+    expr_alone c.args.left (below c.args.left) (unary_tree c.in_ok-first.first) (expr_tree c.alone.result) c.args.tokens.now c.in_ok-first.rest.now c.in_ok-first.ensures h c.alone.ensures
 
 pub chains::or_parts-returns-in_err-next : goal.chains::or_parts-returns-in_err-next
 chains::or_parts-returns-in_err-next t c =

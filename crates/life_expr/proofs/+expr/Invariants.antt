@@ -6,7 +6,10 @@ use Rattle.life_tree.specs.Views.{additive_part_tree, and_part_tree, equality_pa
 use Rattle.life_expr.proofs.+expr.Given as goal
 
 abbrev pub decreases-chains::expr : goal.decreases-chains::expr
-decreases-chains::expr l = 64 * l.left + 35
+decreases-chains::expr l = 64 * l.left + 36
+
+abbrev pub decreases-chains::chained : goal.decreases-chains::chained
+decreases-chains::chained l = 64 * l.left + 35
 
 abbrev pub decreases-chains::or_parts : goal.decreases-chains::or_parts
 decreases-chains::or_parts l = 64 * l.left + 34
