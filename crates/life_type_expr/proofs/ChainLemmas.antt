@@ -1,9 +1,12 @@
 -- Operands one after the other, as a loop reads them.
-use Rattle.std.proofs.Common.{◌≡◌, ℕ, ◌+◌, ◌≤◌, ◌<◌, List, ◌∷◌, drop, get_or, length, map, Ok, sym, ap, ◌∙◌}
-use Rattle.std.proofs.lemmas.List.{at_drop_all, at_drop_more}
+use Rattle.std.proofs.Common.{◌≡◌, ◌==◌, ℕ, ◌+◌, ◌≤◌, ◌<◌, Bool, true, List, [], ◌∷◌, drop, get_or, length, map, Result, Ok, Err, Vec, vec_len, refl, sym, ap, subst, ◌∙◌}
+use Rattle.std.proofs.lemmas.Bool.{eqb-true}
+use Rattle.std.proofs.lemmas.List.{at_drop_all, at_drop_more, nil_from_length}
+use Rattle.std.specs.declared.alloc.Global.{Global}
 use Rattle.life_types.specs.Types.{Types}
-use Rattle.life_typed.specs.TypedForm.{Typed}
-use Rattle.life_names.specs.Checked.{Checked, ◌>>=◌, Fails}
+use Rattle.life_typed.specs.TypedForm.{Typed, typed_view}
+use Rattle.life_typed.specs.declared.typed_expr.TypedExpr.{TypedExpr}
+use Rattle.life_names.specs.Checked.{Checked, ◌>>=◌, Fails, Gives}
 use Rattle.life_names.specs.Environment.{Scope}
 use Rattle.life_type_expr.specs.Expressions.{PartMeaning, chain, chained}
 use Rattle.life_type_expr.specs.Lists.{Meaning}
@@ -16,7 +19,21 @@ pub first_fails : (first : Meaning) (more : List PartMeaning) (scope : Scope) (t
 first_fails first more scope types faults.NoMemory total is f = tt
 first_fails first more scope types (faults.Ill kind place) total is f = is ∙ ap (λ (c : Checked Typed). c >>= chained more scope) f
 
+-- no operand follows
+none_follows : (scope : Scope) (c : Checked Typed) → c ≡ c >>= chained [] scope
+none_follows scope (Ok x) = refl
+none_follows scope (Err e) = refl
+
 module _ {A : Type 0} (meaning : A → PartMeaning) (scope : Scope) where
+  -- an operand that stands alone
+  pub alone : (first : Meaning) (more : Vec A Global) (empty : Bool) (types after : Types) (result : Result TypedExpr IllFault) (total : Checked Typed)
+      → empty ≡ (vec_len more == 0) → empty ≡ true → total ≡ chain first (map meaning more.items) scope types
+      → Gives typed_view after result (first scope types) → Gives typed_view after result total
+  alone first more empty types after result total tells holds is =
+      let none = nil_from_length more.items (sym more.ok.0 ∙ eqb-true (vec_len more) 0 (sym tells ∙ holds)) in
+      subst (Gives typed_view after result)
+      (none_follows scope (first scope types) ∙ ap (λ (ps : List A). chain first (map meaning ps) scope types) (sym none) ∙ sym is)
+
   -- what fails behind what was read fails altogether
   pub fails_with : (items : List A) (item : A) (x : Typed × Types) (e : IllFault) (total : Checked Typed)
       → chained (map meaning (item ∷ items)) scope x ≡ total → Fails e (meaning item x.0 scope x.1) → Fails e total

@@ -28,6 +28,23 @@ pub fn expr(
 ) -> Result<TypedExpr, IllFault>
     ensures { Gives typed_view types.new result (spec.expr_meaning expr.now environment.now types.old) }
 {
+    if expr.more.is_empty() {
+        logical_and(alloc, environment, types, &expr.first)
+    } else {
+        or_chain(alloc, environment, types, expr)
+    }
+}
+
+/// Operands of `||`, of which there are several.
+#[cycle(exprs)]
+fn or_chain(
+    alloc: Global,
+    environment: &Environment<'_>,
+    types: &mut TypeTable,
+    expr: &Expr,
+) -> Result<TypedExpr, IllFault>
+    ensures { Gives typed_view types.new result (spec.expr_meaning expr.now environment.now types.old) }
+{
     let mut typed = logical_and(alloc, environment, types, &expr.first)?;
     'parts: for part in &expr.more {
         typed = or_part(alloc, environment, types, part, typed)?;
@@ -56,6 +73,23 @@ fn or_part(
 /// Operands of `&&`.
 #[cycle(exprs)]
 fn logical_and(
+    alloc: Global,
+    environment: &Environment<'_>,
+    types: &mut TypeTable,
+    expr: &LogicalAnd,
+) -> Result<TypedExpr, IllFault>
+    ensures { Gives typed_view types.new result (spec.logical_and_meaning expr.now environment.now types.old) }
+{
+    if expr.more.is_empty() {
+        equality(alloc, environment, types, &expr.first)
+    } else {
+        and_chain(alloc, environment, types, expr)
+    }
+}
+
+/// Operands of `&&`, of which there are several.
+#[cycle(exprs)]
+fn and_chain(
     alloc: Global,
     environment: &Environment<'_>,
     types: &mut TypeTable,
@@ -98,6 +132,23 @@ fn equality(
 ) -> Result<TypedExpr, IllFault>
     ensures { Gives typed_view types.new result (spec.equality_meaning expr.now environment.now types.old) }
 {
+    if expr.more.is_empty() {
+        relational(alloc, environment, types, &expr.first)
+    } else {
+        equality_chain(alloc, environment, types, expr)
+    }
+}
+
+/// Operands of `==` and `!=`, of which there are several.
+#[cycle(exprs)]
+fn equality_chain(
+    alloc: Global,
+    environment: &Environment<'_>,
+    types: &mut TypeTable,
+    expr: &Equality,
+) -> Result<TypedExpr, IllFault>
+    ensures { Gives typed_view types.new result (spec.equality_meaning expr.now environment.now types.old) }
+{
     let mut typed = relational(alloc, environment, types, &expr.first)?;
     'parts: for part in &expr.more {
         typed = equality_part(alloc, environment, types, part, typed)?;
@@ -126,6 +177,23 @@ fn equality_part(
 /// Operands of comparisons by order.
 #[cycle(exprs)]
 fn relational(
+    alloc: Global,
+    environment: &Environment<'_>,
+    types: &mut TypeTable,
+    expr: &Relational,
+) -> Result<TypedExpr, IllFault>
+    ensures { Gives typed_view types.new result (spec.relational_meaning expr.now environment.now types.old) }
+{
+    if expr.more.is_empty() {
+        additive(alloc, environment, types, &expr.first)
+    } else {
+        relational_chain(alloc, environment, types, expr)
+    }
+}
+
+/// Operands of comparisons by order, of which there are several.
+#[cycle(exprs)]
+fn relational_chain(
     alloc: Global,
     environment: &Environment<'_>,
     types: &mut TypeTable,
@@ -168,6 +236,23 @@ pub fn additive(
 ) -> Result<TypedExpr, IllFault>
     ensures { Gives typed_view types.new result (spec.additive_meaning expr.now environment.now types.old) }
 {
+    if expr.more.is_empty() {
+        multiplicative(alloc, environment, types, &expr.first)
+    } else {
+        additive_chain(alloc, environment, types, expr)
+    }
+}
+
+/// Operands of a sum, of which there are several.
+#[cycle(exprs)]
+fn additive_chain(
+    alloc: Global,
+    environment: &Environment<'_>,
+    types: &mut TypeTable,
+    expr: &Additive,
+) -> Result<TypedExpr, IllFault>
+    ensures { Gives typed_view types.new result (spec.additive_meaning expr.now environment.now types.old) }
+{
     let mut typed = multiplicative(alloc, environment, types, &expr.first)?;
     'parts: for part in &expr.more {
         typed = additive_part(alloc, environment, types, part, typed)?;
@@ -196,6 +281,23 @@ fn additive_part(
 /// Operands of `*`, `/` and `%`.
 #[cycle(exprs)]
 fn multiplicative(
+    alloc: Global,
+    environment: &Environment<'_>,
+    types: &mut TypeTable,
+    expr: &Multiplicative,
+) -> Result<TypedExpr, IllFault>
+    ensures { Gives typed_view types.new result (spec.multiplicative_meaning expr.now environment.now types.old) }
+{
+    if expr.more.is_empty() {
+        unary(alloc, environment, types, &expr.first)
+    } else {
+        multiplicative_chain(alloc, environment, types, expr)
+    }
+}
+
+/// Operands of `*`, `/` and `%`, of which there are several.
+#[cycle(exprs)]
+fn multiplicative_chain(
     alloc: Global,
     environment: &Environment<'_>,
     types: &mut TypeTable,

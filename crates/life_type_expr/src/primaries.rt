@@ -64,6 +64,23 @@ pub fn postfix(
 ) -> Result<TypedExpr, IllFault>
     ensures { Gives typed_view types.new result (spec.postfix_meaning postfix.now environment.now types.old) }
 {
+    if postfix.parts.is_empty() {
+        primary(alloc, environment, types, &postfix.primary)
+    } else {
+        postfix_chain(alloc, environment, types, postfix)
+    }
+}
+
+/// An operand and the parts behind it, of which there is one at least.
+#[cycle(exprs)]
+fn postfix_chain(
+    alloc: Global,
+    environment: &Environment<'_>,
+    types: &mut TypeTable,
+    postfix: &Postfix,
+) -> Result<TypedExpr, IllFault>
+    ensures { Gives typed_view types.new result (spec.postfix_meaning postfix.now environment.now types.old) }
+{
     let mut typed = primary(alloc, environment, types, &postfix.primary)?;
     'parts: for next in &postfix.parts {
         typed = part(alloc, environment, types, next, typed)?;

@@ -25,7 +25,7 @@ use Rattle.life_type_expr.specs.Expressions.{additive_meaning, additive_operator
 use Rattle.life_names.specs.Found.{Finds, found_in, given}
 use Rattle.life_type_expr.specs.Operands.{combination, literal_allowed, moved, pointed_to, text_made, variable, parenthesized, prefixed}
 use Rattle.life_type_expr.proofs.Alternatives.{of_arrow, of_call, of_char, of_construct, of_false, of_index, of_input, of_member, of_move, of_name, of_null, of_number, of_text, of_text_of, of_true, of_unique, of_paren, of_plain, of_prefix}
-use Rattle.life_type_expr.proofs.ChainLemmas.{all_of, ended, turn_fails, turn_goes}
+use Rattle.life_type_expr.proofs.ChainLemmas.{all_of, alone, ended, turn_fails, turn_goes}
 use Rattle.life_type_expr.proofs.Meanings.{additive_made, additive_part_made, and_part_made, equality_made, equality_part_made, expr_made, logical_and_made, multiplicative_made, multiplicative_part_made, or_part_made, postfix_made, relational_made, relational_part_made}
 use Rattle.life_type_expr.proofs.OperandLemmas.{joined, left_fails, right_fails, right_literal}
 use Rattle.life_names.proofs.Steps.{bind_fails, bind_goes, found_gives, given_fails, given_goes, gives_as}
@@ -44,130 +44,158 @@ use Rattle.life_type_expr.proofs.ListLemmas.{braced_as, passed_all, passed_fails
 use Rattle.life_names.proofs.Views.{seen_category, seen_type}
 use Rattle.life_type_expr.proofs.+exprs.Goals as goal
 
-pub chains::expr-returns-in_err-typed : goal.chains::expr-returns-in_err-typed
-chains::expr-returns-in_err-typed t c =
+pub chains::expr-returns-then-is_empty : goal.chains::expr-returns-then-is_empty
+chains::expr-returns-then-is_empty t c =
+    alone or_part_meaning c.args.environment.now (logical_and_meaning (out-Expr c.args.expr.now).first) (out-Expr c.args.expr.now).more _ c.args.types.now _ _ _ c.is_empty.ensures c.if-is_empty.true (expr_made c.args.expr.now c.args.environment.now c.args.types.now) c.logical_and.ensures
+
+pub chains::or_chain-returns-in_err-typed : goal.chains::or_chain-returns-in_err-typed
+chains::or_chain-returns-in_err-typed t c =
     let p = err_from_is_err_and c.from_residual.result c.from_residual.ensures.1 in
     rw (p.1, p.2) (bind_fails (logical_and_meaning (out-Expr c.args.expr.now).first c.args.environment.now c.args.types.now) _ c.in_err-typed.field-0.0 _ (expr_made c.args.expr.now c.args.environment.now c.args.types.now) c.in_err-typed.ensures)
 
-pub chains::expr-returns-in_err-typed-2 : goal.chains::expr-returns-in_err-typed-2
-chains::expr-returns-in_err-typed-2 t c =
+pub chains::or_chain-returns-in_err-typed-2 : goal.chains::or_chain-returns-in_err-typed-2
+chains::or_chain-returns-in_err-typed-2 t c =
     let p = err_from_is_err_and c.from_residual-in_err-typed-2.result c.from_residual-in_err-typed-2.ensures.1 in
     rw (p.1, p.2) (turn_fails or_part_meaning c.args.environment.now _ _ c.part-item.result _ c.in_err-typed-2.field-0.0 _ c.parts-test.true c.part-item.is (c.parts.invariant ∙ all_of or_part_meaning c.args.environment.now (logical_and_meaning (out-Expr c.args.expr.now).first) _ _ c.args.types.now _ _ c.deref-part-items.ensures.value c.in_ok-typed.ensures (expr_made c.args.expr.now c.args.environment.now c.args.types.now)) c.in_err-typed-2.ensures)
 
-pub chains::expr-parts-preserved : goal.chains::expr-parts-preserved
-chains::expr-parts-preserved t c =
+pub chains::or_chain-parts-preserved : goal.chains::or_chain-parts-preserved
+chains::or_chain-parts-preserved t c =
     turn_goes or_part_meaning c.args.environment.now _ _ c.part-item.result _ _ _ c.parts-test.true c.part-item.is c.parts.invariant c.in_ok-typed-2.ensures
 
-pub chains::expr-returns : goal.chains::expr-returns
-chains::expr-returns t c =
+pub chains::or_chain-returns : goal.chains::or_chain-returns
+chains::or_chain-returns t c =
     ended or_part_meaning c.args.environment.now (logical_and_meaning (out-Expr c.args.expr.now).first) _ _ _ c.args.types.now _ _ _ c.parts-test.false c.parts.invariant c.deref-part-items.ensures.value c.in_ok-typed.ensures (expr_made c.args.expr.now c.args.environment.now c.args.types.now)
 
-pub chains::logical_and-returns-in_err-typed : goal.chains::logical_and-returns-in_err-typed
-chains::logical_and-returns-in_err-typed t c =
+pub chains::logical_and-returns-then-is_empty : goal.chains::logical_and-returns-then-is_empty
+chains::logical_and-returns-then-is_empty t c =
+    alone and_part_meaning c.args.environment.now (equality_meaning (out-LogicalAnd c.args.expr.now).first) (out-LogicalAnd c.args.expr.now).more _ c.args.types.now _ _ _ c.is_empty.ensures c.if-is_empty.true (logical_and_made c.args.expr.now c.args.environment.now c.args.types.now) c.equality.ensures
+
+pub chains::and_chain-returns-in_err-typed : goal.chains::and_chain-returns-in_err-typed
+chains::and_chain-returns-in_err-typed t c =
     let p = err_from_is_err_and c.from_residual.result c.from_residual.ensures.1 in
     rw (p.1, p.2) (bind_fails (equality_meaning (out-LogicalAnd c.args.expr.now).first c.args.environment.now c.args.types.now) _ c.in_err-typed.field-0.0 _ (logical_and_made c.args.expr.now c.args.environment.now c.args.types.now) c.in_err-typed.ensures)
 
-pub chains::logical_and-returns-in_err-typed-2 : goal.chains::logical_and-returns-in_err-typed-2
-chains::logical_and-returns-in_err-typed-2 t c =
+pub chains::and_chain-returns-in_err-typed-2 : goal.chains::and_chain-returns-in_err-typed-2
+chains::and_chain-returns-in_err-typed-2 t c =
     let p = err_from_is_err_and c.from_residual-in_err-typed-2.result c.from_residual-in_err-typed-2.ensures.1 in
     rw (p.1, p.2) (turn_fails and_part_meaning c.args.environment.now _ _ c.part-item.result _ c.in_err-typed-2.field-0.0 _ c.parts-test.true c.part-item.is (c.parts.invariant ∙ all_of and_part_meaning c.args.environment.now (equality_meaning (out-LogicalAnd c.args.expr.now).first) _ _ c.args.types.now _ _ c.deref-part-items.ensures.value c.in_ok-typed.ensures (logical_and_made c.args.expr.now c.args.environment.now c.args.types.now)) c.in_err-typed-2.ensures)
 
-pub chains::logical_and-parts-preserved : goal.chains::logical_and-parts-preserved
-chains::logical_and-parts-preserved t c =
+pub chains::and_chain-parts-preserved : goal.chains::and_chain-parts-preserved
+chains::and_chain-parts-preserved t c =
     turn_goes and_part_meaning c.args.environment.now _ _ c.part-item.result _ _ _ c.parts-test.true c.part-item.is c.parts.invariant c.in_ok-typed-2.ensures
 
-pub chains::logical_and-returns : goal.chains::logical_and-returns
-chains::logical_and-returns t c =
+pub chains::and_chain-returns : goal.chains::and_chain-returns
+chains::and_chain-returns t c =
     ended and_part_meaning c.args.environment.now (equality_meaning (out-LogicalAnd c.args.expr.now).first) _ _ _ c.args.types.now _ _ _ c.parts-test.false c.parts.invariant c.deref-part-items.ensures.value c.in_ok-typed.ensures (logical_and_made c.args.expr.now c.args.environment.now c.args.types.now)
 
-pub chains::equality-returns-in_err-typed : goal.chains::equality-returns-in_err-typed
-chains::equality-returns-in_err-typed t c =
+pub chains::equality-returns-then-is_empty : goal.chains::equality-returns-then-is_empty
+chains::equality-returns-then-is_empty t c =
+    alone equality_part_meaning c.args.environment.now (relational_meaning (out-Equality c.args.expr.now).first) (out-Equality c.args.expr.now).more _ c.args.types.now _ _ _ c.is_empty.ensures c.if-is_empty.true (equality_made c.args.expr.now c.args.environment.now c.args.types.now) c.relational.ensures
+
+pub chains::equality_chain-returns-in_err-typed : goal.chains::equality_chain-returns-in_err-typed
+chains::equality_chain-returns-in_err-typed t c =
     let p = err_from_is_err_and c.from_residual.result c.from_residual.ensures.1 in
     rw (p.1, p.2) (bind_fails (relational_meaning (out-Equality c.args.expr.now).first c.args.environment.now c.args.types.now) _ c.in_err-typed.field-0.0 _ (equality_made c.args.expr.now c.args.environment.now c.args.types.now) c.in_err-typed.ensures)
 
-pub chains::equality-returns-in_err-typed-2 : goal.chains::equality-returns-in_err-typed-2
-chains::equality-returns-in_err-typed-2 t c =
+pub chains::equality_chain-returns-in_err-typed-2 : goal.chains::equality_chain-returns-in_err-typed-2
+chains::equality_chain-returns-in_err-typed-2 t c =
     let p = err_from_is_err_and c.from_residual-in_err-typed-2.result c.from_residual-in_err-typed-2.ensures.1 in
     rw (p.1, p.2) (turn_fails equality_part_meaning c.args.environment.now _ _ c.part-item.result _ c.in_err-typed-2.field-0.0 _ c.parts-test.true c.part-item.is (c.parts.invariant ∙ all_of equality_part_meaning c.args.environment.now (relational_meaning (out-Equality c.args.expr.now).first) _ _ c.args.types.now _ _ c.deref-part-items.ensures.value c.in_ok-typed.ensures (equality_made c.args.expr.now c.args.environment.now c.args.types.now)) c.in_err-typed-2.ensures)
 
-pub chains::equality-parts-preserved : goal.chains::equality-parts-preserved
-chains::equality-parts-preserved t c =
+pub chains::equality_chain-parts-preserved : goal.chains::equality_chain-parts-preserved
+chains::equality_chain-parts-preserved t c =
     turn_goes equality_part_meaning c.args.environment.now _ _ c.part-item.result _ _ _ c.parts-test.true c.part-item.is c.parts.invariant c.in_ok-typed-2.ensures
 
-pub chains::equality-returns : goal.chains::equality-returns
-chains::equality-returns t c =
+pub chains::equality_chain-returns : goal.chains::equality_chain-returns
+chains::equality_chain-returns t c =
     ended equality_part_meaning c.args.environment.now (relational_meaning (out-Equality c.args.expr.now).first) _ _ _ c.args.types.now _ _ _ c.parts-test.false c.parts.invariant c.deref-part-items.ensures.value c.in_ok-typed.ensures (equality_made c.args.expr.now c.args.environment.now c.args.types.now)
 
-pub chains::relational-returns-in_err-typed : goal.chains::relational-returns-in_err-typed
-chains::relational-returns-in_err-typed t c =
+pub chains::relational-returns-then-is_empty : goal.chains::relational-returns-then-is_empty
+chains::relational-returns-then-is_empty t c =
+    alone relational_part_meaning c.args.environment.now (additive_meaning (out-Relational c.args.expr.now).first) (out-Relational c.args.expr.now).more _ c.args.types.now _ _ _ c.is_empty.ensures c.if-is_empty.true (relational_made c.args.expr.now c.args.environment.now c.args.types.now) c.additive.ensures
+
+pub chains::relational_chain-returns-in_err-typed : goal.chains::relational_chain-returns-in_err-typed
+chains::relational_chain-returns-in_err-typed t c =
     let p = err_from_is_err_and c.from_residual.result c.from_residual.ensures.1 in
     rw (p.1, p.2) (bind_fails (additive_meaning (out-Relational c.args.expr.now).first c.args.environment.now c.args.types.now) _ c.in_err-typed.field-0.0 _ (relational_made c.args.expr.now c.args.environment.now c.args.types.now) c.in_err-typed.ensures)
 
-pub chains::relational-returns-in_err-typed-2 : goal.chains::relational-returns-in_err-typed-2
-chains::relational-returns-in_err-typed-2 t c =
+pub chains::relational_chain-returns-in_err-typed-2 : goal.chains::relational_chain-returns-in_err-typed-2
+chains::relational_chain-returns-in_err-typed-2 t c =
     let p = err_from_is_err_and c.from_residual-in_err-typed-2.result c.from_residual-in_err-typed-2.ensures.1 in
     rw (p.1, p.2) (turn_fails relational_part_meaning c.args.environment.now _ _ c.part-item.result _ c.in_err-typed-2.field-0.0 _ c.parts-test.true c.part-item.is (c.parts.invariant ∙ all_of relational_part_meaning c.args.environment.now (additive_meaning (out-Relational c.args.expr.now).first) _ _ c.args.types.now _ _ c.deref-part-items.ensures.value c.in_ok-typed.ensures (relational_made c.args.expr.now c.args.environment.now c.args.types.now)) c.in_err-typed-2.ensures)
 
-pub chains::relational-parts-preserved : goal.chains::relational-parts-preserved
-chains::relational-parts-preserved t c =
+pub chains::relational_chain-parts-preserved : goal.chains::relational_chain-parts-preserved
+chains::relational_chain-parts-preserved t c =
     turn_goes relational_part_meaning c.args.environment.now _ _ c.part-item.result _ _ _ c.parts-test.true c.part-item.is c.parts.invariant c.in_ok-typed-2.ensures
 
-pub chains::relational-returns : goal.chains::relational-returns
-chains::relational-returns t c =
+pub chains::relational_chain-returns : goal.chains::relational_chain-returns
+chains::relational_chain-returns t c =
     ended relational_part_meaning c.args.environment.now (additive_meaning (out-Relational c.args.expr.now).first) _ _ _ c.args.types.now _ _ _ c.parts-test.false c.parts.invariant c.deref-part-items.ensures.value c.in_ok-typed.ensures (relational_made c.args.expr.now c.args.environment.now c.args.types.now)
 
-pub chains::additive-returns-in_err-typed : goal.chains::additive-returns-in_err-typed
-chains::additive-returns-in_err-typed t c =
+pub chains::additive-returns-then-is_empty : goal.chains::additive-returns-then-is_empty
+chains::additive-returns-then-is_empty t c =
+    alone additive_part_meaning c.args.environment.now (multiplicative_meaning (out-Additive c.args.expr.now).first) (out-Additive c.args.expr.now).more _ c.args.types.now _ _ _ c.is_empty.ensures c.if-is_empty.true (additive_made c.args.expr.now c.args.environment.now c.args.types.now) c.multiplicative.ensures
+
+pub chains::additive_chain-returns-in_err-typed : goal.chains::additive_chain-returns-in_err-typed
+chains::additive_chain-returns-in_err-typed t c =
     let p = err_from_is_err_and c.from_residual.result c.from_residual.ensures.1 in
     rw (p.1, p.2) (bind_fails (multiplicative_meaning (out-Additive c.args.expr.now).first c.args.environment.now c.args.types.now) _ c.in_err-typed.field-0.0 _ (additive_made c.args.expr.now c.args.environment.now c.args.types.now) c.in_err-typed.ensures)
 
-pub chains::additive-returns-in_err-typed-2 : goal.chains::additive-returns-in_err-typed-2
-chains::additive-returns-in_err-typed-2 t c =
+pub chains::additive_chain-returns-in_err-typed-2 : goal.chains::additive_chain-returns-in_err-typed-2
+chains::additive_chain-returns-in_err-typed-2 t c =
     let p = err_from_is_err_and c.from_residual-in_err-typed-2.result c.from_residual-in_err-typed-2.ensures.1 in
     rw (p.1, p.2) (turn_fails additive_part_meaning c.args.environment.now _ _ c.part-item.result _ c.in_err-typed-2.field-0.0 _ c.parts-test.true c.part-item.is (c.parts.invariant ∙ all_of additive_part_meaning c.args.environment.now (multiplicative_meaning (out-Additive c.args.expr.now).first) _ _ c.args.types.now _ _ c.deref-part-items.ensures.value c.in_ok-typed.ensures (additive_made c.args.expr.now c.args.environment.now c.args.types.now)) c.in_err-typed-2.ensures)
 
-pub chains::additive-parts-preserved : goal.chains::additive-parts-preserved
-chains::additive-parts-preserved t c =
+pub chains::additive_chain-parts-preserved : goal.chains::additive_chain-parts-preserved
+chains::additive_chain-parts-preserved t c =
     turn_goes additive_part_meaning c.args.environment.now _ _ c.part-item.result _ _ _ c.parts-test.true c.part-item.is c.parts.invariant c.in_ok-typed-2.ensures
 
-pub chains::additive-returns : goal.chains::additive-returns
-chains::additive-returns t c =
+pub chains::additive_chain-returns : goal.chains::additive_chain-returns
+chains::additive_chain-returns t c =
     ended additive_part_meaning c.args.environment.now (multiplicative_meaning (out-Additive c.args.expr.now).first) _ _ _ c.args.types.now _ _ _ c.parts-test.false c.parts.invariant c.deref-part-items.ensures.value c.in_ok-typed.ensures (additive_made c.args.expr.now c.args.environment.now c.args.types.now)
 
-pub chains::multiplicative-returns-in_err-typed : goal.chains::multiplicative-returns-in_err-typed
-chains::multiplicative-returns-in_err-typed t c =
+pub chains::multiplicative-returns-then-is_empty : goal.chains::multiplicative-returns-then-is_empty
+chains::multiplicative-returns-then-is_empty t c =
+    alone multiplicative_part_meaning c.args.environment.now (unary_meaning (out-Multiplicative c.args.expr.now).first) (out-Multiplicative c.args.expr.now).more _ c.args.types.now _ _ _ c.is_empty.ensures c.if-is_empty.true (multiplicative_made c.args.expr.now c.args.environment.now c.args.types.now) c.unary.ensures
+
+pub chains::multiplicative_chain-returns-in_err-typed : goal.chains::multiplicative_chain-returns-in_err-typed
+chains::multiplicative_chain-returns-in_err-typed t c =
     let p = err_from_is_err_and c.from_residual.result c.from_residual.ensures.1 in
     rw (p.1, p.2) (bind_fails (unary_meaning (out-Multiplicative c.args.expr.now).first c.args.environment.now c.args.types.now) _ c.in_err-typed.field-0.0 _ (multiplicative_made c.args.expr.now c.args.environment.now c.args.types.now) c.in_err-typed.ensures)
 
-pub chains::multiplicative-returns-in_err-typed-2 : goal.chains::multiplicative-returns-in_err-typed-2
-chains::multiplicative-returns-in_err-typed-2 t c =
+pub chains::multiplicative_chain-returns-in_err-typed-2 : goal.chains::multiplicative_chain-returns-in_err-typed-2
+chains::multiplicative_chain-returns-in_err-typed-2 t c =
     let p = err_from_is_err_and c.from_residual-in_err-typed-2.result c.from_residual-in_err-typed-2.ensures.1 in
     rw (p.1, p.2) (turn_fails multiplicative_part_meaning c.args.environment.now _ _ c.part-item.result _ c.in_err-typed-2.field-0.0 _ c.parts-test.true c.part-item.is (c.parts.invariant ∙ all_of multiplicative_part_meaning c.args.environment.now (unary_meaning (out-Multiplicative c.args.expr.now).first) _ _ c.args.types.now _ _ c.deref-part-items.ensures.value c.in_ok-typed.ensures (multiplicative_made c.args.expr.now c.args.environment.now c.args.types.now)) c.in_err-typed-2.ensures)
 
-pub chains::multiplicative-parts-preserved : goal.chains::multiplicative-parts-preserved
-chains::multiplicative-parts-preserved t c =
+pub chains::multiplicative_chain-parts-preserved : goal.chains::multiplicative_chain-parts-preserved
+chains::multiplicative_chain-parts-preserved t c =
     turn_goes multiplicative_part_meaning c.args.environment.now _ _ c.part-item.result _ _ _ c.parts-test.true c.part-item.is c.parts.invariant c.in_ok-typed-2.ensures
 
-pub chains::multiplicative-returns : goal.chains::multiplicative-returns
-chains::multiplicative-returns t c =
+pub chains::multiplicative_chain-returns : goal.chains::multiplicative_chain-returns
+chains::multiplicative_chain-returns t c =
     ended multiplicative_part_meaning c.args.environment.now (unary_meaning (out-Multiplicative c.args.expr.now).first) _ _ _ c.args.types.now _ _ _ c.parts-test.false c.parts.invariant c.deref-part-items.ensures.value c.in_ok-typed.ensures (multiplicative_made c.args.expr.now c.args.environment.now c.args.types.now)
 
-pub primaries::postfix-returns-in_err-typed : goal.primaries::postfix-returns-in_err-typed
-primaries::postfix-returns-in_err-typed t c =
+pub primaries::postfix-returns-then-is_empty : goal.primaries::postfix-returns-then-is_empty
+primaries::postfix-returns-then-is_empty t c =
+    alone part_meaning c.args.environment.now (primary_meaning (out-Postfix c.args.postfix.now).primary) (out-Postfix c.args.postfix.now).parts _ c.args.types.now _ _ _ c.is_empty.ensures c.if-is_empty.true (postfix_made c.args.postfix.now c.args.environment.now c.args.types.now) c.primary.ensures
+
+pub primaries::postfix_chain-returns-in_err-typed : goal.primaries::postfix_chain-returns-in_err-typed
+primaries::postfix_chain-returns-in_err-typed t c =
     let p = err_from_is_err_and c.from_residual.result c.from_residual.ensures.1 in
     rw (p.1, p.2) (bind_fails (primary_meaning (out-Postfix c.args.postfix.now).primary c.args.environment.now c.args.types.now) _ c.in_err-typed.field-0.0 _ (postfix_made c.args.postfix.now c.args.environment.now c.args.types.now) c.in_err-typed.ensures)
 
-pub primaries::postfix-returns-in_err-typed-2 : goal.primaries::postfix-returns-in_err-typed-2
-primaries::postfix-returns-in_err-typed-2 t c =
+pub primaries::postfix_chain-returns-in_err-typed-2 : goal.primaries::postfix_chain-returns-in_err-typed-2
+primaries::postfix_chain-returns-in_err-typed-2 t c =
     let p = err_from_is_err_and c.from_residual-in_err-typed-2.result c.from_residual-in_err-typed-2.ensures.1 in
     rw (p.1, p.2) (turn_fails part_meaning c.args.environment.now _ _ c.next-item.result _ c.in_err-typed-2.field-0.0 _ c.parts-test.true c.next-item.is (c.parts.invariant ∙ all_of part_meaning c.args.environment.now (primary_meaning (out-Postfix c.args.postfix.now).primary) _ _ c.args.types.now _ _ c.deref-next-items.ensures.value c.in_ok-typed.ensures (postfix_made c.args.postfix.now c.args.environment.now c.args.types.now)) c.in_err-typed-2.ensures)
 
-pub primaries::postfix-parts-preserved : goal.primaries::postfix-parts-preserved
-primaries::postfix-parts-preserved t c =
+pub primaries::postfix_chain-parts-preserved : goal.primaries::postfix_chain-parts-preserved
+primaries::postfix_chain-parts-preserved t c =
     turn_goes part_meaning c.args.environment.now _ _ c.next-item.result _ _ _ c.parts-test.true c.next-item.is c.parts.invariant c.in_ok-typed-2.ensures
 
-pub primaries::postfix-returns : goal.primaries::postfix-returns
-primaries::postfix-returns t c =
+pub primaries::postfix_chain-returns : goal.primaries::postfix_chain-returns
+primaries::postfix_chain-returns t c =
     ended part_meaning c.args.environment.now (primary_meaning (out-Postfix c.args.postfix.now).primary) _ _ _ c.args.types.now _ _ _ c.parts-test.false c.parts.invariant c.deref-next-items.ensures.value c.in_ok-typed.ensures (postfix_made c.args.postfix.now c.args.environment.now c.args.types.now)
 
 pub chains::or_part-returns-in_err-literal_allowed : goal.chains::or_part-returns-in_err-literal_allowed

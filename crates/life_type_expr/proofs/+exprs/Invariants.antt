@@ -5,38 +5,38 @@ use Rattle.life_type_expr.specs.Lists.{read_onto}
 use Rattle.life_type_expr.specs.TargetViews.{targets_view}
 use Rattle.life_type_expr.proofs.+exprs.Given as goal
 
-abbrev pub invariant-chains::expr-parts : goal.invariant-chains::expr-parts
-invariant-chains::expr-parts l =
+abbrev pub invariant-chains::or_chain-parts : goal.invariant-chains::or_chain-parts
+invariant-chains::or_chain-parts l =
     chained (map or_part_meaning (drop l.part-index l.part-items)) l.environment (typed_view l.typed, l.types)
     ≡ chained (map or_part_meaning l.part-items) l.environment (typed_view l.initial.typed, l.initial.types)
 
-abbrev pub invariant-chains::logical_and-parts : goal.invariant-chains::logical_and-parts
-invariant-chains::logical_and-parts l =
+abbrev pub invariant-chains::and_chain-parts : goal.invariant-chains::and_chain-parts
+invariant-chains::and_chain-parts l =
     chained (map and_part_meaning (drop l.part-index l.part-items)) l.environment (typed_view l.typed, l.types)
     ≡ chained (map and_part_meaning l.part-items) l.environment (typed_view l.initial.typed, l.initial.types)
 
-abbrev pub invariant-chains::equality-parts : goal.invariant-chains::equality-parts
-invariant-chains::equality-parts l =
+abbrev pub invariant-chains::equality_chain-parts : goal.invariant-chains::equality_chain-parts
+invariant-chains::equality_chain-parts l =
     chained (map equality_part_meaning (drop l.part-index l.part-items)) l.environment (typed_view l.typed, l.types)
     ≡ chained (map equality_part_meaning l.part-items) l.environment (typed_view l.initial.typed, l.initial.types)
 
-abbrev pub invariant-chains::relational-parts : goal.invariant-chains::relational-parts
-invariant-chains::relational-parts l =
+abbrev pub invariant-chains::relational_chain-parts : goal.invariant-chains::relational_chain-parts
+invariant-chains::relational_chain-parts l =
     chained (map relational_part_meaning (drop l.part-index l.part-items)) l.environment (typed_view l.typed, l.types)
     ≡ chained (map relational_part_meaning l.part-items) l.environment (typed_view l.initial.typed, l.initial.types)
 
-abbrev pub invariant-chains::additive-parts : goal.invariant-chains::additive-parts
-invariant-chains::additive-parts l =
+abbrev pub invariant-chains::additive_chain-parts : goal.invariant-chains::additive_chain-parts
+invariant-chains::additive_chain-parts l =
     chained (map additive_part_meaning (drop l.part-index l.part-items)) l.environment (typed_view l.typed, l.types)
     ≡ chained (map additive_part_meaning l.part-items) l.environment (typed_view l.initial.typed, l.initial.types)
 
-abbrev pub invariant-chains::multiplicative-parts : goal.invariant-chains::multiplicative-parts
-invariant-chains::multiplicative-parts l =
+abbrev pub invariant-chains::multiplicative_chain-parts : goal.invariant-chains::multiplicative_chain-parts
+invariant-chains::multiplicative_chain-parts l =
     chained (map multiplicative_part_meaning (drop l.part-index l.part-items)) l.environment (typed_view l.typed, l.types)
     ≡ chained (map multiplicative_part_meaning l.part-items) l.environment (typed_view l.initial.typed, l.initial.types)
 
-abbrev pub invariant-primaries::postfix-parts : goal.invariant-primaries::postfix-parts
-invariant-primaries::postfix-parts l =
+abbrev pub invariant-primaries::postfix_chain-parts : goal.invariant-primaries::postfix_chain-parts
+invariant-primaries::postfix_chain-parts l =
     chained (map part_meaning (drop l.next-index l.next-items)) l.environment (typed_view l.typed, l.types)
     ≡ chained (map part_meaning l.next-items) l.environment (typed_view l.initial.typed, l.initial.types)
 
