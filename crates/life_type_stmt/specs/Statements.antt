@@ -1,8 +1,12 @@
 -- Statements, in the order of their text. What they declare is visible up to the end of the block or loop that it stands in.
-use Rattle.std.specs.Prelude.{Bool, true, false, List, [], ◌∷◌, Option, Some, None, Ok}
+use Rattle.std.specs.Prelude.{Bool, true, false, Box, List, [], ◌∷◌, Option, Some, None, Ok}
+use Rattle.std.specs.declared.alloc.Global.{Global}
 use Rattle.life_types.specs.Types.{Types}
 use Rattle.life_types.specs.declared.place.Place.{Place}
 use Rattle.life_types.specs.declared.ty.NameId.{NameId}
+use Rattle.life_types.specs.declared.ty.TyId.{TyId}
+use Rattle.life_tree.specs.declared.expr.Expr.{Expr}
+use Rattle.life_tree.specs.declared.simple.Simple.{Simple}
 use Rattle.life_tree.specs.declared.stmt.BlockItem.TheFolds.{fold-BlockItem, fold-PlainStmt, fold-Stmt, fold-Block, fold-Branch, fold-Else, fold-ElseIf, fold-For, fold-If, fold-RangeFor}
 use Rattle.life_tree.specs.declared.stmt.BlockItem.TheOpen as open_stmt
 use Rattle.life_tree.specs.declared.stmt.BlockItem.{BlockItem}
@@ -16,6 +20,7 @@ use Rattle.life_tree.specs.declared.stmt.For.{For}
 use Rattle.life_tree.specs.declared.stmt.ForStart.{ForStart}
 use Rattle.life_tree.specs.declared.stmt.ForStart.TheVariants as for_start
 use Rattle.life_tree.specs.declared.stmt.If.{If}
+use Rattle.life_tree.specs.declared.stmt.PrintPart.{PrintPart}
 use Rattle.life_tree.specs.declared.stmt.RangeFor.{RangeFor}
 use Rattle.life_typed.specs.TypedStatement as typed
 use Rattle.life_typed.specs.TypedStatement.{StmtForm, stmt_forms, no_more, chain}
@@ -93,6 +98,27 @@ start_names None = []
 start_names (Some (for_start.Declaration d)) = d.value.name.id ∷ []
 start_names (Some (for_start.Simple s)) = []
 
+abbrev pub while_part : Place → Expr → Place → Part → Part
+while_part keyword decides closing body around scope types =
+    condition decides scope types >>= (λ x. body (in_loop around) scope x.1 >>= (λ y.
+    Ok ((typed.while_loop keyword x.0 closing y.0.0, y.0.1), y.1)))
+
+-- ---- statements with no statement inside
+
+abbrev pub sentence : Simple → Place → Scope → Types → Checked (StmtForm × Scope)
+sentence s semicolon scope types = simple_statement s scope types >>= (λ x. Ok ((typed.sentence x.0 semicolon, scope), x.1))
+
+abbrev pub return_stmt : TyId → Place → Option (Box Expr Global) → Place → Scope → Types → Checked (StmtForm × Scope)
+return_stmt result keyword value semicolon scope types =
+    returned result keyword value scope types >>= (λ x. Ok ((typed.returned keyword x.0 semicolon, scope), x.1))
+
+abbrev pub print_stmt : List PrintPart → Place → Scope → Types → Checked (StmtForm × Scope)
+print_stmt parts semicolon scope types = items parts scope types >>= (λ x. Ok ((typed.print x.0 semicolon, scope), x.1))
+
+abbrev pub assertion : Place → Expr → Place → Place → Scope → Types → Checked (StmtForm × Scope)
+assertion keyword decides closing semicolon scope types =
+    condition decides scope types >>= (λ x. Ok ((typed.assertion keyword x.0 closing semicolon, scope), x.1))
+
 -- ---- one level of a tree, with what is inside already said
 
 abbrev pub item_step : open_stmt.BlockItem-F ItemPart Part Part Part Part Part Part Part Part Part → ItemPart
@@ -105,23 +131,17 @@ item_step (open_stmt.Stmt s) = record { declares = None; part = s }
 abbrev pub plain_step : open_stmt.PlainStmt-F ItemPart Part Part Part Part Part Part Part Part Part → Part
 plain_step (open_stmt.Block b) around scope types = b around scope types
 plain_step (open_stmt.Empty place) around scope types = Ok ((typed.empty place, scope), types)
-plain_step (open_stmt.Simple s semicolon) around scope types =
-    simple_statement s.value scope types >>= (λ x. Ok ((typed.sentence x.0 semicolon, scope), x.1))
-plain_step (open_stmt.While keyword opening decides closing body) around scope types =
-    condition decides.value scope types >>= (λ x. body.value (in_loop around) scope x.1 >>= (λ y.
-    Ok ((typed.while_loop keyword x.0 closing y.0.0, y.0.1), y.1)))
+plain_step (open_stmt.Simple s semicolon) around scope types = sentence s.value semicolon scope types
+plain_step (open_stmt.While keyword opening decides closing body) around scope types = while_part keyword decides.value closing body.value around scope types
 plain_step (open_stmt.For f) around scope types = f.value around scope types
 plain_step (open_stmt.RangeFor f) around scope types = f.value around scope types
 plain_step (open_stmt.Break keyword semicolon) around scope types =
     given (in_loop_only around.in_loop (typed.loop_break keyword semicolon) keyword) (λ s. Ok ((s, scope), types))
 plain_step (open_stmt.Continue keyword semicolon) around scope types =
     given (in_loop_only around.in_loop (typed.loop_continue keyword semicolon) keyword) (λ s. Ok ((s, scope), types))
-plain_step (open_stmt.Return keyword value semicolon) around scope types =
-    returned around.result keyword value scope types >>= (λ x. Ok ((typed.returned keyword x.0 semicolon, scope), x.1))
-plain_step (open_stmt.Print name parts semicolon) around scope types =
-    items parts.items scope types >>= (λ x. Ok ((typed.print x.0 semicolon, scope), x.1))
-plain_step (open_stmt.Assert keyword opening decides closing semicolon) around scope types =
-    condition decides.value scope types >>= (λ x. Ok ((typed.assertion keyword x.0 closing semicolon, scope), x.1))
+plain_step (open_stmt.Return keyword value semicolon) around scope types = return_stmt around.result keyword value semicolon scope types
+plain_step (open_stmt.Print name parts semicolon) around scope types = print_stmt parts.items semicolon scope types
+plain_step (open_stmt.Assert keyword opening decides closing semicolon) around scope types = assertion keyword decides.value closing semicolon scope types
 
 abbrev pub stmt_step : open_stmt.Stmt-F ItemPart Part Part Part Part Part Part Part Part Part → Part
 stmt_step (open_stmt.If i) around scope types = i.value around scope types

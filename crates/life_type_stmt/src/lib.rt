@@ -10,6 +10,7 @@ mod ends;
 mod given;
 mod ranges;
 mod returns;
+mod sentences;
 mod simples;
 mod statements;
 

@@ -3,19 +3,18 @@ ghost use Rattle.std.specs.Prelude.{◌≡◌, map, option_map};
 ghost use Rattle.life_typed.specs.TypedStatement.{block_item_view, block_view, branch_view, for_start_view, optional_view, stmt_view};
 ghost use Rattle.life_names.specs.Checked.{Gives};
 ghost use Rattle.life_names.specs.Environment.{forgotten};
-ghost use Rattle.life_names.specs.Found.{Finds};
 ghost use Rattle.life_type_stmt.specs.StatementViews.{branches_part, optional_stmt_view};
 ghost use Rattle.life_type_stmt.specs.Statements as spec;
 
 use crate::around::Around;
-use crate::conditions::{condition, items, optional_condition};
+use crate::conditions::{condition, optional_condition};
 use crate::declarations::declaration;
 use crate::ranges::range_head;
-use crate::returns::returned;
+use crate::sentences::{assertion, loop_break, loop_continue, print, return_stmt, sentence};
 use crate::simples::{optional_simple, simple_statement};
-use life_names::{Environment, IllFault, IllKind, ill};
+use life_names::{Environment, IllFault};
 use life_tree::{
-    Block, BlockItem, Branch, Else, ElseIf, For, ForStart, If, PlainStmt, RangeFor, Stmt,
+    Block, BlockItem, Branch, Else, ElseIf, Expr, For, ForStart, If, PlainStmt, RangeFor, Stmt,
 };
 use life_typed::{TypedBlock, TypedBlockItem, TypedBranch, TypedForStart, TypedStmt};
 use life_types::{Place, TypeTable};
@@ -39,18 +38,46 @@ fn stmt(
     }
 }
 
-/// `break` and `continue` stand in a loop.
-fn in_loop_only(in_loop: bool, stmt: TypedStmt, place: Place) -> Result<TypedStmt, IllFault>
-    ensures { Finds stmt_view result (spec.in_loop_only in_loop (stmt_view stmt) place) }
+/// A block as a statement.
+#[cycle(statements)]
+fn block_stmt(
+    alloc: Global,
+    environment: &mut Environment<'_>,
+    types: &mut TypeTable,
+    around: Around,
+    inner: &Block,
+) -> Result<TypedStmt, IllFault>
+    ensures { Gives (λ s. (stmt_view s, environment.new)) types.new result (spec.block_of inner.now around environment.old types.old) }
 {
-    if in_loop {
-        Ok(stmt)
-    } else {
-        Err(ill(IllKind::WrongType, place))
-    }
+    let inner = block(alloc, environment, types, around, inner)?;
+    Ok(TypedStmt::Block(inner))
 }
 
-/// A statement other than an `if`.
+/// A loop by `while`.
+#[cycle(statements)]
+fn while_stmt(
+    alloc: Global,
+    environment: &mut Environment<'_>,
+    types: &mut TypeTable,
+    around: Around,
+    body: &Stmt,
+    keyword: Place,
+    decides: &Expr,
+    closing: Place,
+) -> Result<TypedStmt, IllFault>
+    ensures { Gives (λ s. (stmt_view s, environment.new)) types.new result (spec.while_part keyword decides.now closing (spec.stmt_part body.now) around environment.old types.old) }
+{
+    let condition = condition(alloc, environment, types, decides)?;
+    let body = body_of_loop(alloc, environment, types, around, body)?;
+    Ok(TypedStmt::While {
+        keyword,
+        condition,
+        closing,
+        body,
+    })
+}
+
+/// A statement other than an `if`. Each kind is a function of its own: their parts are large.
 #[cycle(statements)]
 #[tactic(auto, unfolding(crate::specs::Statements::plain_part, crate::specs::Statements::stmt_part, crate::specs::Statements::block_of, crate::specs::Statements::for_part, crate::specs::Statements::range_for_part))]
 fn plain(
@@ -63,90 +90,68 @@ fn plain(
     ensures { Gives (λ s. (stmt_view s, environment.new)) types.new result (spec.plain_part stmt.now around environment.old types.old) }
 {
     match stmt {
-        PlainStmt::Block(inner) => {
-            let inner = block(alloc, environment, types, around, inner)?;
-            Ok(TypedStmt::Block(inner))
-        }
+        PlainStmt::Block(inner) => block_stmt(alloc, environment, types, around, inner),
         PlainStmt::Empty(place) => Ok(TypedStmt::Empty(*place)),
         PlainStmt::Simple { simple, semicolon } => {
-            let simple = simple_statement(alloc, environment, types, simple)?;
-            Ok(TypedStmt::Simple {
-                simple,
-                semicolon: *semicolon,
-            })
+            sentence(alloc, environment, types, simple, *semicolon)
         }
         PlainStmt::While {
             keyword,
-            condition: decides,
+            condition,
             closing,
             body,
             ..
-        } => {
-            let condition = condition(alloc, environment, types, decides)?;
-            let body = body_of_loop(alloc, environment, types, around, body)?;
-            Ok(TypedStmt::While {
-                keyword: *keyword,
-                condition,
-                closing: *closing,
-                body,
-            })
-        }
+        } => while_stmt(
+            alloc,
+            environment,
+            types,
+            around,
+            body,
+            *keyword,
+            condition,
+            *closing,
+        ),
         PlainStmt::For(stmt) => for_stmt(alloc, environment, types, around, stmt),
         PlainStmt::RangeFor(stmt) => range_for(alloc, environment, types, around, stmt),
         PlainStmt::Break { keyword, semicolon } => {
-            let stmt = TypedStmt::Break {
-                keyword: *keyword,
-                semicolon: *semicolon,
-            };
-            let stmt = in_loop_only(around.in_loop, stmt, *keyword)?;
-            Ok(stmt)
+            loop_break(around.in_loop, *keyword, *semicolon)
         }
         PlainStmt::Continue { keyword, semicolon } => {
-            let stmt = TypedStmt::Continue {
-                keyword: *keyword,
-                semicolon: *semicolon,
-            };
-            let stmt = in_loop_only(around.in_loop, stmt, *keyword)?;
-            Ok(stmt)
+            loop_continue(around.in_loop, *keyword, *semicolon)
         }
         PlainStmt::Return {
             keyword,
             value,
             semicolon,
-        } => {
-            let value = returned(alloc, environment, types, around.result, *keyword, value)?;
-            Ok(TypedStmt::Return {
-                keyword: *keyword,
-                value,
-                semicolon: *semicolon,
-            })
-        }
+        } => return_stmt(
+            alloc,
+            environment,
+            types,
+            around.result,
+            *keyword,
+            value,
+            *semicolon,
+        ),
         PlainStmt::Print {
             parts,
             semicolon,
             ..
-        } => {
-            let items = items(alloc, environment, types, parts)?;
-            Ok(TypedStmt::Print {
-                items,
-                semicolon: *semicolon,
-            })
-        }
+        } => print(alloc, environment, types, parts, *semicolon),
         PlainStmt::Assert {
             keyword,
-            condition: decides,
+            condition,
             closing,
             semicolon,
             ..
-        } => {
-            let condition = condition(alloc, environment, types, decides)?;
-            Ok(TypedStmt::Assert {
-                keyword: *keyword,
-                condition,
-                closing: *closing,
-                semicolon: *semicolon,
-            })
-        }
+        } => assertion(
+            alloc,
+            environment,
+            types,
+            *keyword,
+            condition,
+            *closing,
+            *semicolon,
+        ),
     }
 }
 
