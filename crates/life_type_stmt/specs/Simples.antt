@@ -131,14 +131,25 @@ step_fault t = lower_kind (unless (is_place t.ty t.category && can_step (type_of
 abbrev pub stepped : StepOperator → Place → Typed → Found SimpleForm
 stepped operator place t = found_with (allowed (step_fault t) place) (λ _. Ok (typed.step t operator place))
 
+abbrev pub prefix_step : StepOperator → Place → Target → Scope → Types → Checked SimpleForm
+prefix_step operator place t scope types = target t scope types >>= (λ x. given (stepped operator place x.0) (λ s. Ok (s, x.1)))
+
+abbrev pub postfix_step : Postfix → StepOperator → Place → Scope → Types → Checked SimpleForm
+postfix_step t operator place scope types = operand t scope types >>= (λ x. given (stepped operator place x.0) (λ s. Ok (s, x.1)))
+
+-- ---- a call alone
+
+abbrev pub discarded : Postfix → Scope → Types → Checked SimpleForm
+discarded call scope types = operand call scope types >>= (λ x. Ok (typed.discarded x.0, x.1))
+
 -- ---- all of them
 
 abbrev pub simple_statement : Simple → Scope → Types → Checked SimpleForm
 simple_statement (simple.Assign t equals v) scope types = assignment t equals v scope types
 simple_statement (simple.Compound t operator place v) scope types = compound t operator place v.value scope types
-simple_statement (simple.PrefixStep operator place t) scope types = target t scope types >>= (λ x. given (stepped operator place x.0) (λ s. Ok (s, x.1)))
-simple_statement (simple.PostfixStep t operator place) scope types = operand t scope types >>= (λ x. given (stepped operator place x.0) (λ s. Ok (s, x.1)))
-simple_statement (simple.Call call) scope types = operand call scope types >>= (λ x. Ok (typed.discarded x.0, x.1))
+simple_statement (simple.PrefixStep operator place t) scope types = prefix_step operator place t scope types
+simple_statement (simple.PostfixStep t operator place) scope types = postfix_step t operator place scope types
+simple_statement (simple.Call call) scope types = discarded call scope types
 
 abbrev pub optional_simple : Option (Box Simple Global) → Scope → Types → Checked (Option SimpleForm)
 optional_simple None scope types = Ok (None, types)

@@ -261,6 +261,51 @@ fn stepped(operator: StepOperator, place: Place, target: TypedExpr) -> Result<Ty
     })
 }
 
+/// `++` or `--` before its operand.
+fn prefix_step(
+    alloc: Global,
+    environment: &Environment<'_>,
+    types: &mut TypeTable,
+    operator: StepOperator,
+    place: Place,
+    changed: &Target,
+) -> Result<TypedSimple, IllFault>
+    ensures { Gives simple_view types.new result (spec.prefix_step operator place changed.now environment.now types.old) }
+{
+    let changed = target(alloc, environment, types, changed)?;
+    let step = stepped(operator, place, changed)?;
+    Ok(step)
+}
+
+/// `++` or `--` behind its operand.
+fn postfix_step(
+    alloc: Global,
+    environment: &Environment<'_>,
+    types: &mut TypeTable,
+    changed: &Postfix,
+    operator: StepOperator,
+    place: Place,
+) -> Result<TypedSimple, IllFault>
+    ensures { Gives simple_view types.new result (spec.postfix_step changed.now operator place environment.now types.old) }
+{
+    let changed = operand(alloc, environment, types, changed)?;
+    let step = stepped(operator, place, changed)?;
+    Ok(step)
+}
+
+/// A call whose answer nothing takes.
+fn discarded(
+    alloc: Global,
+    environment: &Environment<'_>,
+    types: &mut TypeTable,
+    call: &Postfix,
+) -> Result<TypedSimple, IllFault>
+    ensures { Gives simple_view types.new result (spec.discarded call.now environment.now types.old) }
+{
+    let call = operand(alloc, environment, types, call)?;
+    Ok(TypedSimple::Call(call))
+}
+
 /// An assignment, a step or a call.
 pub(crate) fn simple_statement(
     alloc: Global,
@@ -285,25 +330,14 @@ pub(crate) fn simple_statement(
         Simple::PrefixStep {
             operator,
             place,
-            target: changed,
-        } => {
-            let changed = target(alloc, environment, types, changed)?;
-            let step = stepped(*operator, *place, changed)?;
-            Ok(step)
-        }
+            target,
+        } => prefix_step(alloc, environment, types, *operator, *place, target),
         Simple::PostfixStep {
-            target: changed,
+            target,
             operator,
             place,
-        } => {
-            let changed = operand(alloc, environment, types, changed)?;
-            let step = stepped(*operator, *place, changed)?;
-            Ok(step)
-        }
-        Simple::Call(call) => {
-            let call = operand(alloc, environment, types, call)?;
-            Ok(TypedSimple::Call(call))
-        }
+        } => postfix_step(alloc, environment, types, target, *operator, *place),
+        Simple::Call(call) => discarded(alloc, environment, types, call),
     }
 }
 
