@@ -1,5 +1,5 @@
 -- What is told of a form, whichever expression it is of, is told of what is within that from the innermost operand on.
-use Rattle.std.proofs.Common.{◌≡◌, ℕ, ◌+◌, ◌<◌, ◌≤◌, List, [], ◌∷◌, ◌++◌, Option, get_or, map, take, length, refl, sym, ap, subst, ◌∙◌}
+use Rattle.std.proofs.Common.{◌≡◌, ℕ, ◌+◌, ◌<◌, ◌≤◌, List, [], ◌∷◌, ◌++◌, get_or, map, take, length, sym, ap, ◌∙◌}
 use Rattle.std.proofs.lemmas.List.{map-append, take_all, take_more}
 use Rattle.life_typed.proofs.Applied.{inside, nested_more, seen_out}
 use Rattle.life_typed.specs.TypedForm.{Form, Typed, form_view, nested, nothing, operand_view, typed, typed_view}

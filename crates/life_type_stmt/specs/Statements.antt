@@ -23,7 +23,7 @@ use Rattle.life_tree.specs.declared.stmt.If.{If}
 use Rattle.life_tree.specs.declared.stmt.PrintPart.{PrintPart}
 use Rattle.life_tree.specs.declared.stmt.RangeFor.{RangeFor}
 use Rattle.life_typed.specs.TypedStatement as typed
-use Rattle.life_typed.specs.TypedStatement.{StmtForm, stmt_forms, no_more, chain}
+use Rattle.life_typed.specs.TypedStatement.{StmtForm, stmt_forms, no_more}
 use Rattle.life_names.specs.Checked.{Checked, ◌>>=◌}
 use Rattle.life_type_stmt.specs.Conditions.{condition, optional_condition, items}
 use Rattle.life_type_stmt.specs.Declarations.{declaration}
