@@ -1,13 +1,13 @@
 -- What is made at locations that are read, one after the other.
 use Rattle.std.proofs.Common.{◌≡◌, ◌≢◌, ◌<◌, ◌≤◌, ◌+◌, ℕ, Bool, false, List, [], ◌∷◌, ◌++◌, length, Option, Some, inl, inr, ◌⊎◌, ◌↔◌, refl, ap, sym, ◌∙◌, subst, arith, nat_eq, not, ◌&&◌, ◌||◌}
-use Rattle.std.proofs.lemmas.Bool.{and_from, and_parts, both_ways, cases_Bool, eq-eqb, eqb-true, not_from_false, or_cases, or_left}
+use Rattle.std.proofs.lemmas.Bool.{and_from, and_parts, both_ways, cases_Bool, cases_lt, eq-eqb, eqb-true, not_from_false, or_cases, or_left}
 use Rattle.std.proofs.lemmas.List.Elements.{Contains-append_left, Contains-append_right, Contains-append_cases}
 use Rattle.std.proofs.lemmas.Option.{slice_get_within}
 use Rattle.std.specs.Prelude.{Contains, IsTrue, slice_get, slice_set}
 use Rattle.life_pset.specs.declared.element.AbsPlace.{AbsPlace}
 use Rattle.life_pset.specs.declared.element.Fact.{Fact}
 use Rattle.life_pset.proofs.Members.{none_in_empty}
-use Rattle.life_sets.specs.NumberSets.{Numbers, holds}
+use Rattle.life_sets.specs.NumberSets.{Numbers, holds, IsNext}
 use Rattle.life_rules.specs.FactSets.{Gains, GainsSome, Includes, IsPairOf}
 use Rattle.life_plan.specs.Carried.{AreMade, AreMadeUpTo, none_due}
 use Rattle.life_plan.specs.Crossing.{Crossing}
@@ -44,17 +44,33 @@ module _ (c : Crossing) (location : ℕ) (elements : ℕ → Bool) (first : List
                 Contains-append_left facts (made_facts c location i) x ((was x).1 (inr (new.0, (omega (arith, lt, ne), new.1.1))))
           ]
 
-  pub made_past : (facts : List Fact) → elements i ≡ false → ((x : Fact) → Contains facts x ↔ (Contains first x ⊎ IsMadeBelow c location elements i x))
-      → (x : Fact) → Contains facts x ↔ (Contains first x ⊎ IsMadeBelow c location elements (i + 1) x)
-  made_past facts not_held was x = (
-    λ h. elim ((was x).0 h) [ inl there ↦ inl there | inr new ↦ let lt : new.0 < i = new.1.0 in inr (new.0, (omega (arith, lt), new.1.1)) ],
+  -- none of the elements up to the next one is in the set
+  pub made_skipped : (number : ℕ) (facts : List Fact) → IsNext elements i number → ((x : Fact) → Contains facts x ↔ (Contains first x ⊎ IsMadeBelow c location elements i x))
+      → (x : Fact) → Contains facts x ↔ (Contains first x ⊎ IsMadeBelow c location elements number x)
+  made_skipped number facts next was x = (
+    λ h. elim ((was x).0 h) [ inl there ↦ inl there | inr new ↦ let lt : new.0 < i = new.1.0 in inr (new.0, (omega (arith, lt, next.reached), new.1.1)) ],
     λ h.
         elim h [
           | inl there ↦ (was x).1 (inl there)
-          | inr new ↦
-              let ne : new.0 ≢ i = λ e. both_ways (elements i) not_held (subst (λ (n : ℕ). IsTrue (elements n)) e new.1.1.0) in
-              let lt : new.0 < i + 1 = new.1.0 in
-              (was x).1 (inr (new.0, (omega (arith, lt, ne), new.1.1)))
+          | inr new ↦ elim (cases_lt new.0 i) [
+            | inl early ↦ (was x).1 (inr (new.0, (early, new.1.1)))
+            | inr late ↦ absurd (both_ways (elements new.0) (next.between new.0 late new.1.0) new.1.1.0)
+          ]
+        ],
+  )
+
+  -- .. or none of all others
+  pub made_rest : (facts : List Fact) → ((n : ℕ) → i ≤ n → elements n ≡ false) → ((x : Fact) → Contains facts x ↔ (Contains first x ⊎ IsMadeBelow c location elements i x))
+      → (x : Fact) → Contains facts x ↔ (Contains first x ⊎ IsMadeAt c location elements x)
+  made_rest facts none was x = (
+    λ h. elim ((was x).0 h) [ inl there ↦ inl there | inr new ↦ inr (new.0, new.1.1) ],
+    λ h.
+        elim h [
+          | inl there ↦ (was x).1 (inl there)
+          | inr new ↦ elim (cases_lt new.0 i) [
+            | inl early ↦ (was x).1 (inr (new.0, (early, new.1)))
+            | inr late ↦ absurd (both_ways (elements new.0) (none new.0 late) new.1.0)
+          ]
         ],
   )
 

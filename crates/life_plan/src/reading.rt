@@ -158,9 +158,15 @@ fn push_all_made(
 ) -> Result<(), NoMemory>
     ensures { OnOk result ((x : Fact) → Contains facts.new.items x ↔ (Contains facts.old.items x ⊎ IsMadeAt (crossing_in context.now) location (holds elements.now) x)) }
 {
-    for e in 0..elements.limit() {
-        if elements.contains(e) {
-            push_made_of(alloc, context, location, e, facts)?;
+    let end = elements.limit();
+    let mut from = 0;
+    while from < end {
+        match elements.next(from) {
+            None => return Ok(()),
+            Some(e) => {
+                push_made_of(alloc, context, location, e, facts)?;
+                from = e + 1;
+            }
         }
     }
     Ok(())
