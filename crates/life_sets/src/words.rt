@@ -8,16 +8,16 @@ use crate::bit_pairs::words_for;
 use smallvec::SmallVec;
 use std::alloc::{AllocError, Global};
 
-// So many words without a bit. They take memory only where there are more than so many that stand
-// in the value itself.
+// So many words without a bit. They take memory only where there are more than N, which stand in the
+// value itself.
 pub fn zeros<const N: usize>(alloc: Global, count: usize) -> Result<SmallVec<u64, N>, AllocError>
     ensures { IfOk result (λ words. words.items ≡ replicate count 0) }
 {
-    if count <= N {
-        Ok(SmallVec::from_buf_and_len(alloc, [0; N], count))
-    } else {
-        SmallVec::from_elem(alloc, 0, count)
+    let mut words = SmallVec::with_capacity(alloc, count)?;
+    for _ in 0..count {
+        words.push_reserved(0);
     }
+    Ok(words)
 }
 
 // Adds the bits of the first, and says whether a word changed.
