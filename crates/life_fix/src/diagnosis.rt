@@ -22,7 +22,7 @@ use crate::told::told_facts;
 use life_contract::Signatures;
 use life_core::{CoreFn, FnId, Names, Point, SpotRef, spots};
 use life_pset::{ElementTable, Fact};
-use life_rules::{Diag, ListedDiag, push_diags, push_diags_of_two, tells_first};
+use life_rules::{Diag, ListedDiag, push_diags, push_diags_of_two, tells_first, tells_some};
 use life_sets::{NumberSet, Rows};
 use life_types::{NoMemory, TypeTable};
 use std::alloc::Global;
@@ -93,7 +93,7 @@ pub(crate) fn found<R: Rows>(
     Ok(all)
 }
 
-// Adds what the facts of a row make wrong at its point.
+// Adds what the facts of a row make wrong at its point. At most points nothing may be told.
 fn push_row<R: Rows>(
     alloc: Global,
     sigs: &Signatures,
@@ -115,9 +115,14 @@ fn push_row<R: Rows>(
 {
     match row {
         None => {}
-        Some(row) => push_wrong_by(
-            alloc, sigs, types, function, f, spot, table, row, elements, out,
-        )?,
+        Some(row) => {
+            if !tells_some(types, f, spot) {
+                return Ok(());
+            }
+            push_wrong_by(
+                alloc, sigs, types, function, f, spot, table, row, elements, out,
+            )?;
+        }
     }
     Ok(())
 }

@@ -10,7 +10,7 @@ ghost use Rattle.life_fix.specs.Told.{AreTold, IsOfElements, IsToldOf};
 
 use life_core::{CoreFn, SpotRef};
 use life_pset::{AbsPlace, Element, ElementTable, Fact};
-use life_rules::{is_told_at, tells_some};
+use life_rules::is_told_at;
 use life_sets::{NumberSet, Rows};
 use life_types::{NoMemory, TypeTable};
 use std::alloc::Global;
@@ -33,9 +33,6 @@ pub(crate) fn told_facts<R: Rows>(
     ensures told { IfOk result (λ facts. AreTold types.now (function_of f.now) (spot_seen spot.entry) table.now (R.has row.now) facts.items) }
 {
     let mut facts = Vec::new(alloc);
-    if !tells_some(types, f, spot) {
-        return Ok(facts);
-    }
     for number in 0..table.location_count() {
         push_told(types, f, spot, table, row, number, elements, &mut facts)?;
     }

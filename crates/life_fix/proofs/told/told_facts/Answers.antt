@@ -1,7 +1,7 @@
 use Rattle.std.proofs.Common.{◌∙◌, arith}
 use Rattle.life_core.specs.Function.{function_of}
 use Rattle.life_core.specs.Node.{spot_seen}
-use Rattle.life_fix.proofs.ToldFacts.{told_all, told_next, untold_all}
+use Rattle.life_fix.proofs.ToldFacts.{told_all, told_next}
 use Rattle.life_fix.proofs.told.told_facts.Goals as goal
 
 pub loop-number-preserved : goal.loop-number-preserved
@@ -11,11 +11,6 @@ loop-number-preserved g c = record {
       c.in_ok-push_told.ensures.told c.loop-number.invariant.so_far;
   limit = c.push_told.ensures.limit ∙ c.loop-number.invariant.limit;
 }
-
-pub returns-then-not-tells_some-clause-told : goal.returns-then-not-tells_some-clause-told
-returns-then-not-tells_some-clause-told g c =
-    rw c.new-facts.ensures.items
-    (untold_all c.args.types.now (function_of c.args.f.now) (spot_seen c.args.spot) c.args.table.now (g.R.Rows.has c.args.row.now) (c.tells_some.ensures c.if-not-tells_some.true))
 
 pub returns-clause-told : goal.returns-clause-told
 returns-clause-told g c =
