@@ -178,14 +178,14 @@ adds_next first i added before sets set low within joined so_far k l =
           ],
     )
 
--- ---- where all is due
+-- ---- one more set of a list
 
--- one more set of all numbers
-pub push_all : (sets : List Numbers) (set : Numbers) (m : ℕ) → ((k l : ℕ) → k < length sets → l < m → IsTrue (set_at sets k l)) → ((l : ℕ) → l < m → IsTrue (holds set l)) → (k l : ℕ) → k < length sets + 1 → l < m → IsTrue (set_at (sets ++ set ∷ []) k l)
-push_all [] set m all new zero l lt low = new l low
-push_all [] set m all new (suc k) l lt low = absurd (omega (arith, lt))
-push_all (x ∷ sets) set m all new zero l lt low = all 0 l (omega arith) low
-push_all (x ∷ sets) set m all new (suc k) l lt low = push_all sets set m (λ j i h. all (suc j) i (omega (arith, h))) new k l (omega (arith, lt)) low
+-- what holds of each set, and of one more
+pub push_each : (says : ℕ → (ℕ → Bool) → Type 0) (sets : List Numbers) (set : Numbers) → ((k : ℕ) → k < length sets → says k (set_at sets k)) → says (length sets) (holds set) → (k : ℕ) → k < length sets + 1 → says k (set_at (sets ++ set ∷ []) k)
+push_each says [] set all new zero lt = new
+push_each says [] set all new (suc k) lt = absurd (omega (arith, lt))
+push_each says (x ∷ sets) set all new zero lt = all 0 (omega arith)
+push_each says (x ∷ sets) set all new (suc k) lt = push_each (λ j due. says (suc j) due) sets set (λ j h. all (suc j) (omega (arith, h))) new k (omega (arith, lt))
 
 -- .. for as many numbers as the others
 pub push_sized : (m : ℕ) (sets : List Numbers) (set : Numbers) → AreSized m sets → set.limit ≡ m → AreSized m (sets ++ set ∷ [])

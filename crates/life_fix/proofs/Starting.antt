@@ -1,6 +1,6 @@
 -- The state at the start: no edge was run.
-use Rattle.std.proofs.Common.{◌≡◌, ℕ, ◌<◌, ◌≤◌, List, [], ◌∷◌, ◌++◌, refl, ap, sym, ◌∙◌, inl, inr, arith, subst, Some, Bool, false, true≢false, length}
-use Rattle.std.proofs.lemmas.Option.{same_Some, slice_get_within}
+use Rattle.std.proofs.Common.{◌≡◌, ℕ, ◌≤◌, List, [], ◌∷◌, ◌++◌, refl, ap, sym, ◌∙◌, inl, inr, arith, subst, Some, Bool, false, true, true≢false, length}
+use Rattle.std.proofs.lemmas.Option.{same_Some}
 use Rattle.std.specs.Prelude.{◌↔◌, IsTrue, slice_get, slice_set}
 use Rattle.life_types.specs.Types.{Types}
 use Rattle.life_contract.specs.Signatures.{Signature}
@@ -11,30 +11,38 @@ use Rattle.life_pset.specs.Table.{Table, table_of}
 use Rattle.life_pset.specs.declared.element.Fact.{Fact}
 use Rattle.life_rules.specs.Deriving.{entry, entry_facts}
 use Rattle.life_rules.specs.FactSets.{Gains, IsPairOf}
+use Rattle.life_plan.specs.Crossing.{crossing_of}
 use Rattle.life_plan.specs.declared.plan.Plan.{Plan}
 use Rattle.life_plan.proofs.Places.{same_or_not}
+use Rattle.life_plan.proofs.Starting.{whole_from_none}
 use Rattle.life_fix.specs.Solution.{IsDerivedPair}
-use Rattle.life_fix.specs.Solving.{pairs_at, pairs_in, point_at, AreMade, IsMade, IsPartial, IsStart}
+use Rattle.life_fix.specs.Solving.{pairs_at, pairs_in, point_at, AreMade, IsFirstDue, IsMade, IsPartial, IsStart}
 use Rattle.life_fix.proofs.PointRows.{pairs_other, pairs_same, push_at}
 
--- what the entry gives is derived, and plans that were just made owe nothing where all is due
+-- what the entry gives is derived, and plans that were just made owe nothing where all is due, or no fact is yet
 first_state : (sigs : List Signature) (types : Types) (f : Function) (edges : List Edge) (plans : List Plan) (dues : ℕ → ℕ → Bool) (pairs : ℕ → ℕ → ℕ → Bool) → IsStart types f pairs → AreMade sigs types f edges plans
-    → ((k l : ℕ) → k < length edges → l < length (table_of types f).locations → IsTrue (dues k l)) → IsPartial sigs types f edges plans dues pairs
-first_state sigs types f edges plans dues pairs start made all = record {
+    → ((k : ℕ) → IsFirstDue (length (table_of types f).locations) edges plans k (dues k)) → IsPartial sigs types f edges plans dues pairs
+first_state sigs types f edges plans dues pairs start made due = record {
   sound = λ p l e h.
       let c = (start p l e).0 h in
       let x = c.1.0 in
       let names = c.1.1.0 in
       subst (λ (q : ℕ). IsDerivedPair sigs types f (point_at q) l e) (sym c.0.0) (x, (names, entry (l, (e, names)) c.1.1.1));
   starts = λ some l e pair. (start 1 l e).1 ((refl, some), pair);
-  carried = λ k edge plan at had. made k edge plan at had (dues k) (pairs edge.from.0) (pairs edge.to.0) (λ l low. all k l (slice_get_within edges k edge at) low);
+  carried = λ k edge plan at had.
+      let from = pairs edge.from.0 in
+      let into = pairs edge.to.0 in
+      elim (due k edge plan at had) [
+        | inl all ↦ made k edge plan at had (dues k) from into all
+        | inr quiet ↦ whole_from_none (crossing_of sigs types f edge) plan (λ l. true) (dues k) from into quiet.1 (λ l e h. quiet.0 ((start edge.from.0 l e).0 h).0.0) (made k edge plan at had (λ l. true) from into (λ l low. refl))
+      ];
 }
 
 -- .. where its parts come by other names
 pub first_rows : {R : Type 0} (has : R → ℕ → ℕ → Bool) (sigs : List Signature) (types : Types) (f : Function) (edges : List Edge) (plans : List Plan) (dues : ℕ → ℕ → Bool) (t : Table) (rows now : List R) → t ≡ table_of types f → now ≡ rows
-    → IsStart types f (pairs_at has rows) → AreMade sigs types f edges plans → ((k l : ℕ) → k < length edges → l < length t.locations → IsTrue (dues k l)) → IsPartial sigs types f edges plans dues (pairs_at has now)
-first_rows {R = R} has sigs types f edges plans dues t rows now table after start made all =
-    let due = subst (λ (u : Table). (k l : ℕ) → k < length edges → l < length u.locations → IsTrue (dues k l)) table all in
+    → IsStart types f (pairs_at has rows) → AreMade sigs types f edges plans → ((k : ℕ) → IsFirstDue (length t.locations) edges plans k (dues k)) → IsPartial sigs types f edges plans dues (pairs_at has now)
+first_rows {R = R} has sigs types f edges plans dues t rows now table after start made first =
+    let due = subst (λ (u : Table). (k : ℕ) → IsFirstDue (length u.locations) edges plans k (dues k)) table first in
     subst (λ (rs : List R). IsPartial sigs types f edges plans dues (pairs_at has rs)) (sym after) (first_state sigs types f edges plans dues (pairs_at has rows) start made due)
 
 -- the row of the first point gains the facts

@@ -12,7 +12,7 @@ use Rattle.life_pset.specs.Table.{Table, table_of}
 use Rattle.life_rules.specs.Deriving.{entry_facts}
 use Rattle.life_rules.specs.FactSets.{CarriesPair, GainsSome, IsPairOf}
 use Rattle.life_sets.specs.NumberSets.{Numbers, holds}
-use Rattle.life_plan.specs.Carried.{none_due, IsCarried}
+use Rattle.life_plan.specs.Carried.{is_whole, none_due, IsCarried}
 use Rattle.life_plan.specs.Crossing.{crossing_of}
 use Rattle.life_plan.specs.Noted.{HasNewAt}
 use Rattle.life_plan.specs.declared.plan.Plan.{Plan}
@@ -118,6 +118,11 @@ IsMade sigs types f edge plan = (due : ℕ → Bool) (from into : ℕ → ℕ �
 
 abbrev pub AreMade : List Signature → Types → Function → List Edge → List Plan → Type 0
 AreMade sigs types f edges plans = (k : ℕ) (edge : Edge) (plan : Plan) → slice_get edges k ≡ Some edge → slice_get plans k ≡ Some plan → IsMade sigs types f edge plan
+
+-- at first all locations are due for an edge, or it carries each fact whole from a point other than the first
+abbrev pub IsFirstDue : (locations : ℕ) → List Edge → List Plan → ℕ → (due : ℕ → Bool) → Type 0
+IsFirstDue locations edges plans k due =
+    (edge : Edge) (plan : Plan) → slice_get edges k ≡ Some edge → slice_get plans k ≡ Some plan → ((l : ℕ) → l < locations → IsTrue (due l)) ⊎ ((edge.from.0 ≢ 1) × IsTrue (is_whole plan))
 
 -- a plan was run from one set into another: that one has all that is carried, and gained nothing else, at these locations alone
 pub record RunsRow (sigs : List Signature) (types : Types) (f : Function) (edge : Edge) (plan : Plan) (gained : ℕ → Bool) (from before after : ℕ → ℕ → Bool) : Type 0 where

@@ -1,13 +1,15 @@
 // The state at the start: rows with what holds at the entry, and edges that weren't run.
-ghost use Rattle.std.specs.Prelude.{◌≡◌, ◌↔◌, ◌≤◌, ◌<◌, ℕ, false, length, IfOk, IsTrue, OnOk};
+ghost use Rattle.std.specs.Prelude.{◌≡◌, ◌≢◌, ◌↔◌, ◌≤◌, ◌<◌, ℕ, true, false, length, IfOk, IsTrue, OnOk};
 ghost use Rattle.life_core.specs.Function.{function_of};
 ghost use Rattle.life_core.specs.Linked.{points_of};
 ghost use Rattle.life_rules.specs.FactSets.{IsPairOf};
 ghost use Rattle.life_sets.specs.NumberSets.{holds};
+ghost use Rattle.life_plan.specs.Carried.{is_whole};
 ghost use Rattle.life_fix.specs.Solution.{AllLimited};
-ghost use Rattle.life_fix.specs.Solving.{pairs_at, set_at, AreMade, AreSized, IsFlow, IsStart};
+ghost use Rattle.life_fix.specs.Solving.{pairs_at, set_at, AreMade, AreSized, IsFirstDue, IsFlow, IsStart};
 
 use crate::flow::{Flow, plan_of};
+use life_core::Edge;
 use life_plan::{Plan, add_facts};
 use life_pset::{ElementTable, Fact};
 use life_rules::entry_facts;
@@ -82,18 +84,50 @@ pub fn plans_of(alloc: Global, flow: &Flow) -> Result<Vec<Plan>, NoMemory>
     Ok(plans)
 }
 
-/// For each of so many edges all locations are due.
-pub fn all_due(alloc: Global, locations: u32, count: usize) -> Result<Vec<NumberSet>, NoMemory>
-    ensures count { IfOk result (λ dues. length dues.items ≡ count) }
-    ensures sized { IfOk result (λ dues. AreSized locations dues.items) }
-    ensures all { IfOk result (λ dues. (k l : ℕ) → k < count → l < locations → IsTrue (set_at dues.items k l)) }
+/// What is due at first, for the edges of these plans: all locations, or none for an edge that carries
+/// each fact whole from a point other than the first, where no fact is yet.
+pub fn first_dues(alloc: Global, flow: &Flow, plans: &[Plan]) -> Result<Vec<NumberSet>, NoMemory>
+    requires { length plans.now ≡ length flow.now.edges.now }
+    ensures count { IfOk result (λ dues. length dues.items ≡ length flow.now.edges.now) }
+    ensures sized { IfOk result (λ dues. AreSized (length flow.now.table.now.locations) dues.items) }
+    ensures due { IfOk result (λ dues. (k : ℕ) → IsFirstDue (length flow.now.table.now.locations) flow.now.edges.now plans.now k (set_at dues.items k)) }
 {
-    let all = all_below(alloc, locations)?;
-    let mut dues = Vec::with_capacity(alloc, count)?;
-    for _ in 0..count {
-        dues.push(all.copy(alloc)?)?;
+    let all = all_below(alloc, flow.table.location_count())?;
+    let none = NumberSet::empty(alloc, flow.table.location_count())?;
+    let mut dues = Vec::with_capacity(alloc, plans.len())?;
+    for k in 0..plans.len() {
+        dues.push(first_due(alloc, &all, &none, flow.edges, plans, k)?)?;
     }
     Ok(dues)
+}
+
+// What is due at first for the edge with this number: one of these sets.
+fn first_due(
+    alloc: Global,
+    all: &NumberSet,
+    none: &NumberSet,
+    edges: &[Edge],
+    plans: &[Plan],
+    k: usize,
+) -> Result<NumberSet, NoMemory>
+    requires edge { k < length edges.now }
+    requires plan { k < length plans.now }
+    requires all { (n : ℕ) → n < all.now.limit → IsTrue (holds all.now n) }
+    requires limit { none.now.limit ≡ all.now.limit }
+    ensures limit { IfOk result (λ set. set.limit ≡ all.now.limit) }
+    ensures due { IfOk result (λ set. IsFirstDue all.now.limit edges.now plans.now k (holds set)) }
+{
+    if starts_quiet(edges[k], &plans[k]) {
+        return none.copy(alloc);
+    }
+    all.copy(alloc)
+}
+
+// Whether an edge has nothing to carry at first.
+fn starts_quiet(edge: Edge, plan: &Plan) -> bool
+    ensures { result ≡ true → (edge.from.0 ≢ 1) × IsTrue (is_whole plan.now) }
+{
+    edge.from.0 != 1 && plan.is_whole()
 }
 
 // All numbers below a limit.

@@ -8,7 +8,7 @@ ghost use Rattle.life_pset.specs.Table.{table_of};
 ghost use Rattle.life_fix.specs.Solution.{AllLimited, IsSolution};
 ghost use Rattle.life_fix.specs.Solving.{most_steps, pairs_at, IsSolved};
 
-use crate::beginning::{all_due, first_rows, plans_of};
+use crate::beginning::{first_dues, first_rows, plans_of};
 use crate::flow::Flow;
 use crate::solution::Solution;
 use crate::worklist::run_all;
@@ -91,7 +91,7 @@ fn solved_rows<R: Rows, L: Ledger>(
     };
     let mut rows = first_rows(alloc, &flow)?;
     let mut plans = plans_of(alloc, &flow)?;
-    let mut dues = all_due(alloc, table.location_count(), edges.len())?;
+    let mut dues = first_dues(alloc, &flow, &plans)?;
     run_all(alloc, &flow, &mut rows, &mut plans, &mut dues, steps)?;
     Ok(rows)
 }

@@ -16,8 +16,8 @@ use life_types::NoMemory;
 use std::alloc::Global;
 use std::sync::ledger::Ledger;
 
-/// Runs edges that are due until none is. An edge is due where a location is due for it: at first each
-/// one, and later those of its first point that gained a pair since it was run.
+/// Runs edges that are due until none is. An edge is due where a location is due for it: one that was due
+/// at first, and later those of its first point that gained a pair since it was run.
 pub fn run_all<R: Rows, L: Ledger>(
     alloc: Global,
     flow: &Flow,

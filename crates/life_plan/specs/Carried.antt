@@ -49,6 +49,14 @@ carried_by c (Some t) due from into = AreCarried c t.value due from into
 abbrev pub IsCarried : Crossing → Plan → (due : ℕ → Bool) → (from into : ℕ → ℕ → Bool) → Type 0
 IsCarried c plan due from into = carried_by c plan.tabulated due from into
 
+abbrev pub has_no_table : {Z : Type 0} → Option (Box Tabulated Z) → Bool
+has_no_table None = true
+has_no_table (Some t) = false
+
+-- each fact is carried as it is, and nothing else
+abbrev pub is_whole : Plan → Bool
+is_whole plan = has_no_table plan.tabulated
+
 -- no location is due
 abbrev pub none_due : ℕ → Bool
 none_due l = false

@@ -3,7 +3,7 @@ ghost use Rattle.std.specs.Prelude.{◌≡◌, ◌+◌, ℕ, ◌<◌, Bool, true
 ghost use Rattle.life_core.specs.Function.{function_of};
 ghost use Rattle.life_sets.specs.NumberSets.{holds};
 ghost use Rattle.life_rules.specs.FactSets.{CarriesPair, GainsSome};
-ghost use Rattle.life_plan.specs.Carried.{none_due, IsCarried, IsRoom};
+ghost use Rattle.life_plan.specs.Carried.{is_whole, none_due, IsCarried, IsRoom};
 ghost use Rattle.life_plan.specs.Crossing.{crossing_in, IsContext};
 ghost use Rattle.life_plan.specs.Noted.{Notes};
 
@@ -43,6 +43,16 @@ impl Plan {
         Ok(Plan {
             tabulated: Some(tabulated),
         })
+    }
+
+    /// Whether it carries each fact as it is, and nothing else: so nothing where there is no fact.
+    pub fn is_whole(&self) -> bool
+        ensures { result ≡ is_whole self.now }
+    {
+        match self.tabulated {
+            None => true,
+            Some(_) => false,
+        }
     }
 
     /// Carries to a row what comes of those locations of another row that are due, and of no fact where

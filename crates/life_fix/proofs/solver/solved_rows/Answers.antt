@@ -1,10 +1,9 @@
-use Rattle.std.proofs.Common.{◌≡◌, ◌∙◌, arith, drop, length, List, subst, sym}
+use Rattle.std.proofs.Common.{◌∙◌, drop, length, List, subst, sym}
 use Rattle.std.proofs.lemmas.List.{take_at}
-use Rattle.std.specs.Prelude.{IsTrue}
 use Rattle.life_core.specs.Function.{function_of}
 use Rattle.life_sets.specs.NumberSets.{Numbers}
 use Rattle.life_plan.specs.declared.plan.Plan.{Plan}
-use Rattle.life_fix.specs.Solving.{set_at, AreMade}
+use Rattle.life_fix.specs.Solving.{set_at, AreMade, IsFirstDue}
 use Rattle.life_fix.proofs.Starting.{first_rows}
 use Rattle.life_fix.proofs.solver.solved_rows.Goals as goal
 
@@ -15,11 +14,11 @@ run_all-requires-clause-partial g c =
     let f = function_of c.args.f.now in
     let table = c.args.table.now in
     let edges = c.deref.result.now in
-    let dues = c.in_ok-dues.dues.items in
     let made = subst (λ (ps : List Plan). AreMade sigs types f edges ps) (sym c.deref_mut-2.ensures.value) c.in_ok-plans.ensures.made in
-    let count : length edges ≡ c.len.result = c.deref.ensures.len ∙ sym c.len.ensures in
     first_rows g.R.Rows.has sigs types f edges c.deref_mut-2.result.now (set_at c.deref_mut-3.result.now) table c.in_ok-rows.rows.items c.deref_mut.result.now c.requires.table c.deref_mut.ensures.value c.in_ok-rows.ensures.start made
-    (λ k l lt low. subst (λ (ds : List Numbers). IsTrue (set_at ds k l)) (sym c.deref_mut-3.ensures.value) (c.in_ok-dues.ensures.all k l (omega (arith, lt, count)) (omega (arith, low, c.location_count.ensures))))
+    (λ k.
+    subst (λ (ps : List Plan). IsFirstDue (length table.locations) edges ps k (set_at c.deref_mut-3.result.now k)) (c.deref-2.ensures.value ∙ sym c.deref_mut-2.ensures.value)
+    (subst (λ (ds : List Numbers). IsFirstDue (length table.locations) edges c.deref-2.result.now k (set_at ds k)) (sym c.deref_mut-3.ensures.value) (c.in_ok-dues.ensures.due k)))
 
 pub returns-clause-solved : goal.returns-clause-solved
 returns-clause-solved g c =
