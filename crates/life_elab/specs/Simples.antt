@@ -83,7 +83,7 @@ stepped a target operator place t s =
 
 abbrev pub called_for_nothing : Around → Place → Called → State → State
 called_for_nothing a place c s =
-    handed_over a c.arguments c.closing (parameter_types a c.function) s >> λ given s. emit place (called_alone c.function given) s
+    handed_over a c.arguments c.delimiters (parameter_types a c.function) s >> λ given s. emit place (called_alone c.function given) s
 
 abbrev pub discarded_as : Around → Typed → Option Called → (behind : Place) → Ty → State → State
 discarded_as a e (Some c) behind ty.Void s = called_for_nothing a e.place c s

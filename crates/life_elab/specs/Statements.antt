@@ -66,7 +66,7 @@ abbrev pub line : Around → Place → State → State
 line a place s =
     built (Fill place (pointed (aimed (Text (end_line a))))) (wanted place None ty.View) s >> λ r s. emit place (Ports (WritesView (whole r))) s
 
--- the token behind an item is the next `<<`, which the typed tree doesn't keep, or the last one
+-- nothing ends at the token behind an item: an item is a sum, so a `&&` or `||` stands in parentheses or in a list in it, which have tokens of their own behind their parts
 abbrev pub item : Around → ItemForm → (behind : Place) → State → State
 item a (printed e) behind s = value a (form.whole e) behind (own_type e.ty) None s >> λ r s. emit e.place (Ports (Writes r)) s
 item a (line_end place) behind s = line a place s

@@ -146,7 +146,7 @@ fn called_for_nothing(
     ensures { OnOk result (state_of writer.new ≡ spec.called_for_nothing (around_of a.now) place (called_of called.entry) (state_of writer.old)) }
 {
     let parameters = a.parameters(called.function);
-    let arguments = writer.handed_over(a, called.arguments, called.closing, parameters)?;
+    let arguments = writer.handed_over(a, called.arguments, called.delimiters, parameters)?;
     writer.emit(
         place,
         Instr::Call {

@@ -201,7 +201,7 @@ module _ (a : Around) (types : Types) (texts : ℕ) (fs : List Function) (f : Fu
             let k = (expression a v.visible types texts fs f setting e.form e b he).calls c found in
             called_does t is worth c.function k.of e.place k.there
             (result_later a v.visible types texts fs f setting c.function k.of k.there ∙ sym (ap own_type k.own) ∙ same_types (own_type e.ty) t same ∙ sym (type_is t is))
-            (handed_over a c.arguments c.closing (around.parameter_types a c.function) s) (k.hands s h.stands)
+            (handed_over a c.arguments c.delimiters (around.parameter_types a c.function) s) (k.hands s h.stands)
 
         -- a call is one where it needs no conversion
         abbrev chosen : Option Called → Plan

@@ -75,7 +75,7 @@ module _ (a : Around) (visible : List ℕ) (types : Types) (texts : ℕ) (fs : L
     pub there : slice_get a.program.functions c.function ≡ Some of
     pub kind : (t ≡ Of ty.Void) ⊎ (is_number t ≡ true)
     pub own : t ≡ Of (type_at a.program.types of.result)
-    pub hands : (s : State) → Standing s → Hands of s (handed_over a c.arguments c.closing (around.parameter_types a c.function) s)
+    pub hands : (s : State) → Standing s → Hands of s (handed_over a c.arguments c.delimiters (around.parameter_types a c.function) s)
 
   -- of what an expression is made by
   pub record IsForm (form : Form) (e : Typed) : Type 0 where

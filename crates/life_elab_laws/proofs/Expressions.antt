@@ -11,8 +11,8 @@ use Rattle.life_types.specs.declared.ty.Ty.TheVariants as ty
 use Rattle.life_types.specs.declared.ty.TyId.{TyId}
 use Rattle.life_built.specs.Built.{is_built_form}
 use Rattle.life_typed.specs.BaseTypes.{type_at}
-use Rattle.life_typed.specs.Operators.{promoted}
 use Rattle.life_typed.specs.Programs.{FunctionForm}
+use Rattle.life_typed.specs.Delimiters.{DelimitersForm, behind_first, behind_others}
 use Rattle.life_typed.specs.TypedForm.{Form, Typed, number, character, boolean, text, null, local, call, construct, paren, move, make_unique, text_of, input, member, dereference, index, method, negate, not, address_of, binary, typed, nothing, ◌⨟◌}
 use Rattle.life_typed.specs.declared.typed_expr.BinaryOperator.{BinaryOperator}
 use Rattle.life_typed.specs.declared.typed_expr.Category.TheVariants as category
@@ -168,29 +168,29 @@ module _ (a : Around) (visible : List ℕ) (types : Types) (texts : ℕ) (fs : L
       let t = setting.results g of there in
       ap or_void (setting.front of.result.0 t.0 t.1) ∙ sym (ap (λ (o : Option Ty). unwrap_or o ty.Void) t.1)
 
-  call_form : (g : ℕ) (given : Form) (closing : Place) (e : Typed) → HasResult a.program.types (slice_get a.program.functions g) e
-      → ((of : FunctionForm) → slice_get a.program.functions g ≡ Some of → (s : State) → Standing s → Hands of s (handed_over a given closing (parameter_types (Some of)) s)) → IsForm a visible types texts fs f setting (call g given closing) e
-  call_form g given closing e h hands = go (slice_get a.program.functions g) refl h
+  call_form : (g : ℕ) (given : Form) (delimiters : DelimitersForm) (e : Typed) → HasResult a.program.types (slice_get a.program.functions g) e
+      → ((of : FunctionForm) → slice_get a.program.functions g ≡ Some of → (s : State) → Standing s → Hands of s (handed_over a given delimiters (parameter_types (Some of)) s)) → IsForm a visible types texts fs f setting (call g given delimiters) e
+  call_form g given delimiters e h hands = go (slice_get a.program.functions g) refl h
     where
-      go : (o : Option FunctionForm) → slice_get a.program.functions g ≡ o → HasResult a.program.types o e → IsForm a visible types texts fs f setting (call g given closing) e
+      go : (o : Option FunctionForm) → slice_get a.program.functions g ≡ o → HasResult a.program.types o e → IsForm a visible types texts fs f setting (call g given delimiters) e
       go None at h = absurd h
       go (Some of) at h =
           let built = result_built a.program.types of (function_built a.program.types a.program.functions g of setting.functions at) in
           let k = result_kind (type_at a.program.types of.result) a.program.types e built h in
-          let is : IsCall a visible types texts fs f setting (record { function = g; arguments = given; closing = closing }) e.ty = record {
+          let is : IsCall a visible types texts fs f setting (record { function = g; arguments = given; delimiters = delimiters }) e.ty = record {
             of = of;
             there = at;
             kind = k.0;
             own = k.2;
-            hands = λ s stands. subst (λ (ids : List TyId). Hands of s (handed_over a given closing ids s)) (sym (ap parameters_of at)) (hands of at s stands);
+            hands = λ s stands. subst (λ (ids : List TyId). Hands of s (handed_over a given delimiters ids s)) (sym (ap parameters_of at)) (hands of at s stands);
           } in
           record {
             kind = kind_of_result a.program.types e (type_at a.program.types of.result) built h;
             computes = λ c n place b none into s wanted stands.
-                call_part types texts fs f g of into (own_type e.ty) place s (handed_over a given closing (around.parameter_types a g) s) (setting.callees g of at) (result_later g of at ∙ sym (ap own_type k.2))
+                call_part types texts fs f g of into (own_type e.ty) place s (handed_over a given delimiters (around.parameter_types a g) s) (setting.callees g of at) (result_later g of at ∙ sym (ap own_type k.2))
                 (own_value e.ty n) wanted stands.opened (is.hands s stands);
             lands = λ c n place b none r s. refl;
-            names = no_place a visible types texts fs f setting (call g given closing) e (result_value (type_at a.program.types of.result) a.program.types e built h);
+            names = no_place a visible types texts fs f setting (call g given delimiters) e (result_value (type_at a.program.types of.result) a.program.types e built h);
             points = λ p. absurd (no_pointer k.0 p);
             decides = λ place b w at. absurd (none_some at);
             calls = λ c at. subst (λ (d : Called). IsCall a visible types texts fs f setting d e.ty) (some_same at) is;
@@ -326,7 +326,7 @@ module _ (a : Around) (visible : List ℕ) (types : Types) (texts : ℕ) (fs : L
     expression (boolean x) e b h = literal a visible types texts fs f setting (boolean x) e ty.Bool h refl refl (λ place b. refl) (λ place behind into s wanted stands. constant_part types texts fs f into ty.Bool place (values.truth x) s refl wanted) (λ place behind r s. refl)
     expression null e b h = null_form e h.0 h.1
     expression (local x) e b h = variable_form x e h.0 h.1
-    expression (call g given closing) e b h = call_form g given closing e h.0 (λ of at s stands. handed closing given b h.2 (parameter_types (Some of)) (subst (λ (o : Option FunctionForm). are_given a.program.types (parameter_types o) given ≡ true) at h.1) (setting.taken g of at) s stands)
+    expression (call g given delimiters) e b h = call_form g given delimiters e h.0 (λ of at s stands. handed delimiters given b h.2 (parameter_types (Some of)) (subst (λ (o : Option FunctionForm). are_given a.program.types (parameter_types o) given ≡ true) at h.1) (setting.taken g of at) s stands)
     expression (paren inner closing) e b h = paren_form a visible types texts fs f setting inner closing e (ap (λ (y : Typed). y.ty) (ok_same h.0)) (ap (λ (y : Typed). y.category) (ok_same h.0)) (whole_expression inner b h.1)
     expression input e b h = literal a visible types texts fs f setting input e ty.Long h refl refl (λ place b. refl) (λ place behind into s wanted stands. input_part types texts fs f into ty.Long place s refl wanted) (λ place behind r s. refl)
     expression (dereference inner) e b h = let is = whole_expression inner b h.1 in dereference_form inner e (dereferenced_as a.program.types (typed_in inner) e is.kind h.0) is
@@ -348,30 +348,30 @@ module _ (a : Around) (visible : List ℕ) (types : Types) (texts : ℕ) (fs : L
         let parts = and_parts (is_built_form left) (is_built_form right) b in
         binary_form o left right e (combined_as o e.place (typed_in left) (typed_in right) e h.0) (whole_expression left parts.0 h.1) (whole_expression right parts.1 h.2)
     expression (text id) e b h = absurd (false≢true b)
-    expression (construct structure elements closing) e b h = absurd (false≢true b)
+    expression (construct structure elements delimiters) e b h = absurd (false≢true b)
     expression (move x) e b h = absurd (false≢true b)
     expression (make_unique id argument closing) e b h = absurd (false≢true b)
     expression (text_of inner closing) e b h = absurd (false≢true b)
     expression (member base which) e b h = absurd (false≢true b)
     expression (index base position closing) e b h = absurd (false≢true b)
-    expression (method base which given closing) e b h = absurd (false≢true b)
+    expression (method base which given delimiters) e b h = absurd (false≢true b)
     expression (typed at t c form) e b h = absurd h
     expression nothing e b h = absurd h
     expression (first ⨟ others) e b h = absurd h
 
     -- arguments
-    pub handed : (closing : Place) (form : Form) → is_built_form form ≡ true → AreExpressions a.program a.function.locals visible form → (ids : List TyId) → are_given a.program.types ids form ≡ true
+    pub handed : (d : DelimitersForm) (form : Form) → is_built_form form ≡ true → AreExpressions a.program a.function.locals visible form → (ids : List TyId) → are_given a.program.types ids form ≡ true
         → ((n : ℕ) (id : TyId) → slice_get ids n ≡ Some id → is_value (type_at a.program.types id) ≡ true) → (s : State) → Standing s
-        → Makes types texts fs f None s (handed_over a form closing ids s) (arguments types texts fs f ids)
-    handed closing nothing b h [] g v s stands = none_handed types texts fs f s
-    handed closing nothing b h (id ∷ ids) g v s stands = absurd (false≢true g)
-    handed closing (e ⨟ es) b h [] g v s stands = absurd (false≢true g)
-    handed closing (e ⨟ es) b h (id ∷ ids) g v s stands =
+        → Makes types texts fs f None s (handed_over a form d ids s) (arguments types texts fs f ids)
+    handed d nothing b h [] g v s stands = none_handed types texts fs f s
+    handed d nothing b h (id ∷ ids) g v s stands = absurd (false≢true g)
+    handed d (e ⨟ es) b h [] g v s stands = absurd (false≢true g)
+    handed d (e ⨟ es) b h (id ∷ ids) g v s stands =
         let parts = and_parts (is_built_form e) (is_built_form es) b in
         let given = and_parts (is_given a.program.types (type_at a.program.types id) (typed_in e)) (are_given a.program.types ids es) g in
         let t = type_at a.program.types id in
         let worth = v zero id refl in
-        let first = (whole_expression e parts.0 h.0).valued (given_number a.program.types t (typed_in e) worth given.0) closing t worth None s tt stands in
-        handed_part types texts fs f id t ids (value a e closing t None) (handed_over a es closing ids) s (type_later a.program.types types setting.front id worth) stands.opened first
-        (handed closing es parts.1 h.1 ids given.1 (λ n. v (suc n)) (value a e closing t None s).state (stands_later a visible s (value a e closing t None s).state first.grown stands))
-    handed closing _ b h ids g v s stands = absurd h
+        let first = (whole_expression e parts.0 h.0).valued (given_number a.program.types t (typed_in e) worth given.0) (behind_first d) t worth None s tt stands in
+        handed_part types texts fs f id t ids (value a e (behind_first d) t None) (handed_over a es (behind_others d) ids) s (type_later a.program.types types setting.front id worth) stands.opened first
+        (handed (behind_others d) es parts.1 h.1 ids given.1 (λ n. v (suc n)) (value a e (behind_first d) t None s).state (stands_later a visible s (value a e (behind_first d) t None s).state first.grown stands))
+    handed d _ b h ids g v s stands = absurd h

@@ -33,6 +33,7 @@ pub mod GivingBack
 pub mod Growing
 pub mod Held
 pub mod Instructions
+pub mod ItemTokens
 pub mod Knowledge
 pub mod Leaving
 pub mod Looping

@@ -253,7 +253,7 @@ module _ (a : Around) (visible : List ℕ) (types : Types) (texts : ℕ) (fs : L
 
   alone_part : (e : Typed) (c : Called) (s : State) → IsCall a visible types texts fs f setting c e.ty → e.ty ≡ Of ty.Void → Standing s → Acts s (called_for_nothing a e.place c s)
   alone_part e c s is void stands =
-      let w = handed_over a c.arguments c.closing (around.parameter_types a c.function) s in
+      let w = handed_over a c.arguments c.delimiters (around.parameter_types a c.function) s in
       let P = arguments types texts fs f (parameter_types (Some is.of)) in
       let callee = setting.callees c.function is.of is.there in
       then_part types texts fs f no_gift tt None s w _ P no_gift stands.opened (is.hands s stands)

@@ -79,10 +79,10 @@ multiplicative_part_made p left scope types = rw fold_out-MultiplicativePart
 
 -- ---- lists
 
-pub arguments_made : (a : Arguments) → arguments_meaning a ≡ record { opening = (out-Arguments a).opening; list = map expr_meaning (out-Arguments a).list.items; closing = (out-Arguments a).closing }
+pub arguments_made : (a : Arguments) → arguments_meaning a ≡ record { opening = (out-Arguments a).opening; list = map expr_meaning (out-Arguments a).list.items; delimiters = record { commas = (out-Arguments a).commas.items; closing = (out-Arguments a).closing } }
 unfolding arguments_meaning expr_meaning
 arguments_made a = rw fold_out-Arguments
 
-pub init_list_made : (l : InitList) → init_list_meaning l ≡ record { opening = (out-InitList l).opening; list = map expr_meaning (out-InitList l).list.items; closing = (out-InitList l).closing }
+pub init_list_made : (l : InitList) → init_list_meaning l ≡ record { opening = (out-InitList l).opening; list = map expr_meaning (out-InitList l).list.items; delimiters = record { commas = (out-InitList l).commas.items; closing = (out-InitList l).closing } }
 unfolding init_list_meaning expr_meaning
 init_list_made l = rw fold_out-InitList

@@ -102,13 +102,13 @@ relational_operator relational_operators.GreaterEqual = operators.GreaterEqual
 abbrev pub called : Place → ListMeaning → ℕ × SignatureView → Scope → Types → Checked Typed
 called place arguments f scope types =
     passed kinds.WrongArguments None place (parameters f.1.parameters) arguments.list scope types >>= (λ x.
-    Ok (answer_of (type_at x.1 f.1.result) x.1 place (call f.0 (forms x.0) arguments.closing), x.1))
+    Ok (answer_of (type_at x.1 f.1.result) x.1 place (call f.0 (forms x.0) arguments.delimiters), x.1))
 
 -- a struct made of a list
 abbrev pub constructed : ListMeaning → ℕ × StructureView → Scope → Types → Checked Typed
 constructed l s scope types =
     braced (members s.1.members) l scope types >>= (λ x.
-    Ok (value l.opening (ty.Struct s.0) (construct s.0 (forms x.0) l.closing), x.1))
+    Ok (value l.opening (ty.Struct s.0) (construct s.0 (forms x.0) l.delimiters), x.1))
 
 abbrev pub first_of : List Typed → Option Typed
 first_of [] = None
@@ -119,7 +119,7 @@ abbrev pub unique_made : Place → TypeArgument → ListMeaning → Scope → Ty
 unique_made place element arguments scope types =
     made_element element place scope types >>= (λ x.
     passed kinds.WrongArguments None place (optional x.0) arguments.list scope x.1 >>= (λ y.
-    Ok (value place (ty.Unique x.0) (make_unique x.0 (optional_form (first_of y.0)) arguments.closing), y.1)))
+    Ok (value place (ty.Unique x.0) (make_unique x.0 (optional_form (first_of y.0)) arguments.delimiters.closing), y.1)))
 
 -- ---- one step for each rule
 
@@ -177,13 +177,13 @@ abbrev pub and_part : open_expr.AndPart-F PartMeaning Meaning Meaning Meaning Pa
 and_part p = operand_part operators.And p.place p.operand
 
 abbrev pub arguments_step : open_expr.Arguments-F PartMeaning Meaning Meaning Meaning PartMeaning Meaning PartMeaning Meaning PartMeaning Meaning PartMeaning PartMeaning ListMeaning Meaning ListMeaning Meaning PartMeaning Meaning → ListMeaning
-arguments_step a = record { opening = a.opening; list = a.list.items; closing = a.closing }
+arguments_step a = record { opening = a.opening; list = a.list.items; delimiters = record { commas = a.commas.items; closing = a.closing } }
 
 abbrev pub expr_step : open_expr.Expr-F PartMeaning Meaning Meaning Meaning PartMeaning Meaning PartMeaning Meaning PartMeaning Meaning PartMeaning PartMeaning ListMeaning Meaning ListMeaning Meaning PartMeaning Meaning → Meaning
 expr_step e = chain e.first e.more.items
 
 abbrev pub init_list_step : open_expr.InitList-F PartMeaning Meaning Meaning Meaning PartMeaning Meaning PartMeaning Meaning PartMeaning Meaning PartMeaning PartMeaning ListMeaning Meaning ListMeaning Meaning PartMeaning Meaning → ListMeaning
-init_list_step l = record { opening = l.opening; list = l.list.items; closing = l.closing }
+init_list_step l = record { opening = l.opening; list = l.list.items; delimiters = record { commas = l.commas.items; closing = l.closing } }
 
 abbrev pub logical_and_step : open_expr.LogicalAnd-F PartMeaning Meaning Meaning Meaning PartMeaning Meaning PartMeaning Meaning PartMeaning Meaning PartMeaning PartMeaning ListMeaning Meaning ListMeaning Meaning PartMeaning Meaning → Meaning
 logical_and_step e = chain e.first e.more.items

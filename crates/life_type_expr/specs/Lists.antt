@@ -6,6 +6,7 @@ use Rattle.life_types.specs.declared.place.Place.{Place}
 use Rattle.life_types.specs.declared.ty.Ty.{Ty}
 use Rattle.life_types.specs.declared.ty.Ty.TheVariants as ty
 use Rattle.life_types.specs.declared.ty.TyId.{TyId}
+use Rattle.life_typed.specs.Delimiters.{DelimitersForm}
 use Rattle.life_typed.specs.TypedForm.{Typed}
 use Rattle.life_typed.specs.TypedStatement.{ListForm}
 use Rattle.life_typed.specs.declared.typed_expr.Category.{Category}
@@ -134,7 +135,7 @@ Meaning = Scope → Types → Checked Typed
 pub record ListMeaning : Type 0 where
   pub opening : Place
   pub list : List Meaning
-  pub closing : Place
+  pub delimiters : DelimitersForm
 
 abbrev pub fits_at_all : Result (Unit {0}) Misfit → Bool
 fits_at_all (Ok _) = true
@@ -187,4 +188,4 @@ braced targets l scope types = passed kinds.WrongType None l.opening targets l.l
 abbrev pub list_for : Ty → ListMeaning → Scope → Types → Checked ListForm
 list_for t l scope types =
     braced (list_targets t scope types) l scope types >>= (λ x.
-    Ok (record { opening = l.opening; elements = x.0; closing = l.closing }, x.1))
+    Ok (record { opening = l.opening; elements = x.0; delimiters = l.delimiters }, x.1))

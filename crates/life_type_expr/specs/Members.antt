@@ -8,6 +8,7 @@ use Rattle.life_types.specs.declared.ty.Ty.{Ty}
 use Rattle.life_types.specs.declared.ty.Ty.TheVariants as ty
 use Rattle.life_types.specs.declared.ty.TyId.{TyId}
 use Rattle.life_tree.specs.declared.identifier.Identifier.{Identifier}
+use Rattle.life_typed.specs.Delimiters.{DelimitersForm}
 use Rattle.life_typed.specs.TypedForm.{Typed, forms, index, member, method, whole}
 use Rattle.life_typed.specs.declared.typed_expr.Category.{Category}
 use Rattle.life_typed.specs.declared.typed_expr.Category.TheVariants as category
@@ -87,19 +88,19 @@ called_of expr_type.TextLiteral name scope types = not_found kinds.UnknownName n
 unfoldable pub change_fault : Method → Category → Option IllKind
 change_fault m c = if mutates m then const_or (is_constant c) None else None
 
-abbrev pub answered_as : Option (ExprType × Category) → Place → Typed → Method → List Typed → Place → Found Typed
-answered_as None place base m arguments closing = not_found kinds.UnknownName place
-answered_as (Some answer) place base m arguments closing =
-    Ok (record { place = place; ty = answer.0; category = answer.1; form = method (whole base) m (forms arguments) closing })
+abbrev pub answered_as : Option (ExprType × Category) → Place → Typed → Method → List Typed → DelimitersForm → Found Typed
+answered_as None place base m arguments delimiters = not_found kinds.UnknownName place
+answered_as (Some answer) place base m arguments delimiters =
+    Ok (record { place = place; ty = answer.0; category = answer.1; form = method (whole base) m (forms arguments) delimiters })
 
-abbrev pub answered : Called → Types → Place → Typed → List Typed → Place → Found Typed
-answered called types place base arguments closing =
-    answered_as (method_answer types called.base (is_constant base.category) called.method) place base called.method arguments closing
+abbrev pub answered : Called → Types → Place → Typed → List Typed → DelimitersForm → Found Typed
+answered called types place base arguments delimiters =
+    answered_as (method_answer types called.base (is_constant base.category) called.method) place base called.method arguments delimiters
 
 abbrev pub method_called : Called → Place → ListMeaning → Typed → Scope → Types → Checked Typed
 method_called called place arguments base scope types =
     passed kinds.WrongArguments (change_fault called.method base.category) place (method_parameters called.parameters) arguments.list scope types >>= (λ x.
-    found_in x.1 (answered called x.1 place base x.0 arguments.closing))
+    found_in x.1 (answered called x.1 place base x.0 arguments.delimiters))
 
 abbrev pub method_call : Identifier → ListMeaning → Typed → Scope → Types → Checked Typed
 method_call name arguments base scope types =

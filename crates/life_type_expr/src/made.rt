@@ -1,5 +1,6 @@
 // Literals, calls and structs, once their parts are read.
 ghost use Rattle.std.specs.Prelude.{◌≡◌, map};
+ghost use Rattle.life_typed.specs.Delimiters.{delimiters_view};
 ghost use Rattle.life_typed.specs.TypedForm.{boolean, call, character, construct, forms, input, null, number, text, typed_view};
 ghost use Rattle.life_typed.specs.declared.typed_expr.Category.TheVariants as categories;
 ghost use Rattle.life_typed.specs.declared.typed_expr.ExprType.TheVariants as expr_types;
@@ -8,7 +9,7 @@ ghost use Rattle.life_typed.specs.BaseTypes as table;
 ghost use Rattle.life_type_expr.specs.Operands as spec;
 
 use crate::operands::{answer, number_type, value};
-use life_typed::{Category, ExprForm, ExprType, TypedExpr};
+use life_typed::{Category, Delimiters, ExprForm, ExprType, TypedExpr};
 use life_types::{Place, Ty, TyId, TypeTable};
 use std::alloc::Global;
 use std::vec::Vec;
@@ -77,14 +78,14 @@ pub(crate) fn call_made(
     function: u32,
     result_type: TyId,
     arguments: Vec<TypedExpr>,
-    closing: Place,
+    delimiters: Delimiters,
 ) -> TypedExpr
-    ensures { typed_view result ≡ spec.answer_of (table.type_at types.now result_type) types.now place (call function (forms (map typed_view arguments.items)) closing) }
+    ensures { typed_view result ≡ spec.answer_of (table.type_at types.now result_type) types.now place (call function (forms (map typed_view arguments.items)) (delimiters_view delimiters)) }
 {
     let form = ExprForm::Call {
         function,
         arguments,
-        closing,
+        delimiters,
     };
     answer(alloc, types, result_type, place, form)
 }
@@ -95,14 +96,14 @@ pub(crate) fn struct_made(
     opening: Place,
     structure: u32,
     elements: Vec<TypedExpr>,
-    closing: Place,
+    delimiters: Delimiters,
 ) -> TypedExpr
-    ensures { typed_view result ≡ spec.value opening (kinds_of_type.Struct structure) (construct structure (forms (map typed_view elements.items)) closing) }
+    ensures { typed_view result ≡ spec.value opening (kinds_of_type.Struct structure) (construct structure (forms (map typed_view elements.items)) (delimiters_view delimiters)) }
 {
     let form = ExprForm::Construct {
         structure,
         elements,
-        closing,
+        delimiters,
     };
     value(alloc, opening, Ty::Struct(structure), form)
 }

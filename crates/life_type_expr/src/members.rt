@@ -1,5 +1,6 @@
 // Members, member functions and `[i]`, where their parts are read.
 ghost use Rattle.std.specs.Prelude.{◌≡◌, map, option_map};
+ghost use Rattle.life_typed.specs.Delimiters.{delimiters_view};
 ghost use Rattle.life_typed.specs.TypedForm.{typed_view};
 ghost use Rattle.life_names.specs.Environment.{structure, text};
 ghost use Rattle.life_typed.specs.Members.{method_named};
@@ -10,8 +11,8 @@ use crate::operands::{const_or, is_constant, place_in};
 use life_names::{Environment, IllFault, IllKind, MemberType, ill};
 use life_tree::Identifier;
 use life_typed::{
-    Category, ExprForm, ExprType, Method, MethodParameters, TypedExpr, indexed, method_answer,
-    method_named, method_parameters, mutates,
+    Category, Delimiters, ExprForm, ExprType, Method, MethodParameters, TypedExpr, indexed,
+    method_answer, method_named, method_parameters, mutates,
 };
 use life_types::{NameId, Place, Ty, TyId, TypeTable, is_value};
 use std::alloc::Global;
@@ -200,9 +201,9 @@ pub(crate) fn answered(
     place: Place,
     base: TypedExpr,
     arguments: Vec<TypedExpr>,
-    closing: Place,
+    delimiters: Delimiters,
 ) -> Result<TypedExpr, IllFault>
-    ensures { Finds typed_view result (spec.answered called.now types.now place (typed_view base) (map typed_view arguments.items) closing) }
+    ensures { Finds typed_view result (spec.answered called.now types.now place (typed_view base) (map typed_view arguments.items) (delimiters_view delimiters)) }
 {
     let method = called.method;
     match method_answer(types, called.base, is_constant(base.category), method) {
@@ -211,7 +212,7 @@ pub(crate) fn answered(
             let form = ExprForm::Method {
                 method,
                 arguments,
-                closing,
+                delimiters,
             };
             Ok(base.applied(place, ty, category, form)?)
         }

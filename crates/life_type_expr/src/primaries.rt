@@ -27,7 +27,7 @@ use life_tree::{
     Arguments, Expr, Identifier, InitList, Postfix, PostfixPart, PrefixOperator, Primary, Target,
     TypeArgument, Unary,
 };
-use life_typed::{ExprForm, TypedExpr, TypedList};
+use life_typed::{Delimiters, ExprForm, TypedExpr, TypedList};
 use life_types::{Place, Ty, TypeTable};
 use std::alloc::Global;
 
@@ -174,7 +174,8 @@ fn method(
         targets,
         &arguments.list,
     )?;
-    answered(types, &called, name.place, base, list, arguments.closing)
+    let delimiters = Delimiters::of(alloc, &arguments.commas, arguments.closing)?;
+    answered(types, &called, name.place, base, list, delimiters)
 }
 
 /// What has no operators and no parts.
@@ -264,6 +265,7 @@ fn call(
         targets,
         &arguments.list,
     )?;
+    let delimiters = Delimiters::of(alloc, &arguments.commas, arguments.closing)?;
     Ok(call_made(
         alloc,
         types,
@@ -271,7 +273,7 @@ fn call(
         function,
         signature.result,
         list,
-        arguments.closing,
+        delimiters,
     ))
 }
 
@@ -289,7 +291,8 @@ fn construct(
 {
     let targets = Targets::Members(&structure.members);
     let elements = braced(alloc, environment, types, targets, list)?;
-    Ok(struct_made(alloc, list.opening, number, elements, list.closing))
+    let delimiters = Delimiters::of(alloc, &list.commas, list.closing)?;
+    Ok(struct_made(alloc, list.opening, number, elements, delimiters))
 }
 
 /// The first argument, if there is one.
@@ -414,7 +417,7 @@ pub fn elements(
     Ok(TypedList {
         opening: list.opening,
         elements,
-        closing: list.closing,
+        delimiters: Delimiters::of(alloc, &list.commas, list.closing)?,
     })
 }
 

@@ -45,7 +45,7 @@ lone_elements es scope types = each lone_element es scope types
 abbrev pub lone_list : InitList → Scope → Types → Checked InitialForm
 lone_list l scope types =
     lone_elements (out-InitList l).list.items scope types >>= (λ x.
-    Ok (several (record { opening = (out-InitList l).opening; elements = x.0; closing = (out-InitList l).closing }), x.1))
+    Ok (several (record { opening = (out-InitList l).opening; elements = x.0; delimiters = record { commas = (out-InitList l).commas.items; closing = (out-InitList l).closing } }), x.1))
 
 abbrev pub auto_value : InitialValue → Scope → Types → Checked InitialForm
 auto_value (initial_value.Expr e) scope types = expr_meaning e.value scope types >>= (λ x. Ok (one x.0, x.1))

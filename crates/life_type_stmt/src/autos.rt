@@ -13,7 +13,7 @@ use crate::given::value_fault;
 use life_names::{Environment, IllFault, IllKind, Written, add_type, allowed};
 use life_tree::{AutoType, Expr, InitList, InitialValue, Initializer};
 use life_type_expr::{expr, literal_allowed, lower_kind};
-use life_typed::{Category, ExprType, TypedExpr, TypedInitial, TypedList};
+use life_typed::{Category, Delimiters, ExprType, TypedExpr, TypedInitial, TypedList};
 use life_types::{Place, Ty, TyId, TypeTable, is_plain};
 use std::alloc::Global;
 
@@ -60,7 +60,7 @@ fn lone_list(
     Ok(TypedInitial::List(TypedList {
         opening: list.opening,
         elements,
-        closing: list.closing,
+        delimiters: Delimiters::of(alloc, &list.commas, list.closing)?,
     }))
 }
 

@@ -1,5 +1,6 @@
 pub mod BaseTypes
 pub mod Conversions
+pub mod Delimiters
 pub mod Ends
 pub mod Members
 pub mod Operators

@@ -3,6 +3,7 @@ use Rattle.std.specs.Prelude.{ℕ, Bool, List, [], ◌∷◌, Box, Option, None,
 use Rattle.std.specs.declared.alloc.Global.{Global}
 use Rattle.life_types.specs.declared.place.Place.{Place}
 use Rattle.life_types.specs.declared.ty.TyId.{TyId}
+use Rattle.life_typed.specs.Delimiters.{DelimitersForm, delimiters_view}
 use Rattle.life_typed.specs.declared.typed_expr.BinaryOperator.{BinaryOperator}
 use Rattle.life_typed.specs.declared.typed_expr.Category.{Category}
 use Rattle.life_typed.specs.declared.typed_expr.ExprType.{ExprType}
@@ -22,8 +23,8 @@ pub data Form : Type 0 where
   text : ℕ → Form
   null : Form
   local : ℕ → Form
-  call : (function : ℕ) → (arguments : Form) → (closing : Place) → Form
-  construct : (structure : ℕ) → (elements : Form) → (closing : Place) → Form
+  call : (function : ℕ) → (arguments : Form) → DelimitersForm → Form
+  construct : (structure : ℕ) → (elements : Form) → DelimitersForm → Form
   paren : (inner : Form) → (closing : Place) → Form
   move : ℕ → Form
   make_unique : TyId → (argument : Form) → (closing : Place) → Form
@@ -32,7 +33,7 @@ pub data Form : Type 0 where
   member : (base : Form) → (member : ℕ) → Form
   dereference : Form → Form
   index : (base index : Form) → (closing : Place) → Form
-  method : (base : Form) → Method → (arguments : Form) → (closing : Place) → Form
+  method : (base : Form) → Method → (arguments : Form) → DelimitersForm → Form
   negate : Form → Form
   not : Form → Form
   address_of : Form → Form
@@ -82,8 +83,8 @@ form_step (open_expr.Bool value) operand = boolean value
 form_step (open_expr.Text id) operand = text id
 form_step open_expr.Null operand = null
 form_step (open_expr.Local id) operand = local id
-form_step (open_expr.Call function arguments closing) operand = call function (forms arguments.items) closing
-form_step (open_expr.Construct structure elements closing) operand = construct structure (forms elements.items) closing
+form_step (open_expr.Call function arguments delimiters) operand = call function (forms arguments.items) (delimiters_view delimiters)
+form_step (open_expr.Construct structure elements delimiters) operand = construct structure (forms elements.items) (delimiters_view delimiters)
 form_step (open_expr.Paren closing) operand = paren operand closing
 form_step (open_expr.Move id) operand = move id
 form_step (open_expr.MakeUnique element argument closing) operand = make_unique element (optional_boxed_form argument) closing
@@ -92,7 +93,7 @@ form_step open_expr.Input operand = input
 form_step (open_expr.Member which) operand = member operand which
 form_step open_expr.Dereference operand = dereference operand
 form_step (open_expr.Index position closing) operand = index operand (boxed_form position) closing
-form_step (open_expr.Method called arguments closing) operand = method operand called (forms arguments.items) closing
+form_step (open_expr.Method called arguments delimiters) operand = method operand called (forms arguments.items) (delimiters_view delimiters)
 form_step open_expr.Negate operand = negate operand
 form_step open_expr.Not operand = not operand
 form_step open_expr.AddressOf operand = address_of operand

@@ -5,6 +5,7 @@ use Rattle.life_types.specs.declared.place.Place.{Place}
 use Rattle.life_tree.specs.declared.identifier.Identifier.{Identifier}
 use Rattle.life_tree.specs.declared.operator.CompoundOperator.{CompoundOperator}
 use Rattle.life_tree.specs.declared.operator.StepOperator.{StepOperator}
+use Rattle.life_typed.specs.Delimiters.{DelimitersForm, delimiters_view}
 use Rattle.life_typed.specs.TypedForm.{Typed, typed_view}
 use Rattle.life_typed.specs.declared.typed_stmt.TypedBlock.{TypedBlock}
 use Rattle.life_typed.specs.declared.typed_stmt.TypedBlockItem.TheFolds.{fold-TypedBlock, fold-TypedBlockItem, fold-TypedBranch, fold-TypedStmt}
@@ -29,7 +30,7 @@ use Rattle.life_typed.specs.declared.typed_stmt.TypedStmt.{TypedStmt}
 pub record ListForm : Type 0 where
   pub opening : Place
   pub elements : List Typed
-  pub closing : Place
+  pub delimiters : DelimitersForm
 
 -- what a variable or a target is given
 pub data InitialForm : Type 0 where
@@ -90,7 +91,7 @@ optional_view view None = None
 optional_view view (Some x) = Some (view x)
 
 abbrev pub typed_list_view : TypedList → ListForm
-typed_list_view l = record { opening = l.opening; elements = map typed_view l.elements.items; closing = l.closing }
+typed_list_view l = record { opening = l.opening; elements = map typed_view l.elements.items; delimiters = delimiters_view l.delimiters }
 
 abbrev pub initial_view : TypedInitial → InitialForm
 initial_view (initial.Expr e) = one (typed_view e)

@@ -4,6 +4,7 @@
 
 mod basic;
 mod conversions;
+mod delimiters;
 mod members;
 mod method_names;
 mod misfit;
@@ -16,6 +17,7 @@ mod typed_stmt;
 
 pub use basic::{BOOL, CHAR, INT, LONG, SIZE, TEXT, VIEW, VOID, base_types};
 pub use conversions::fits;
+pub use delimiters::Delimiters;
 pub use members::{MethodParameters, has_method, method_answer, method_parameters, mutates};
 pub use method_names::method_named;
 pub use misfit::Misfit;

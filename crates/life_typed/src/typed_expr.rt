@@ -2,6 +2,7 @@
 ghost use Rattle.std.specs.Prelude.{◌≡◌, IfOk};
 ghost use Rattle.life_typed.specs.TypedForm.{applied, form_view, typed_view};
 
+use crate::delimiters::Delimiters;
 use life_types::{NoMemory, Place, Ty, TyId};
 use std::vec::Vec;
 
@@ -142,13 +143,13 @@ pub enum ExprForm {
     Call {
         function: u32,
         arguments: Vec<TypedExpr>,
-        closing: Place,
+        delimiters: Delimiters,
     },
     /// A struct made of a list: one element for each member, or none.
     Construct {
         structure: u32,
         elements: Vec<TypedExpr>,
-        closing: Place,
+        delimiters: Delimiters,
     },
     /// An expression in parentheses.
     Paren {
@@ -181,7 +182,7 @@ pub enum ExprForm {
     Method {
         method: Method,
         arguments: Vec<TypedExpr>,
-        closing: Place,
+        delimiters: Delimiters,
     },
     /// `-e`.
     Negate,

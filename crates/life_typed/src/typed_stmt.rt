@@ -1,4 +1,5 @@
 // Statements with the types of what stands in them.
+use crate::delimiters::Delimiters;
 use crate::typed_expr::TypedExpr;
 use life_tree::{CompoundOperator, Identifier, StepOperator};
 use life_types::Place;
@@ -10,8 +11,8 @@ pub struct TypedList {
     pub opening: Place,
     /// The elements in their order.
     pub elements: Vec<TypedExpr>,
-    /// The `}`.
-    pub closing: Place,
+    /// The commas behind them, and the `}`.
+    pub delimiters: Delimiters,
 }
 
 /// What a variable or a target is given.

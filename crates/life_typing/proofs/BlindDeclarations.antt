@@ -64,7 +64,7 @@ lone_by e scope types = e scope types >>= (λ x. given (literal_allowed false x.
 
 abbrev lone_list_by : ListMeaning → Scope → Types → Checked InitialForm
 lone_list_by l scope types =
-    each lone_by l.list scope types >>= (λ x. Ok (several (record { opening = l.opening; elements = x.0; closing = l.closing }), x.1))
+    each lone_by l.list scope types >>= (λ x. Ok (several (record { opening = l.opening; elements = x.0; delimiters = l.delimiters }), x.1))
 
 each_by : (es : List Expr) (scope : Scope) (types : Types) → each lone_element es scope types ≡ each lone_by (map expr_meaning es) scope types
 each_by [] scope types = refl
@@ -72,7 +72,7 @@ each_by (e ∷ es) scope types = bind_as {m = lone_element e scope types} refl (
 
 -- the outermost layer of a list, by what the list means
 list_opened : (l : InitList) →
-    init_list_meaning l ≡ record { opening = (out-InitList l).opening; list = map expr_meaning (out-InitList l).list.items; closing = (out-InitList l).closing }
+    init_list_meaning l ≡ record { opening = (out-InitList l).opening; list = map expr_meaning (out-InitList l).list.items; delimiters = record { commas = (out-InitList l).commas.items; closing = (out-InitList l).closing } }
 unfolding init_list_meaning expr_meaning
 list_opened l = fold_out-InitList PartMeaning Meaning Meaning Meaning PartMeaning Meaning PartMeaning Meaning PartMeaning Meaning PartMeaning PartMeaning ListMeaning Meaning ListMeaning Meaning PartMeaning Meaning
     part_step primary_step unary_step additive_step additive_part multiplicative_step multiplicative_part equality_step equality_part relational_step relational_part and_part arguments_step expr_step init_list_step logical_and_step or_part postfix_step l

@@ -197,8 +197,8 @@ module _ (name : Identifier) (scope : Scope) where
 lone_never : {P : Type 0} (l : InitList) (scope : Scope) (types : Types) (x : InitialForm × Types) → lone_list l scope types ≡ Ok x → is_served_value x.0 ≡ true → P
 lone_never l scope types x h served =
     let step = bound (lone_elements (out-InitList l).list.items scope types)
-    (λ y. Ok (several (record { opening = (out-InitList l).opening; elements = y.0; closing = (out-InitList l).closing }), y.1)) x h in
-    several_never (record { opening = (out-InitList l).opening; elements = step.value.0; closing = (out-InitList l).closing }) step.value.1 x step.behind served
+    (λ y. Ok (several (record { opening = (out-InitList l).opening; elements = y.0; delimiters = record { commas = (out-InitList l).commas.items; closing = (out-InitList l).closing } }), y.1)) x h in
+    several_never (record { opening = (out-InitList l).opening; elements = step.value.0; delimiters = record { commas = (out-InitList l).commas.items; closing = (out-InitList l).closing } }) step.value.1 x step.behind served
 
 auto_value_is : (i : InitialValue) (scope : Scope) (types : Types) (x : InitialForm × Types) → auto_value i scope types ≡ Ok x → is_served_value x.0 ≡ true → IsOne scope types x
 auto_value_is (initial_value.Expr e) scope types x h served =

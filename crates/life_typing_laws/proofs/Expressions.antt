@@ -11,6 +11,7 @@ use Rattle.life_types.specs.declared.ty.TyId.{TyId}
 use Rattle.life_tree.specs.declared.identifier.Identifier.{Identifier}
 use Rattle.life_typed.specs.BaseTypes.{type_at}
 use Rattle.life_typed.specs.Programs.{FunctionForm, ProgramForm}
+use Rattle.life_typed.specs.Delimiters.{DelimitersForm}
 use Rattle.life_typed.specs.TypedForm.{Form, Typed, call, forms, local}
 use Rattle.life_typed.specs.declared.typed_program.TypedLocal.{TypedLocal}
 use Rattle.life_typing_laws.specs.Served.{is_served_form}
@@ -108,8 +109,8 @@ name_good name scope types x e served =
 
 -- ---- calls
 
-abbrev behind_passed : Place → ℕ × SignatureView → Place → List Typed × Types → Checked Typed
-behind_passed place f closing y = Ok (answer_of (type_at y.1 f.1.result) y.1 place (call f.0 (forms y.0) closing), y.1)
+abbrev behind_passed : Place → ℕ × SignatureView → DelimitersForm → List Typed × Types → Checked Typed
+behind_passed place f delimiters y = Ok (answer_of (type_at y.1 f.1.result) y.1 place (call f.0 (forms y.0) delimiters), y.1)
 
 -- a call whose arguments were passed
 pub record IsCalled (name : Identifier) (arguments : ListMeaning) (scope : Scope) (types : Types) (x : Typed × Types) : Type 0 where
@@ -117,7 +118,7 @@ pub record IsCalled (name : Identifier) (arguments : ListMeaning) (scope : Scope
   pub there : slice_get scope.functions f.0 ≡ Some f.1
   pub y : List Typed × Types
   pub passed : IsPassed kinds.WrongArguments None (parameters f.1.parameters) scope types y
-  pub is : answer_of (type_at y.1 f.1.result) y.1 name.place (call f.0 (forms y.0) arguments.closing) ≡ x.0
+  pub is : answer_of (type_at y.1 f.1.result) y.1 name.place (call f.0 (forms y.0) arguments.delimiters) ≡ x.0
   pub table : y.1 ≡ x.1
 
 abbrev pub call_of : Identifier → ListMeaning → Meaning
@@ -127,8 +128,8 @@ called_is : (name : Identifier) (arguments : ListMeaning) (scope : Scope) (types
     → IsCalled name arguments scope types x
 called_is name arguments scope types x good e =
     let found = given_ok (function_named name scope) (λ f. called name.place arguments f scope types) x e in
-    let step = bound (passed kinds.WrongArguments None name.place (parameters found.value.1.parameters) arguments.list scope types) (behind_passed name.place found.value arguments.closing) x found.behind in
-    let parts = ok_parts (answer_of (type_at step.value.1 found.value.1.result) step.value.1 name.place (call found.value.0 (forms step.value.0) arguments.closing)) step.value.1 x step.behind in
+    let step = bound (passed kinds.WrongArguments None name.place (parameters found.value.1.parameters) arguments.list scope types) (behind_passed name.place found.value arguments.delimiters) x found.behind in
+    let parts = ok_parts (answer_of (type_at step.value.1 found.value.1.result) step.value.1 name.place (call found.value.0 (forms step.value.0) arguments.delimiters)) step.value.1 x step.behind in
     record {
       f = found.value;
       there = function_is name scope found.value found.gave;
@@ -149,8 +150,8 @@ count_is ids n e = go (nat_eq n (length ids)) refl e
 pub call_good : (name : Identifier) (arguments : ListMeaning) → GoodList arguments → Good (call_of name arguments)
 call_good name arguments good scope types x e served =
     let c = called_is name arguments scope types x good e in
-    let form_is : x.0.form ≡ call c.f.0 (forms c.y.0) arguments.closing =
-    subst (λ (z : Typed). z.form ≡ call c.f.0 (forms c.y.0) arguments.closing) c.is (answer_form c.y.1 (type_at c.y.1 c.f.1.result) name.place (call c.f.0 (forms c.y.0) arguments.closing)) in
+    let form_is : x.0.form ≡ call c.f.0 (forms c.y.0) arguments.delimiters =
+    subst (λ (z : Typed). z.form ≡ call c.f.0 (forms c.y.0) arguments.delimiters) c.is (answer_form c.y.1 (type_at c.y.1 c.f.1.result) name.place (call c.f.0 (forms c.y.0) arguments.delimiters)) in
     let served_all : is_served_form (forms c.passed.read.more) ≡ true =
     subst (λ (es : List Typed). is_served_form (forms es) ≡ true) c.passed.read.all (subst (λ (f : Form). is_served_form f ≡ true) form_is served) in
     let table : c.y.1 ≡ types = c.passed.read.same served_all in
@@ -158,13 +159,13 @@ call_good name arguments good scope types x e served =
       same = sym c.table ∙ table;
       is = λ p locals v sound final.
           let s = c.f.1 in
-          let answered : answer_of (type_at types s.result) types name.place (call c.f.0 (forms c.y.0) arguments.closing) ≡ x.0 =
-          subst (λ (t : Types). answer_of (type_at t s.result) t name.place (call c.f.0 (forms c.y.0) arguments.closing) ≡ x.0) table c.is in
+          let answered : answer_of (type_at types s.result) types name.place (call c.f.0 (forms c.y.0) arguments.delimiters) ≡ x.0 =
+          subst (λ (t : Types). answer_of (type_at t s.result) t name.place (call c.f.0 (forms c.y.0) arguments.delimiters) ≡ x.0) table c.is in
           let has = final.functions c.f.0 s c.there in
           let result_there : HasType types s.result = sound.results_there c.f.0 s c.there in
           let result_parts : HasParts types (type_at types s.result) = parts_there types s.result sound.ordered result_there in
           let answer : x.0 ≡ answer_of (type_at p.types s.result) p.types x.0.place x.0.form =
-          answer_stays types p.types final.grown s.result name.place (call c.f.0 (forms c.y.0) arguments.closing) x.0 result_there result_parts answered in
+          answer_stays types p.types final.grown s.result name.place (call c.f.0 (forms c.y.0) arguments.delimiters) x.0 result_there result_parts answered in
           let fine : misfits kinds.WrongArguments (parameters s.parameters) types (lower_kind None (count_fault kinds.WrongArguments (parameters s.parameters) (length c.y.0))) 0 c.y.0 ≡ None =
           subst (λ (t : Types). misfits kinds.WrongArguments (parameters s.parameters) t (lower_kind None (count_fault kinds.WrongArguments (parameters s.parameters) (length c.y.0))) 0 c.y.0 ≡ None) table c.passed.fine in
           let count : length c.y.0 ≡ length s.parameters =
@@ -179,7 +180,7 @@ call_good name arguments good scope types x e served =
                   (subst (λ (ids : List TyId). are_given p.types ids (forms c.y.0) ≡ true) (sym has.parameters) given_all),
               subst (λ (es : List Typed). AreExpressions p locals v.visible (forms es)) (sym c.passed.read.all) (c.passed.read.are p locals v served_all sound final),
             );
-            parts = subst (λ (y : Typed). PartsThere types y.ty) answered (answer_parts types (type_at types s.result) name.place (call c.f.0 (forms c.y.0) arguments.closing) sound.ordered result_parts);
-            place = subst (λ (y : Typed). PlaceThere types y.category) answered (answer_place types (type_at types s.result) name.place (call c.f.0 (forms c.y.0) arguments.closing) result_parts);
+            parts = subst (λ (y : Typed). PartsThere types y.ty) answered (answer_parts types (type_at types s.result) name.place (call c.f.0 (forms c.y.0) arguments.delimiters) sound.ordered result_parts);
+            place = subst (λ (y : Typed). PlaceThere types y.category) answered (answer_place types (type_at types s.result) name.place (call c.f.0 (forms c.y.0) arguments.delimiters) result_parts);
           };
     }

@@ -76,7 +76,7 @@ first_given target (Some (initializer.List l)) read scope types =
 
 -- ---- what is given to `auto`
 
-list_opened : (l : InitList) → init_list_meaning l ≡ record { opening = (out-InitList l).opening; list = map expr_meaning (out-InitList l).list.items; closing = (out-InitList l).closing }
+list_opened : (l : InitList) → init_list_meaning l ≡ record { opening = (out-InitList l).opening; list = map expr_meaning (out-InitList l).list.items; delimiters = record { commas = (out-InitList l).commas.items; closing = (out-InitList l).closing } }
 unfolding init_list_meaning expr_meaning
 list_opened l = fold_out-InitList PartMeaning Meaning Meaning Meaning PartMeaning Meaning PartMeaning Meaning PartMeaning Meaning PartMeaning PartMeaning ListMeaning Meaning ListMeaning Meaning PartMeaning Meaning
     part_step primary_step unary_step additive_step additive_part multiplicative_step multiplicative_part equality_step equality_part relational_step relational_part and_part arguments_step expr_step
@@ -91,7 +91,7 @@ lone_long (e ∷ es) held scope types =
 lone_list_long : (l : InitList) → IsRead (init_list_tree l) → (scope : Scope) (types : Types) → Yields IsParsedInitial (lone_list l scope types)
 lone_list_long l read scope types =
     yields_then AreLong IsParsedInitial _ _ (lone_long (out-InitList l).list.items (subst GiveLong (list_opened l) ((init_list_laws l).long read)) scope types) (λ x all.
-    yields_ok IsParsedInitial (several (record { opening = (out-InitList l).opening; elements = x.0; closing = (out-InitList l).closing })) x.1 all)
+    yields_ok IsParsedInitial (several (record { opening = (out-InitList l).opening; elements = x.0; delimiters = record { commas = (out-InitList l).commas.items; closing = (out-InitList l).closing } })) x.1 all)
 
 auto_long : (value : InitialValue) → IsRead (initial_tree value) → (scope : Scope) (types : Types) → Yields IsParsedInitial (auto_value value scope types)
 auto_long (initial_value.Expr e) read scope types = yields_then IsLong IsParsedInitial _ _ ((expr_laws e.value).long read.1 scope types) (λ x l. yields_ok IsParsedInitial (one x.0) x.1 l)

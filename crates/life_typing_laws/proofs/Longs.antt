@@ -139,12 +139,12 @@ answer_keeps P _ types place form holds = holds
 pub call_long : (name : Identifier) (l : ListMeaning) → GiveLong l → GivesLong (λ scope types. given (function_named name scope) (λ f. called name.place l f scope types))
 call_long name l held scope types =
     yields_given _ _ _ (λ f. yields_then AreLong IsLong _ _ (passed_long _ _ _ _ l.list held scope types) (λ x all.
-    yields_ok IsLong _ _ (answer_keeps (λ form. has_longs form ≡ true) (type_at x.1 f.1.result) x.1 name.place (call f.0 (forms x.0) l.closing) (forms_long x.0 all))))
+    yields_ok IsLong _ _ (answer_keeps (λ form. has_longs form ≡ true) (type_at x.1 f.1.result) x.1 name.place (call f.0 (forms x.0) l.delimiters) (forms_long x.0 all))))
 
 pub call_ends : (name : Identifier) (l : ListMeaning) (scope : Scope) (types : Types) → Yields EndsInArguments (given (function_named name scope) (λ f. called name.place l f scope types))
 call_ends name l scope types =
     yields_given EndsInArguments (function_named name scope) _ (λ f. yields_behind {A = List Typed} _ _ _ (λ x.
-    yields_ok EndsInArguments _ _ (answer_keeps (λ form. ends_in_arguments form ≡ true) (type_at x.1 f.1.result) x.1 name.place (call f.0 (forms x.0) l.closing) refl)))
+    yields_ok EndsInArguments _ _ (answer_keeps (λ form. ends_in_arguments form ≡ true) (type_at x.1 f.1.result) x.1 name.place (call f.0 (forms x.0) l.delimiters) refl)))
 
 -- ---- variables
 

@@ -11,6 +11,7 @@ use Rattle.life_tree.specs.declared.identifier.Identifier.{Identifier}
 use Rattle.life_tree.specs.declared.type_name.TypeArgument.{TypeArgument}
 use Rattle.life_typed.specs.BaseTypes.{type_at}
 use Rattle.life_typed.specs.Members.{method_answer}
+use Rattle.life_typed.specs.Delimiters.{DelimitersForm}
 use Rattle.life_typed.specs.TypedForm.{Typed, construct, forms, make_unique, optional_form}
 use Rattle.life_typed.specs.declared.typed_expr.Category.{Category}
 use Rattle.life_typed.specs.declared.typed_expr.Category.TheVariants as category
@@ -77,10 +78,10 @@ module _ {Read Arguments : Type 0} where
   data_none None types place base l plain = finds_none (IsUnserved Read Arguments) _
   data_none (Some m) types place base l plain = member_in_none base.category types place base m l plain
 
-  answered_none : (o : Option (ExprType × Category)) (place : Place) (base : Typed) (m : Method) (es : List Typed) (closing : Place) → (Read → IsLong base) → (Read → AreLong es)
-      → Finds (IsUnserved Read Arguments) (answered_as o place base m es closing)
-  answered_none None place base m es closing l all = finds_none (IsUnserved Read Arguments) _
-  answered_none (Some answer) place base m es closing l all =
+  answered_none : (o : Option (ExprType × Category)) (place : Place) (base : Typed) (m : Method) (es : List Typed) (delimiters : DelimitersForm) → (Read → IsLong base) → (Read → AreLong es)
+      → Finds (IsUnserved Read Arguments) (answered_as o place base m es delimiters)
+  answered_none None place base m es delimiters l all = finds_none (IsUnserved Read Arguments) _
+  answered_none (Some answer) place base m es delimiters l all =
       finds_ok (IsUnserved Read Arguments) _ (record { long = λ read. and_from (has_longs base.form) (has_longs (forms es)) (l read) (forms_long es (all read)); ends = λ a. refl; none = refl })
 
   member_none : (name : Identifier) (o : Option ListMeaning) → GiveLongIfAny Read Arguments o → (base : Typed) → (Read → IsLong base) → (scope : Scope) (types : Types) → Yields (IsUnserved Read Arguments) (member_part name o base scope types)
@@ -89,8 +90,8 @@ module _ {Read Arguments : Type 0} where
       yields_given (IsUnserved Read Arguments) (called_of base.ty name scope types) _ (λ m.
       yields_then (λ es. Read → AreLong es) (IsUnserved Read Arguments) (passed kinds.WrongArguments (change_fault m.method base.category) name.place (method_parameters m.parameters) list.list scope types) _
       (λ es gave read. passed_long kinds.WrongArguments (change_fault m.method base.category) name.place (method_parameters m.parameters) list.list (held read) scope types es gave) (λ x all.
-      yields_found (IsUnserved Read Arguments) x.1 (answered m x.1 name.place base x.0 list.closing)
-      (answered_none (method_answer x.1 m.base (is_constant base.category) m.method) name.place base m.method x.0 list.closing l all)))
+      yields_found (IsUnserved Read Arguments) x.1 (answered m x.1 name.place base x.0 list.delimiters)
+      (answered_none (method_answer x.1 m.base (is_constant base.category) m.method) name.place base m.method x.0 list.delimiters l all)))
 
   pub dot_none : (name : Identifier) (o : Option ListMeaning) → GiveLongIfAny Read Arguments o → (base : Typed) → (Read → IsLong base) → (scope : Scope) (types : Types) → Yields (IsUnserved Read Arguments) (dot_part name o base scope types)
   dot_none name o held base l scope types = yields_given (IsUnserved Read Arguments) (literal_allowed false base) _ (λ _. member_none name o held base l scope types)
@@ -124,7 +125,7 @@ module _ {Read Arguments : Type 0} where
       yields_given (IsUnserved Read Arguments) (structure_named name scope) _ (λ s.
       yields_then (λ es. Read → AreLong es) (IsUnserved Read Arguments) (braced (members s.1.members) l scope types) _
       (λ es gave read. passed_long kinds.WrongType None l.opening (members s.1.members) l.list (held read) scope types es gave) (λ x all.
-      yields_ok (IsUnserved Read Arguments) (value l.opening (ty.Struct s.0) (construct s.0 (forms x.0) l.closing)) x.1 (record { long = λ read. forms_long x.0 (all read); ends = λ a. refl; none = refl })))
+      yields_ok (IsUnserved Read Arguments) (value l.opening (ty.Struct s.0) (construct s.0 (forms x.0) l.delimiters)) x.1 (record { long = λ read. forms_long x.0 (all read); ends = λ a. refl; none = refl })))
 
   moved_none : (o : Option IllKind) (types : Types) (place : Place) (l : ℕ × TypedLocal) → (Arguments → ⊥) → Finds (IsUnserved Read Arguments) (moved_unless o types place l)
   moved_none None types place l plain = finds_ok (IsUnserved Read Arguments) _ (record { long = λ read. refl; ends = λ a. absurd (plain a); none = refl })
@@ -140,7 +141,7 @@ module _ {Read Arguments : Type 0} where
       yields_behind (IsUnserved Read Arguments) (made_element element place scope types) _ (λ x.
       yields_then (λ es. Read → AreLong es) (IsUnserved Read Arguments) (passed kinds.WrongArguments None place (optional x.0) l.list scope x.1) _
       (λ es gave read. passed_long kinds.WrongArguments None place (optional x.0) l.list (held read) scope x.1 es gave) (λ y all.
-      yields_ok (IsUnserved Read Arguments) (value place (ty.Unique x.0) (make_unique x.0 (optional_form (first_of y.0)) l.closing)) y.1 (record { long = λ read. first_long y.0 (all read); ends = λ a. refl; none = refl })))
+      yields_ok (IsUnserved Read Arguments) (value place (ty.Unique x.0) (make_unique x.0 (optional_form (first_of y.0)) l.delimiters.closing)) y.1 (record { long = λ read. first_long y.0 (all read); ends = λ a. refl; none = refl })))
 
   pub text_none : (place closing : Place) (inner : Meaning) → (Read → GivesLong inner) → (Arguments → ⊥) → (scope : Scope) (types : Types)
       → Yields (IsUnserved Read Arguments) (inner scope types >>= (λ x. found_in x.1 (text_made place closing x.0)))

@@ -11,15 +11,15 @@ use Rattle.life_well_typed.specs.Statements.{ends_in_arguments}
 abbrev pub has_longs : Form → Bool
 has_longs (number n) = nat_lt n (2 ^ 63)
 has_longs (character c) = nat_lt c (2 ^ 63)
-has_longs (call f arguments closing) = has_longs arguments
-has_longs (construct structure elements closing) = has_longs elements
+has_longs (call f arguments delimiters) = has_longs arguments
+has_longs (construct structure elements delimiters) = has_longs elements
 has_longs (paren inner closing) = has_longs inner
 has_longs (make_unique id argument closing) = has_longs argument
 has_longs (text_of inner closing) = has_longs inner
 has_longs (member base which) = has_longs base
 has_longs (dereference e) = has_longs e
 has_longs (index base position closing) = has_longs base && has_longs position
-has_longs (method base called arguments closing) = has_longs base && has_longs arguments
+has_longs (method base called arguments delimiters) = has_longs base && has_longs arguments
 has_longs (negate e) = has_longs e
 has_longs (negation e) = has_longs e
 has_longs (address_of e) = has_longs e

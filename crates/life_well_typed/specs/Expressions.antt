@@ -73,7 +73,7 @@ module _ (p : ProgramForm) (locals : List TypedLocal) (visible : List ℕ) where
     IsMadeOf e (boolean b) = e ≡ value e.place ty.Bool e.form
     IsMadeOf e null = (e.ty ≡ expr_type.NullPointer) × (e.category ≡ category.Value)
     IsMadeOf e (local x) = Contains visible x × IsVariable p.types x (slice_get locals x) e
-    IsMadeOf e (call f arguments closing) =
+    IsMadeOf e (call f arguments delimiters) =
         HasResult p.types (slice_get p.functions f) e
         × (are_given p.types (parameter_types (slice_get p.functions f)) arguments ≡ true)
         × AreExpressions arguments
@@ -85,13 +85,13 @@ module _ (p : ProgramForm) (locals : List TypedLocal) (visible : List ℕ) where
     IsMadeOf e (address_of inner) = IsAddress p.types (typed_in inner).category e × IsExpression inner
     IsMadeOf e (binary o left right) = (combination o e.place (typed_in left) (typed_in right) ≡ Ok e) × IsExpression left × IsExpression right
     IsMadeOf e (text id) = Unit {0}
-    IsMadeOf e (construct structure elements closing) = Unit {0}
+    IsMadeOf e (construct structure elements delimiters) = Unit {0}
     IsMadeOf e (move x) = Unit {0}
     IsMadeOf e (make_unique id argument closing) = Unit {0}
     IsMadeOf e (text_of inner closing) = Unit {0}
     IsMadeOf e (member base which) = Unit {0}
     IsMadeOf e (index base position closing) = Unit {0}
-    IsMadeOf e (method base called arguments closing) = Unit {0}
+    IsMadeOf e (method base called arguments delimiters) = Unit {0}
     IsMadeOf e _ = ⊥
 
     -- .. of several

@@ -5,6 +5,7 @@ use Rattle.life_types.specs.declared.memory.NoMemory.{NoMemory}
 use Rattle.life_types.specs.declared.place.Place.{Place}
 use Rattle.life_types.specs.declared.ty.Ty.{Ty}
 use Rattle.life_types.specs.declared.ty.TyId.{TyId}
+use Rattle.life_typed.specs.Delimiters.{DelimitersForm}
 use Rattle.life_typed.specs.TypedForm.{Form, Typed, binary, call, input, negate, typed}
 use Rattle.life_typed.specs.declared.typed_expr.BinaryOperator.{BinaryOperator}
 use Rattle.life_typed.specs.declared.typed_expr.Category.{Category}
@@ -56,13 +57,13 @@ pub computed_as : (into : Option ℕ) (u t : Ty) (place : Place) (step : ℕ →
     → Answers (λ n. n) r (computed into u place step s) now → Answers (λ n. n) r (computed into t place step s) now
 computed_as into u t place step s now r same given = subst (λ (x : Ty). Answers (λ n. n) r (computed into x place step s) now) same given
 
-pub made_called : (a : Around) (f : Form) (function : ℕ) (arguments : Form) (closing place behind : Place) (t : Ty) (into : Option ℕ) (s s1 now : State) (types : List TyId) (given : List Argument) (r : Result ℕ NoMemory)
-    → f ≡ call function arguments closing → types ≡ parameter_types a function → handed_over a arguments closing types s ≡ gives given s1
+pub made_called : (a : Around) (f : Form) (function : ℕ) (arguments : Form) (d : DelimitersForm) (place behind : Place) (t : Ty) (into : Option ℕ) (s s1 now : State) (types : List TyId) (given : List Argument) (r : Result ℕ NoMemory)
+    → f ≡ call function arguments d → types ≡ parameter_types a function → handed_over a arguments d types s ≡ gives given s1
     → Answers (λ n. n) r (built (Fill place (called function given)) (wanted place into t) s1) now → Answers (λ n. n) r (made a f place behind t into s) now
-made_called a f function arguments closing place behind t into s s1 now types given r is as_declared first answered =
+made_called a f function arguments d place behind t into s s1 now types given r is as_declared first answered =
     answers_as (λ n. n) r _ _ now
     (ap (λ (g : Form). made a g place behind t into s) is
-    ∙ ap (λ (ts : List TyId). handed_over a arguments closing ts s >> λ xs s. built (Fill place (called function xs)) (wanted place into t) s) (sym as_declared)
+    ∙ ap (λ (ts : List TyId). handed_over a arguments d ts s >> λ xs s. built (Fill place (called function xs)) (wanted place into t) s) (sym as_declared)
     ∙ ap (λ (w : Gives (List Argument)). built (Fill place (called function w.given)) (wanted place into t) w.state) first)
     answered
 

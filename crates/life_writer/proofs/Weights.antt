@@ -9,15 +9,15 @@ use Rattle.life_writer.specs.Parts.{inside}
 use Rattle.life_writer.specs.declared.chains.Chain.{Chain}
 
 abbrev pub weight : Form → ℕ
-weight (call f arguments closing) = suc (weight arguments)
-weight (construct s elements closing) = suc (weight elements)
+weight (call f arguments delimiters) = suc (weight arguments)
+weight (construct s elements delimiters) = suc (weight elements)
 weight (paren inner closing) = suc (weight inner)
 weight (make_unique t argument closing) = suc (weight argument)
 weight (text_of inner closing) = suc (weight inner)
 weight (member base which) = suc (weight base)
 weight (dereference e) = suc (weight e)
 weight (index base position closing) = suc (weight base + weight position)
-weight (method base called arguments closing) = suc (weight base + weight arguments)
+weight (method base called arguments delimiters) = suc (weight base + weight arguments)
 weight (negate e) = suc (weight e)
 weight (not e) = suc (weight e)
 weight (address_of e) = suc (weight e)

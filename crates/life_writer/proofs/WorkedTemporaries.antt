@@ -2,11 +2,24 @@
 use Rattle.std.proofs.Common.{◌≡◌, ℕ, [], ◌∷◌, ◌++◌, Some, None, refl}
 use Rattle.life_types.specs.Types.{Types}
 use Rattle.life_types.specs.declared.place.Place.{Place}
+use Rattle.life_types.specs.declared.ty.Ty.TheVariants as ty
+use Rattle.life_types.specs.declared.ty.TyId.{TyId}
+use Rattle.life_typed.specs.Delimiters.{DelimitersForm}
+use Rattle.life_typed.specs.TypedForm.{Form, binary, call, nothing, typed, ◌⨟◌}
+use Rattle.life_typed.specs.declared.typed_expr.BinaryOperator.TheVariants.{And}
+use Rattle.life_typed.specs.declared.typed_expr.Category.TheVariants as category
+use Rattle.life_typed.specs.declared.typed_expr.ExprType.TheVariants as expr_type
 use Rattle.life_core.specs.Step.{End, NonZero}
 use Rattle.life_core.specs.Tree.{Acts, Asks, Skip, Then}
-use Rattle.life_writer.specs.Conditions.{non_zero}
+use Rattle.life_writer.specs.Around.{Around, type_of}
+use Rattle.life_writer.specs.Behind.{ending}
+use Rattle.life_writer.specs.Calls.{handed}
+use Rattle.life_writer.specs.Conditions.{by_branch, joined, joined_by, non_zero}
+use Rattle.life_writer.specs.Expressions.{condition as tested, handed_over, made, value as valued}
+use Rattle.life_writer.specs.Registers.{as_type}
 use Rattle.life_writer.specs.Variables.{full}
 use Rattle.life_writer.specs.Writing.{State, Gives, gives, nothing_written}
+use Rattle.life_writer.specs.declared.rows.Join.TheVariants as join
 
 -- a place on the one line
 abbrev at : ℕ → Place
@@ -31,3 +44,23 @@ value types = refl
 -- .. up to the end of the full expression
 expression : (types : Types) → full (at 12) (λ s. (makes s).state) (begun types) ≡ record (begun types) { code = Acts (at 12) (End (6 ∷ 5 ∷ [])) ∷ [] }
 expression types = refl
+
+-- ---- an operand that stands before a comma
+
+-- a call whose value is a truth, and the test that it stands in before the token behind it
+abbrev truth : Place → Form → Form
+truth place form = typed place (expr_type.Of ty.Bool) category.Value form
+
+-- in `f(a && b, c)`, with `&&` in column 5, the comma in column 8 and the parenthesis in column 11, what is made for `b` ends at the comma, and `c` stands before the parenthesis
+arguments : (a : Around) (first b c : Form) (t u : TyId) (s : State)
+    → handed_over a (truth (at 5) (binary And first b) ⨟ c ⨟ nothing) (record { commas = at 8 ∷ []; closing = at 11 }) (t ∷ u ∷ []) s
+    ≡ handed
+    (as_type ty.Bool (type_of a t) (at 5) (λ into. by_branch into ty.Bool (at 5) (joined (joined_by join.Both) (tested a first (ending (at 5))) (tested a b (ending (at 8))))) None)
+    (handed (valued a c (at 11) (type_of a u) None) (gives []))
+    s
+arguments a first b c t u s = refl
+
+-- .. which, where `b` is a call, is the test above, with the comma as where the temporaries end
+operand : (a : Around) (f : ℕ) (given : Form) (d : DelimitersForm) (s : State)
+    → tested a (truth (at 7) (call f given d)) (ending (at 8)) s ≡ non_zero (at 7) (Some (at 8)) (made a (call f given d) (at 7) (at 8) ty.Bool None) s
+operand a f given d s = refl

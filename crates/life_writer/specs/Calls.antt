@@ -1,6 +1,6 @@
 -- Calls.
 use Rattle.std.specs.Prelude.{ℕ, List, ◌∷◌, Option, Some, None}
-use Rattle.life_types.specs.declared.place.Place.{Place}
+use Rattle.life_typed.specs.Delimiters.{DelimitersForm}
 use Rattle.life_typed.specs.TypedForm.{Form, typed, call, paren}
 use Rattle.life_core.specs.Operands.{Argument, Location, Value}
 use Rattle.life_core.specs.Step.{Step, Call}
@@ -21,10 +21,10 @@ handed first others s = first s >> λ r s. mapped (λ given. Value r ∷ given) 
 pub record Called : Type 0 where
   pub function : ℕ
   pub arguments : Form
-  pub closing : Place
+  pub delimiters : DelimitersForm
 
 abbrev pub call_of : Form → Option Called
 call_of (typed place t category form) = call_of form
-call_of (call f arguments closing) = Some (record { function = f; arguments = arguments; closing = closing })
+call_of (call f arguments delimiters) = Some (record { function = f; arguments = arguments; delimiters = delimiters })
 call_of (paren inner closing) = call_of inner
 call_of _ = None

@@ -3,6 +3,7 @@ use Rattle.std.specs.Prelude.{ℕ, List, [], ◌∷◌, Option, Some, None, pos}
 use Rattle.life_types.specs.declared.place.Place.{Place}
 use Rattle.life_types.specs.declared.ty.Ty.{Ty}
 use Rattle.life_types.specs.declared.ty.TyId.{TyId}
+use Rattle.life_typed.specs.Delimiters.{DelimitersForm, behind_first, behind_others}
 use Rattle.life_typed.specs.TypedForm.{Form, number, character, Typed, boolean, null, local, call, paren, input, dereference, negate, not, address_of, binary, typed, ◌⨟◌}
 use Rattle.life_core.specs.Operands.{Argument, Location, Operand, Null, Place as Aimed, Through, whole, object_named}
 use Rattle.life_core.specs.Step.{NonZero}
@@ -41,8 +42,8 @@ module _ (a : Around) where
     made (number n) place behind t into s = computed into t place (constant (values.long n)) s
     made (character c) place behind t into s = computed into t place (constant (pos c)) s
     made (boolean b) place behind t into s = computed into t place (constant (values.truth b)) s
-    made (call f arguments closing) place behind t into s =
-        handed_over arguments closing (parameter_types a f) s >> λ given s. built (Fill place (called f given)) (wanted place into t) s
+    made (call f arguments delimiters) place behind t into s =
+        handed_over arguments delimiters (parameter_types a f) s >> λ given s. built (Fill place (called f given)) (wanted place into t) s
     made (paren inner closing) place behind t into s = value inner closing t into s
     made input place behind t into s = computed into t place values.input s
     made (negate e) place behind t into s = value e behind t None s >> λ r s. computed into t place (values.negated r) s
@@ -50,10 +51,10 @@ module _ (a : Around) where
         values.operated_by (row_between operator left right) into t place (λ common s. value left behind common None s) (λ common s. value right behind common None s) s
     made _ place behind t into s = gives 0 s
 
-    -- the arguments of a call, as the types of its parameters; the typed tree doesn't keep its commas
-    pub handed_over : Form → (closing : Place) → List TyId → State → Gives (List Argument)
-    handed_over (e ⨟ es) closing (t ∷ ts) s = handed (value e closing (type_of a t) None) (handed_over es closing ts) s
-    handed_over _ closing _ s = gives [] s
+    -- the arguments of a call, as the types of its parameters, each with the token behind it
+    pub handed_over : Form → DelimitersForm → List TyId → State → Gives (List Argument)
+    handed_over (e ⨟ es) d (t ∷ ts) s = handed (value e (behind_first d) (type_of a t) None) (handed_over es (behind_others d) ts) s
+    handed_over _ d _ s = gives [] s
 
     -- the place that an expression is
     pub operand : Form → State → Gives Operand

@@ -36,7 +36,7 @@ plan_for wanted own None = ByValue
 
 abbrev pub begun : Around → Plan → Ty → Typed → Place → State → Gives Last
 begun a ByValue t e behind s = mapped Saved (value a (whole e) behind t None s)
-begun a (ByCall c) t e behind s = mapped (λ given. Fill e.place (called c.function given)) (handed_over a c.arguments c.closing (parameter_types a c.function) s)
+begun a (ByCall c) t e behind s = mapped (λ given. Fill e.place (called c.function given)) (handed_over a c.arguments c.delimiters (parameter_types a c.function) s)
 begun a ByPointer t e behind s = mapped (λ p. Fill e.place (pointed p)) (pointing a (whole e) s)
 begun a ByPlace t e behind s = mapped (λ o. Fill e.place (pointed (aimed (Aimed o)))) (operand a (whole e) s)
 

@@ -1,6 +1,7 @@
 -- Expressions and the operands within them, as plain data.
 use Rattle.std.specs.Prelude.{◌≡◌, Box, List, Option, None, Some, map}
 use Rattle.std.specs.declared.alloc.Global.{Global}
+use Rattle.life_typed.specs.Delimiters.{delimiters_view}
 use Rattle.life_typed.specs.TypedForm.{Form, Typed, number, character, boolean, text, null, local, call, construct, paren, move, make_unique, text_of, input, member, dereference, index, method, negate, not, address_of, binary, nothing, forms, form_view, nested, operand_view, typed_view, typed_views, whole}
 use Rattle.life_typed.specs.declared.typed_expr.TypedExpr.{TypedExpr}
 use Rattle.life_typed.specs.declared.typed_expr.TypedOperand.{TypedOperand}
@@ -32,8 +33,8 @@ shape_form (shape.Bool b) = boolean b
 shape_form (shape.Text t) = text t
 shape_form shape.Null = null
 shape_form (shape.Local x) = local x
-shape_form (shape.Call f arguments closing) = call f (forms (typed_views arguments.now)) closing
-shape_form (shape.Construct s elements closing) = construct s (forms (typed_views elements.now)) closing
+shape_form (shape.Call f arguments delimiters) = call f (forms (typed_views arguments.now)) (delimiters_view delimiters.now)
+shape_form (shape.Construct s elements delimiters) = construct s (forms (typed_views elements.now)) (delimiters_view delimiters.now)
 shape_form (shape.Paren inner closing) = paren (part_form inner) closing
 shape_form (shape.Move x) = move x
 shape_form (shape.MakeUnique element argument closing) = make_unique element (part_form argument) closing
@@ -42,7 +43,7 @@ shape_form shape.Input = input
 shape_form (shape.Member base which) = member (part_form base) which
 shape_form (shape.Dereference e) = dereference (part_form e)
 shape_form (shape.Index base position closing) = index (part_form base) (whole (part_view position)) closing
-shape_form (shape.Method base called arguments closing) = method (part_form base) called (forms (typed_views arguments.now)) closing
+shape_form (shape.Method base called arguments delimiters) = method (part_form base) called (forms (typed_views arguments.now)) (delimiters_view delimiters.now)
 shape_form (shape.Negate e) = negate (part_form e)
 shape_form (shape.Not e) = not (part_form e)
 shape_form (shape.AddressOf e) = address_of (part_form e)

@@ -6,6 +6,7 @@ use Rattle.life_writer.specs.Initialising.{Plan, ByCall, ByPlace, ByPointer, ByV
 use Rattle.life_writer.specs.Building.{Last, Fill, Saved, Destination}
 use Rattle.life_writer.specs.Pointers.{Pointing, As, aimed, pointed}
 use Rattle.life_core.specs.Operands.{argument_of, location_of, source_of}
+use Rattle.life_typed.specs.Delimiters.{delimiters_view}
 use Rattle.life_typed.specs.Programs.{function_view, program_view}
 use Rattle.life_writer.specs.Registers.{wanted}
 use Rattle.life_writer.specs.Variables.{named}
@@ -52,7 +53,7 @@ destination_of (goal.Register place into t) = wanted place into t
 destination_of (goal.Variable l place) = named l place
 
 abbrev pub called_of : Call → Called
-called_of c = record { function = c.function; arguments = forms (typed_views c.arguments.now); closing = c.closing }
+called_of c = record { function = c.function; arguments = forms (typed_views c.arguments.now); delimiters = delimiters_view c.delimiters.now }
 
 abbrev pub plan_of : Planned → Plan
 plan_of planned.Value = ByValue

@@ -6,15 +6,14 @@ ghost use Rattle.life_writer.specs.Parts.{node_form, part_form};
 ghost use Rattle.life_writer.specs.Views.{called_of};
 
 use crate::parts::{Node, Part, Shape, opened};
-use life_typed::TypedExpr;
-use life_types::Place;
+use life_typed::{Delimiters, TypedExpr};
 
-/// A call: the number of the function, the arguments, and the parenthesis that closes them.
+/// A call: the number of the function, the arguments, and the tokens behind them.
 #[derive(Clone, Copy)]
 pub struct Called<'a> {
     pub function: u32,
     pub arguments: &'a [TypedExpr],
-    pub closing: Place,
+    pub delimiters: &'a Delimiters,
 }
 
 /// The call that an expression is, also in parentheses.
@@ -40,11 +39,11 @@ fn node_call(node: Option<Node<'_>>) -> Option<Called<'_>>
         Shape::Call {
             function,
             arguments,
-            closing,
+            delimiters,
         } => Some(Called {
             function,
             arguments,
-            closing,
+            delimiters,
         }),
         Shape::Paren { inner, .. } => part_call(inner),
         _ => None,

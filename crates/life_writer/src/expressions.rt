@@ -3,6 +3,7 @@
 ghost use Rattle.std.specs.Prelude.{◌≡◌, None, map, slice_get};
 ghost use Rattle.life_core.specs.Operands.{argument_of, location_of, operand_of};
 ghost use Rattle.life_core.specs.Tree.{condition_tree};
+ghost use Rattle.life_typed.specs.Delimiters.{delimiters_view};
 ghost use Rattle.life_typed.specs.TypedForm.{forms, typed_view, typed_views, whole};
 ghost use Rattle.life_typed.specs.declared.typed_program.TypedLocal.{TypedLocal};
 ghost use Rattle.life_writer.specs.Answers.{Answers, AnswersIf};
@@ -25,7 +26,7 @@ use crate::rows::{Row, Side, row_between};
 use crate::values::truth;
 use crate::writer::Writer;
 use life_core::{Argument, Condition, Instr, Location, Operand, Operation, Port, Source, Test};
-use life_typed::{Category, TypedExpr, TypedLocal};
+use life_typed::{Category, Delimiters, TypedExpr, TypedLocal};
 use life_types::{NoMemory, Place, Ty, TyId, is_raw};
 use std::vec::Vec;
 
@@ -234,9 +235,9 @@ impl Writer {
             Shape::Call {
                 function,
                 arguments,
-                closing,
+                delimiters,
             } => {
-                let arguments = self.handed_over(a, arguments, closing, a.parameters(function))?;
+                let arguments = self.handed_over(a, arguments, delimiters, a.parameters(function))?;
                 let last = Last::Call(place, function, arguments);
                 self.built(last, Destination::Register(place, into, ty))
             }
@@ -292,24 +293,25 @@ impl Writer {
         }
     }
 
-    /// The arguments of a call, from left to right, as the types of its parameters
-    /// ([expr.call]).
+    /// The arguments of a call, from left to right, as the types of its parameters ([expr.call]),
+    /// each with the token behind it.
     #[cycle(values)]
     pub fn handed_over(
         &mut self,
         a: &Around,
         arguments: &[TypedExpr],
-        closing: Place,
+        delimiters: &Delimiters,
         parameters: &[TypedLocal],
     ) -> Result<Vec<Argument>, NoMemory>
-        ensures { Answers (λ xs. map argument_of xs.items) result (spec.handed_over (around_of a.now) (forms (typed_views arguments.now)) closing (map (λ (l : TypedLocal). l.ty) parameters.now) (state_of self.old)) (state_of self.new) }
+        ensures { Answers (λ xs. map argument_of xs.items) result (spec.handed_over (around_of a.now) (forms (typed_views arguments.now)) (delimiters_view delimiters.now) (map (λ (l : TypedLocal). l.ty) parameters.now) (state_of self.old)) (state_of self.new) }
     {
         let mut given = Vec::new(self.alloc);
         'arguments: for (number, argument) in arguments.iter().enumerate() {
             match type_of_parameter(parameters, number) {
                 Some(ty) => {
                     let part = Some(Part::of(argument));
-                    let register = self.part_value(a, part, closing, a.type_of(ty), None)?;
+                    let behind = delimiters.behind(number);
+                    let register = self.part_value(a, part, behind, a.type_of(ty), None)?;
                     given.push(Argument::Value(register))?;
                 }
                 None => return Ok(given),

@@ -62,7 +62,12 @@ impl Writer {
             }
             Plan::Call(called) => {
                 let parameters = a.parameters(called.function);
-                let arguments = self.handed_over(a, called.arguments, called.closing, parameters)?;
+                let arguments = self.handed_over(
+                    a,
+                    called.arguments,
+                    called.delimiters,
+                    parameters,
+                )?;
                 Ok(Last::Call(place, called.function, arguments))
             }
             Plan::Pointer => {

@@ -3,7 +3,9 @@ ghost use Rattle.std.specs.Prelude.{◌≡◌, ◌-◌, IfSome, length, take};
 ghost use Rattle.life_typed.specs.TypedForm.{form_view, typed_view};
 ghost use Rattle.life_writer.specs.Parts as spec;
 
-use life_typed::{BinaryOperator, Category, ExprForm, ExprType, Method, TypedExpr, TypedOperand};
+use life_typed::{
+    BinaryOperator, Category, Delimiters, ExprForm, ExprType, Method, TypedExpr, TypedOperand,
+};
 use life_types::{Place, TyId};
 
 /// An expression, or an operand within one, which is what stands last in a list of operands.
@@ -29,12 +31,12 @@ pub(crate) enum Shape<'a> {
     Call {
         function: u32,
         arguments: &'a [TypedExpr],
-        closing: Place,
+        delimiters: &'a Delimiters,
     },
     Construct {
         structure: u32,
         elements: &'a [TypedExpr],
-        closing: Place,
+        delimiters: &'a Delimiters,
     },
     Paren {
         inner: Option<Part<'a>>,
@@ -65,7 +67,7 @@ pub(crate) enum Shape<'a> {
         base: Option<Part<'a>>,
         method: Method,
         arguments: &'a [TypedExpr],
-        closing: Place,
+        delimiters: &'a Delimiters,
     },
     Negate(Option<Part<'a>>),
     Not(Option<Part<'a>>),
@@ -158,20 +160,20 @@ fn shape_of<'a>(form: &'a ExprForm, operand: Option<Part<'a>>) -> Shape<'a>
         ExprForm::Call {
             function,
             arguments,
-            closing,
+            delimiters,
         } => Shape::Call {
             function: *function,
             arguments,
-            closing: *closing,
+            delimiters,
         },
         ExprForm::Construct {
             structure,
             elements,
-            closing,
+            delimiters,
         } => Shape::Construct {
             structure: *structure,
             elements,
-            closing: *closing,
+            delimiters,
         },
         ExprForm::Paren { closing } => Shape::Paren {
             inner: operand,
@@ -205,12 +207,12 @@ fn shape_of<'a>(form: &'a ExprForm, operand: Option<Part<'a>>) -> Shape<'a>
         ExprForm::Method {
             method,
             arguments,
-            closing,
+            delimiters,
         } => Shape::Method {
             base: operand,
             method: *method,
             arguments,
-            closing: *closing,
+            delimiters,
         },
         ExprForm::Negate => Shape::Negate(operand),
         ExprForm::Not => Shape::Not(operand),

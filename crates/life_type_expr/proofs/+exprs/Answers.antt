@@ -34,7 +34,7 @@ use Rattle.life_type_expr.specs.Lists.{members as targets_members, misfits, para
 use Rattle.life_type_expr.specs.Members.{change_fault, data_member, indexed_at, member_part}
 use Rattle.life_type_expr.specs.Named.{function_named, local_named, structure_named}
 use Rattle.life_type_expr.specs.TargetViews.{targets_view}
-use Rattle.life_type_expr.proofs.CallLemmas.{call_answers, call_fails, closed, construct_answers, construct_fails, element_fails, list_closed, list_listed, list_opened, listed, method_answers, method_fails, method_misses, unique_answers, unique_fails}
+use Rattle.life_type_expr.proofs.CallLemmas.{call_answers, call_fails, closed, construct_answers, construct_fails, delimited, element_fails, list_delimited, list_listed, list_opened, listed, method_answers, method_fails, method_misses, unique_answers, unique_fails}
 use Rattle.life_types.specs.declared.ty.Ty.TheVariants as ty
 use Rattle.life_tree.specs.declared.expr.Arguments.{out-Arguments}
 use Rattle.life_typed.specs.TypedForm.{Form, make_unique, optional_form}
@@ -383,11 +383,11 @@ primaries::method-returns-in_err-called t c =
 pub primaries::method-returns-in_err-list : goal.primaries::method-returns-in_err-list
 primaries::method-returns-in_err-list t c =
     let p = err_from_is_err_and c.from_residual-in_err-list.result c.from_residual-in_err-list.ensures.1 in
-    rw (p.1, p.2) (method_fails c.args.name (arguments_meaning c.args.arguments.now) (typed_view c.args.base) c.args.environment.now c.args.types.now _ (seen_type c.args.base) c.in_ok-called.called c.in_ok-called.ensures c.change_fault-fault.result (c.change_fault-fault.ensures ∙ ap (change_fault c.in_ok-called.called.method) (sym (seen_category c.args.base))) _ (listed c.args.arguments.now ∙ ap (map expr_meaning) (sym c.deref.ensures.value)) _ (closed c.args.arguments.now) c.in_err-list.field-0.0 c.in_err-list.ensures)
+    rw (p.1, p.2) (method_fails c.args.name (arguments_meaning c.args.arguments.now) (typed_view c.args.base) c.args.environment.now c.args.types.now _ (seen_type c.args.base) c.in_ok-called.called c.in_ok-called.ensures c.change_fault-fault.result (c.change_fault-fault.ensures ∙ ap (change_fault c.in_ok-called.called.method) (sym (seen_category c.args.base))) _ (listed c.args.arguments.now ∙ ap (map expr_meaning) (sym c.deref.ensures.value)) _ refl c.in_err-list.field-0.0 c.in_err-list.ensures)
 
 pub primaries::method-returns : goal.primaries::method-returns
 primaries::method-returns t c =
-    method_answers c.args.name (arguments_meaning c.args.arguments.now) (typed_view c.args.base) c.args.environment.now c.args.types.now _ (seen_type c.args.base) c.in_ok-called.called c.in_ok-called.ensures c.change_fault-fault.result (c.change_fault-fault.ensures ∙ ap (change_fault c.in_ok-called.called.method) (sym (seen_category c.args.base))) _ (listed c.args.arguments.now ∙ ap (map expr_meaning) (sym c.deref.ensures.value)) _ (closed c.args.arguments.now) typed_view (map typed_view c.in_ok-list.list.items, c.passed.new.types) c.answered.result c.in_ok-list.ensures c.answered.ensures
+    method_answers c.args.name (arguments_meaning c.args.arguments.now) (typed_view c.args.base) c.args.environment.now c.args.types.now _ (seen_type c.args.base) c.in_ok-called.called c.in_ok-called.ensures c.change_fault-fault.result (c.change_fault-fault.ensures ∙ ap (change_fault c.in_ok-called.called.method) (sym (seen_category c.args.base))) _ (listed c.args.arguments.now ∙ ap (map expr_meaning) (sym c.deref.ensures.value)) _ (delimited c.args.arguments.now _ _ c.in_ok-delimiters.ensures c.deref-2.ensures.value) typed_view (map typed_view c.in_ok-list.list.items, c.passed.new.types) c.answered.result c.in_ok-list.ensures c.answered.ensures
 
 pub primaries::primary-returns-in-Number : goal.primaries::primary-returns-in-Number
 primaries::primary-returns-in-Number t c =
@@ -482,7 +482,7 @@ primaries::call-returns-in_err-list t c =
 
 pub primaries::call-returns : goal.primaries::call-returns
 primaries::call-returns t c =
-    call_answers c.args.place (arguments_meaning c.args.arguments.now) (c.args.function, signature_view c.args.signature.now) c.args.environment.now c.args.types.now (targets_parameters c.deref.result.now) (ap targets_parameters c.deref.ensures.value) _ (listed c.args.arguments.now ∙ ap (map expr_meaning) (sym c.deref-2.ensures.value)) (map typed_view c.in_ok-list.list.items, c.passed.new.types) _ (closed c.args.arguments.now) c.in_ok-list.ensures ∙ ap (λ (v : Typed). Ok (v, c.passed.new.types)) (sym c.call_made.ensures)
+    call_answers c.args.place (arguments_meaning c.args.arguments.now) (c.args.function, signature_view c.args.signature.now) c.args.environment.now c.args.types.now (targets_parameters c.deref.result.now) (ap targets_parameters c.deref.ensures.value) _ (listed c.args.arguments.now ∙ ap (map expr_meaning) (sym c.deref-2.ensures.value)) (map typed_view c.in_ok-list.list.items, c.passed.new.types) _ (delimited c.args.arguments.now _ _ c.in_ok-delimiters.ensures c.deref-3.ensures.value) c.in_ok-list.ensures ∙ ap (λ (v : Typed). Ok (v, c.passed.new.types)) (sym c.call_made.ensures)
 
 pub primaries::construct-returns-in_err-elements : goal.primaries::construct-returns-in_err-elements
 primaries::construct-returns-in_err-elements t c =
@@ -491,7 +491,7 @@ primaries::construct-returns-in_err-elements t c =
 
 pub primaries::construct-returns : goal.primaries::construct-returns
 primaries::construct-returns t c =
-    construct_answers (init_list_meaning c.args.list.now) (c.args.number, structure_view c.args.structure.now) c.args.environment.now c.args.types.now (targets_members c.deref.result.now) (ap targets_members c.deref.ensures.value) (map typed_view c.in_ok-elements.elements.items, c.braced.new.types) _ _ (list_opened c.args.list.now) (list_closed c.args.list.now) c.in_ok-elements.ensures ∙ ap (λ (v : Typed). Ok (v, c.braced.new.types)) (sym c.struct_made.ensures)
+    construct_answers (init_list_meaning c.args.list.now) (c.args.number, structure_view c.args.structure.now) c.args.environment.now c.args.types.now (targets_members c.deref.result.now) (ap targets_members c.deref.ensures.value) (map typed_view c.in_ok-elements.elements.items, c.braced.new.types) _ _ (list_opened c.args.list.now) (list_delimited c.args.list.now _ _ c.in_ok-delimiters.ensures c.deref-2.ensures.value) c.in_ok-elements.ensures ∙ ap (λ (v : Typed). Ok (v, c.braced.new.types)) (sym c.struct_made.ensures)
 
 pub primaries::make_unique-returns-in_err-id : goal.primaries::make_unique-returns-in_err-id
 primaries::make_unique-returns-in_err-id t c =

@@ -4,6 +4,7 @@ use Rattle.std.proofs.lemmas.List.{map-append}
 use Rattle.std.specs.Int.{w64}
 use mir.Val.{SFits}
 use Rattle.life_types.specs.TypeTests.{is_raw}
+use Rattle.life_typed.specs.Delimiters.{delimiters_view}
 use Rattle.life_typed.specs.TypedForm.{Form, Typed, forms, typed_views, whole}
 use Rattle.life_typed.specs.declared.typed_program.TypedLocal.{TypedLocal}
 use Rattle.life_core.specs.Operands.{Argument, argument_of, operand_of}
@@ -24,7 +25,7 @@ use Rattle.life_writer.specs.declared.parts.Shape.TheVariants as shape
 use Rattle.life_writer.specs.declared.rows.Row.{Row}
 use Rattle.life_writer.proofs.Decided.{condition_decided, condition_pointer, condition_value, decides, decision_behind, leaves, nothing_there, tested_behind, value_decided, value_undecided}
 use Rattle.life_writer.proofs.Giving.{answered_as, answers_as, answers_if_as, negation_gives}
-use Rattle.life_writer.proofs.Handing.{Handed, all_handed, no_parameter, none_handed, turn}
+use Rattle.life_writer.proofs.Handing.{Handed, all_handed, behind_left, no_parameter, none_handed, turn}
 use Rattle.life_writer.proofs.Made.{both_decided, is_made, is_read, joined_answers, joined_between, made_as, made_between, made_called, made_negated, made_number, made_taken, null_decided, operated_between, operated_computes, operated_goes_on, some_decided}
 use Rattle.life_writer.proofs.Opened.{opened_decision, opened_form, value_converted, value_same}
 use Rattle.life_writer.proofs.Turns.{condition_turn, last_condition, last_value, value_turn, within_lighter}
@@ -138,7 +139,7 @@ made-returns-in-Number t c =
 
 pub made-returns-in_ok-arguments-in-Call : goal.made-returns-in_ok-arguments-in-Call
 made-returns-in_ok-arguments-in-Call t c =
-    made_called (around_of c.args.a.now) (shape_form c.args.node.now.shape) c.in-Call.function (forms (typed_views c.in-Call.arguments.now)) c.in-Call.closing c.args.node.now.place c.args.behind c.args.ty c.args.into
+    made_called (around_of c.args.a.now) (shape_form c.args.node.now.shape) c.in-Call.function (forms (typed_views c.in-Call.arguments.now)) (delimiters_view c.in-Call.delimiters.now) c.args.node.now.place c.args.behind c.args.ty c.args.into
     (state_of c.args.self.now) (state_of c.handed_over.new.self) (state_of c.built.new.self) (map (λ (l : TypedLocal). l.ty) c.parameters.result.now)
     (map argument_of c.in_ok-arguments-in-Call.arguments.items) c.built.result
     (ap shape_form c.in-Call.is) c.parameters.ensures c.in_ok-arguments-in-Call.ensures c.built.ensures
@@ -178,7 +179,7 @@ operated_by-returns-in_ok-right-in-Computed t c =
 
 pub handed_over-arguments-init : goal.handed_over-arguments-init
 handed_over-arguments-init t c =
-    none_handed (around_of c.args.a.now) c.args.closing (map argument_of c.new-given.result.items) c.args.arguments.now (map (λ (l : TypedLocal). l.ty) c.args.parameters.now) (state_of c.args.self.now)
+    none_handed (around_of c.args.a.now) (delimiters_view c.args.delimiters.now) (map argument_of c.new-given.result.items) c.args.arguments.now (map (λ (l : TypedLocal). l.ty) c.args.parameters.now) (state_of c.args.self.now)
     (ap (map argument_of) c.new-given.ensures.items)
 
 pub handed_over-part_value-requires : goal.handed_over-part_value-requires
@@ -192,22 +193,23 @@ handed_over-arguments-preserved t c =
     let a = around_of c.args.a.now in
     let given = c.arguments.given.items in
     let types = map (λ (l : TypedLocal). l.ty) c.args.parameters.now in
-    let total = handed_over a (forms (typed_views c.args.arguments.now)) c.args.closing types (state_of c.args.self.now) in
-    let more = turn a c.args.closing (map argument_of given) c.args.arguments.now types c.arguments.number c.index-arguments-number.result c.in-Some.ty c.type_of.result (state_of c.arguments.self)
-    c.in_ok-register-in-Some.register (state_of c.part_value.new.self) total c.arguments-test.true c.index-arguments-number.is c.in-Some.ensures c.type_of.ensures
-    (ap (λ (e : Typed). value a (whole e) c.args.closing c.type_of.result None (state_of c.arguments.self)) (sym c.of.ensures) ∙ c.in_ok-register-in-Some.ensures) c.arguments.invariant in
-    subst (λ (xs : List Argument). Handed a c.args.closing xs (drop (c.arguments.number + 1) c.args.arguments.now) (drop (c.arguments.number + 1) types) (state_of c.part_value.new.self) total)
+    let d = delimiters_view c.args.delimiters.now in
+    let total = handed_over a (forms (typed_views c.args.arguments.now)) d types (state_of c.args.self.now) in
+    let more = turn a d (map argument_of given) c.args.arguments.now types c.arguments.number c.index-arguments-number.result c.behind-behind.result c.in-Some.ty c.type_of.result (state_of c.arguments.self)
+    c.in_ok-register-in-Some.register (state_of c.part_value.new.self) total c.arguments-test.true c.index-arguments-number.is c.behind-behind.ensures c.in-Some.ensures c.type_of.ensures
+    (ap (λ (e : Typed). value a (whole e) c.behind-behind.result c.type_of.result None (state_of c.arguments.self)) (sym c.of.ensures) ∙ c.in_ok-register-in-Some.ensures) c.arguments.invariant in
+    subst (λ (xs : List Argument). Handed a (behind_left d (c.arguments.number + 1)) xs (drop (c.arguments.number + 1) c.args.arguments.now) (drop (c.arguments.number + 1) types) (state_of c.part_value.new.self) total)
     (sym (ap (map argument_of) c.in_ok-push-in-Some.ensures.items ∙ map-append argument_of given (_ ∷ [])))
     more
 
 pub handed_over-returns-in-None : goal.handed_over-returns-in-None
 handed_over-returns-in-None t c =
-    no_parameter (around_of c.args.a.now) c.args.closing (map argument_of c.arguments.given.items) c.args.arguments.now (map (λ (l : TypedLocal). l.ty) c.args.parameters.now) c.arguments.number
+    no_parameter (around_of c.args.a.now) (behind_left (delimiters_view c.args.delimiters.now) c.arguments.number) (map argument_of c.arguments.given.items) c.args.arguments.now (map (λ (l : TypedLocal). l.ty) c.args.parameters.now) c.arguments.number
     (state_of c.arguments.self) _ c.in-None.ensures c.arguments.invariant
 
 pub handed_over-returns : goal.handed_over-returns
 handed_over-returns t c =
-    all_handed (around_of c.args.a.now) c.args.closing (map argument_of c.arguments.given.items) c.args.arguments.now (map (λ (l : TypedLocal). l.ty) c.args.parameters.now) c.arguments.number
+    all_handed (around_of c.args.a.now) (behind_left (delimiters_view c.args.delimiters.now) c.arguments.number) (map argument_of c.arguments.given.items) c.args.arguments.now (map (λ (l : TypedLocal). l.ty) c.args.parameters.now) c.arguments.number
     (state_of c.arguments.self) _ c.arguments-test.false c.arguments.invariant
 
 -- ---- conditions

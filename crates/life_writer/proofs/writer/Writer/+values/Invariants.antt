@@ -1,4 +1,5 @@
 use Rattle.std.proofs.Common.{◌≡◌, ◌+◌, ◌*◌, None, drop, map, take}
+use Rattle.life_typed.specs.Delimiters.{delimiters_view}
 use Rattle.life_typed.specs.TypedForm.{forms, typed_views, whole}
 use Rattle.life_typed.specs.declared.typed_program.TypedLocal.{TypedLocal}
 use Rattle.life_core.specs.Operands.{argument_of}
@@ -9,7 +10,7 @@ use Rattle.life_writer.specs.Expressions.{condition, handed_over}
 use Rattle.life_writer.specs.Parts.{inside, node_form, node_view, part_form, part_view}
 use Rattle.life_writer.specs.Views.{around_of, state_of}
 use Rattle.life_writer.specs.Writing.{gives}
-use Rattle.life_writer.proofs.Handing.{Handed}
+use Rattle.life_writer.proofs.Handing.{Handed, behind_left}
 use Rattle.life_writer.proofs.Weights.{weight}
 use Rattle.life_writer.proofs.writer.Writer.+values.Given as goal
 
@@ -70,8 +71,8 @@ decreases-joined_with l = weight (whole (part_view l.right)) * 16 + 11
 
 abbrev pub invariant-handed_over-arguments : goal.invariant-handed_over-arguments
 invariant-handed_over-arguments l =
-    Handed (around_of l.a) l.closing (map argument_of l.given.items) (drop l.number l.arguments) (drop l.number (map (λ (p : TypedLocal). p.ty) l.parameters)) (state_of l.self)
-    (handed_over (around_of l.a) (forms (typed_views l.arguments)) l.closing (map (λ (p : TypedLocal). p.ty) l.parameters) (state_of l.initial.self))
+    Handed (around_of l.a) (behind_left (delimiters_view l.delimiters) l.number) (map argument_of l.given.items) (drop l.number l.arguments) (drop l.number (map (λ (p : TypedLocal). p.ty) l.parameters)) (state_of l.self)
+    (handed_over (around_of l.a) (forms (typed_views l.arguments)) (delimiters_view l.delimiters) (map (λ (p : TypedLocal). p.ty) l.parameters) (state_of l.initial.self))
 
 -- the operands so far are written
 abbrev pub invariant-own_value-operators : goal.invariant-own_value-operators
