@@ -1,0 +1,16 @@
+pub mod Calls
+pub mod Contents
+pub mod Empty
+pub mod LiveWords
+pub mod MapViews
+pub mod Naming
+pub mod OwnerWords
+pub mod PlainWords
+pub mod PointerWords
+pub mod Pointers
+pub mod ReadPointers
+pub mod References
+pub mod Resizing
+pub mod Rowed
+pub mod Views
+pub mod WholePointers

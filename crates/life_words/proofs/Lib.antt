@@ -1,0 +1,4 @@
+pub mod Owning
+pub mod Renaming
+pub mod Sized
+pub mod Writing
