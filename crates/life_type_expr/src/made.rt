@@ -78,9 +78,9 @@ pub(crate) fn call_made(
     function: u32,
     result_type: TyId,
     arguments: Vec<TypedExpr>,
-    delimiters: Delimiters,
+    delimiters: Box<Delimiters>,
 ) -> TypedExpr
-    ensures { typed_view result ≡ spec.answer_of (table.type_at types.now result_type) types.now place (call function (forms (map typed_view arguments.items)) (delimiters_view delimiters)) }
+    ensures { typed_view result ≡ spec.answer_of (table.type_at types.now result_type) types.now place (call function (forms (map typed_view arguments.items)) (delimiters_view delimiters.value)) }
 {
     let form = ExprForm::Call {
         function,
@@ -96,9 +96,9 @@ pub(crate) fn struct_made(
     opening: Place,
     structure: u32,
     elements: Vec<TypedExpr>,
-    delimiters: Delimiters,
+    delimiters: Box<Delimiters>,
 ) -> TypedExpr
-    ensures { typed_view result ≡ spec.value opening (kinds_of_type.Struct structure) (construct structure (forms (map typed_view elements.items)) (delimiters_view delimiters)) }
+    ensures { typed_view result ≡ spec.value opening (kinds_of_type.Struct structure) (construct structure (forms (map typed_view elements.items)) (delimiters_view delimiters.value)) }
 {
     let form = ExprForm::Construct {
         structure,

@@ -201,9 +201,9 @@ pub(crate) fn answered(
     place: Place,
     base: TypedExpr,
     arguments: Vec<TypedExpr>,
-    delimiters: Delimiters,
+    delimiters: Box<Delimiters>,
 ) -> Result<TypedExpr, IllFault>
-    ensures { Finds typed_view result (spec.answered called.now types.now place (typed_view base) (map typed_view arguments.items) (delimiters_view delimiters)) }
+    ensures { Finds typed_view result (spec.answered called.now types.now place (typed_view base) (map typed_view arguments.items) (delimiters_view delimiters.value)) }
 {
     let method = called.method;
     match method_answer(types, called.base, is_constant(base.category), method) {

@@ -91,7 +91,7 @@ optional_view view None = None
 optional_view view (Some x) = Some (view x)
 
 abbrev pub typed_list_view : TypedList → ListForm
-typed_list_view l = record { opening = l.opening; elements = map typed_view l.elements.items; delimiters = delimiters_view l.delimiters }
+typed_list_view l = record { opening = l.opening; elements = map typed_view l.elements.items; delimiters = delimiters_view l.delimiters.value }
 
 abbrev pub initial_view : TypedInitial → InitialForm
 initial_view (initial.Expr e) = one (typed_view e)

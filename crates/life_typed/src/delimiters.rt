@@ -17,12 +17,12 @@ pub struct Delimiters {
 }
 
 impl Delimiters {
-    /// These commas, and what closes the list.
-    pub fn of(alloc: Global, commas: &[Place], closing: Place) -> Result<Delimiters, NoMemory>
-        ensures { IfOk result (λ d. delimiters_view d ≡ record { commas = commas.now; closing = closing }) }
+    /// These commas, and what closes the list. They lie in a box, as most expressions have none.
+    pub fn of(alloc: Global, commas: &[Place], closing: Place) -> Result<Box<Delimiters>, NoMemory>
+        ensures { IfOk result (λ d. delimiters_view d.value ≡ record { commas = commas.now; closing = closing }) }
     {
         let commas = commas.to_vec(alloc)?;
-        Ok(Delimiters { commas, closing })
+        Ok(Box::new(alloc, Delimiters { commas, closing })?)
     }
 
     /// The token behind the part with this number, counted from 0.

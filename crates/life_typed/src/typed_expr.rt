@@ -143,13 +143,13 @@ pub enum ExprForm {
     Call {
         function: u32,
         arguments: Vec<TypedExpr>,
-        delimiters: Delimiters,
+        delimiters: Box<Delimiters>,
     },
     /// A struct made of a list: one element for each member, or none.
     Construct {
         structure: u32,
         elements: Vec<TypedExpr>,
-        delimiters: Delimiters,
+        delimiters: Box<Delimiters>,
     },
     /// An expression in parentheses.
     Paren {
@@ -182,7 +182,7 @@ pub enum ExprForm {
     Method {
         method: Method,
         arguments: Vec<TypedExpr>,
-        delimiters: Delimiters,
+        delimiters: Box<Delimiters>,
     },
     /// `-e`.
     Negate,

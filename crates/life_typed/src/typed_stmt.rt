@@ -12,7 +12,7 @@ pub struct TypedList {
     /// The elements in their order.
     pub elements: Vec<TypedExpr>,
     /// The commas behind them, and the `}`.
-    pub delimiters: Delimiters,
+    pub delimiters: Box<Delimiters>,
 }
 
 /// What a variable or a target is given.
