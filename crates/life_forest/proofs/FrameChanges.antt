@@ -41,15 +41,15 @@ use Rattle.life_forest.proofs.Given.{Stands, given_over_store, given_over_stands
 use Rattle.life_forest.proofs.Stores.{replaced_store}
 
 -- what is done with the buffer of an owner that has one
-on_buffer : (o : Option ℕ) (go : ℕ → Effect) (Q : State → Type 0) → ((b : ℕ) → o ≡ Some b → OnNext (go b) Q) → OnNext (on_got (got_or o (GotFault fault.Moved)) go) Q
+pub on_buffer : (o : Option ℕ) (go : ℕ → Effect) (Q : State → Type 0) → ((b : ℕ) → o ≡ Some b → OnNext (go b) Q) → OnNext (on_got (got_or o (GotFault fault.Moved)) go) Q
 on_buffer None go Q each = tt
 on_buffer (Some b) go Q each = each b refl
 
-lt_of : (a b : ℕ) → nat_lt a b ≡ true → a < b
+pub lt_of : (a b : ℕ) → nat_lt a b ≡ true → a < b
 lt_of a b h = grind (arith, nat_tests)
 
 -- what may be erased is an element
-erasable_below : (c : Content) (b : ℕ) (v : Pointer) → IfGot (erasable c b v) (λ k. k < size_of c b)
+pub erasable_below : (c : Content) (b : ℕ) (v : Pointer) → IfGot (erasable c b v) (λ k. k < size_of c b)
 erasable_below c b Null = tt
 erasable_below c b Wild = tt
 erasable_below c b (Static s) = tt

@@ -55,7 +55,7 @@ module _ (types : Types) (ordered : IsOrdered types) (rest : ℕ → ℕ) (st : 
   abbrev words : List ℕ
   words = owner_word (owned_in (slice_index (slot_words c m 0) 0)) ∷ []
 
-  words_are : spot_words c (record { object = m; index = 0; word = 0 }) (width_at types part) ≡ words
+  pub words_are : spot_words c (record { object = m; index = 0; word = 0 }) (width_at types part) ≡ words
   words_are = one_word (width_at types part) (slot_words c m 0) one (ws_wide types ordered has c store m part om m_there m_within m_slot one)
 
   -- the content where the owner has nothing

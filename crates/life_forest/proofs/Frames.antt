@@ -28,7 +28,7 @@ use Rattle.life_forest.proofs.Lives.{born_store, ended_store, value_born_store}
 abbrev named_by : Cell → List ℕ
 named_by v = named_in (v ∷ [])
 
-first_named : (v : Cell) (vs : List Cell) (k : ℕ) → times (named_in (v ∷ vs)) k ≡ times (named_in (v ∷ [])) k + times (named_in vs) k
+pub first_named : (v : Cell) (vs : List Cell) (k : ℕ) → times (named_in (v ∷ vs)) k ≡ times (named_in (v ∷ [])) k + times (named_in vs) k
 first_named Empty vs k = omega arith
 first_named (Named n) vs k = omega arith
 first_named (Number z) vs k = omega arith

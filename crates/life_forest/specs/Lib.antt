@@ -1,5 +1,6 @@
 pub mod Changes
 pub mod Forest
+pub mod FrameTypes
 pub mod Frames
 pub mod Kinds
 pub mod Owned
