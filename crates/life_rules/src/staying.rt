@@ -143,7 +143,8 @@ fn spot_moves(types: &TypeTable, f: &CoreFn, spot: Option<SpotRef>) -> bool
 /// Whether an element doesn't stay: else it stays as itself, and becomes no other.
 #[tactic(auto, using(crate::proofs::OneFact::kept))]
 pub fn is_removed(types: &TypeTable, f: &CoreFn, spot: Option<SpotRef>, element: &Element) -> bool
-    ensures { result ≡ false → staying types.now (function_of f.now) (option_map spot_seen spot.entry) element.now ≡ element.now ∷ [] }
+    ensures removes { result ≡ spot_removes types.now (function_of f.now) (option_map spot_seen spot.entry) element.now }
+    ensures kept { result ≡ false → staying types.now (function_of f.now) (option_map spot_seen spot.entry) element.now ≡ element.now ∷ [] }
 {
     spot_removes(types, f, spot, element)
 }

@@ -33,7 +33,8 @@ pub fn is_told_at(types: &TypeTable, f: &CoreFn, spot: SpotRef, location: &AbsPl
 /// Whether something may be told at a point at all: else it tells of no location.
 #[tactic(auto, using(crate::proofs::Untold::tells_none))]
 pub fn tells_some(types: &TypeTable, f: &CoreFn, spot: SpotRef) -> bool
-    ensures { result ≡ false → (location : AbsPlace) → spot_tells types.now (function_of f.now) (Some (spot_seen spot.entry)) location ≡ false }
+    ensures some { result ≡ node_tells_some types.now (function_of f.now) (node_seen spot.entry.node) }
+    ensures none { result ≡ false → (location : AbsPlace) → spot_tells types.now (function_of f.now) (Some (spot_seen spot.entry)) location ≡ false }
 {
     node_tells_some(types, f, spot.node)
 }

@@ -25,6 +25,6 @@ returns-then-not-tells_some-clause-wrong g c =
     let spot = spot_seen c.args.spot in
     let has = g.R.Rows.has c.in-Some.row.now in
     let out = c.args.out.now.items in
-    let told = untold_all types f spot table has (c.tells_some.ensures c.if-not-tells_some.true) in
+    let told = untold_all types f spot table has (c.tells_some.ensures.none c.if-not-tells_some.true) in
     subst (λ row. (d : Diag) → Contains out d ↔ (Contains out d ⊎ IsWrongIn sigs types c.args.function f table g.R.Rows.has spot row d)) (sym is)
     (wrong_in_facts sigs types c.args.function f table has spot [] out out told (sym (append-nil out)))
