@@ -12,7 +12,8 @@ use Rattle.life_store.specs.Places.{spot_words}
 use Rattle.life_store.proofs.CellLemmas.{some_same}
 use Rattle.life_store.proofs.Housing.{with_word_length}
 use Rattle.life_store.proofs.MapLemmas.{one_or_apart}
-use Rattle.life_forest.specs.Kinds.{Owner, kind_in, kinds_of, owned_type, rank_of}
+use Rattle.life_forest.specs.Kinds.{kinds_of, owned_type, rank_of}
+use Rattle.life_store.specs.Kinds.{Owner, kind_in}
 use Rattle.life_forest.specs.Owned.{every, times, owns}
 use Rattle.life_forest.specs.Typed.{IsStore}
 use Rattle.life_forest.specs.Values.{owned_of}

@@ -11,7 +11,8 @@ use Rattle.life_store.specs.Owners.{Words, consumed}
 use Rattle.life_store.specs.Parts.{Parts, Vector, width}
 use Rattle.life_store.specs.Places.{Spot, wrote_spot}
 use Rattle.life_store.proofs.MapLemmas.{one_or_apart}
-use Rattle.life_forest.specs.Kinds.{Kinds, kind_in}
+use Rattle.life_forest.specs.Kinds.{Kinds}
+use Rattle.life_store.specs.Kinds.{kind_in}
 use Rattle.life_forest.specs.Owned.{every, times, owns, owns_if}
 use Rattle.life_forest.specs.Forest.{IsForest, Foot, Beneath, whole, under, Touches}
 use Rattle.life_forest.specs.Values.{IsNamed, owned_of}

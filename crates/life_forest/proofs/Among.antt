@@ -5,7 +5,7 @@ use Rattle.life_store.specs.Content.{Slot, blank_slot, resized_slots, stamped, w
 use Rattle.life_store.specs.Held.{filled_slots}
 use Rattle.life_store.specs.Edits.{words_in}
 use Rattle.life_store.specs.Parts.{Parts}
-use Rattle.life_forest.specs.Kinds.{Owner, is_owner, kind_in}
+use Rattle.life_store.specs.Kinds.{Owner, is_owner, kind_in}
 use Rattle.life_forest.specs.Owned.{hit, in_words, in_slots, times}
 use Rattle.life_forest.specs.Values.{owned_of, owned_rows}
 use Rattle.life_forest.proofs.ByParts.{owned_words}

@@ -4,7 +4,8 @@ use Rattle.std.specs.Prelude.{◌&&◌}
 use Rattle.life_store.specs.Cells.{at, at-unset_other}
 use Rattle.life_store.specs.Content.{Slot, Object, Content, is_valid_in, without}
 use Rattle.life_store.proofs.MapLemmas.{one_or_apart}
-use Rattle.life_forest.specs.Kinds.{Kinds, is_owner}
+use Rattle.life_forest.specs.Kinds.{Kinds}
+use Rattle.life_store.specs.Kinds.{is_owner}
 use Rattle.life_forest.specs.Owned.{hit, in_words, in_slots, every, owns_if, owns_at, holders}
 use Rattle.life_forest.specs.Forest.{IsForest, Foot, Beneath, whole, part, under, Touches}
 use Rattle.life_forest.proofs.Counting.{true_false}

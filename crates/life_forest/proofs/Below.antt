@@ -4,7 +4,8 @@ use Rattle.std.specs.Prelude.{◌&&◌}
 use Rattle.life_store.specs.Cells.{at, same_cells}
 use Rattle.life_store.specs.Content.{Object, Content, without}
 use Rattle.life_store.proofs.MapLemmas.{one_or_apart}
-use Rattle.life_forest.specs.Kinds.{Kinds, is_owner}
+use Rattle.life_forest.specs.Kinds.{Kinds}
+use Rattle.life_store.specs.Kinds.{is_owner}
 use Rattle.life_forest.specs.Owned.{every, times, alive, alive_if, owns_if, owns_at, holders}
 use Rattle.life_forest.specs.Changes.{without_all}
 use Rattle.life_forest.specs.Forest.{IsForest, whole, part, under, positive, Below}

@@ -7,7 +7,8 @@ use Rattle.life_store.specs.Held.{owned_in, slots_if}
 use Rattle.life_store.specs.Owners.{ended, ended_owned, ended_slots}
 use Rattle.life_store.specs.Parts.{Parts, Single, Raw, Iterates, Views, Text, Vector, Unique, Member, NoMember, width}
 use Rattle.life_forest.specs.Changes.{without_all}
-use Rattle.life_forest.specs.Kinds.{Kind, Owner, Kinds, is_owner, row_behind, only_first, kind_in}
+use Rattle.life_forest.specs.Kinds.{Kinds}
+use Rattle.life_store.specs.Kinds.{Kind, is_owner, row_behind, first_owns, kind_in}
 use Rattle.life_forest.specs.Owned.{one_list, words_list, slots_list, times, owned_list, beneath}
 use Rattle.life_forest.specs.Forest.{IsForest, Foot, Beneath, Touches, all_of, Below}
 use Rattle.life_forest.specs.Values.{listed, owned_of, owned_slots, AllKnown, IsOf, OwnedKnown, Known}
@@ -48,7 +49,7 @@ words_behind t (suc n) f g (x ∷ xs) =
     ap (λ (ys : List ℕ). one_list (t (f 0)) x ++ ys) (words_behind t n (λ v. f (suc v)) g xs)
     ∙ sym (append_assoc (one_list (t (f 0)) x) (words_list (λ u. t (f (suc u))) (take n xs)) (words_list (λ u. t (g u)) (drop n xs)))
 
-first_owned : (ws : List ℕ) → words_list (λ u. is_owner (only_first Owner u) && true) ws ≡ listed (owned_in (slice_index ws 0))
+first_owned : (ws : List ℕ) → words_list (λ u. is_owner (first_owns u) && true) ws ≡ listed (owned_in (slice_index ws 0))
 first_owned [] = refl
 first_owned (x ∷ xs) = owner_list x (words_list (λ u. false) xs) (words_empty (λ u. false) xs (λ u. refl))
   where

@@ -8,7 +8,8 @@ use Rattle.life_store.specs.Held.{slot_words, slots_if, words_if}
 use Rattle.life_store.specs.Owners.{Words, consumed, taken}
 use Rattle.life_store.specs.Parts.{Parts, width}
 use Rattle.life_store.proofs.MapLemmas.{one_or_apart}
-use Rattle.life_forest.specs.Kinds.{Kinds, kind_in}
+use Rattle.life_forest.specs.Kinds.{Kinds}
+use Rattle.life_store.specs.Kinds.{kind_in}
 use Rattle.life_forest.specs.Owned.{every, times, owns, owns_if, owns_at}
 use Rattle.life_forest.specs.Forest.{IsForest, Foot, Beneath, whole, under, Touches}
 use Rattle.life_forest.specs.Values.{owned_of, owned_slots}

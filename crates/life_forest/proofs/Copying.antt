@@ -9,7 +9,8 @@ use Rattle.life_store.specs.Held.{filled, owned_in, resized_at, resized_if, slot
 use Rattle.life_store.specs.Owners.{Words, birth, copied, copied_buffer, copied_slots, owning, sized_birth}
 use Rattle.life_store.specs.Parts.{Parts, Single, Raw, Iterates, Views, Text, Vector, Unique, Member, NoMember, width}
 use Rattle.life_store.proofs.MapLemmas.{one_or_apart}
-use Rattle.life_forest.specs.Kinds.{Kinds, is_owner, kind_in}
+use Rattle.life_forest.specs.Kinds.{Kinds}
+use Rattle.life_store.specs.Kinds.{is_owner, kind_in}
 use Rattle.life_forest.specs.Owned.{every, in_slots, times, alive, owns, owns_if, owns_at}
 use Rattle.life_forest.specs.Forest.{IsForest}
 use Rattle.life_forest.specs.Values.{listed, owned_of, owned_rows, owned_slots, AllKnown, AllWide, IsLaid, Known, Laid, OwnedKnown}

@@ -10,7 +10,8 @@ use Rattle.life_store.specs.Owners.{ended, taken_slots}
 use Rattle.life_store.specs.Parts.{Parts, width}
 use Rattle.life_store.proofs.MapLemmas.{one_or_apart, set-set}
 use Rattle.life_forest.specs.Changes.{ticked}
-use Rattle.life_forest.specs.Kinds.{Kinds, Owner, is_owner, kind_in, owned_type}
+use Rattle.life_forest.specs.Kinds.{Kinds, owned_type}
+use Rattle.life_store.specs.Kinds.{Owner, is_owner, kind_in}
 use Rattle.life_forest.specs.Owned.{every, times, owns, owns_if}
 use Rattle.life_forest.specs.Forest.{AllSince, IsForest, Foot, Beneath, whole, under, Touches}
 use Rattle.life_forest.specs.Values.{IsOf, Known, owned_of, owned_rows, owned_slots}

@@ -6,7 +6,8 @@ use Rattle.life_store.specs.Content.{Slot, Object, Content, with_object}
 use Rattle.life_store.specs.Edits.{words_in}
 use Rattle.life_store.specs.Held.{filled, filled_if, filled_slots}
 use Rattle.life_store.specs.Parts.{Parts}
-use Rattle.life_forest.specs.Kinds.{Kinds, is_owner, kind_in}
+use Rattle.life_forest.specs.Kinds.{Kinds}
+use Rattle.life_store.specs.Kinds.{is_owner, kind_in}
 use Rattle.life_forest.specs.Owned.{in_words, in_slots, every, times, owns}
 use Rattle.life_forest.specs.Forest.{AllSince, IsForest}
 use Rattle.life_forest.specs.Values.{owned_of, owned_rows}

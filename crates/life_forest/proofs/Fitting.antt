@@ -8,7 +8,8 @@ use Rattle.life_store.specs.Places.{Spot, wrote_spot}
 use Rattle.life_store.proofs.CellLemmas.{none_some, some_same}
 use Rattle.life_store.proofs.MapLemmas.{one_or_apart}
 use Rattle.life_forest.specs.Changes.{ticked, without_all}
-use Rattle.life_forest.specs.Kinds.{Kinds, Owner, is_owner, kind_in, owned_type}
+use Rattle.life_forest.specs.Kinds.{Kinds, owned_type}
+use Rattle.life_store.specs.Kinds.{Owner, is_owner, kind_in}
 use Rattle.life_forest.specs.Owned.{times}
 use Rattle.life_forest.specs.Typed.{AreFit, IsFit}
 use Rattle.life_forest.specs.Values.{owned_of}

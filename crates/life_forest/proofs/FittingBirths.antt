@@ -12,7 +12,8 @@ use Rattle.life_store.specs.Parts.{Parts, Single, Raw, Iterates, Views, Text, Ve
 use Rattle.life_store.proofs.CellLemmas.{some_same}
 use Rattle.life_store.proofs.MapLemmas.{one_or_apart}
 use Rattle.life_forest.specs.Changes.{with_born}
-use Rattle.life_forest.specs.Kinds.{Kind, Value, Owner, Pointer, Kinds, is_owner, row_behind, kind_in, owned_type}
+use Rattle.life_forest.specs.Kinds.{Kinds, owned_type}
+use Rattle.life_store.specs.Kinds.{Kind, Plain, Owner, Pointing, is_owner, row_behind, kind_in}
 use Rattle.life_forest.specs.Owned.{every, times, alive, alive_if}
 use Rattle.life_forest.specs.Forest.{IsForest}
 use Rattle.life_forest.specs.Typed.{AreFit, IsFit}
@@ -24,11 +25,11 @@ use Rattle.life_forest.proofs.Fitting.{Flat, KeepsTypes, fit_resize, flat_later}
 use Rattle.life_forest.proofs.Single.{unborn}
 use Rattle.life_forest.proofs.Steps.{owned_held}
 
-pub value_owner : Value ≡ Owner → ⊥
+pub value_owner : Plain ≡ Owner → ⊥
 value_owner e = cc
 
-pub pointer_owner : Pointer ≡ Owner → ⊥
-pointer_owner e = cc
+pub pointer_owner : (i : ℕ) → Pointing i ≡ Owner → ⊥
+pointer_owner i e = cc
 
 -- both of what was got
 pub got_both : {A : Type 0} (x : Attempt A) (P Q : A → Type 0) → IfGot x P → IfGot x Q → IfGot x (λ a. P a × Q a)
@@ -133,9 +134,9 @@ module _ (kind : Kinds) where
 
   pub fresh_fit : (s : Setting) (form : Form) (p : Parts) (bound : ℕ) → Laid kind bound p → Named kind p → (hand : ℕ → ℕ) (c : Content) → IsForest kind hand c → AreFit kind c → IfGot (fresh s form p c) (FitWords p)
   fresh_fit s form Single bound laid named hand c forest fit = (fit, λ u m q k e there. absurd (value_owner k))
-  fresh_fit s form Raw bound laid named hand c forest fit = (fit, λ u m q k e there. absurd (pointer_owner k))
-  fresh_fit s form Iterates bound laid named hand c forest fit = (fit, λ u m q k e there. absurd (pointer_owner k))
-  fresh_fit s form Views bound laid named hand c forest fit = (fit, λ u m q k e there. absurd (pointer_owner k))
+  fresh_fit s form Raw bound laid named hand c forest fit = (fit, λ u m q k e there. absurd (pointer_owner u k))
+  fresh_fit s form Iterates bound laid named hand c forest fit = (fit, λ u m q k e there. absurd (pointer_owner u k))
+  fresh_fit s form Views bound laid named hand c forest fit = (fit, λ u m q k e there. absurd (pointer_owner u k))
   fresh_fit s form (Text ty) bound laid named hand c forest fit = buffer_fit s (Text ty) ty 1 hand c (λ u. refl) named.0 forest fit
   fresh_fit s form (Vector ty element) bound laid named hand c forest fit = buffer_fit s (Vector ty element) ty (width element) hand c (λ u. refl) named.0.0 forest fit
   fresh_fit s form (Unique ty target) bound laid named hand c forest fit = (fit, λ u m q k e there. absurd (no_word u m e))

@@ -111,9 +111,9 @@ module _ (kind : Kinds) where
   pub copied_fit : (s : Setting) (p : Parts) (bound : ℕ) → Laid kind bound p → Named kind p → (ws : List ℕ) → length ws ≡ width p → (hand : ℕ → ℕ) (c : Content) → IsForest kind hand c → Known kind c p ws
       → ((k : ℕ) → 0 < times (owned_of p ws) k → 0 < alive c k) → AreFit kind c → IfGot (copied s p ws c) (FitWords kind p)
   copied_fit s Single bound laid named ws wide hand c forest known living fit = (fit, λ u m q k e there. absurd (value_owner k))
-  copied_fit s Raw bound laid named ws wide hand c forest known living fit = (fit, λ u m q k e there. absurd (pointer_owner k))
-  copied_fit s Iterates bound laid named ws wide hand c forest known living fit = (fit, λ u m q k e there. absurd (pointer_owner k))
-  copied_fit s Views bound laid named ws wide hand c forest known living fit = (fit, λ u m q k e there. absurd (pointer_owner k))
+  copied_fit s Raw bound laid named ws wide hand c forest known living fit = (fit, λ u m q k e there. absurd (pointer_owner u k))
+  copied_fit s Iterates bound laid named ws wide hand c forest known living fit = (fit, λ u m q k e there. absurd (pointer_owner u k))
+  copied_fit s Views bound laid named ws wide hand c forest known living fit = (fit, λ u m q k e there. absurd (pointer_owner u k))
   copied_fit s (Text ty) bound laid named ws wide hand c forest known living fit =
       buffer_fit s (Text ty) Single bound ty 1 (λ vs d. Got (vs, d)) (λ u. refl) laid.0 laid.1 named refl (λ vs w h d f k l. (came_none kind (kind.rank ty) h d f, w))
       (λ vs w h d f k l g. (g, λ u m q x e there. absurd (value_owner x))) (owned_in (slice_index ws 0)) hand c forest known living fit

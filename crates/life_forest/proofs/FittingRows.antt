@@ -4,7 +4,8 @@ use Rattle.life_store.specs.Cells.{at}
 use Rattle.life_store.specs.Content.{Object, Content}
 use Rattle.life_store.specs.Held.{filled, filled_slots}
 use Rattle.life_store.specs.Parts.{Parts}
-use Rattle.life_forest.specs.Kinds.{Kinds, Owner, kind_in, owned_type}
+use Rattle.life_forest.specs.Kinds.{Kinds, owned_type}
+use Rattle.life_store.specs.Kinds.{Owner, kind_in}
 use Rattle.life_forest.specs.Owned.{times}
 use Rattle.life_forest.specs.Typed.{AreFit, IsFit}
 use Rattle.life_forest.specs.Values.{owned_rows}

@@ -9,7 +9,8 @@ use Rattle.life_store.specs.Owners.{consumed, renamed, renamed_if, taken, taken_
 use Rattle.life_store.specs.Parts.{Parts, Single, Raw, Iterates, Views, Text, Vector, Unique, Member, NoMember, width}
 use Rattle.life_store.proofs.CellLemmas.{none_some, some_same}
 use Rattle.life_store.proofs.MapLemmas.{one_or_apart}
-use Rattle.life_forest.specs.Kinds.{Kinds, Owner, is_owner, kind_in, owned_type}
+use Rattle.life_forest.specs.Kinds.{Kinds, owned_type}
+use Rattle.life_store.specs.Kinds.{Owner, is_owner, kind_in}
 use Rattle.life_forest.specs.Owned.{every, times, alive, alive_if, owns}
 use Rattle.life_forest.specs.Forest.{IsForest}
 use Rattle.life_forest.specs.Typed.{AreFit}

@@ -14,7 +14,7 @@ use Rattle.life_store.specs.Parts.{local_type, parts_at, width_at, word_within}
 use Rattle.life_store.specs.Places.{member_pointed, wrote_spot}
 use Rattle.life_store.specs.State.{Cell, Named, Pointer, Null, Wild, To, Static, State}
 use Rattle.life_forest.specs.Frames.{HasStore, OnNext, named_in}
-use Rattle.life_forest.specs.Kinds.{Owner, kind_in}
+use Rattle.life_store.specs.Kinds.{Owner, kind_in}
 use Rattle.life_forest.specs.Owned.{times}
 use Rattle.life_forest.specs.Typed.{IsStore}
 use Rattle.life_forest.specs.Values.{owned_of}

@@ -8,7 +8,8 @@ use Rattle.life_store.specs.Cells.{at}
 use Rattle.life_store.specs.Content.{Slot, Object, Content, word_in}
 use Rattle.life_store.specs.Held.{owned_in}
 use Rattle.life_store.specs.Parts.{Parts, Single, Raw, Iterates, Views, Text, Vector, Unique, Member, NoMember, parts_at, width}
-use Rattle.life_forest.specs.Kinds.{Kind, Owner, row_behind, kind_in, kinds_of, owned_type, rank_of}
+use Rattle.life_forest.specs.Kinds.{kinds_of, owned_type, rank_of}
+use Rattle.life_store.specs.Kinds.{Kind, Owner, row_behind, kind_in}
 use Rattle.life_forest.specs.Owned.{times}
 use Rattle.life_forest.specs.Typed.{IsStore}
 use Rattle.life_forest.specs.Values.{listed, owned_of, owned_slots, AllKnown, AllWide, IsOf, OwnedKnown, Known}

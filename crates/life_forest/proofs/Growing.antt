@@ -10,7 +10,8 @@ use Rattle.life_store.specs.Owners.{taken_slots}
 use Rattle.life_store.specs.Parts.{Parts, Vector, width}
 use Rattle.life_store.specs.Places.{Spot, spot_words}
 use Rattle.life_store.proofs.MapLemmas.{one_or_apart}
-use Rattle.life_forest.specs.Kinds.{Kinds, is_owner, kind_in}
+use Rattle.life_forest.specs.Kinds.{Kinds}
+use Rattle.life_store.specs.Kinds.{is_owner, kind_in}
 use Rattle.life_forest.specs.Owned.{every, times, owns, owns_if, owns_at}
 use Rattle.life_forest.specs.Forest.{IsForest, Foot, Beneath, whole, under, Touches}
 use Rattle.life_forest.specs.Typed.{AreFit}

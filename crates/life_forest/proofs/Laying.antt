@@ -7,7 +7,8 @@ use Rattle.life_types.specs.declared.ty.TyId.{TyId}
 use Rattle.life_types.specs.Trees.{members_at, AllBelow, HasMembersBelow, HasPartsBelow, IsOrdered}
 use Rattle.life_types.specs.Types.{Types}
 use Rattle.life_store.specs.Parts.{Parts, Single, Raw, Iterates, Views, Text, Vector, Unique, Member, NoMember, parts_at, parts_of, parts_within, struct_of, width}
-use Rattle.life_forest.specs.Kinds.{kind_in, kinds_of, owned_type, rank_if, rank_of}
+use Rattle.life_forest.specs.Kinds.{kinds_of, owned_type, rank_if, rank_of}
+use Rattle.life_store.specs.Kinds.{kind_in}
 use Rattle.life_forest.specs.Values.{Laid, Named}
 
 -- ---- one step

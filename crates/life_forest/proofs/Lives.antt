@@ -13,7 +13,8 @@ use Rattle.life_store.specs.Held.{resized_if}
 use Rattle.life_store.specs.Owners.{ended_object, fresh, object_with}
 use Rattle.life_store.specs.Parts.{Text, parts_at, width, width_at}
 use Rattle.life_store.specs.Places.{Spot}
-use Rattle.life_forest.specs.Kinds.{kind_in, kinds_of, owned_type, rank_of}
+use Rattle.life_forest.specs.Kinds.{kinds_of, owned_type, rank_of}
+use Rattle.life_store.specs.Kinds.{kind_in}
 use Rattle.life_forest.specs.Owned.{times}
 use Rattle.life_forest.specs.Forest.{IsForest}
 use Rattle.life_forest.specs.Typed.{AreFit, IsStore}

@@ -6,7 +6,8 @@ use Rattle.life_store.specs.Content.{Slot, Object, Content}
 use Rattle.life_store.specs.Held.{slots_if, words_if}
 use Rattle.life_store.specs.Parts.{Parts, width}
 use Rattle.life_store.specs.Places.{Spot, spot_words, wrote_spot}
-use Rattle.life_forest.specs.Kinds.{Kind, Value, Owner, Pointer, Kinds, is_owner, is_value, kind_in}
+use Rattle.life_forest.specs.Kinds.{Kinds}
+use Rattle.life_store.specs.Kinds.{Kind, Plain, Owner, Pointing, is_owner, is_value, kind_in}
 use Rattle.life_forest.specs.Owned.{hit, in_words, in_slots, every, owns, owns_if, times}
 use Rattle.life_forest.specs.Forest.{IsForest, Foot, Beneath, part, Touches}
 use Rattle.life_forest.specs.Values.{owned_of}
@@ -194,10 +195,10 @@ module _ (kind : Kinds) where
         part spot.object n (subst (λ (x : Option Object). 0 < owns_if kind (t.part spot.object) x n) (sym lies.there) (omega arith))
       where
         owner_or : (k : Kind) (b : Bool) → (is_value k || b) ≡ true → (is_owner k && b) ≡ (is_owner k && true)
-        owner_or Value b e = refl
+        owner_or Plain b e = refl
         owner_or Owner true e = refl
         owner_or Owner false e = e
-        owner_or Pointer b e = refl
+        owner_or (Pointing i) b e = refl
 
         covered : (u : ℕ) → u < length (words_of spot.index spot.word (width p) o.slots) → (is_owner (kind.word o.ty (spot.word + u)) && t.part spot.object (spot.word + u)) ≡ (is_owner (kind_in p u) && true)
         covered u lt =

@@ -9,7 +9,8 @@ use Rattle.life_types.specs.Trees.{members_at, IsOrdered}
 use Rattle.life_types.specs.Types.{Types}
 use Rattle.life_store.specs.Parts.{members_if, members_of, parts_at, parts_of, struct_of, type_within, width, width_at, word_within}
 use Rattle.life_store.proofs.CellLemmas.{none_some, some_same}
-use Rattle.life_forest.specs.Kinds.{kind_in, owned_type, row_behind}
+use Rattle.life_forest.specs.Kinds.{owned_type}
+use Rattle.life_store.specs.Kinds.{kind_in, row_behind}
 use Rattle.life_forest.specs.Within.{LiesWithin}
 use Rattle.life_forest.proofs.Laying.{parts_made}
 

@@ -11,7 +11,8 @@ use Rattle.life_store.specs.Parts.{Parts, width}
 use Rattle.life_store.specs.Places.{Spot}
 use Rattle.life_store.proofs.CellLemmas.{some_same}
 use Rattle.life_store.proofs.MapLemmas.{one_or_apart}
-use Rattle.life_forest.specs.Kinds.{Kinds, is_owner}
+use Rattle.life_forest.specs.Kinds.{Kinds}
+use Rattle.life_store.specs.Kinds.{is_owner}
 use Rattle.life_forest.specs.Owned.{every, times, owns, owns_if, owns_at}
 use Rattle.life_forest.specs.Forest.{IsForest, Foot, Beneath, whole, under, Touches}
 use Rattle.life_forest.specs.Values.{AllKnown, IsLaid, IsNamed, IsOf, Known, owned_of}

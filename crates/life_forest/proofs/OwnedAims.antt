@@ -12,7 +12,8 @@ use Rattle.life_store.specs.Parts.{Parts, parts_at, width}
 use Rattle.life_store.specs.Places.{Spot, spot_words}
 use Rattle.life_store.proofs.CellLemmas.{none_some, some_same}
 use Rattle.life_forest.specs.FrameTypes.{Aims}
-use Rattle.life_forest.specs.Kinds.{Owner, kind_in, kinds_of, owned_type}
+use Rattle.life_forest.specs.Kinds.{kinds_of, owned_type}
+use Rattle.life_store.specs.Kinds.{Owner, kind_in}
 use Rattle.life_forest.specs.Typed.{IsStore}
 use Rattle.life_forest.specs.Within.{LiesWithin}
 use Rattle.life_forest.proofs.Below.{lives}

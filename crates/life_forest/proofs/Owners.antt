@@ -14,7 +14,8 @@ use Rattle.life_store.specs.Owners.{Words, fresh, object_with, taken}
 use Rattle.life_store.specs.Parts.{Parts, Single, Unique, parts_at, width, width_at}
 use Rattle.life_store.specs.Places.{Spot, spot_words}
 use Rattle.life_store.proofs.MapLemmas.{one_or_apart}
-use Rattle.life_forest.specs.Kinds.{is_owner, kinds_of, rank_of}
+use Rattle.life_forest.specs.Kinds.{kinds_of, rank_of}
+use Rattle.life_store.specs.Kinds.{is_owner}
 use Rattle.life_forest.specs.Owned.{every, times, owns}
 use Rattle.life_forest.specs.Forest.{IsForest}
 use Rattle.life_forest.specs.Typed.{AreFit, IsStore}

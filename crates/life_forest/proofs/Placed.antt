@@ -10,7 +10,8 @@ use Rattle.life_store.specs.Held.{owned_in}
 use Rattle.life_store.specs.Parts.{Parts, parts_at, width, width_at}
 use Rattle.life_store.specs.Places.{Spot, spot_words}
 use Rattle.life_store.proofs.CellLemmas.{none_some, some_same}
-use Rattle.life_forest.specs.Kinds.{Owner, is_owner, kind_in, kinds_of}
+use Rattle.life_forest.specs.Kinds.{kinds_of}
+use Rattle.life_store.specs.Kinds.{Owner, is_owner, kind_in}
 use Rattle.life_forest.specs.Owned.{alive, alive_if, every, times}
 use Rattle.life_forest.specs.Typed.{IsStore}
 use Rattle.life_forest.specs.Values.{Known, owned_of}

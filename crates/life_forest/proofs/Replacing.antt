@@ -8,7 +8,8 @@ use Rattle.life_store.specs.Owners.{ended}
 use Rattle.life_store.specs.Parts.{Parts, width}
 use Rattle.life_store.specs.Places.{Spot, spot_words, wrote_spot}
 use Rattle.life_store.proofs.MapLemmas.{one_or_apart}
-use Rattle.life_forest.specs.Kinds.{Kinds, is_owner, is_value}
+use Rattle.life_forest.specs.Kinds.{Kinds}
+use Rattle.life_store.specs.Kinds.{is_owner, is_value}
 use Rattle.life_forest.specs.Owned.{every, times, owns}
 use Rattle.life_forest.specs.Forest.{IsForest, Foot, Beneath, Touches}
 use Rattle.life_forest.specs.Typed.{AreFit}

@@ -4,7 +4,8 @@ use Rattle.std.specs.Prelude.{◌&&◌}
 use Rattle.life_store.specs.Cells.{at}
 use Rattle.life_store.specs.Content.{Slot, Object, Content, blank_slot, resized, resized_slots, stamped, with_resize}
 use Rattle.life_forest.specs.Changes.{ticked}
-use Rattle.life_forest.specs.Kinds.{Kinds, is_owner}
+use Rattle.life_forest.specs.Kinds.{Kinds}
+use Rattle.life_store.specs.Kinds.{is_owner}
 use Rattle.life_forest.specs.Owned.{hit, in_words, in_slots, every, owns}
 use Rattle.life_forest.specs.Forest.{AllSince, IsForest, Foot, Beneath, whole, part, under, Touches}
 use Rattle.life_forest.proofs.Feet.{within_self}

@@ -10,7 +10,8 @@ use Rattle.life_store.specs.Held.{filled, owner_word}
 use Rattle.life_store.specs.Owners.{sized_birth}
 use Rattle.life_store.specs.Parts.{Single, Text}
 use Rattle.life_store.specs.Places.{Spot, spot_words}
-use Rattle.life_forest.specs.Kinds.{Kinds, is_owner, kind_in}
+use Rattle.life_forest.specs.Kinds.{Kinds}
+use Rattle.life_store.specs.Kinds.{is_owner, kind_in}
 use Rattle.life_forest.specs.Owned.{every, times, owns}
 use Rattle.life_forest.specs.Forest.{IsForest, Foot, Beneath, whole, Touches}
 use Rattle.life_forest.specs.Typed.{AreFit}

@@ -9,7 +9,8 @@ use Rattle.life_store.specs.Owners.{ended, ended_slots}
 use Rattle.life_store.specs.Parts.{Parts, Single, Raw, Iterates, Views, Text, Vector, Unique, Member, NoMember, width}
 use Rattle.life_store.proofs.MapLemmas.{set-set}
 use Rattle.life_forest.specs.Changes.{ticked}
-use Rattle.life_forest.specs.Kinds.{Kinds, is_owner, kind_in}
+use Rattle.life_forest.specs.Kinds.{Kinds}
+use Rattle.life_store.specs.Kinds.{is_owner, kind_in}
 use Rattle.life_forest.specs.Owned.{in_slots, every, times, owns, owns_if}
 use Rattle.life_forest.specs.Forest.{AllSince, IsForest, Foot, Beneath, whole, under, Touches}
 use Rattle.life_forest.specs.Typed.{AreFit}

@@ -3,7 +3,8 @@ use Rattle.std.proofs.Common.{◌≡◌, ℕ, zero, suc, ◌+◌, ◌≤◌, Boo
 use Rattle.std.specs.Prelude.{◌&&◌, ◌||◌, nat_eq, nat_le, slice_get, slice_set, option_map}
 use Rattle.life_store.specs.Content.{Slot, Object, is_since, is_settled, are_settled, is_valid_in}
 use Rattle.life_store.specs.Held.{slots_if}
-use Rattle.life_forest.specs.Kinds.{Kind, Value, Owner, Pointer, Kinds, is_owner, is_value}
+use Rattle.life_forest.specs.Kinds.{Kinds}
+use Rattle.life_store.specs.Kinds.{Kind, Plain, Owner, Pointing, is_owner, is_value}
 use Rattle.life_forest.specs.Owned.{blanked, blanked_slots, owns_if, spared}
 use Rattle.life_forest.proofs.Counting.{true_false, in_slots-blanked, in_slots_le}
 
@@ -59,8 +60,8 @@ and_true false b d h e = e
 pub seen : (k : Kind) (g b : Bool) → (g ≡ true → b ≡ false) → (is_owner k && g) ≡ true → (is_value k || b) ≡ false
 seen Owner true b h e = h refl
 seen Owner false b h e = absurd (true_false (sym e))
-seen Value g b h e = absurd (true_false (sym e))
-seen Pointer g b h e = absurd (true_false (sym e))
+seen Plain g b h e = absurd (true_false (sym e))
+seen (Pointing i) g b h e = absurd (true_false (sym e))
 
 module _ (kind : Kinds) where
   pub settled-spared : (g : ℕ → Bool) (o : Object) (i moment : ℕ) → is_settled (spared kind g o) i moment ≡ is_settled o i moment

@@ -9,7 +9,8 @@ use Rattle.life_store.specs.Content.{Slot, Object, Content, word_in}
 use Rattle.life_store.specs.Held.{slots_if, words_if}
 use Rattle.life_store.specs.Parts.{parts_at, width_at}
 use Rattle.life_store.specs.Places.{Spot, spot_words}
-use Rattle.life_forest.specs.Kinds.{is_owner, kinds_of, rank_of}
+use Rattle.life_forest.specs.Kinds.{kinds_of, rank_of}
+use Rattle.life_store.specs.Kinds.{is_owner}
 use Rattle.life_forest.specs.Owned.{every, times}
 use Rattle.life_forest.specs.Typed.{IsStore}
 use Rattle.life_forest.specs.Values.{Known, owned_of}

@@ -21,7 +21,7 @@ use Rattle.life_store.specs.State.{Cell, Empty, Named, Number, Points, State}
 use Rattle.life_store.specs.Views.{seen_words, used}
 use Rattle.life_forest.specs.FrameTypes.{Stands}
 use Rattle.life_forest.specs.Frames.{OnNext, named_in}
-use Rattle.life_forest.specs.Kinds.{Owner, kind_in}
+use Rattle.life_store.specs.Kinds.{Owner, kind_in}
 use Rattle.life_forest.specs.Owned.{times}
 use Rattle.life_forest.proofs.FrameChanges.{on_buffer, text_keeps}
 use Rattle.life_forest.proofs.Frames.{on_got_next}

@@ -15,7 +15,8 @@ use Rattle.life_store.specs.Places.{Spot, pointed}
 use Rattle.life_store.specs.State.{Pointer, State}
 use Rattle.life_forest.specs.FrameTypes.{Stands, seen_type}
 use Rattle.life_forest.specs.Frames.{HasStore, OnNext, named_in}
-use Rattle.life_forest.specs.Kinds.{kind_in, owned_type}
+use Rattle.life_forest.specs.Kinds.{owned_type}
+use Rattle.life_store.specs.Kinds.{kind_in}
 use Rattle.life_forest.specs.Owned.{times}
 use Rattle.life_forest.proofs.FrameChanges.{erasable_below, on_buffer}
 use Rattle.life_forest.proofs.Frames.{on_got_next}

@@ -22,7 +22,7 @@ use Rattle.life_store.specs.State.{Characters, Number, State}
 use Rattle.life_store.specs.Views.{seen_bytes, seen_count, used}
 use Rattle.life_forest.specs.FrameTypes.{Stands}
 use Rattle.life_forest.specs.Frames.{OnNext}
-use Rattle.life_forest.specs.Kinds.{Owner, kind_in}
+use Rattle.life_store.specs.Kinds.{Owner, kind_in}
 use Rattle.life_forest.proofs.FittingBirths.{value_owner}
 use Rattle.life_forest.proofs.FrameWords.{save_keeps}
 use Rattle.life_forest.proofs.Following.{IsOwned, follows_content, follows_stands}

@@ -20,7 +20,8 @@ use Rattle.life_store.specs.State.{Cell, Empty, Named, Number, Points, State}
 use Rattle.life_store.proofs.CellLemmas.{some_same}
 use Rattle.life_forest.specs.FrameTypes.{Stands}
 use Rattle.life_forest.specs.Frames.{HasStore, OnNext, named_in}
-use Rattle.life_forest.specs.Kinds.{kind_in, owned_type, rank_of}
+use Rattle.life_forest.specs.Kinds.{owned_type, rank_of}
+use Rattle.life_store.specs.Kinds.{kind_in}
 use Rattle.life_forest.specs.Owned.{times}
 use Rattle.life_forest.specs.Within.{LiesWithin}
 use Rattle.life_forest.proofs.Above.{Remains, above_apart, above_unowned, owner_above, remains_moved}

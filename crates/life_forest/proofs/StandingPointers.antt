@@ -14,7 +14,7 @@ use Rattle.life_store.specs.State.{Pointer, Cell, Empty, Named, Number, Points, 
 use Rattle.life_store.proofs.CellLemmas.{none_some}
 use Rattle.life_forest.specs.FrameTypes.{PointsWell, Stands, seen_type}
 use Rattle.life_forest.specs.Frames.{HasStore, OnNext, named_in}
-use Rattle.life_forest.specs.Kinds.{Owner, kind_in}
+use Rattle.life_store.specs.Kinds.{Owner, kind_in}
 use Rattle.life_forest.specs.Owned.{times}
 use Rattle.life_forest.specs.Typed.{IsStore}
 use Rattle.life_forest.proofs.FittingBirths.{pointer_owner}
@@ -31,9 +31,9 @@ IsPointer Views = Unit {0}
 IsPointer _ = ⊥
 
 pointer_plain : (p : Parts) → IsPointer p → (u : ℕ) → kind_in p u ≡ Owner → ⊥
-pointer_plain Raw is u k = pointer_owner k
-pointer_plain Iterates is u k = pointer_owner k
-pointer_plain Views is u k = pointer_owner k
+pointer_plain Raw is u k = pointer_owner u k
+pointer_plain Iterates is u k = pointer_owner u k
+pointer_plain Views is u k = pointer_owner u k
 pointer_plain Single is u k = is
 pointer_plain (Text id) is u k = is
 pointer_plain (Vector id element) is u k = is

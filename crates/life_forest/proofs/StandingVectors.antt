@@ -17,7 +17,8 @@ use Rattle.life_store.specs.declared.run.FaultKind.TheVariants as fault
 use Rattle.life_store.proofs.CellLemmas.{some_same}
 use Rattle.life_forest.specs.FrameTypes.{Stands}
 use Rattle.life_forest.specs.Frames.{OnNext, named_in}
-use Rattle.life_forest.specs.Kinds.{kind_in, owned_type, rank_of}
+use Rattle.life_forest.specs.Kinds.{owned_type, rank_of}
+use Rattle.life_store.specs.Kinds.{kind_in}
 use Rattle.life_forest.specs.Owned.{times}
 use Rattle.life_forest.specs.Values.{owned_of}
 use Rattle.life_forest.proofs.Above.{above_apart, above_unowned, owner_above}

@@ -5,7 +5,8 @@ use Rattle.life_store.specs.Cells.{at, at-unset_same, at-unset_other, sum_over}
 use Rattle.life_store.specs.Content.{Object, Content, is_valid_in, without}
 use Rattle.life_store.specs.Held.{slots_at, slots_if}
 use Rattle.life_store.proofs.MapLemmas.{one_or_apart, sum-unset}
-use Rattle.life_forest.specs.Kinds.{Kinds, is_owner}
+use Rattle.life_forest.specs.Kinds.{Kinds}
+use Rattle.life_store.specs.Kinds.{is_owner}
 use Rattle.life_forest.specs.Changes.{without_all}
 use Rattle.life_forest.specs.Owned.{one, every, times, alive, alive_if, owns, owns_if, owns_at, holders, spared, owned_list, nexts, beneath}
 use Rattle.life_forest.specs.Forest.{AllSince, IsForest, Foot, Beneath, whole, part, under, Touches, Within}

@@ -12,7 +12,8 @@ use Rattle.life_store.specs.Owners.{copied}
 use Rattle.life_store.specs.Parts.{Parts, Single, Raw, Iterates, Views, Text, Vector, Unique, Member, NoMember, parts_at, width, width_at}
 use Rattle.life_store.specs.Places.{spot_words, wrote_spot}
 use Rattle.life_store.proofs.MapLemmas.{one_or_apart}
-use Rattle.life_forest.specs.Kinds.{Kind, Value, Owner, Pointer, is_owner, kind_in, kinds_of, owned_type, rank_of, row_behind}
+use Rattle.life_forest.specs.Kinds.{kinds_of, owned_type, rank_of}
+use Rattle.life_store.specs.Kinds.{Kind, Plain, Owner, Pointing, is_owner, row_behind, kind_in}
 use Rattle.life_forest.specs.Owned.{hit, in_words, times, alive}
 use Rattle.life_forest.specs.Typed.{IsStore}
 use Rattle.life_forest.specs.Values.{Known, owned_of}
@@ -54,8 +55,8 @@ some_word f (x ∷ xs) m lt = go (f 0) refl (some_word (λ u. f (suc u)) xs m)
 
 owner_is : (k : Kind) → (is_owner k && true) ≡ true → k ≡ Owner
 owner_is Owner e = refl
-owner_is Value e = cc
-owner_is Pointer e = cc
+owner_is Plain e = cc
+owner_is (Pointing i) e = cc
 
 pub word_owned : (p : Parts) (ws : List ℕ) (m : ℕ) → 0 < times (owned_of p ws) m → (u : ℕ) × (kind_in p u ≡ Owner) × (slice_index ws u ≡ suc m)
 word_owned p ws m lt =
@@ -78,9 +79,9 @@ module _ (types : Types) (ordered : IsOrdered types) where
 
   pub lesser : (bound : ℕ) (p : Parts) → IsMade types ordered bound p → (u : ℕ) (t : TyId) → kind_in p u ≡ Owner → owned_type p u ≡ Some t → rank_of types t < bound
   lesser bound Single made u t k e = absurd (value_owner k)
-  lesser bound Raw made u t k e = absurd (pointer_owner k)
-  lesser bound Iterates made u t k e = absurd (pointer_owner k)
-  lesser bound Views made u t k e = absurd (pointer_owner k)
+  lesser bound Raw made u t k e = absurd (pointer_owner u k)
+  lesser bound Iterates made u t k e = absurd (pointer_owner u k)
+  lesser bound Views made u t k e = absurd (pointer_owner u k)
   lesser bound (Text id) made u t k e = subst (λ x. rank_of types x < bound) (some_same e) made.0
   lesser bound (Vector id element) made u t k e = subst (λ x. rank_of types x < bound) (some_same e) made.0
   lesser bound (Unique id target) made u t k e = subst (λ x. rank_of types x < bound) (some_same e) made.0

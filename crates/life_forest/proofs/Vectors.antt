@@ -12,7 +12,8 @@ use Rattle.life_store.specs.Held.{owned_in, slots_if}
 use Rattle.life_store.specs.Owners.{consumed}
 use Rattle.life_store.specs.Parts.{Parts, Vector, parts_at, width, width_at}
 use Rattle.life_store.specs.Places.{Spot, spot_words}
-use Rattle.life_forest.specs.Kinds.{kind_in, kinds_of, owned_type, rank_of}
+use Rattle.life_forest.specs.Kinds.{kinds_of, owned_type, rank_of}
+use Rattle.life_store.specs.Kinds.{kind_in}
 use Rattle.life_forest.specs.Owned.{every, times, owns}
 use Rattle.life_forest.specs.Forest.{IsForest}
 use Rattle.life_forest.specs.Typed.{AreFit, IsStore}

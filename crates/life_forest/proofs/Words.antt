@@ -5,7 +5,8 @@ use Rattle.life_store.specs.Cells.{at}
 use Rattle.life_store.specs.Content.{Slot, Object, Content}
 use Rattle.life_store.specs.Held.{wrote}
 use Rattle.life_store.proofs.MapLemmas.{one_or_apart}
-use Rattle.life_forest.specs.Kinds.{Kinds, is_owner, is_value}
+use Rattle.life_forest.specs.Kinds.{Kinds}
+use Rattle.life_store.specs.Kinds.{is_owner, is_value}
 use Rattle.life_forest.specs.Owned.{every, owns}
 use Rattle.life_forest.specs.Forest.{IsForest, Foot, Beneath, Touches}
 use Rattle.life_forest.proofs.Sparing.{and_true}

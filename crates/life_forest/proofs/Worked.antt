@@ -8,7 +8,8 @@ use Rattle.life_store.specs.Content.{Object, Content, empty_content}
 use Rattle.life_store.specs.Parts.{parts_at}
 use Rattle.life_store.proofs.CellLemmas.{none_some}
 use Rattle.life_store.proofs.MapLemmas.{sum-none}
-use Rattle.life_forest.specs.Kinds.{Value, Owner, Pointer, kind_in, kinds_of, owned_type, rank_of}
+use Rattle.life_forest.specs.Kinds.{kinds_of, owned_type, rank_of}
+use Rattle.life_store.specs.Kinds.{Plain, Owner, Pointing, kind_in}
 use Rattle.life_forest.specs.Owned.{every, owns, owns_at}
 use Rattle.life_forest.specs.Typed.{IsStore}
 use Rattle.life_forest.proofs.Apart.{one_owner}
@@ -42,7 +43,7 @@ table = record {
 }
 
 -- an owner, a pointer of five words, and an owner
-words : (kind_in (parts_at table (id 4)) 0 ≡ Owner) × (kind_in (parts_at table (id 4)) 1 ≡ Pointer) × (kind_in (parts_at table (id 4)) 5 ≡ Pointer) × (kind_in (parts_at table (id 4)) 6 ≡ Owner) × (kind_in (parts_at table (id 4)) 7 ≡ Value)
+words : (kind_in (parts_at table (id 4)) 0 ≡ Owner) × (kind_in (parts_at table (id 4)) 1 ≡ Pointing 0) × (kind_in (parts_at table (id 4)) 5 ≡ Pointing 4) × (kind_in (parts_at table (id 4)) 6 ≡ Owner) × (kind_in (parts_at table (id 4)) 7 ≡ Plain)
 words = (refl, refl, refl, refl, refl)
 
 -- the vector's buffer is of ints, and the string's of characters, whose number the table doesn't have

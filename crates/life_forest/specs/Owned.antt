@@ -2,7 +2,8 @@
 use Rattle.std.specs.Prelude.{ℕ, zero, suc, ◌+◌, Bool, true, cond, ◌&&◌, ◌||◌, nat_eq, List, [], ◌∷◌, ◌++◌, Option, Some, None}
 use Rattle.life_store.specs.Cells.{at, sum_over}
 use Rattle.life_store.specs.Content.{Slot, Object, Content}
-use Rattle.life_forest.specs.Kinds.{Kinds, is_owner, is_value}
+use Rattle.life_forest.specs.Kinds.{Kinds}
+use Rattle.life_store.specs.Kinds.{is_owner, is_value}
 
 -- 1 at the number, and else 0
 abbrev pub one : ℕ → ℕ → ℕ

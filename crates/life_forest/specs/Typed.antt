@@ -3,7 +3,8 @@ use Rattle.std.specs.Prelude.{◌≡◌, ℕ, suc, Some}
 use Rattle.life_types.specs.Types.{Types}
 use Rattle.life_store.specs.Cells.{at}
 use Rattle.life_store.specs.Content.{Object, Content, word_at}
-use Rattle.life_forest.specs.Kinds.{Owner, Kinds, kinds_of}
+use Rattle.life_forest.specs.Kinds.{Kinds, kinds_of}
+use Rattle.life_store.specs.Kinds.{Owner}
 use Rattle.life_forest.specs.Forest.{IsForest}
 use Rattle.life_forest.specs.Values.{AllWide}
 

@@ -5,7 +5,8 @@ use Rattle.life_store.specs.Cells.{at}
 use Rattle.life_store.specs.Content.{Slot, Object, Content}
 use Rattle.life_store.specs.Held.{owned_in}
 use Rattle.life_store.specs.Parts.{Parts, Single, Raw, Iterates, Views, Text, Vector, Unique, Member, NoMember, width}
-use Rattle.life_forest.specs.Kinds.{Kinds, kind_in, owned_type}
+use Rattle.life_forest.specs.Kinds.{Kinds, owned_type}
+use Rattle.life_store.specs.Kinds.{kind_in}
 
 abbrev pub listed : Option ℕ → List ℕ
 listed None = []

@@ -7,7 +7,8 @@ use Rattle.life_store.specs.Content.{Object, Content}
 use Rattle.life_store.specs.Parts.{parts_at, width_at}
 use Rattle.life_store.specs.Places.{is_valid}
 use Rattle.life_store.specs.State.{Target}
-use Rattle.life_forest.specs.Kinds.{kind_in, owned_type}
+use Rattle.life_forest.specs.Kinds.{owned_type}
+use Rattle.life_store.specs.Kinds.{kind_in}
 
 pub record LiesWithin (types : Types) (whole : TyId) (w : ℕ) (part : TyId) : Type 0 where
   pub fits : w + width_at types part ≤ width_at types whole

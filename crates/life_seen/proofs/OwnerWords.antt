@@ -5,7 +5,8 @@ use Rattle.life_store.specs.Content.{Object, Content, with_object, with_word, wo
 use Rattle.life_store.specs.Held.{owner_word}
 use Rattle.life_store.specs.References.{Rows, object_of, IsFreeRow}
 use Rattle.life_store.specs.declared.object.ObjRef.{ObjRef}
-use Rattle.life_seen.specs.Kinds.{Owner, Kinds}
+use Rattle.life_seen.specs.Kinds.{Kinds}
+use Rattle.life_store.specs.Kinds.{Owner}
 use Rattle.life_seen.specs.Named.{names_of}
 use Rattle.life_seen.specs.Seen.{owner_seen, word_seen, object_seen, seen}
 use Rattle.life_seen.specs.Housed.{RowLives, WordLives, IsHoused, Shows}

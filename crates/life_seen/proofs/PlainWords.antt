@@ -5,7 +5,8 @@ use Rattle.life_store.specs.Content.{Object, Content, with_object, with_word, wo
 use Rattle.life_store.specs.Held.{with_words}
 use Rattle.life_store.specs.References.{Rows, object_of}
 use Rattle.life_store.specs.declared.object.ObjRef.{ObjRef}
-use Rattle.life_seen.specs.Kinds.{Kind, Plain, Kinds}
+use Rattle.life_seen.specs.Kinds.{Kinds}
+use Rattle.life_store.specs.Kinds.{Kind, Plain}
 use Rattle.life_seen.specs.Mapped.{mapped}
 use Rattle.life_seen.specs.Named.{Names, names_of}
 use Rattle.life_seen.specs.Seen.{word_seen, words_seen, object_seen, seen}

@@ -8,7 +8,8 @@ use Rattle.life_store.specs.References.{Rows}
 use Rattle.life_store.specs.State.{Pointer, Null, Wild, To, Static}
 use Rattle.life_store.proofs.MapLemmas.{one_or_apart}
 use Rattle.life_seen.specs.Housed.{WordLives, WordsLive, IsRef}
-use Rattle.life_seen.specs.Kinds.{Kind, Pointing, AreWhole}
+use Rattle.life_seen.specs.Kinds.{AreWhole}
+use Rattle.life_store.specs.Kinds.{Kind, Pointing}
 use Rattle.life_seen.specs.Named.{Names}
 use Rattle.life_seen.specs.Rowed.{stored_words, HasRow, WordsRowed, SlotsRowed}
 use Rattle.life_seen.specs.Seen.{word_seen, words_seen}

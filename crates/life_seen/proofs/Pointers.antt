@@ -8,7 +8,8 @@ use Rattle.life_store.specs.References.{Rows, object_of}
 use Rattle.life_store.specs.State.{Pointer}
 use Rattle.life_store.specs.declared.object.ObjRef.{ObjRef}
 use Rattle.life_seen.specs.Housed.{IsHoused, Shows, Later}
-use Rattle.life_seen.specs.Kinds.{Pointing, AreWhole, Kinds}
+use Rattle.life_seen.specs.Kinds.{AreWhole, Kinds}
+use Rattle.life_store.specs.Kinds.{Pointing}
 use Rattle.life_seen.specs.Named.{names_of}
 use Rattle.life_seen.specs.Rowed.{stored_words, SlotsRowed, AreRowed}
 use Rattle.life_seen.specs.Seen.{object_seen, seen}

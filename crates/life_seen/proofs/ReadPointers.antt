@@ -8,7 +8,8 @@ use Rattle.life_store.specs.Held.{pointer_in, pointer_of, slots_if, words_at, wo
 use Rattle.life_store.specs.References.{Rows, object_of}
 use Rattle.life_store.specs.declared.object.ObjRef.{ObjRef}
 use Rattle.life_seen.specs.Housed.{IsHoused}
-use Rattle.life_seen.specs.Kinds.{Kind, Pointing, AreWhole, Kinds}
+use Rattle.life_seen.specs.Kinds.{AreWhole, Kinds}
+use Rattle.life_store.specs.Kinds.{Kind, Pointing}
 use Rattle.life_seen.specs.Named.{names_of}
 use Rattle.life_seen.specs.Rowed.{HasRow, SlotsRowed, AreRowed}
 use Rattle.life_seen.specs.Seen.{pointing_seen, word_seen, object_seen, seen}

@@ -4,7 +4,8 @@ use Rattle.std.proofs.lemmas.List.{length-map, map-append}
 use Rattle.std.specs.Prelude.{slice_get, nat_eq, nat_le, ◌&&◌, option_map}
 use Rattle.life_store.specs.Content.{Slot, Object, stamped, blank_slot, resized_slots, resized, is_since, is_settled, are_settled, is_valid_in}
 use Rattle.life_store.specs.References.{shape_of}
-use Rattle.life_seen.specs.Kinds.{Kind, Kinds}
+use Rattle.life_seen.specs.Kinds.{Kinds}
+use Rattle.life_store.specs.Kinds.{Kind}
 use Rattle.life_seen.specs.Named.{Names}
 use Rattle.life_seen.specs.Seen.{words_seen, slot_seen, slots_seen, object_seen}
 use Rattle.life_seen.specs.Housed.{WordsLive, SlotsLive}

@@ -4,7 +4,8 @@ use Rattle.std.specs.Prelude.{slice_get, slice_index, slice_set, option_map, ◌
 use Rattle.life_store.specs.Cells.{Cells, at, set, unset}
 use Rattle.life_store.specs.Content.{Slot, Object, Content, blank_slot, resized_slots, set_slot, stamped, written}
 use Rattle.life_store.specs.References.{Rows}
-use Rattle.life_seen.specs.Kinds.{Kind, Pointing, Kinds, AreWhole}
+use Rattle.life_seen.specs.Kinds.{Kinds, AreWhole}
+use Rattle.life_store.specs.Kinds.{Kind, Pointing}
 use Rattle.life_seen.specs.Housed.{IsRef, Later}
 use Rattle.life_seen.specs.Rowed.{WordsRowed, SlotsRowed, AreRowed}
 use Rattle.life_seen.proofs.MapViews.{set_cases, unset_there}

@@ -4,7 +4,8 @@ use Rattle.std.specs.Prelude.{slice_get, slice_index, slice_set, option_map}
 use Rattle.life_store.specs.Cells.{at}
 use Rattle.life_store.specs.Content.{Slot, Object, word_in, word_at, written, set_slot, with_word}
 use Rattle.life_store.specs.Held.{owner_word}
-use Rattle.life_seen.specs.Kinds.{Kind, Plain, Owner, Pointing, Kinds}
+use Rattle.life_seen.specs.Kinds.{Kinds}
+use Rattle.life_store.specs.Kinds.{Kind, Plain, Owner, Pointing}
 use Rattle.life_seen.specs.Named.{Names}
 use Rattle.life_seen.specs.Seen.{pointing_seen, word_seen, words_seen, slot_seen, slots_seen, object_seen}
 use Rattle.life_seen.specs.Owned.{owner_of, owner_at, owner_in, owner_if}

@@ -1,7 +1,7 @@
 -- A pointer's words lie one behind the other in each value that has one.
 use Rattle.std.proofs.Common.{◌≡◌, ℕ, zero, suc, ◌+◌, ◌≤◌, ◌<◌, refl, sym, ap, ◌∙◌, arith}
 use Rattle.life_store.specs.Parts.{Parts, Single, Raw, Iterates, Views, Text, Vector, Unique, Member, NoMember, width}
-use Rattle.life_seen.specs.Kinds.{Plain, Owner, Pointing, row_behind, first_owns, kind_in}
+use Rattle.life_store.specs.Kinds.{Plain, Owner, Pointing, row_behind, first_owns, kind_in}
 
 module _ {A : Type 0} where
   pub row_front : (n : ℕ) (f g : ℕ → A) (u : ℕ) → u < n → row_behind n f g u ≡ f u

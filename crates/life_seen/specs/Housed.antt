@@ -4,7 +4,8 @@ use Rattle.life_store.specs.Cells.{at}
 use Rattle.life_store.specs.Content.{Slot, Object, Content}
 use Rattle.life_store.specs.References.{Rows}
 use Rattle.life_store.specs.declared.object.ObjRef.{ObjRef}
-use Rattle.life_seen.specs.Kinds.{Kind, Plain, Owner, Pointing, Kinds}
+use Rattle.life_seen.specs.Kinds.{Kinds}
+use Rattle.life_store.specs.Kinds.{Kind, Plain, Owner, Pointing}
 use Rattle.life_seen.specs.Named.{Names, names_of, AreApart}
 use Rattle.life_seen.specs.Seen.{seen}
 

@@ -2,7 +2,8 @@
 use Rattle.std.specs.Prelude.{◌≡◌, ℕ, zero, suc, List, [], ◌∷◌, Option, Some, None}
 use Rattle.life_store.specs.Cells.{at}
 use Rattle.life_store.specs.Content.{Slot, Object, Content}
-use Rattle.life_seen.specs.Kinds.{Kind, Plain, Owner, Pointing, Kinds}
+use Rattle.life_seen.specs.Kinds.{Kinds}
+use Rattle.life_store.specs.Kinds.{Kind, Plain, Owner, Pointing}
 
 -- the word, if it is an owner's, and else 0
 abbrev pub owner_of : Kind → ℕ → ℕ

@@ -5,7 +5,8 @@ use Rattle.life_store.specs.Content.{Slot, Object, Content}
 use Rattle.life_store.specs.Held.{pointer_words}
 use Rattle.life_store.specs.References.{Rows}
 use Rattle.life_store.specs.State.{Pointer, Null, Wild, To, Static}
-use Rattle.life_seen.specs.Kinds.{Kind, Pointing, Kinds}
+use Rattle.life_seen.specs.Kinds.{Kinds}
+use Rattle.life_store.specs.Kinds.{Kind, Pointing}
 use Rattle.life_seen.specs.Housed.{IsRef}
 
 -- the words of a pointer to an object that has the row, or had it

@@ -5,7 +5,8 @@ use Rattle.life_store.specs.Cells.{at}
 use Rattle.life_store.specs.Content.{Slot, Object, Content}
 use Rattle.life_store.specs.Held.{owner_word}
 use Rattle.life_store.specs.References.{Rows}
-use Rattle.life_seen.specs.Kinds.{Kind, Plain, Owner, Pointing, Kinds}
+use Rattle.life_seen.specs.Kinds.{Kinds}
+use Rattle.life_store.specs.Kinds.{Kind, Plain, Owner, Pointing}
 use Rattle.life_seen.specs.Mapped.{mapped}
 use Rattle.life_seen.specs.Named.{Names, names_of}
 

@@ -7,6 +7,7 @@ pub mod Edits
 pub mod Effects
 pub mod Held
 pub mod Iterators
+pub mod Kinds
 pub mod Layout
 pub mod Meaning
 pub mod NoFault

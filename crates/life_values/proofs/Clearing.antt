@@ -2,7 +2,8 @@
 use Rattle.std.proofs.Common.{◌≡◌, ℕ, zero, suc, ◌<◌, Bool, true, false, cond, List, [], ◌∷◌, length, refl, ap, ◌∙◌, arith}
 use Rattle.std.specs.Prelude.{slice_get, slice_index, slice_set, ◌&&◌}
 use Rattle.life_store.specs.Content.{Slot, Object, word_in, word_at, with_word}
-use Rattle.life_forest.specs.Kinds.{Kinds, is_owner}
+use Rattle.life_forest.specs.Kinds.{Kinds}
+use Rattle.life_store.specs.Kinds.{is_owner}
 use Rattle.life_forest.specs.Owned.{every, hit, in_words, in_slots, owns}
 use Rattle.life_forest.proofs.Puts.{put_in}
 use Rattle.life_values.proofs.Owners.{with_word_is}

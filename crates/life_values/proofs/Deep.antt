@@ -11,7 +11,8 @@ use Rattle.life_store.specs.declared.object.ObjRef.{ObjRef}
 use Rattle.life_store.specs.declared.object.Shape.{Shape}
 use Rattle.life_store.proofs.MapLemmas.{one_or_apart}
 use Rattle.life_forest.specs.Changes.{without_all}
-use Rattle.life_forest.specs.Kinds.{Kinds, is_owner}
+use Rattle.life_forest.specs.Kinds.{Kinds}
+use Rattle.life_store.specs.Kinds.{Kind, Plain, Owner, Pointing, is_owner}
 use Rattle.life_forest.specs.Owned.{times}
 use Rattle.life_forest.specs.Forest.{IsForest}
 use Rattle.life_forest.specs.Values.{AllWide}
@@ -19,7 +20,6 @@ use Rattle.life_forest.proofs.Counting.{one_same, one_there}
 use Rattle.life_forest.proofs.Puts.{IsWord}
 use Rattle.life_forest.proofs.Steps.{was_there}
 use Rattle.life_seen.specs.Housed.{IsHoused, Shows, Later}
-use Rattle.life_seen.specs.Kinds.{Kind, Plain, Owner, Pointing}
 use Rattle.life_seen.specs.Kinds.{Kinds as Seen}
 use Rattle.life_seen.specs.Named.{names_of}
 use Rattle.life_seen.specs.Seen.{object_seen, seen}
@@ -29,7 +29,7 @@ use Rattle.life_seen.proofs.MapViews.{at-mapped, set_cases}
 use Rattle.life_seen.proofs.References.{of_found, lives_placed, placed_lives, later_same, later_then}
 use Rattle.life_seen.proofs.Resizing.{count_seen}
 use Rattle.life_words.proofs.Owning.{same_ok}
-use Rattle.life_values.specs.Ended.{ended_number, is_owner_kind, AreAlike}
+use Rattle.life_values.specs.Ended.{ended_number, AreAlike}
 use Rattle.life_values.specs.Ending.{AreSized, CanEnd, IsBefore, IsClear, IsSized}
 use Rattle.life_values.specs.Layouts.{AreOwners}
 use Rattle.life_values.proofs.Clearing.{owns_none, past_slots, stays_zero, zero_here}
@@ -38,15 +38,15 @@ use Rattle.life_values.proofs.Emptying.{next_object as word_taken}
 use Rattle.life_values.proofs.Ends.{AreBelow, number_end}
 use Rattle.life_values.proofs.Owners.{unowned_in_hand, wide_put, wide_word, with_word_is}
 
-owner_kind : (k : Kind) → is_owner_kind k ≡ true → k ≡ Owner
+owner_kind : (k : Kind) → is_owner k ≡ true → k ≡ Owner
 owner_kind Plain e = absurd (clash e)
   where
-    clash : is_owner_kind Plain ≡ true → ⊥
+    clash : is_owner Plain ≡ true → ⊥
     clash h = cc
 owner_kind Owner e = refl
 owner_kind (Pointing i) e = absurd (clash e)
   where
-    clash : is_owner_kind (Pointing i) ≡ true → ⊥
+    clash : is_owner (Pointing i) ≡ true → ⊥
     clash h = cc
 
 one_or_before : {A : Type 0} (a b : ℕ) → (a ≤ b → A) → (b < a → A) → A
@@ -162,7 +162,7 @@ module _ (kinds : Seen) (kind : Kinds) (alike : AreAlike kinds kind) (depth : �
       is_word = wide_word p.ending.object.width p.ending.object.slots slot u₀ size.wide within (size.owners u₀ owner)
 
       owns_here : is_owner (kind.word p.ending.object.ty u₀) ≡ true
-      owns_here = sym (alike p.ending.object.ty u₀) ∙ ap is_owner_kind owner
+      owns_here = sym (alike p.ending.object.ty u₀) ∙ ap is_owner owner
 
       out : Content
       out = taken kind (depth - 1) r.birth can.hand (seen kinds c rows) object_before there_before can.forest below (seen kinds d new) p.ending slot u₀ q.birth is_word owns_here holds

@@ -9,7 +9,8 @@ use Rattle.life_store.specs.declared.object.ObjRef.{ObjRef}
 use Rattle.life_store.specs.declared.object.Shape.{Shape}
 use Rattle.life_forest.specs.Kinds.{kinds_of as forest_kinds}
 use Rattle.life_seen.specs.Housed.{IsHoused, Shows, Later}
-use Rattle.life_seen.specs.Kinds.{kinds_of, Owner, Kinds}
+use Rattle.life_seen.specs.Kinds.{kinds_of, Kinds}
+use Rattle.life_store.specs.Kinds.{Owner}
 use Rattle.life_seen.specs.Named.{names_of}
 use Rattle.life_seen.specs.Seen.{object_seen, seen}
 use Rattle.life_words.specs.Owning.{with_owner, IsOwner}

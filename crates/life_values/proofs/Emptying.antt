@@ -6,7 +6,8 @@ use Rattle.life_store.specs.Cells.{Cells, at, at-set_same, at-set_other, at-unse
 use Rattle.life_store.specs.Content.{Object, Content, with_object, with_word, word_at, without}
 use Rattle.life_store.specs.Held.{wrote_if}
 use Rattle.life_store.proofs.MapLemmas.{set-set, set_back, unset-set}
-use Rattle.life_forest.specs.Kinds.{Kinds, is_owner}
+use Rattle.life_forest.specs.Kinds.{Kinds}
+use Rattle.life_store.specs.Kinds.{is_owner}
 use Rattle.life_forest.specs.Owned.{every, one, times, owns, owned_list}
 use Rattle.life_forest.specs.Forest.{IsForest, Below}
 use Rattle.life_forest.proofs.Below.{alike_without_all, below_lives, below_up, empty_handed, top}

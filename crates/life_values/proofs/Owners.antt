@@ -4,7 +4,8 @@ use Rattle.std.proofs.lemmas.List.{length-set}
 use Rattle.std.specs.Prelude.{slice_get, option_map, ◌&&◌}
 use Rattle.life_store.specs.Cells.{at}
 use Rattle.life_store.specs.Content.{Slot, Object, Content, set_slot, with_word, word_in, written}
-use Rattle.life_forest.specs.Kinds.{Kinds, is_owner}
+use Rattle.life_forest.specs.Kinds.{Kinds}
+use Rattle.life_store.specs.Kinds.{Kind, Plain, Owner, Pointing, is_owner}
 use Rattle.life_forest.specs.Owned.{every, one, hit, in_words, in_slots, owns_if}
 use Rattle.life_forest.specs.Forest.{IsForest}
 use Rattle.life_forest.specs.Values.{AllWide}
@@ -12,14 +13,13 @@ use Rattle.life_forest.proofs.Below.{owned_at_held}
 use Rattle.life_forest.proofs.Counting.{one_same}
 use Rattle.life_forest.proofs.Puts.{IsWord, put_in, word_of}
 use Rattle.life_forest.proofs.Steps.{alive_le}
-use Rattle.life_seen.specs.Kinds.{Kind, Plain, Owner, Pointing}
 use Rattle.life_seen.specs.Kinds.{Kinds as Seen}
 use Rattle.life_seen.specs.Owned.{owner_of, owner_at, owner_in, owner_if, IsUnowned}
-use Rattle.life_values.specs.Ended.{is_owner_kind, AreAlike}
+use Rattle.life_values.specs.Ended.{AreAlike}
 
 -- ---- what is owned is counted
 
-hit_same : (k : Kind) (x n : ℕ) (b : Bool) → is_owner_kind k ≡ b → owner_of k x ≡ suc n → 0 < cond b (hit x n) 0
+hit_same : (k : Kind) (x n : ℕ) (b : Bool) → is_owner k ≡ b → owner_of k x ≡ suc n → 0 < cond b (hit x n) 0
 hit_same Plain x n b e own = absurd (omega (arith, own))
 hit_same (Pointing i) x n b e own = absurd (omega (arith, own))
 hit_same Owner zero n b e own = absurd (omega (arith, own))
@@ -32,12 +32,12 @@ and_every : (b : Bool) → b ≡ (b && true)
 and_every true = refl
 and_every false = refl
 
-words_counted : (f : ℕ → Kind) (g : ℕ → Bool) → ((u : ℕ) → is_owner_kind (f u) ≡ g u) → (ws : List ℕ) (u n : ℕ) → owner_at f ws u ≡ suc n → 0 < in_words g ws n
+words_counted : (f : ℕ → Kind) (g : ℕ → Bool) → ((u : ℕ) → is_owner (f u) ≡ g u) → (ws : List ℕ) (u n : ℕ) → owner_at f ws u ≡ suc n → 0 < in_words g ws n
 words_counted f g same [] u n own = absurd (omega (arith, own))
 words_counted f g same (x ∷ xs) zero n own = let h = hit_same (f 0) x n (g 0) (same 0) own in omega (arith, h)
 words_counted f g same (x ∷ xs) (suc u) n own = let h = words_counted (λ v. f (suc v)) (λ v. g (suc v)) (λ v. same (suc v)) xs u n own in omega (arith, h)
 
-slots_counted : (f : ℕ → Kind) (g : ℕ → Bool) → ((u : ℕ) → is_owner_kind (f u) ≡ g u) → (ss : List Slot) (i u n : ℕ) → owner_in f ss i u ≡ suc n → 0 < in_slots g ss n
+slots_counted : (f : ℕ → Kind) (g : ℕ → Bool) → ((u : ℕ) → is_owner (f u) ≡ g u) → (ss : List Slot) (i u n : ℕ) → owner_in f ss i u ≡ suc n → 0 < in_slots g ss n
 slots_counted f g same [] i u n own = absurd (omega (arith, own))
 slots_counted f g same (s ∷ ss) zero u n own = let h = words_counted f g same s.words u n own in omega (arith, h)
 slots_counted f g same (s ∷ ss) (suc i) u n own = let h = slots_counted f g same ss i u n own in omega (arith, h)

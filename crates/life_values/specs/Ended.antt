@@ -3,9 +3,9 @@ use Rattle.std.specs.Prelude.{◌≡◌, ℕ, zero, suc, Bool, true, false, List
 use Rattle.life_types.specs.declared.ty.TyId.{TyId}
 use Rattle.life_store.specs.Cells.{at}
 use Rattle.life_store.specs.Content.{Content, without}
-use Rattle.life_forest.specs.Kinds.{Kinds, is_owner}
+use Rattle.life_forest.specs.Kinds.{Kinds}
+use Rattle.life_store.specs.Kinds.{is_owner}
 use Rattle.life_forest.specs.Owned.{owned_list}
-use Rattle.life_seen.specs.Kinds.{Kind, Plain, Owner, Pointing}
 use Rattle.life_seen.specs.Kinds.{Kinds as Seen}
 
 abbrev pub ended_each : (ℕ → Content → Content) → List ℕ → Content → Content
@@ -19,11 +19,6 @@ ended_number kind (suc depth) n c = ended_each (ended_number kind depth) (owned_
 
 -- ---- the kinds of words in a store, and those of the forest
 
-abbrev pub is_owner_kind : Kind → Bool
-is_owner_kind Plain = false
-is_owner_kind Owner = true
-is_owner_kind (Pointing i) = false
-
 -- both tell the same words that own
 abbrev pub AreAlike : Seen → Kinds → Type 0
-AreAlike kinds kind = (ty : TyId) (u : ℕ) → is_owner_kind (kinds ty u) ≡ is_owner (kind.word ty u)
+AreAlike kinds kind = (ty : TyId) (u : ℕ) → is_owner (kinds ty u) ≡ is_owner (kind.word ty u)

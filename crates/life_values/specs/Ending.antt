@@ -11,7 +11,7 @@ use Rattle.life_forest.specs.Kinds.{Kinds}
 use Rattle.life_forest.specs.Owned.{times}
 use Rattle.life_forest.specs.Values.{AllWide}
 use Rattle.life_seen.specs.Housed.{IsHoused}
-use Rattle.life_seen.specs.Kinds.{Owner}
+use Rattle.life_store.specs.Kinds.{Owner}
 use Rattle.life_seen.specs.Kinds.{Kinds as Seen}
 use Rattle.life_seen.specs.Seen.{seen}
 use Rattle.life_values.specs.declared.deep_end.Found.{Found}

@@ -1,7 +1,8 @@
 -- Where the words that own lie in the values of each type.
 use Rattle.std.specs.Prelude.{◌≡◌, ℕ, List, [], Option, Some, None, slice_get}
 use Rattle.life_types.specs.declared.ty.TyId.{TyId}
-use Rattle.life_seen.specs.Kinds.{Kind, Owner, Kinds}
+use Rattle.life_seen.specs.Kinds.{Kinds}
+use Rattle.life_store.specs.Kinds.{Kind, Owner}
 use Rattle.life_values.specs.declared.layout.Layout.{Layout}
 
 abbrev pub owners_in : Option Layout → List ℕ

@@ -5,7 +5,8 @@ use Rattle.life_store.specs.Held.{with_words}
 use Rattle.life_store.specs.References.{Rows, object_of}
 use Rattle.life_store.specs.declared.object.ObjRef.{ObjRef}
 use Rattle.life_seen.specs.Housed.{IsHoused}
-use Rattle.life_seen.specs.Kinds.{Plain, Kinds}
+use Rattle.life_seen.specs.Kinds.{Kinds}
+use Rattle.life_store.specs.Kinds.{Plain}
 
 -- the object lives, and the word of its slots is a number
 pub record IsPlain (kinds : Kinds) (c : Content) (rows : Rows) (r : ObjRef) (word : ℕ) (o : Object) : Type 0 where

@@ -6,7 +6,8 @@ use Rattle.life_store.specs.Held.{owner_word}
 use Rattle.life_store.specs.References.{Rows, object_of, IsFreeRow}
 use Rattle.life_store.specs.declared.object.ObjRef.{ObjRef}
 use Rattle.life_seen.specs.Housed.{IsHoused}
-use Rattle.life_seen.specs.Kinds.{Owner, Kinds}
+use Rattle.life_seen.specs.Kinds.{Kinds}
+use Rattle.life_store.specs.Kinds.{Owner}
 use Rattle.life_seen.specs.Named.{names_of}
 use Rattle.life_seen.specs.Seen.{object_seen, seen}
 
