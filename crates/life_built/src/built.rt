@@ -241,16 +241,10 @@ fn is_built_statement(types: &TypeTable, locals: &[TypedLocal], statement: &Type
             body,
             ..
         } => is_built_expression(condition) && is_built_statement(types, locals, body),
-        TypedStmt::For {
-            start,
-            condition,
-            step,
-            body,
-            ..
-        } => {
-            is_built_start(types, locals, start)
-                && (is_built_if_any(condition)
-                    && (is_built_step(step) && is_built_statement(types, locals, body)))
+        TypedStmt::For { head, body, .. } => {
+            is_built_start(types, locals, &head.start)
+                && (is_built_if_any(&head.condition)
+                    && (is_built_step(&head.step) && is_built_statement(types, locals, body)))
         }
         TypedStmt::RangeFor { .. } => false,
         TypedStmt::Break { .. } => true,

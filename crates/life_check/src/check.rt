@@ -1,9 +1,13 @@
 // The check of the text of a file.
-ghost use Rattle.std.specs.Prelude.{◌≡◌, ◌<◌, ◌^◌, length, map};
+ghost use Rattle.std.specs.Prelude.{◌≡◌, ◌<◌, ◌^◌, IfOk, IsTrue, length, map};
 ghost use Rattle.life_core.specs.Function.{program_of};
+ghost use Rattle.life_built.specs.Built.{is_built};
+ghost use Rattle.life_elab.specs.Bounds.{HaveNumberedLocals};
+ghost use Rattle.life_elab.specs.Elaborated.{Elaborates};
 ghost use Rattle.life_proper.specs.ProperPrograms.{IsProperProgram};
 ghost use Rattle.life_rules.specs.Listing.{AreProgramDiagnostics, HaveLines, listed_diag, program_line};
 ghost use Rattle.life_typed.specs.Programs.{program_view};
+ghost use Rattle.life_typing.specs.Answers.{Answers};
 ghost use Rattle.life_typing.specs.Resolves.{resolved};
 ghost use Rattle.life_check.specs.CheckedText.{ComesOnlyTo, ComesTo, IsListed, Listed, ResolvedComesTo, TypedComesTo};
 ghost use Rattle.life_check.specs.Faults as spec;
@@ -15,7 +19,7 @@ use crate::checked::Checked;
 use crate::fault::CheckFault;
 use life_base::Steps;
 use life_core::CoreProgram;
-use life_elab::{elaborate, is_built};
+use life_elab::{ElabFault, elaborate, is_built};
 use life_elab_laws::{translations_are_proper, translations_have_short_places};
 use life_fix::program_diagnostics;
 use life_parse::parse;
@@ -25,7 +29,7 @@ use life_sound::accept;
 use life_tree::Program;
 use life_typed::Typed;
 use life_types::Place;
-use life_typing::{IllKind, resolve};
+use life_typing::{IllFault, IllKind, resolve};
 use life_typing_laws::{
     resolved_programs_are_as_parsed, resolved_programs_are_well_typed, resolved_programs_have_names,
 };
@@ -53,43 +57,59 @@ pub fn check_text<L: Ledger>(
     let tree = parse(alloc, bytes)?;
     trees_have_longs();
     trees_have_names();
-    check_tree(alloc, &tree, steps)
+    check_tree(alloc, tree, steps)
 }
 
 // A text that has a tree: the tree has types, or the first rule that it breaks decides.
 fn check_tree<L: Ledger>(
     alloc: Global,
-    tree: &Program,
+    tree: Program,
     steps: &mut Steps<L>,
 ) -> Result<Checked, CheckFault>
-    requires { IsRead tree.now }
-    ensures finds { Finds (ResolvedComesTo (resolved tree.now)) result }
-    ensures ticks { TakesFew (ResolvedComesTo (resolved tree.now)) steps.old steps.new }
+    requires { IsRead tree }
+    ensures finds { Finds (ResolvedComesTo (resolved tree)) result }
+    ensures ticks { TakesFew (ResolvedComesTo (resolved tree)) steps.old steps.new }
 {
-    let typed = resolve(alloc, tree)?;
+    let typed = typed_of(alloc, tree)?;
     resolved_programs_are_as_parsed();
     resolved_programs_are_well_typed();
     resolved_programs_have_names();
-    check_typed(alloc, &typed, steps)
+    check_typed(alloc, typed, steps)
+}
+
+// The types of a tree. It is let go: what comes next needs its room and not the tree.
+fn typed_of(alloc: Global, tree: Program) -> Result<Typed, IllFault>
+    ensures { Answers program_view result (resolved tree) }
+{
+    resolve(alloc, &tree)
 }
 
 // A text whose tree has types: it is built and passes no limit, or not.
 fn check_typed<L: Ledger>(
     alloc: Global,
-    typed: &Typed,
+    typed: Typed,
     steps: &mut Steps<L>,
 ) -> Result<Checked, CheckFault>
-    requires { IsTyped (program_view typed.now) }
-    ensures finds { Finds (TypedComesTo (program_view typed.now)) result }
-    ensures ticks { TakesFew (TypedComesTo (program_view typed.now)) steps.old steps.new }
+    requires { IsTyped (program_view typed) }
+    ensures finds { Finds (TypedComesTo (program_view typed)) result }
+    ensures ticks { TakesFew (TypedComesTo (program_view typed)) steps.old steps.new }
 {
-    if !is_built(typed) {
+    if !is_built(&typed) {
         return Err(unsupported());
     }
-    let program = elaborate(alloc, typed)?;
+    let program = core_of(alloc, typed)?;
     translations_are_proper();
     translations_have_short_places();
     check_program(alloc, program, steps)
+}
+
+// The core program of a typed one, which is let go.
+fn core_of(alloc: Global, typed: Typed) -> Result<CoreProgram, ElabFault>
+    requires { IsTrue (is_built (program_view typed)) }
+    ensures program { Elaborates (program_view typed) result }
+    ensures numbered { IfOk result (λ core. HaveNumberedLocals (program_of core).functions) }
+{
+    elaborate(alloc, &typed)
 }
 
 // A proper core program: what is diagnosed in it decides.

@@ -3,12 +3,11 @@ use Rattle.std.proofs.Common.{◌≡◌, Box, Option, None, Some, Vec, map, sym,
 use Rattle.std.specs.declared.alloc.Global.{Global}
 use Rattle.life_types.specs.declared.place.Place.{Place}
 use Rattle.life_typed.specs.TypedForm.{typed_view}
-use Rattle.life_typed.specs.TypedStatement.{assertion, branch_view, branching, for_loop, for_start_view, optional_view, simple_view, stmt_forms, stmt_view, while_loop}
+use Rattle.life_typed.specs.TypedStatement.{assertion, branch_view, branching, for_of, stmt_forms, stmt_view, while_loop}
 use Rattle.life_typed.specs.declared.typed_expr.TypedExpr.{TypedExpr}
 use Rattle.life_typed.specs.declared.typed_stmt.TypedBlockItem.TheFolds.{fold-roll-TypedStmt}
 use Rattle.life_typed.specs.declared.typed_stmt.TypedBranch.{TypedBranch}
-use Rattle.life_typed.specs.declared.typed_stmt.TypedForStart.{TypedForStart}
-use Rattle.life_typed.specs.declared.typed_stmt.TypedSimple.{TypedSimple}
+use Rattle.life_typed.specs.declared.typed_stmt.TypedForHead.{TypedForHead}
 use Rattle.life_typed.specs.declared.typed_stmt.TypedStmt.{TypedStmt}
 use Rattle.life_typed.specs.declared.typed_stmt.TypedStmt.TheVariants as stmt
 use Rattle.life_built.specs.Last.{last_view}
@@ -23,12 +22,11 @@ pub while_seen : (s : TypedStmt) (keyword : Place) (condition : TypedExpr) (clos
 while_seen s keyword condition closing body x is value =
     ap stmt_view (is ∙ sym (stmt.rolls-While keyword condition closing body)) ∙ rw fold-roll-TypedStmt (ap (λ y. while_loop keyword (typed_view condition) closing (stmt_view y)) value)
 
-pub for_seen : (s : TypedStmt) (keyword : Place) (start : Option TypedForStart) (first : Place) (condition : Option TypedExpr) (second : Place) (step : Option TypedSimple) (closing : Place) (body : Box TypedStmt Global) (x : TypedStmt)
-    → s ≡ stmt.For keyword start first condition second step closing body → body.value ≡ x
-    → stmt_view s ≡ for_loop keyword (optional_view for_start_view start) first (optional_view typed_view condition) second (optional_view simple_view step) closing (stmt_view x)
-for_seen s keyword start first condition second step closing body x is value =
-    ap stmt_view (is ∙ sym (stmt.rolls-For keyword start first condition second step closing body))
-    ∙ rw fold-roll-TypedStmt (ap (λ y. for_loop keyword (optional_view for_start_view start) first (optional_view typed_view condition) second (optional_view simple_view step) closing (stmt_view y)) value)
+pub for_seen : (s : TypedStmt) (keyword : Place) (head : Box TypedForHead Global) (closing : Place) (body : Box TypedStmt Global) (h : TypedForHead) (x : TypedStmt)
+    → s ≡ stmt.For keyword head closing body → head.value ≡ h → body.value ≡ x → stmt_view s ≡ for_of keyword h closing (stmt_view x)
+for_seen s keyword head closing body h x is headed value =
+    ap stmt_view (is ∙ sym (stmt.rolls-For keyword head closing body))
+    ∙ rw fold-roll-TypedStmt (ap (λ (y : TypedForHead). for_of keyword y closing (stmt_view body.value)) headed ∙ ap (λ (y : TypedStmt). for_of keyword h closing (stmt_view y)) value)
 
 pub assert_seen : (s : TypedStmt) (keyword : Place) (condition : TypedExpr) (closing semicolon : Place) → s ≡ stmt.Assert keyword condition closing semicolon
     → stmt_view s ≡ assertion keyword (typed_view condition) closing semicolon

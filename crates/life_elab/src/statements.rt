@@ -2,7 +2,7 @@
 ghost use Rattle.std.specs.Prelude.{◌≡◌, OnOk, map};
 ghost use Rattle.life_core.specs.Tree.{Turns, condition_tree, tree_of};
 ghost use Rattle.life_typed.specs.TypedForm.{typed_view, whole};
-ghost use Rattle.life_typed.specs.TypedStatement.{block_item_view, block_view, branch_view, for_start_view, item_view, optional_view, simple_view, stmt_forms, stmt_view};
+ghost use Rattle.life_typed.specs.TypedStatement.{block_item_view, block_view, branch_view, for_of, for_start_view, item_view, optional_view, simple_view, stmt_forms, stmt_view};
 ghost use Rattle.life_writer.specs.Answers.{Answers};
 ghost use Rattle.life_writer.specs.Expressions as expressions;
 ghost use Rattle.life_elab.specs.OpenedViews.{opened_of};
@@ -18,8 +18,8 @@ use crate::ends::last_token;
 use crate::simples::{write_simple, write_simple_if};
 use life_core::{Condition, Instr, Location, Operation, Port, Source, Stmt, Test};
 use life_typed::{
-    TypedBlock, TypedBlockItem, TypedBranch, TypedExpr, TypedForStart, TypedItem, TypedSimple,
-    TypedStmt,
+    TypedBlock, TypedBlockItem, TypedBranch, TypedExpr, TypedForHead, TypedForStart, TypedItem,
+    TypedSimple, TypedStmt,
 };
 use life_types::{NoMemory, Place, Ty};
 use life_writer::{Around, Behind, Destination, Last, Pointing, Writer, number, own_type};
@@ -254,22 +254,10 @@ pub(crate) fn write_statement(
         }
         TypedStmt::For {
             keyword,
-            start,
-            first_semicolon,
-            condition,
-            second_semicolon,
-            step,
+            head,
             closing,
             body,
-        } => {
-            let outside = writer.living_count();
-            started(writer, a, start, *first_semicolon)?;
-            let condition = condition_or_true(writer, a, *keyword, condition, *second_semicolon)?;
-            let repeated = write_body_of_loop(writer, a, body)?;
-            let step = step_of_loop(writer, a, step, *closing)?;
-            write_loop(writer, condition, repeated, step)?;
-            writer.end_since(outside, last_token(body, *closing))
-        }
+        } => write_for(writer, a, *keyword, head, *closing, body),
         TypedStmt::RangeFor { .. } => Ok(()),
         TypedStmt::Break { keyword, .. } => leave_loop(writer, *keyword, Stmt::Break),
         TypedStmt::Continue { keyword, .. } => leave_loop(writer, *keyword, Stmt::Continue),
@@ -289,6 +277,27 @@ pub(crate) fn write_statement(
             ..
         } => asserted(writer, a, *keyword, condition, Behind::ending(*closing)),
     }
+}
+
+// A loop by `for`: what it declares ends behind it ([stmt.for]).
+#[cycle(statements)]
+fn write_for(
+    writer: &mut Writer,
+    a: &Around,
+    keyword: Place,
+    head: &TypedForHead,
+    closing: Place,
+    body: &TypedStmt,
+) -> Result<(), NoMemory>
+    ensures { OnOk result (state_of writer.new ≡ spec.statement (around_of a.now) (for_of keyword head.now closing (stmt_view body.now)) (state_of writer.old)) }
+{
+    let outside = writer.living_count();
+    started(writer, a, &head.start, head.first_semicolon)?;
+    let condition = condition_or_true(writer, a, keyword, &head.condition, head.second_semicolon)?;
+    let repeated = write_body_of_loop(writer, a, body)?;
+    let step = step_of_loop(writer, a, &head.step, closing)?;
+    write_loop(writer, condition, repeated, step)?;
+    writer.end_since(outside, last_token(body, closing))
 }
 
 // A block: what is declared in it ends with it ([stmt.block]).

@@ -4,7 +4,7 @@ ghost use Rattle.std.specs.Prelude.{◌≡◌};
 ghost use Rattle.life_lex.specs.declared.fault.LexStop.TheVariants.{NoMemory};
 
 use life_types::Place;
-use std::alloc::AllocFailed;
+use std::alloc::{AllocError, AllocFailed};
 use thiserror::Error;
 
 /// What is wrong where neither a gap nor a token begins.
@@ -45,6 +45,14 @@ pub enum LexStop {
     /// Memory was wanted and not had.
     #[error("no memory")]
     NoMemory,
+}
+
+impl From<AllocError> for LexStop {
+    ghost from_gives = { λ _ e. e ≡ NoMemory };
+
+    fn from(_: AllocError) -> Self {
+        LexStop::NoMemory
+    }
 }
 
 impl<T: Drop> From<AllocFailed<T>> for LexStop {

@@ -25,7 +25,8 @@ pub fn tokens_of_file<'a>(alloc: Global, source: &'a [u8]) -> Result<Vec<Token<'
     ensures fault { IfErr result (λ stop. StopsOnly source.now stop) }
 {
     let mut lexer = Lexer::new(source);
-    let mut tokens = Vec::new(alloc);
+    // usual code has a token for each four bytes
+    let mut tokens = Vec::with_capacity(alloc, source.len() / 4)?;
     loop {
         match lexer.next() {
             Ok(Some(token)) => tokens.push(token)?,

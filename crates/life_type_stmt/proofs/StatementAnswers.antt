@@ -15,6 +15,7 @@ use Rattle.life_typed.specs.declared.typed_expr.TypedExpr.{TypedExpr}
 use Rattle.life_typed.specs.declared.typed_stmt.TypedBlock.{roll-TypedBlock}
 use Rattle.life_typed.specs.declared.typed_stmt.TypedBlockItem.{TypedBlockItem}
 use Rattle.life_typed.specs.declared.typed_stmt.TypedBranch.{TypedBranch, roll-TypedBranch}
+use Rattle.life_typed.specs.declared.typed_stmt.TypedForHead.{TypedForHead}
 use Rattle.life_typed.specs.declared.typed_stmt.TypedForStart.{TypedForStart}
 use Rattle.life_typed.specs.declared.typed_stmt.TypedSimple.{TypedSimple}
 use Rattle.life_typed.specs.declared.typed_stmt.TypedStmt.{TypedStmt}
@@ -66,20 +67,21 @@ if_answers i around scope within after types grown last branches otherwise said 
     same_said _ _ _ after last _ second (seen_if branches otherwise) refl
 
 pub for_answers : (f : For) (around : Around) (scope within inner after : Scope) (types started decided stepped grown : Types)
-    (start : Option TypedForStart) (decides : Option TypedExpr) (step : Option TypedSimple) (s : Stmt) (body : Box TypedStmt Global)
+    (start : Option TypedForStart) (decides : Option TypedExpr) (step : Option TypedSimple) (head : Box TypedForHead Global) (s : Stmt) (body : Box TypedStmt Global)
     → for_start_part (out-For f).start scope types ≡ Ok ((optional_view for_start_view start, within), started)
     → optional_condition (out-For f).condition within started ≡ Ok (optional_view typed_view decides, decided)
     → optional_simple (out-For f).step within decided ≡ Ok (optional_view simple_view step, stepped)
+    → head.value ≡ record { start = start; first_semicolon = (out-For f).first_semicolon; condition = decides; second_semicolon = (out-For f).second_semicolon; step = step }
     → s ≡ (out-For f).body.value → stmt_part s (in_loop around) within stepped ≡ Ok ((stmt_view body.value, inner), grown)
     → after ≡ forgotten (start_names (out-For f).start) inner
     → for_part f around scope types
-    ≡ Ok ((stmt_view (made.For (out-For f).keyword start (out-For f).first_semicolon decides (out-For f).second_semicolon step (out-For f).closing body), after), grown)
-for_answers f around scope within inner after types started decided stepped grown start decides step s body start_said condition_said step_said same said visible =
+    ≡ Ok ((stmt_view (made.For (out-For f).keyword head (out-For f).closing body), after), grown)
+for_answers f around scope within inner after types started decided stepped grown start decides step head s body start_said condition_said step_said boxed same said visible =
     let first = bind_goes (for_start_part (out-For f).start scope types) _ _ _ (for_made f around scope types) start_said in
     let second = bind_goes (optional_condition (out-For f).condition within started) _ _ _ first condition_said in
     let third = bind_goes (optional_simple (out-For f).step within decided) _ _ _ second step_said in
     let fourth = bind_goes (stmt_part (out-For f).body.value (in_loop around) within stepped) _ _ _ third (rw same at said) in
-    same_said _ _ _ after grown _ fourth (seen_for (out-For f).keyword start (out-For f).first_semicolon decides (out-For f).second_semicolon step (out-For f).closing body) visible
+    same_said _ _ _ after grown _ fourth (seen_for (out-For f).keyword head (out-For f).closing body _ boxed) visible
 
 pub range_for_answers : (f : RangeFor) (around : Around) (scope within inner after : Scope) (types started grown : Types) (range : Expr) (start : RangeStart) (s : Stmt) (body : Box TypedStmt Global)
     → range ≡ (out-RangeFor f).range.value

@@ -16,7 +16,7 @@ use life_names::{Environment, IllFault};
 use life_tree::{
     Block, BlockItem, Branch, Else, ElseIf, Expr, For, ForStart, If, PlainStmt, RangeFor, Stmt,
 };
-use life_typed::{TypedBlock, TypedBlockItem, TypedBranch, TypedForStart, TypedStmt};
+use life_typed::{TypedBlock, TypedBlockItem, TypedBranch, TypedForHead, TypedForStart, TypedStmt};
 use life_types::{Place, TypeTable};
 use std::alloc::Global;
 
@@ -228,7 +228,7 @@ fn block_items(
 ) -> Result<Vec<TypedBlockItem>, IllFault>
     ensures { Gives (λ is. (map block_item_view is.items, environment.new)) types.new result (spec.in_turn (spec.parts_of (map spec.item_part items.now)) around environment.old types.old) }
 {
-    let mut found = Vec::new(alloc);
+    let mut found = Vec::with_capacity(alloc, items.len())?;
     'items: for item in items {
         let next = block_item(alloc, environment, types, around, item)?;
         found.push(next)?;
@@ -291,7 +291,7 @@ fn more_branches(
 ) -> Result<Vec<TypedBranch>, IllFault>
     ensures { Gives (λ bs. (map branch_view bs.items, environment.new)) types.new result (spec.in_turn (map spec.else_if_part more.now) around environment.old types.old) }
 {
-    let mut found = Vec::new(alloc);
+    let mut found = Vec::with_capacity(alloc, more.len())?;
     'more: for next in more {
         let next = branch(alloc, environment, types, around, &next.branch)?;
         found.push(next)?;
@@ -402,15 +402,19 @@ fn for_stmt(
     let start = for_start(alloc, environment, types, &stmt.start)?;
     let condition = optional_condition(alloc, environment, types, &stmt.condition)?;
     let step = optional_simple(alloc, environment, types, &stmt.step)?;
-    let body = body_of_loop(alloc, environment, types, around, &stmt.body)?;
-    forget_start(environment, &stmt.start);
-    Ok(TypedStmt::For {
-        keyword: stmt.keyword,
+    let head = TypedForHead {
         start,
         first_semicolon: stmt.first_semicolon,
         condition,
         second_semicolon: stmt.second_semicolon,
         step,
+    };
+    let head = Box::new(alloc, head)?;
+    let body = body_of_loop(alloc, environment, types, around, &stmt.body)?;
+    forget_start(environment, &stmt.start);
+    Ok(TypedStmt::For {
+        keyword: stmt.keyword,
+        head,
         closing: stmt.closing,
         body,
     })

@@ -13,6 +13,7 @@ use Rattle.life_typed.specs.declared.typed_stmt.TypedBlockItem.TheOpen as open_s
 use Rattle.life_typed.specs.declared.typed_stmt.TypedBlockItem.{TypedBlockItem}
 use Rattle.life_typed.specs.declared.typed_stmt.TypedBranch.{TypedBranch}
 use Rattle.life_typed.specs.declared.typed_stmt.TypedDeclaration.{TypedDeclaration}
+use Rattle.life_typed.specs.declared.typed_stmt.TypedForHead.{TypedForHead}
 use Rattle.life_typed.specs.declared.typed_stmt.TypedForStart.{TypedForStart}
 use Rattle.life_typed.specs.declared.typed_stmt.TypedForStart.TheVariants as for_start
 use Rattle.life_typed.specs.declared.typed_stmt.TypedInitial.{TypedInitial}
@@ -121,6 +122,12 @@ abbrev pub optional_stmt : Option (Box StmtForm Global) → StmtForm
 optional_stmt None = no_more
 optional_stmt (Some s) = boxed_stmt s
 
+abbrev pub for_of : (keyword : Place) → TypedForHead → (closing : Place) → (body : StmtForm) → StmtForm
+for_of keyword head closing body =
+    for_loop
+    keyword (optional_view for_start_view head.start) head.first_semicolon (optional_view typed_view head.condition) head.second_semicolon
+    (optional_view simple_view head.step) closing body
+
 -- one level of a value, with what is inside already seen as plain data
 abbrev pub block_item_step : open_stmt.TypedBlockItem-F StmtForm StmtForm StmtForm StmtForm → StmtForm
 block_item_step (open_stmt.Declare d semicolon) = declaration (declaration_view d) semicolon
@@ -132,9 +139,7 @@ stmt_step (open_stmt.Empty place) = empty place
 stmt_step (open_stmt.Simple s semicolon) = sentence (simple_view s) semicolon
 stmt_step (open_stmt.If branches last) = branching (stmt_forms branches.items) (optional_stmt last)
 stmt_step (open_stmt.While keyword condition closing body) = while_loop keyword (typed_view condition) closing (boxed_stmt body)
-stmt_step (open_stmt.For keyword start first_semicolon condition second_semicolon step_taken closing body) =
-    for_loop
-    keyword (optional_view for_start_view start) first_semicolon (optional_view typed_view condition) second_semicolon (optional_view simple_view step_taken) closing (boxed_stmt body)
+stmt_step (open_stmt.For keyword head closing body) = for_of keyword head.value closing (boxed_stmt body)
 stmt_step (open_stmt.RangeFor keyword id name colon range closing body) = range_loop keyword id name colon (typed_view range) closing (boxed_stmt body)
 stmt_step (open_stmt.Break keyword semicolon) = loop_break keyword semicolon
 stmt_step (open_stmt.Continue keyword semicolon) = loop_continue keyword semicolon

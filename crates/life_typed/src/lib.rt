@@ -32,6 +32,6 @@ pub use typed_program::{
     ParameterPromise, ResultPromise, Typed, TypedFunction, TypedLocal, TypedStruct,
 };
 pub use typed_stmt::{
-    TypedBlock, TypedBlockItem, TypedBranch, TypedDeclaration, TypedForStart, TypedInitial,
-    TypedItem, TypedList, TypedSimple, TypedStmt,
+    TypedBlock, TypedBlockItem, TypedBranch, TypedDeclaration, TypedForHead, TypedForStart,
+    TypedInitial, TypedItem, TypedList, TypedSimple, TypedStmt,
 };

@@ -230,6 +230,10 @@ impl TypedExpr {
             form: operand,
             mut within,
         } = self;
+        // most operators stand alone
+        if within.is_empty() {
+            within.reserve_exact(1)?;
+        }
         within.push(TypedOperand {
             place: innermost,
             ty: own,

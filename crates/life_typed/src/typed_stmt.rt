@@ -70,6 +70,21 @@ pub enum TypedForStart {
     Simple(TypedSimple),
 }
 
+/// The three parts of a `for`, each of which may be left out.
+#[derive(Drop)]
+pub struct TypedForHead {
+    /// What is done first.
+    pub start: Option<TypedForStart>,
+    /// The `;` behind it.
+    pub first_semicolon: Place,
+    /// What holds for one more turn.
+    pub condition: Option<TypedExpr>,
+    /// The `;` behind it.
+    pub second_semicolon: Place,
+    /// What is done behind each turn.
+    pub step: Option<TypedSimple>,
+}
+
 /// A printed item.
 #[derive(Drop)]
 pub enum TypedItem {
@@ -105,14 +120,11 @@ pub enum TypedStmt {
         closing: Place,
         body: Box<TypedStmt>,
     },
-    /// A `for` with its three parts, each of which may be left out.
+    /// A `for`.
     For {
         keyword: Place,
-        start: Option<TypedForStart>,
-        first_semicolon: Place,
-        condition: Option<TypedExpr>,
-        second_semicolon: Place,
-        step: Option<TypedSimple>,
+        /// What stands in its parentheses. It lies in a box, as it is larger than any other statement.
+        head: Box<TypedForHead>,
         closing: Place,
         body: Box<TypedStmt>,
     },

@@ -6,11 +6,11 @@ use Rattle.life_check.proofs.check.check_tree.Goals as goal
 pub returns-in_err-typed-clause-finds : goal.returns-in_err-typed-clause-finds
 returns-in_err-typed-clause-finds g c =
     let e = err_from_is_err_and c.from_residual.result c.from_residual.ensures.1 in
-    rw (e.1, e.2) (untyped_finds c.args.tree.now c.in_err-typed.field-0.0 c.in_err-typed.ensures)
+    rw (e.1, e.2) (untyped_finds c.args.tree c.in_err-typed.field-0.0 c.in_err-typed.ensures)
 
 pub check_typed-requires : goal.check_typed-requires
 check_typed-requires g c =
-    let tree = c.args.tree.now in
+    let tree = c.args.tree in
     let typed = program_view c.in_ok-typed.typed in
     let parsed = c.resolved_programs_are_as_parsed.ensures tree typed c.in_ok-typed.ensures c.requires.longs c.requires.fits in
     record {
@@ -22,4 +22,4 @@ check_typed-requires g c =
     }
 
 pub returns-clause-finds : goal.returns-clause-finds
-returns-clause-finds g c = typed_finds c.args.tree.now (program_view c.in_ok-typed.typed) c.check_typed.result c.in_ok-typed.ensures c.check_typed.ensures.finds
+returns-clause-finds g c = typed_finds c.args.tree (program_view c.in_ok-typed.typed) c.check_typed.result c.in_ok-typed.ensures c.check_typed.ensures.finds

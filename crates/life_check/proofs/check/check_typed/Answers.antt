@@ -7,17 +7,17 @@ use Rattle.life_check.proofs.PassedLimits.{translated_proper}
 use Rattle.life_check.proofs.check.check_typed.Goals as goal
 
 pub returns-then-not-is_built-clause-finds : goal.returns-then-not-is_built-clause-finds
-returns-then-not-is_built-clause-finds g c = rw c.unsupported.ensures (unbuilt_finds (program_view c.args.typed.now) (sym c.is_built.ensures ∙ c.if-not-is_built.true))
+returns-then-not-is_built-clause-finds g c = rw c.unsupported.ensures (unbuilt_finds (program_view c.args.typed) (sym c.is_built.ensures ∙ c.if-not-is_built.true))
 
 pub returns-in_err-program-clause-finds : goal.returns-in_err-program-clause-finds
 returns-in_err-program-clause-finds g c =
     let e = err_from_is_err_and c.from_residual.result c.from_residual.ensures.1 in
     rw (e.1, e.2)
-    (limited_finds (program_view c.args.typed.now) (sym c.is_built.ensures ∙ c.if-not-is_built.false) c.in_err-program.field-0.0 c.in_err-program.ensures.program)
+    (limited_finds (program_view c.args.typed) (sym c.is_built.ensures ∙ c.if-not-is_built.false) c.in_err-program.field-0.0 c.in_err-program.ensures.program)
 
 pub check_program-requires : goal.check_program-requires
 check_program-requires g c =
-    let p = program_view c.args.typed.now in
+    let p = program_view c.args.typed in
     let built = sym c.is_built.ensures ∙ c.if-not-is_built.false in
     let typed = c.requires.well_typed built in
     let results = c.requires.results built in
@@ -27,5 +27,5 @@ check_program-requires g c =
 
 pub returns-clause-finds : goal.returns-clause-finds
 returns-clause-finds g c =
-    core_finds (program_view c.args.typed.now) (sym c.is_built.ensures ∙ c.if-not-is_built.false) (program_of c.in_ok-program.program) c.check_program.result c.in_ok-program.ensures.program.0
+    core_finds (program_view c.args.typed) (sym c.is_built.ensures ∙ c.if-not-is_built.false) (program_of c.in_ok-program.program) c.check_program.result c.in_ok-program.ensures.program.0
     c.in_ok-program.ensures.program.1 c.check_program.ensures.finds

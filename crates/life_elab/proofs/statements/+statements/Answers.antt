@@ -1,8 +1,8 @@
-use Rattle.std.proofs.Common.{◌∷◌, ◌+◌, [], List, drop, map, ap, sym, subst, ◌∙◌}
+use Rattle.std.proofs.Common.{◌∷◌, ◌+◌, [], List, drop, map, refl, ap, sym, subst, ◌∙◌}
 use Rattle.std.proofs.lemmas.List.{map-append}
 use Rattle.std.proofs.lemmas.Result.{on_ok_weaker}
 use Rattle.life_typed.specs.TypedForm.{typed_view, whole}
-use Rattle.life_typed.specs.TypedStatement.{branch_view, branching, for_start_view, optional_view, simple_view, stmt_forms, stmt_view}
+use Rattle.life_typed.specs.TypedStatement.{branch_view, branching, for_of, for_start_view, optional_view, simple_view, stmt_forms, stmt_view}
 use Rattle.life_typed.specs.declared.typed_stmt.TypedBranch.{TypedBranch, out-TypedBranch}
 use Rattle.life_typed.specs.declared.typed_stmt.TypedStmt.{TypedStmt}
 use Rattle.life_core.specs.Tree.{condition_tree, tree_of}
@@ -55,20 +55,26 @@ write_statement-returns-in_ok-body-in-While t c =
     c.ending.ensures c.in_ok-condition-in-While.ensures c.in_ok-body-in-While.ensures c.nothing-step.ensures)
     c.write_loop.ensures
 
-pub write_statement-returns-in_ok-write_loop-in-For : goal.write_statement-returns-in_ok-write_loop-in-For
-write_statement-returns-in_ok-write_loop-in-For t c =
-    let st = c.args.statement.now in
-    let x = c.deref-in-For.result.now in
-    let same = c.deref-in-For-2.ensures ∙ sym c.deref-in-For.ensures in
+pub write_statement-returns-in-For : goal.write_statement-returns-in-For
+write_statement-returns-in-For t c =
+    let seen = for_seen c.args.statement.now c.in-For.keyword c.in-For.head c.in-For.closing c.in-For.body c.deref-in-For.result.now c.deref-in-For-2.result.now c.in-For.is
+    (sym c.deref-in-For.ensures) (sym c.deref-in-For-2.ensures) in
+    on_ok_weaker c.write_for.result
+    (followed (state_of c.write_for.new.writer) (ap (λ f. statement (around_of c.args.a.now) f (state_of c.args.writer.now)) (sym seen)))
+    c.write_for.ensures
+
+pub write_for-returns : goal.write_for-returns
+write_for-returns t c =
+    let head = c.args.head.now in
+    let form = for_of c.args.keyword head c.args.closing (stmt_view c.args.body.now) in
     on_ok_weaker c.end_since.result
-    (for_gives (around_of c.args.a.now) (stmt_view st) c.in-For.keyword (optional_view for_start_view c.in-For.start) c.in-For.first_semicolon (optional_view typed_view c.in-For.condition)
-    c.in-For.second_semicolon (optional_view simple_view c.in-For.step) c.in-For.closing (stmt_view x)
-    (state_of c.args.writer.now) (state_of c.started.new.writer) (condition_tree c.in_ok-condition-in-For.condition) (state_of c.condition_or_true.new.writer)
-    (tree_of c.in_ok-repeated-in-For.repeated) (state_of c.write_body_of_loop-in-For.new.writer) (tree_of c.in_ok-step-in-For.step) (state_of c.step_of_loop.new.writer)
-    (state_of c.write_loop-in-For.new.writer) (state_of c.end_since.new.self) c.living_count-outside.result c.last_token.result
-    (for_seen st c.in-For.keyword c.in-For.start c.in-For.first_semicolon c.in-For.condition c.in-For.second_semicolon c.in-For.step c.in-For.closing c.in-For.body x c.in-For.is (sym c.deref-in-For.ensures))
-    c.living_count-outside.ensures c.in_ok-started-in-For.ensures c.in_ok-condition-in-For.ensures c.in_ok-repeated-in-For.ensures c.in_ok-step-in-For.ensures c.in_ok-write_loop-in-For.ensures
-    (c.last_token.ensures ∙ ap (λ (y : TypedStmt). last_token (stmt_view y) c.in-For.closing) same))
+    (for_gives (around_of c.args.a.now) form c.args.keyword (optional_view for_start_view head.start) head.first_semicolon (optional_view typed_view head.condition)
+    head.second_semicolon (optional_view simple_view head.step) c.args.closing (stmt_view c.args.body.now)
+    (state_of c.args.writer.now) (state_of c.started.new.writer) (condition_tree c.in_ok-condition.condition) (state_of c.condition_or_true.new.writer)
+    (tree_of c.in_ok-repeated.repeated) (state_of c.write_body_of_loop.new.writer) (tree_of c.in_ok-step.step) (state_of c.step_of_loop.new.writer)
+    (state_of c.write_loop.new.writer) (state_of c.end_since.new.self) c.living_count-outside.result c.last_token.result
+    refl c.living_count-outside.ensures c.in_ok-started.ensures c.in_ok-condition.ensures c.in_ok-repeated.ensures c.in_ok-step.ensures c.in_ok-write_loop.ensures
+    c.last_token.ensures)
     c.end_since.ensures
 
 pub write_statement-returns-in-Assert : goal.write_statement-returns-in-Assert

@@ -10,7 +10,7 @@ use Rattle.life_lex.proofs.TokenCount.{token_count}
 use Rattle.life_lex.proofs.token_list.tokens_of_file.Goals as goal
 
 pub loop-token-init : goal.loop-token-init
-loop-token-init c = first_none (start c.args.source.now) c.new-lexer.result _ (ap (map lexeme) c.new-tokens.ensures.items) c.new-lexer.ensures
+loop-token-init c = first_none (start c.args.source.now) c.new-lexer.result _ (ap (map lexeme) c.in_ok-tokens.ensures.items) c.new-lexer.ensures
 
 pub loop-token-preserved : goal.loop-token-preserved
 loop-token-preserved c =

@@ -51,8 +51,8 @@ if_stmt-returns t c = if_answers c.args.stmt.now c.args.around _ _ _ _ _ _ c.in_
 
 pub for_stmt-returns : goal.for_stmt-returns
 for_stmt-returns t c =
-    for_answers c.args.stmt.now c.args.around _ _ _ _ _ _ _ _ _ c.in_ok-start.start c.in_ok-condition.condition c.in_ok-step.step _ c.in_ok-body.body c.in_ok-start.ensures c.in_ok-condition.ensures
-    c.in_ok-step.ensures c.deref.ensures c.in_ok-body.ensures c.forget_start.ensures
+    for_answers c.args.stmt.now c.args.around _ _ _ _ _ _ _ _ _ c.in_ok-start.start c.in_ok-condition.condition c.in_ok-step.step c.in_ok-head.head _ c.in_ok-body.body c.in_ok-start.ensures c.in_ok-condition.ensures
+    c.in_ok-step.ensures c.in_ok-head.ensures c.deref.ensures c.in_ok-body.ensures c.forget_start.ensures
 
 pub range_for-returns : goal.range_for-returns
 range_for-returns t c =
