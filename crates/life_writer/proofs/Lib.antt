@@ -2,7 +2,6 @@ pub mod Decided
 pub mod Following
 pub mod Giving
 pub mod Handing
-pub mod LongLiterals
 pub mod Made
 pub mod NothingEnds
 pub mod Opened
