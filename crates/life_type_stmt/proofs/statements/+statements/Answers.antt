@@ -10,7 +10,7 @@ use Rattle.life_type_stmt.specs.Statements.{else_if_part, item_part, parts_of}
 
 pub block_items-returns-in_err-next : goal.block_items-returns-in_err-next
 block_items-returns-in_err-next t c =
-    let e = err_from_is_err_and c.from_residual.result c.from_residual.ensures.1 in
+    let e = err_from_is_err_and c.from_residual-in_err-next.result c.from_residual-in_err-next.ensures.1 in
     rw (e.1, e.2) (turn_broken (λ (i : BlockItem). (item_part i).part) (λ (is : List BlockItem). parts_of (map item_part is)) block_item_view c.args.items.now c.items.item-index c.args.around _ _ _ _ c.item-item.result
     c.in_err-next.field-0.0 refl c.items-test.true c.item-item.is c.items.invariant c.in_err-next.ensures)
 
@@ -25,7 +25,7 @@ block_items-returns t c =
 
 pub more_branches-returns-in_err-next : goal.more_branches-returns-in_err-next
 more_branches-returns-in_err-next t c =
-    let e = err_from_is_err_and c.from_residual.result c.from_residual.ensures.1 in
+    let e = err_from_is_err_and c.from_residual-in_err-next.result c.from_residual-in_err-next.ensures.1 in
     rw (e.1, e.2) (turn_broken else_if_part (map else_if_part) branch_view c.args.more.now c.more.next-index c.args.around _ _ _ _ c.next-item.result
     c.in_err-next.field-0.0 refl c.more-test.true c.next-item.is c.more.invariant (rw else_if_made c.in_err-next.ensures))
 
@@ -52,7 +52,7 @@ if_stmt-returns t c = if_answers c.args.stmt.now c.args.around _ _ _ _ _ _ c.in_
 pub for_stmt-returns : goal.for_stmt-returns
 for_stmt-returns t c =
     for_answers c.args.stmt.now c.args.around _ _ _ _ _ _ _ _ _ c.in_ok-start.start c.in_ok-condition.condition c.in_ok-step.step c.in_ok-head.head _ c.in_ok-body.body c.in_ok-start.ensures c.in_ok-condition.ensures
-    c.in_ok-step.ensures c.in_ok-head.ensures c.deref.ensures c.in_ok-body.ensures c.forget_start.ensures
+    c.in_ok-step.ensures c.in_ok-head.ensures.ok c.deref.ensures c.in_ok-body.ensures c.forget_start.ensures
 
 pub range_for-returns : goal.range_for-returns
 range_for-returns t c =
