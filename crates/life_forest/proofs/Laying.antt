@@ -61,7 +61,7 @@ module _ (types : Types) (ordered : IsOrdered types) where
   IsMade bound (Member first others) = IsMade bound first × IsMade bound others
   IsMade bound NoMember = Unit {0}
 
-  none_behind : {A : Type 0} (xs : List A) → slice_get xs (length xs) ≡ None
+  pub none_behind : {A : Type 0} (xs : List A) → slice_get xs (length xs) ≡ None
   none_behind [] = refl
   none_behind (x ∷ xs) = none_behind xs
 

@@ -38,6 +38,7 @@ pub mod Lying
 pub mod Maps
 pub mod Members
 pub mod Objects
+pub mod OneNumber
 pub mod Operands
 pub mod OwnedAims
 pub mod Owners
@@ -49,8 +50,11 @@ pub mod Replacing
 pub mod Resizing
 pub mod Retargets
 pub mod Rewriting
+pub mod SeenTypes
+pub mod Shaped
 pub mod Shortening
 pub mod Single
+pub mod Slots
 pub mod Sparing
 pub mod Spots
 pub mod StandingAims
@@ -68,6 +72,8 @@ pub mod StayingEdits
 pub mod Steps
 pub mod Stores
 pub mod Taking
+pub mod TypedPoints
+pub mod TypedSteps
 pub mod Vectors
 pub mod Widths
 pub mod Words
