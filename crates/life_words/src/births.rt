@@ -63,6 +63,7 @@ pub fn born_sized<S: Store>(
         (resized_at (S.content store.old).births size 0 (with_birth ty width size (seen kinds (S.content store.old) (S.rows store.old))))) }
     ensures placed { IfOk result (λ r. at (S.rows store.new) r.birth ≡ Some r.row) }
     ensures later { OnOk result (Later (S.content store.old) (S.content store.new) (S.rows store.old) (S.rows store.new)) }
+    ensures room { OnOk result (live_words_of (S.content store.old) + (2 + width * size) ≤ S.limit store.old) }
     ensures cells { IfErr result (λ fault. fault ≡ birth_fault.Cells → S.limit store.old < live_words_of (S.content store.old) + (2 + width * size)) }
     ensures limit { S.limit store.new ≡ S.limit store.old }
 {
