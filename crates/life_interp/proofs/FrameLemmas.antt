@@ -6,6 +6,7 @@ use Rattle.std.specs.Prelude.{ℤ, slice_get, slice_index_or, option_map, revers
 use Rattle.life_core.specs.Function.{Function, Program}
 use Rattle.life_core.specs.Linked.{enter, no_exits}
 use Rattle.life_core.specs.declared.program.Local.{Local}
+use Rattle.life_types.specs.Types.{Types}
 use Rattle.life_types.specs.declared.place.Place.{Place}
 use Rattle.life_store.specs.Calls.{pointer_back, pointer_handed, with_handed}
 use Rattle.life_store.specs.Doing.{Setting, Next}
@@ -147,12 +148,12 @@ drop_there (y ∷ ys) (suc i) x e =
     let k : suc i + 1 ≡ suc (i + 1) = omega arith in
     drop_there ys i x e ∙ ap (λ n. x ∷ drop n (y ∷ ys)) (sym k)
 
-pub wait_fits : {A E : Type 0} (d : Content) (rows : Rows) (old new : Frames) (cells : List Cell) (result : Result A E) → OnOk result (new.cells.items ≡ cells)
-    → OnOk result (waiting_cells new.waiting.items ≡ waiting_cells old.waiting.items ++ old.cells.items) → IsFit d rows cells → CellsFit d rows (waiting_cells old.waiting.items ++ old.cells.items)
-    → OnOk result (IsFit d rows (all_cells new))
-wait_fits d rows old new cells (Err e) same stacked fit waiting = tt
-wait_fits d rows old new cells (Ok a) same stacked fit waiting = record {
-  housed = fit.housed;
+pub wait_fits : {A E : Type 0} (types : Types) (d : Content) (rows : Rows) (old new : Frames) (cells : List Cell) (result : Result A E) → OnOk result (new.cells.items ≡ cells)
+    → OnOk result (waiting_cells new.waiting.items ≡ waiting_cells old.waiting.items ++ old.cells.items) → IsFit types d rows cells → CellsFit d rows (waiting_cells old.waiting.items ++ old.cells.items)
+    → OnOk result (IsFit types d rows (all_cells new))
+wait_fits types d rows old new cells (Err e) same stacked fit waiting = tt
+wait_fits types d rows old new cells (Ok a) same stacked fit waiting = record {
+  store = fit.store;
   held = fit_both d rows (waiting_cells new.waiting.items) new.cells.items (subst (CellsFit d rows) (sym stacked) waiting) (subst (CellsFit d rows) (sym same) fit.held);
 }
 

@@ -1,7 +1,7 @@
 -- A local that is given a value or a pointer.
-use Rattle.std.proofs.Common.{◌≡◌, ◌≢◌, inl, inr, ℕ, suc, ◌+◌, ◌<◌, ◌≤◌, List, Some, None, cond, refl, sym, ap, ◌∙◌, arith, ⊎_elim}
-use Rattle.std.proofs.lemmas.Bool.Decides.{eqb_tells, leb_tells}
-use Rattle.std.specs.Prelude.{ℤ, slice_get, nat_eq, option_and_then}
+use Rattle.std.proofs.Common.{◌≡◌, inl, inr, ℕ, suc, ◌+◌, ◌<◌, ◌≤◌, List, Some, None, cond, refl, sym, ap, ◌∙◌, arith, ⊎_elim}
+use Rattle.std.proofs.lemmas.Bool.Decides.{leb_tells}
+use Rattle.std.specs.Prelude.{ℤ, slice_get}
 use Rattle.life_types.specs.Types.{Types}
 use Rattle.life_types.specs.declared.ty.TyId.{TyId}
 use Rattle.life_core.specs.declared.program.Local.{Local}
@@ -9,9 +9,9 @@ use Rattle.life_core.specs.Function.{Function}
 use Rattle.life_core.specs.Holdings.{Holding, held_by}
 use Rattle.life_store.specs.Doing.{Setting, Effect, Next, Traps, Here, found_at, on_found, on_next, put_cell, with_value_object, word_of_number}
 use Rattle.life_interp.specs.SoFar.{born_with, given, given_if, given_to, saved}
-use Rattle.life_store.specs.Cells.{at, set, at-set_same, at-set_other}
+use Rattle.life_store.specs.Cells.{at, set, at-set_same}
 use Rattle.life_store.specs.Content.{Content, cost, newborn, with_object, with_word, live_words_of}
-use Rattle.life_store.specs.References.{Rows, object_of}
+use Rattle.life_store.specs.References.{Rows}
 use Rattle.life_store.specs.State as state
 use Rattle.life_store.specs.State.{State}
 use Rattle.life_store.specs.declared.object.ObjRef.{ObjRef}
@@ -19,33 +19,26 @@ use Rattle.life_store.specs.declared.run.TrapKind.TheVariants as trap
 use Rattle.life_store.proofs.Found.{found_here}
 use Rattle.life_store.proofs.Housing.{value_object}
 use Rattle.life_store.proofs.MapLemmas.{sum-set, sum-set_fresh}
+use Rattle.life_seen.specs.Housed.{IsHoused, Shows}
+use Rattle.life_seen.specs.Kinds.{Kinds}
+use Rattle.life_seen.specs.Named.{names_of}
+use Rattle.life_seen.specs.Seen.{object_seen, seen}
+use Rattle.life_seen.proofs.LiveWords.{live_words_seen}
 use Rattle.life_interp.specs.Cells.{state_of}
-use Rattle.life_interp.specs.Fits.{most_births, CanBear, CanStep, CellFits, CellsFit, Gives, Grows, IsFit, Later}
+use Rattle.life_interp.specs.Fits.{most_births, AreNumbers, CanBear, CanStep, CellFits, CellsFit, Gives, Grows, IsNumber}
 use Rattle.life_interp.specs.declared.value.Cell.{Cell}
-use Rattle.life_interp.proofs.FitLemmas.{cell_fits, fit_born, later_born}
+use Rattle.life_interp.proofs.FitLemmas.{cell_fits}
+use Rattle.life_interp.proofs.NumberLemmas.{numbers_born, numbers_with, unborn, IsNewValue}
 
 -- ---- an object with a value
-
--- the new object of a value is there
-pub value_there : (c d : Content) (rows new : Rows) (r : ObjRef) (ty : TyId) → r.birth ≡ c.births → d ≡ with_value_object ty c → new ≡ set rows r.birth r.row → object_of d new r ≡ Some (value_object ty c.clock)
-value_there c d rows new r ty number born row =
-    let there = ap (λ (m : Rows). at m r.birth) row ∙ at-set_same rows r.birth r.birth r.row refl in
-    let object = ap (λ (x : Content). at x.objects r.birth) born ∙ at-set_same (set c.objects c.births (newborn ty 1 1 c.clock)) c.births r.birth (value_object ty c.clock) (sym number) in
-    ap (option_and_then (λ k. cond (nat_eq k r.row) (at d.objects r.birth) None)) there
-    ∙ ⊎_elim (λ t. ap (λ b. cond b (at d.objects r.birth) None) t.0) (λ t. absurd (t.1 refl)) (eqb_tells r.row r.row)
-    ∙ object
 
 -- the store with it, once it is written
 abbrev pub given_content : ℤ → TyId → Content → Content
 given_content z ty c = with_object c.births (with_word 0 0 (word_of_number z) (value_object ty c.clock)) (with_value_object ty c)
 
-pub written_is : (c d e : Content) (r : ObjRef) (ty : TyId) (z : ℤ) (word : ℕ) → r.birth ≡ c.births → d ≡ with_value_object ty c → word ≡ word_of_number z
-    → e ≡ with_object r.birth (with_word 0 0 word (value_object ty c.clock)) d → e ≡ given_content z ty c
-written_is c d e r ty z word number born same written =
-    written
-    ∙ ap (λ (x : Content). with_object r.birth (with_word 0 0 word (value_object ty c.clock)) x) born
-    ∙ ap (λ n. with_object n (with_word 0 0 word (value_object ty c.clock)) (with_value_object ty c)) number
-    ∙ ap (λ w. with_object c.births (with_word 0 0 w (value_object ty c.clock)) (with_value_object ty c)) same
+pub shows_given : (kinds : Kinds) (m d e : Content) (new after : Rows) (r : ObjRef) (ty : TyId) (z : ℤ) (word : ℕ) → r.birth ≡ m.births → seen kinds d new ≡ with_value_object ty m → word ≡ word_of_number z → (v : IsNewValue kinds d new r ty m.clock)
+    → Shows kinds e after (with_object r.birth (with_word 0 0 word (object_seen kinds (names_of d new) v.object)) (seen kinds d new)) → Shows kinds e after (given_content z ty m)
+shows_given kinds m d e new after r ty z word number born same v shows = record { housed = shows.housed; is = shows.is ∙ (λ i. with_object (number i) (with_word 0 0 (same i) (v.is i)) (born i)) }
 
 value_found : (ty : TyId) (c : Content) → found_at (with_value_object ty c) c.births 0 ≡ Here c.births 0 (value_object ty c.clock)
 value_found ty c = found_here (with_value_object ty c) c.births 0 (value_object ty c.clock) (at-set_same (set c.objects c.births (newborn ty 1 1 c.clock)) c.births c.births (value_object ty c.clock) refl) (omega arith)
@@ -74,26 +67,20 @@ live_more z ty c none =
     sum-set cost two c.births second third (at-set_same one c.births c.births second refl) in
     omega (arith, a, b, d)
 
-module _ (c : Content) (rows : Rows) (r : ObjRef) (ty : TyId) (z : ℤ) (cells : List Cell) (h : IsFit c rows cells) (number : r.birth ≡ c.births) where
-  abbrev d : Content
-  d = given_content z ty c
+pub numbers_given : (types : Types) (m : Content) (z : ℤ) (ty : TyId) → AreNumbers types m → IsNumber types ty → AreNumbers types (given_content z ty m)
+numbers_given types m z ty h is =
+    numbers_with types (with_value_object ty m) m.births (m.births + 1) (m.clock + 1) (with_word 0 0 (word_of_number z) (value_object ty m.clock)) (numbers_born types m ty h is) is
 
-  other : (n : ℕ) → c.births ≢ n → at d.objects n ≡ at c.objects n
-  other n ne =
-      let one = set c.objects c.births (newborn ty 1 1 c.clock) in
-      let two = set one c.births (value_object ty c.clock) in
-      at-set_other two c.births n _ ne ∙ at-set_other one c.births n _ ne ∙ at-set_other c.objects c.births n _ ne
-
-  pub given_fit : IsFit d (set rows r.birth r.row) cells
-  given_fit = fit_born c rows r cells h number d.objects d.clock other
-
-  pub given_later : Later c d rows (set rows r.birth r.row)
-  given_later = later_born c rows r d.objects d.clock number
-
-  pub given_gives : (limit : ℕ) → live_words_of c + 3 ≤ limit → Gives limit c d
-  given_gives limit room =
-      let more = live_more z ty c (h.housed.placed c.births (h.housed.unborn c.births (omega arith))) in
-      record { births = omega (arith, more); clock = omega arith; within = inr (omega (arith, more, room)) }
+pub given_gives : (kinds : Kinds) (c e : Content) (rows after : Rows) (z : ℤ) (ty : TyId) (limit : ℕ) → IsHoused kinds c rows → live_words_of c + 3 ≤ limit → seen kinds e after ≡ given_content z ty (seen kinds c rows) → Gives limit c e
+given_gives kinds c e rows after z ty limit h room is =
+    let m = seen kinds c rows in
+    let more = live_more z ty m (unborn kinds c rows h) in
+    let before = live_words_seen kinds (names_of c rows) c in
+    let live : live_words_of (seen kinds e after) ≡ live_words_of (given_content z ty m) = ap live_words_of is in
+    let now = live_words_seen kinds (names_of e after) e in
+    let births : e.births ≡ c.births + 1 = ap (λ (x : Content). x.births) is in
+    let clock : e.clock ≡ c.clock + 1 = ap (λ (x : Content). x.clock) is in
+    record { births = omega (arith, more, before, live, now, births); clock = omega (arith, births, clock); within = inr (omega (arith, more, before, live, now, room)) }
 
 pub gives_nothing : (limit : ℕ) (c : Content) → Gives limit c c
 gives_nothing limit c = record { births = omega arith; clock = omega arith; within = inl refl }

@@ -1,11 +1,14 @@
 pub mod BackLemmas
 pub mod CallLemmas
 pub mod CodeLists
+pub mod EmptyStore
 pub mod FirstWords
 pub mod FitLemmas
 pub mod FrameLemmas
 pub mod GiveLemmas
 pub mod LocalLemmas
+pub mod NumberLemmas
+pub mod PlaceLemmas
 pub mod PointLemmas
 pub mod RunLemmas
 pub mod SameCalls

@@ -1,15 +1,16 @@
 -- Locals come to life and end as the meaning says.
-use Rattle.std.proofs.Common.{◌≡◌, ℕ, suc, ◌+◌, ◌<◌, List, Option, Some, None, Result, Ok, Err, cond, refl, sym, ap, subst, ◌∙◌, ⊎_elim, IfSome, IsSome}
-use Rattle.std.proofs.lemmas.Bool.Decides.{eqb_tells, leb_tells}
-use Rattle.std.specs.Prelude.{ℤ, slice_get, nat_eq, option_and_then}
+use Rattle.std.proofs.Common.{◌≡◌, ℕ, suc, ◌+◌, ◌<◌, List, Option, Some, None, Result, Ok, Err, cond, refl, sym, ap, subst, ◌∙◌, arith, ⊎_elim, IsSome}
+use Rattle.std.proofs.lemmas.Bool.{lt-ltb}
+use Rattle.std.proofs.lemmas.Bool.Decides.{leb_tells}
+use Rattle.std.specs.Prelude.{ℤ, slice_get, slice_set, option_map}
 use Rattle.life_types.specs.Types.{Types}
 use Rattle.life_types.specs.declared.ty.TyId.{TyId}
 use Rattle.life_core.specs.declared.instr.Form.{Form}
 use Rattle.life_core.specs.declared.program.Local.{Local}
 use Rattle.life_core.specs.Function.{Function}
 use Rattle.life_core.specs.Holdings.{Holding, held_by, sort_of}
-use Rattle.life_store.specs.Cells.{at, set, unset, at-set_same}
-use Rattle.life_store.specs.Content.{Content, Object, newborn, with_birth, with_resize, live_words_of}
+use Rattle.life_store.specs.Cells.{at}
+use Rattle.life_store.specs.Content.{Content, Object, live_words_of, without}
 use Rattle.life_store.specs.Doing.{Setting, born_pointer, Effect, Next, Traps, Strays, put_cell, born_object, with_value_object, on_next, cell}
 use Rattle.life_interp.specs.SoFar.{live_as, live_over, live_local, end_object, end_cell}
 use Rattle.life_store.specs.References.{Rows, object_of}
@@ -17,44 +18,49 @@ use Rattle.life_store.specs.State as state
 use Rattle.life_store.specs.State.{State}
 use Rattle.life_store.specs.declared.object.ObjRef.{ObjRef}
 use Rattle.life_store.specs.declared.run.TrapKind.TheVariants as trap
-use Rattle.life_interp.specs.Cells.{pointer_seen, state_of}
-use Rattle.life_interp.specs.Fits.{IsHoused, IsRef, PointerFits}
-use Rattle.life_interp.specs.Steps.{Leaves, TellsEnd}
+use Rattle.life_seen.specs.Housed.{IsHoused, IsRef}
+use Rattle.life_seen.specs.Kinds.{kinds_of}
+use Rattle.life_seen.specs.Named.{names_of}
+use Rattle.life_seen.specs.Seen.{object_seen}
+use Rattle.life_seen.proofs.LiveWords.{live_words_seen}
+use Rattle.life_seen.proofs.References.{found_seen, seen_by_number}
+use Rattle.life_interp.specs.Cells.{cells_seen, pointer_seen, state_of}
+use Rattle.life_interp.specs.Fits.{meant, PointerFits}
+use Rattle.life_interp.specs.Steps.{BirthFails, Leaves, TellsEnd}
 use Rattle.life_interp.specs.declared.ending.Ending.{Ending}
 use Rattle.life_interp.specs.declared.ending.Ending.TheVariants as ending
 use Rattle.life_core.specs.declared.instr.Form.TheVariants as forms
 use Rattle.life_interp.specs.declared.value.Pointer.{Pointer}
 use Rattle.life_interp.specs.declared.value.Pointer.TheVariants as leads
 use Rattle.life_interp.specs.declared.value.Cell.{Cell}
-use Rattle.life_interp.proofs.FitLemmas.{object_at}
+use Rattle.life_interp.specs.declared.value.Cell.TheVariants as held
+use Rattle.life_interp.proofs.StepLemmas.{put_now}
 
 pub ok_err : {A B : Type 0} (a : A) (b : B) → ◌≡◌ {A = Result A B} (Ok a) (Err b) → ⊥
 ok_err a b e = cc
 
 -- ---- births
 
--- a new object lives
-pub born_there : (c d : Content) (rows new : Rows) (r : ObjRef) (ty : TyId) → r.birth ≡ c.births → d ≡ with_birth ty 1 1 c → new ≡ set rows r.birth r.row → object_of d new r ≡ Some (newborn ty 1 1 c.clock)
-born_there c d rows new r ty number born row =
-    let there = ap (λ (m : Rows). at m r.birth) row ∙ at-set_same rows r.birth r.birth r.row refl in
-    let object = ap (λ (x : Content). at x.objects r.birth) born ∙ at-set_same c.objects c.births r.birth (newborn ty 1 1 c.clock) (sym number) in
-    ap (option_and_then (λ k. cond (nat_eq k r.row) (at d.objects r.birth) None)) there
-    ∙ ⊎_elim (λ t. ap (λ b. cond b (at d.objects r.birth) None) t.0) (λ t. absurd (t.1 refl)) (eqb_tells r.row r.row)
-    ∙ object
-
--- .. and with its one slot it is an object of a value
-pub born_content : (c d e : Content) (r : ObjRef) (ty : TyId) → r.birth ≡ c.births → d ≡ with_birth ty 1 1 c → e ≡ with_resize r.birth 1 0 (newborn ty 1 1 c.clock) d → e ≡ with_value_object ty c
-born_content c d e r ty number born resized =
-    resized ∙ ap (λ (x : Content). with_resize r.birth 1 0 (newborn ty 1 1 c.clock) x) born ∙ ap (λ n. with_resize n 1 0 (newborn ty 1 1 c.clock) (with_birth ty 1 1 c)) number
-
-pub resized_newborn : (o : Option Object) (x : Object) (P : Object → Type 0) → o ≡ Some x → IfSome o P → P x
-resized_newborn o x P e h = subst (λ (q : Option Object). IfSome q P) e h
-
 pub born_step : (s : Setting) (ty : TyId) (x : ℕ) (c e : Content) (cells new : List Cell) (r : ObjRef) (output : List ℕ) (input : List ℤ) → (s.given.cells < live_words_of c + 3 → ⊥) → r.birth ≡ c.births → e ≡ with_value_object ty c
-    → put_cell x (state.Named c.births) (state_of (with_value_object ty c) cells output input) ≡ state_of e new output input → born_object s ty x (state_of c cells output input) ≡ Next (state_of e new output input)
+    → new ≡ slice_set cells x (held.Object r) → born_object s ty x (state_of c cells output input) ≡ Next (state_of e new output input)
 born_step s ty x c e cells new r output input within number is put =
-    ⊎_elim (λ t. absurd (within t.1)) (λ t. ap (λ b. cond b (Traps trap.Cells) (Next (put_cell x (state.Named c.births) (state_of (with_value_object ty c) cells output input)))) t.0 ∙ ap Next put)
-    (leb_tells (suc s.given.cells) (live_words_of c + 3))
+    ⊎_elim (λ t. absurd (within t.1)) (λ t. ap (λ b. cond b (Traps trap.Cells) (Next (put_cell x (state.Named c.births) (state_of (with_value_object ty c) cells output input)))) t.0) (leb_tells (suc s.given.cells) (live_words_of c + 3))
+    ∙ ap (λ (d : Content). Next (put_cell x (state.Named c.births) (state_of d cells output input))) (sym is)
+    ∙ ap (λ n. Next (put_cell x (state.Named n) (state_of e cells output input))) (sym number)
+    ∙ ap Next (put_now e cells new x (held.Object r) output input put)
+
+-- no object is born where the limit would be passed
+pub birth_fails : (s : Setting) (ty : TyId) (x : ℕ) (c : Content) (types : Types) (rows : Rows) (cells : List Cell) (limit : ℕ) (e : Ending) (output : List ℕ) (input : List ℤ) → BirthFails limit c e → s.given.cells ≡ limit
+    → TellsEnd (born_object s ty x (state_of (meant types c rows) cells output input)) e
+birth_fails s ty x c types rows cells limit (ending.Trap kind) output input full is =
+    let m = meant types c rows in
+    let live = live_words_seen (kinds_of types) (names_of c rows) c in
+    ap (λ b. cond b (Traps trap.Cells) (Next (put_cell x (state.Named m.births) (state_of (with_value_object ty m) cells output input)))) (lt-ltb s.given.cells (live_words_of m + 3) (omega (arith, full.1, live, is)))
+    ∙ ap Traps (sym full.0)
+birth_fails s ty x c types rows cells limit (ending.Fault kind) output input full is = absurd full
+birth_fails s ty x c types rows cells limit ending.Stray output input full is = absurd full
+birth_fails s ty x c types rows cells limit ending.NoMemory output input full is = tt
+birth_fails s ty x c types rows cells limit ending.WriteFault output input full is = full
 
 -- ---- which local comes to life
 
@@ -84,23 +90,26 @@ leaves_as effect other next (Err b) e h = λ output input. subst (λ x. TellsEnd
 
 -- ---- ends
 
-pub ended_step : (c : Content) (rows : Rows) (cells : List Cell) (x : ℕ) (r : ObjRef) (output : List ℕ) (input : List ℤ) → IsHoused c rows → IsRef c rows r → slice_get (state_of c cells output input).cells x ≡ Some (state.Named r.birth)
-    → IsSome (object_of c rows r)
-    → end_cell (cell (state_of c cells output input) x) x (state_of c cells output input) ≡ Next (put_cell x state.Empty (state_of (record { objects = unset c.objects r.birth; births = c.births; clock = c.clock }) cells output input))
-ended_step c rows cells x r output input h ref there lives =
-    ap (λ o. end_cell o x (state_of c cells output input)) there ∙ go (at c.objects r.birth) (subst (λ (o : Option Object). IsSome o) (object_at c rows r h ref) lives)
-  where
-    go : (o : Option Object) → IsSome o → end_object o r.birth x (state_of c cells output input) ≡ Next (put_cell x state.Empty (state_of (record { objects = unset c.objects r.birth; births = c.births; clock = c.clock }) cells output input))
-    go None l = absurd (not_some l)
-      where
-        not_some : IsSome (let none : Option Object = None in none) → ⊥
-        not_some e = cc
-    go (Some o) l = refl
+module _ (types : Types) (c : Content) (rows : Rows) (cells : List Cell) (x : ℕ) (r : ObjRef) (output : List ℕ) (input : List ℤ) (h : IsHoused (kinds_of types) c rows) (ref : IsRef c rows r)
+    (there : slice_get (cells_seen cells) x ≡ Some (state.Named r.birth)) where
+  abbrev now : State
+  now = state_of (meant types c rows) cells output input
 
-pub ended_strays : (c : Content) (rows : Rows) (cells : List Cell) (x : ℕ) (r : ObjRef) (output : List ℕ) (input : List ℤ) → IsHoused c rows → IsRef c rows r → slice_get (state_of c cells output input).cells x ≡ Some (state.Named r.birth)
-    → object_of c rows r ≡ None → end_cell (cell (state_of c cells output input) x) x (state_of c cells output input) ≡ Strays
-ended_strays c rows cells x r output input h ref there gone =
-    ap (λ o. end_cell o x (state_of c cells output input)) there ∙ ap (λ o. end_object o r.birth x (state_of c cells output input)) (sym (object_at c rows r h ref) ∙ gone)
+  -- what lives has the number in the meaning
+  lives_meant : (o : Option Object) → object_of c rows r ≡ o → IsSome o → (p : Object) × (at (meant types c rows).objects r.birth ≡ Some p)
+  lives_meant None e some = absurd (not_some some)
+    where
+      not_some : IsSome (let none : Option Object = None in none) → ⊥
+      not_some e = cc
+  lives_meant (Some o) e some = (object_seen (kinds_of types) (names_of c rows) o, found_seen (kinds_of types) c rows h r o e)
+
+  pub ended_step : IsSome (object_of c rows r) → end_cell (cell now x) x now ≡ Next (put_cell x state.Empty (state_of (without r.birth (meant types c rows)) cells output input))
+  ended_step lives = ap (λ o. end_cell o x now) there ∙ ap (λ o. end_object o r.birth x now) (lives_meant (object_of c rows r) refl lives).1
+
+  pub ended_strays : object_of c rows r ≡ None → end_cell (cell now x) x now ≡ Strays
+  ended_strays gone =
+      let none = sym (seen_by_number (kinds_of types) c rows h r ref) ∙ ap (option_map (object_seen (kinds_of types) (names_of c rows))) gone in
+      ap (λ o. end_cell o x now) there ∙ ap (λ o. end_object o r.birth x now) none
 
 -- one after the other
 pub on_next_ends : (e : Effect) (b : Ending) (go : State → Effect) → TellsEnd e b → TellsEnd (on_next e go) b

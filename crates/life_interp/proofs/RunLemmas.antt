@@ -13,7 +13,6 @@ use Rattle.life_core.specs.Holdings.{parameter_sorts}
 use Rattle.life_proper.specs.ProperPrograms.{IsProperProgram}
 use Rattle.life_proper.proofs.PointsAsked.{proper_functions}
 use Rattle.life_store.specs.Calls.{entry_arguments, parameters_given}
-use Rattle.life_store.specs.Cells.{at-none, none}
 use Rattle.life_store.specs.Content.{Content, empty_content}
 use Rattle.life_store.specs.Doing.{Given, Effect, Next, Traps, Faults, Strays, as_long, converted, type_of}
 use Rattle.life_store.specs.Meaning.{Ended, Trapped, Faulted, Stray, Exhausted, Called, Back, Barred, Quit, begun, calls, entered, exec, finish, first_called, first_world, frame, run_from, run_of, setting_of, IsAdmitted, IsFound, Run}
@@ -25,7 +24,6 @@ use Rattle.life_store.specs.declared.run.TrapKind.TheVariants as trap
 use Rattle.life_store.proofs.CallsReturn.{calls_good}
 use Rattle.life_store.proofs.NeverLost.{first_housed, first_suited, never_lost}
 use Rattle.life_interp.specs.Cells.{state_of, world_of}
-use Rattle.life_interp.specs.Fits.{IsHoused}
 use Rattle.life_interp.specs.Frames.{function_at, stack_seen, AllBegin}
 use Rattle.life_interp.specs.Runs.{barred_as, IsBarred, RunEnds, TakesFront}
 use Rattle.life_interp.specs.SoFar as so_far
@@ -44,10 +42,6 @@ use Rattle.life_interp.proofs.SameCalls.{entry_same, parameters_same}
 use Rattle.life_interp.proofs.Walks.{calls_come, ends_alone, enters_standing, EndsAs}
 
 -- ---- the beginning
-
--- no object is there yet
-pub nothing_housed : IsHoused empty_content none
-nothing_housed = record { placed = λ n e. at-none n; unborn = λ n le. at-none n }
 
 not_some : IsSome (let nothing : Option ℕ = None in nothing) → ⊥
 not_some e = cc

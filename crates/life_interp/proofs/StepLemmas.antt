@@ -7,10 +7,14 @@ use Rattle.life_core.specs.Operands.{Operand, Name, Through}
 use Rattle.life_store.specs.Content.{Content, Object}
 use Rattle.life_store.specs.Doing.{Effect, Strays, Found, named_by, on_found, on_number, on_pointer, put_cell}
 use Rattle.life_interp.specs.SoFar.{behind_cell, locate}
-use Rattle.life_store.specs.References.{Rows, object_of, asked_of}
+use Rattle.life_store.specs.References.{Rows}
 use Rattle.life_store.specs.State as state
 use Rattle.life_store.specs.State.{State}
-use Rattle.life_store.specs.declared.object.Dead.{Dead}
+use Rattle.life_types.specs.Types.{Types}
+use Rattle.life_seen.specs.Kinds.{kinds_of}
+use Rattle.life_seen.specs.Named.{names_of}
+use Rattle.life_seen.specs.Seen.{object_seen}
+use Rattle.life_interp.specs.Fits.{meant}
 use Rattle.life_interp.specs.Cells.{cell_seen, cells_seen, state_of, number_in, pointer_in}
 use Rattle.life_interp.specs.Steps.{IsPosition, TellsMiss, TellsEnd, Leaves, place_in}
 use Rattle.life_interp.specs.declared.ending.Ending.{Ending}
@@ -85,13 +89,6 @@ pub place_missed : (o : Operand) (c : Content) (cells : List Cell) (e : Ending) 
 place_missed o c cells e go output input h = subst (λ x. TellsEnd (on_found x go) e) (sym (locate_is o c cells output input)) (missed (place_in c cells o) e go h)
 
 -- .. and what is found is at hand
-pub place_found : (o : Operand) (c : Content) (rows : Rows) (cells : List Cell) (p : Position) (go : ℕ → ℕ → Object → Effect) (output : List ℕ) (input : List ℤ) → (h : IsPosition c rows (place_in c cells o) p)
-    → on_found (locate o (state_of c cells output input)) go ≡ go p.object.birth p.index h.object
-place_found o c rows cells p go output input h = ap (λ x. on_found x go) (locate_is o c cells output input ∙ h.here)
-
--- what is asked of an object that lives
-pub asked_here : {A : Type 0} (c : Content) (rows : Rows) (found : Found) (p : Position) (h : IsPosition c rows found p) (ask : Object → A) (a : A) → ◌≡◌ {A = Result A Dead} (Ok a) (asked_of (object_of c rows p.object) ask) → a ≡ ask h.object
-asked_here c rows found p h ask a e = same_ok a (ask h.object) (e ∙ ap (λ o. asked_of o ask) h.lives)
-  where
-    same_ok : {A : Type 0} (x y : A) → ◌≡◌ {A = Result A Dead} (Ok x) (Ok y) → x ≡ y
-    same_ok x y r = cc
+pub place_found : (o : Operand) (types : Types) (c : Content) (rows : Rows) (cells : List Cell) (p : Position) (go : ℕ → ℕ → Object → Effect) (output : List ℕ) (input : List ℤ) → (h : IsPosition types c rows (place_in (meant types c rows) cells o) p)
+    → on_found (locate o (state_of (meant types c rows) cells output input)) go ≡ go p.object.birth p.index (object_seen (kinds_of types) (names_of c rows) h.object)
+place_found o types c rows cells p go output input h = ap (λ x. on_found x go) (locate_is o (meant types c rows) cells output input ∙ h.here)

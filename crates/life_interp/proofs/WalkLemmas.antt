@@ -2,6 +2,7 @@
 use Rattle.std.proofs.Common.{◌≡◌, ℕ, List, [], ◌++◌, Option, Result, Ok, Err, OnOk, refl, sym, ap, ◌∙◌, append-nil}
 use Rattle.std.proofs.KnownBytes.{Appends-nil}
 use Rattle.std.specs.Prelude.{ℤ}
+use Rattle.life_types.specs.Types.{Types}
 use Rattle.life_core.specs.declared.instr.Instr.{Instr}
 use Rattle.life_core.specs.declared.instr.Instr.TheVariants as instrs
 use Rattle.life_core.specs.declared.instr.Port.{Port}
@@ -11,16 +12,16 @@ use Rattle.life_store.specs.Doing.{Effect, Next}
 use Rattle.life_store.specs.References.{Rows}
 use Rattle.life_store.specs.State.{State}
 use Rattle.life_interp.specs.Cells.{state_of}
-use Rattle.life_interp.specs.Fits.{IsHoused, CellsFit, IsFit}
+use Rattle.life_interp.specs.Fits.{CellsFit, HoldsNumbers, IsFit}
 use Rattle.life_interp.specs.Steps.{LeavesBoth}
 use Rattle.life_interp.specs.Walking.{IsQuiet, LeavesInput, Sunk, Takes, Performs, Writes}
 use Rattle.life_interp.specs.declared.ending.Ending.{Ending}
 use Rattle.life_interp.specs.declared.ending.Ending.TheVariants as ending
 use Rattle.life_interp.specs.declared.value.Cell.{Cell}
 
-pub fit_where_ok : {A E : Type 0} (c : Content) (rows : Rows) (cells : List Cell) (result : Result A E) → IsHoused c rows → OnOk result (CellsFit c rows cells) → OnOk result (IsFit c rows cells)
-fit_where_ok c rows cells (Ok a) h held = record { housed = h; held = held }
-fit_where_ok c rows cells (Err e) h held = tt
+pub fit_where_ok : {A E : Type 0} (types : Types) (c : Content) (rows : Rows) (cells : List Cell) (result : Result A E) → HoldsNumbers types c rows → OnOk result (CellsFit c rows cells) → OnOk result (IsFit types c rows cells)
+fit_where_ok types c rows cells (Ok a) h held = record { store = h; held = held }
+fit_where_ok types c rows cells (Err e) h held = tt
 
 -- a sink that was left alone
 pub untouched : (known : Option (List ℕ)) (n : ℕ) → Takes (record { old = known; new = known; faults = n; later = n }) []

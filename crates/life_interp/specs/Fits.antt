@@ -1,23 +1,38 @@
--- References that the machine holds fit the store: where the object lives, it lies in the reference's row.
-use Rattle.std.specs.Prelude.{◌≡◌, ◌⊎◌, ℕ, ◌+◌, ◌*◌, ◌^◌, ◌<◌, ◌≤◌, List, [], ◌∷◌, Some, None}
+-- What the machine's store stands for, and that the references that the machine holds fit it.
+use Rattle.std.specs.Prelude.{◌≡◌, ◌⊎◌, ℕ, ◌+◌, ◌*◌, ◌^◌, ◌<◌, ◌≤◌, List, [], ◌∷◌, Some}
+use Rattle.life_types.specs.Types.{Types}
+use Rattle.life_types.specs.declared.ty.TyId.{TyId}
 use Rattle.life_store.specs.Cells.{at}
-use Rattle.life_store.specs.Content.{Content, live_words_of}
+use Rattle.life_store.specs.Content.{Object, Content, live_words_of}
+use Rattle.life_store.specs.Kinds.{Plain}
 use Rattle.life_store.specs.References.{Rows}
-use Rattle.life_store.specs.declared.object.ObjRef.{ObjRef}
+use Rattle.life_seen.specs.Housed.{IsHoused, IsRef}
+use Rattle.life_seen.specs.Kinds.{kinds_of}
+use Rattle.life_seen.specs.Seen.{seen}
 use Rattle.life_interp.specs.declared.value.Cell.{Cell}
 use Rattle.life_interp.specs.declared.value.Cell.TheVariants as held
 use Rattle.life_interp.specs.declared.value.Pointer.{Pointer}
 use Rattle.life_interp.specs.declared.value.Pointer.TheVariants as leads
 
--- what lives has a row, and what was not born yet has none
-pub record IsHoused (c : Content) (rows : Rows) : Type 0 where
-  pub placed : (n : ℕ) → at rows n ≡ None → at c.objects n ≡ None
-  pub unborn : (n : ℕ) → c.births ≤ n → at rows n ≡ None
+-- ---- the store
 
--- the object was born, and has the row while it lives
-pub record IsRef (c : Content) (rows : Rows) (r : ObjRef) : Type 0 where
-  pub born : r.birth < c.births
-  pub row : (k : ℕ) → at rows r.birth ≡ Some k → k ≡ r.row
+-- the content of the meaning, with the words of each type as the table of types has them
+abbrev pub meant : Types → Content → Rows → Content
+meant types c rows = seen (kinds_of types) c rows
+
+-- each word of the type's values is a number
+abbrev pub IsNumber : Types → TyId → Type 0
+IsNumber types ty = (u : ℕ) → kinds_of types ty u ≡ Plain
+
+abbrev pub AreNumbers : Types → Content → Type 0
+AreNumbers types m = (n : ℕ) (o : Object) → at m.objects n ≡ Some o → IsNumber types o.ty
+
+-- nothing in the store owns something or points: no program that is built so far has such an object
+pub record HoldsNumbers (types : Types) (c : Content) (rows : Rows) : Type 0 where
+  pub housed : IsHoused (kinds_of types) c rows
+  pub numbers : AreNumbers types (meant types c rows)
+
+-- ---- references
 
 abbrev pub PointerFits : Content → Rows → Pointer → Type 0
 PointerFits c rows leads.Null = Unit {0}
@@ -36,14 +51,11 @@ CellsFit c rows [] = Unit {0}
 CellsFit c rows (v ∷ vs) = CellFits c rows v × CellsFit c rows vs
 
 -- the store and the cells of a frame
-pub record IsFit (c : Content) (rows : Rows) (cells : List Cell) : Type 0 where
-  pub housed : IsHoused c rows
+pub record IsFit (types : Types) (c : Content) (rows : Rows) (cells : List Cell) : Type 0 where
+  pub store : HoldsNumbers types c rows
   pub held : CellsFit c rows cells
 
--- a store that changed its rows for new objects alone, or took some away: what fitted it still does
-pub record Later (c d : Content) (rows new : Rows) : Type 0 where
-  pub births : c.births ≤ d.births
-  pub row : (n k : ℕ) → n < c.births → at new n ≡ Some k → at rows n ≡ Some k
+-- ---- counts
 
 -- at most so many births and changes were counted
 pub record Grows (k : ℕ) (c d : Content) : Type 0 where

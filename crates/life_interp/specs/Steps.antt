@@ -14,7 +14,10 @@ use Rattle.life_store.specs.State as state
 use Rattle.life_store.specs.State.{State}
 use Rattle.life_store.specs.declared.run.TrapKind.TheVariants as trap
 use Rattle.life_interp.specs.Cells.{cell_seen, cells_seen, state_of, world_of}
-use Rattle.life_interp.specs.Fits.{IsRef}
+use Rattle.life_seen.specs.Housed.{IsRef}
+use Rattle.life_seen.specs.Kinds.{kinds_of}
+use Rattle.life_seen.specs.Named.{names_of}
+use Rattle.life_seen.specs.Seen.{object_seen}
 use Rattle.life_interp.specs.declared.ending.Ending.{Ending}
 use Rattle.life_interp.specs.declared.ending.Ending.TheVariants as ending
 use Rattle.life_interp.specs.declared.value.Cell.{Cell}
@@ -23,9 +26,9 @@ use Rattle.life_interp.specs.declared.places.Position.{Position}
 -- ---- places
 
 -- a position that was found, and an object that lives there
-pub record IsPosition (c : Content) (rows : Rows) (found : Found) (p : Position) : Type 0 where
+pub record IsPosition (types : Types) (c : Content) (rows : Rows) (found : Found) (p : Position) : Type 0 where
   pub object : Object
-  pub here : found ≡ Here p.object.birth p.index object
+  pub here : found ≡ Here p.object.birth p.index (object_seen (kinds_of types) (names_of c rows) object)
   pub lives : object_of c rows p.object ≡ Some object
   pub word : HasWord p.index 0 object
   pub fits : IsRef c rows p.object
@@ -38,8 +41,8 @@ TellsMiss found ending.Stray = found ≡ Astray
 TellsMiss found ending.NoMemory = ⊥
 TellsMiss found ending.WriteFault = ⊥
 
-abbrev pub Finds : Content → Rows → Found → Result Position Ending → Type 0
-Finds c rows found result = MatchResult result (IsPosition c rows found) (TellsMiss found)
+abbrev pub Finds : Types → Content → Rows → Found → Result Position Ending → Type 0
+Finds types c rows found result = MatchResult result (IsPosition types c rows found) (TellsMiss found)
 
 -- what an operand names in a frame
 abbrev pub place_in : Content → List Cell → Operand → Found

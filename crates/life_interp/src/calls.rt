@@ -4,12 +4,13 @@ ghost use Rattle.life_core.specs.Function.{function_of, program_of, Function};
 ghost use Rattle.life_core.specs.Operands.{argument_of, location_of};
 ghost use Rattle.life_core.specs.Step.{Call};
 ghost use Rattle.life_interp.specs.Cells.{cells_seen, one_seen};
-ghost use Rattle.life_interp.specs.Fits.{most_births, CanStep, CellFits, CellsFit, Grows, IsFit, IsHoused, Later};
+ghost use Rattle.life_interp.specs.Fits.{meant, most_births, CanStep, CellFits, CellsFit, Grows, HoldsNumbers, IsFit};
 ghost use Rattle.life_interp.specs.Frames.{all_cells, function_at, stack_seen, waiting_cells, AllBegin, AreFrames, AreThere};
 ghost use Rattle.life_interp.specs.Steps.{Begins, IsSet, LeavesBoth};
 ghost use Rattle.life_interp.specs.Walking.{acts, barred_of, returns, Enters, Moves};
 ghost use Rattle.life_interp.specs.declared.ending.Halt.TheVariants as halts;
 ghost use Rattle.life_interp.specs.declared.value.Cell.TheVariants as held;
+ghost use Rattle.life_seen.specs.Housed.{Later};
 ghost use Rattle.life_store.specs.Doing.{Setting};
 ghost use Rattle.life_interp.specs.SoFar.{target_given};
 
@@ -39,14 +40,14 @@ pub(crate) fn call<'p, S: Store>(
 ) -> Result<(), Halt>
     requires begin { AllBegin (program_of program.now).functions }
     requires frames { AreFrames (program_of program.now).functions frames.old }
-    requires fits { IsFit (S.content store.old) (S.rows store.old) (all_cells frames.old) }
+    requires fits { IsFit (program_of program.now).types (S.content store.old) (S.rows store.old) (all_cells frames.old) }
     requires countable { CanStep (S.content store.old) }
     requires room { S.limit store.old < most_births }
     ensures step { (s : Setting) (ins : List ℤ) → IsSet s (S.limit store.old) (program_of program.now).texts → s.given.depth ≡ depth
-        → Moves (acts s (program_of program.now) frames.old (S.content store.old) ins (Call (option_map location_of target.now) function (map argument_of arguments.now)) place to)
-        (program_of program.now).functions (S.content store.old) frames.new (S.content store.new) ins result }
+        → Moves (acts s (program_of program.now) frames.old (meant (program_of program.now).types (S.content store.old) (S.rows store.old)) ins (Call (option_map location_of target.now) function (map argument_of arguments.now)) place to)
+        (program_of program.now).functions (meant (program_of program.now).types (S.content store.old) (S.rows store.old)) frames.new (meant (program_of program.now).types (S.content store.new) (S.rows store.new)) ins result }
     ensures frames { OnOk result (AreFrames (program_of program.now).functions frames.new) }
-    ensures fits { OnOk result (IsFit (S.content store.new) (S.rows store.new) (all_cells frames.new)) }
+    ensures fits { OnOk result (IsFit (program_of program.now).types (S.content store.new) (S.rows store.new) (all_cells frames.new)) }
     ensures grows { OnOk result (Grows most_births (S.content store.old) (S.content store.new)) }
     ensures limit { S.limit store.new ≡ S.limit store.old }
 {
@@ -73,13 +74,13 @@ fn entered<S: Store>(
     values: &[Cell],
     store: &mut S,
 ) -> Result<Vec<Cell>, Halt>
-    requires housed { IsHoused (S.content store.old) (S.rows store.old) }
+    requires store { HoldsNumbers (program_of program.now).types (S.content store.old) (S.rows store.old) }
     requires values { CellsFit (S.content store.old) (S.rows store.old) values.now }
     requires countable { CanStep (S.content store.old) }
     requires room { S.limit store.old < most_births }
-    ensures step { (s : Setting) → s.given.cells ≡ S.limit store.old → Enters s (program_of program.now) function.0 (cells_seen values.now) place (S.content store.old) (S.content store.new) result }
+    ensures step { (s : Setting) → s.given.cells ≡ S.limit store.old → Enters s (program_of program.now) function.0 (cells_seen values.now) place (meant (program_of program.now).types (S.content store.old) (S.rows store.old)) (meant (program_of program.now).types (S.content store.new) (S.rows store.new)) result }
     ensures there { OnOk result (function.0 < length (program_of program.now).functions) }
-    ensures fits { IfOk result (λ cells. IsFit (S.content store.new) (S.rows store.new) cells.items) }
+    ensures fits { IfOk result (λ cells. IsFit (program_of program.now).types (S.content store.new) (S.rows store.new) cells.items) }
     ensures later { OnOk result (Later (S.content store.old) (S.content store.new) (S.rows store.old) (S.rows store.new)) }
     ensures grows { OnOk result (Grows most_births (S.content store.old) (S.content store.new)) }
     ensures limit { S.limit store.new ≡ S.limit store.old }
@@ -104,12 +105,12 @@ pub(crate) fn given_cells<S: Store>(
     values: &[Cell],
     store: &mut S,
 ) -> Result<Vec<Cell>, Ending>
-    requires housed { IsHoused (S.content store.old) (S.rows store.old) }
+    requires store { HoldsNumbers (program_of program.now).types (S.content store.old) (S.rows store.old) }
     requires values { CellsFit (S.content store.old) (S.rows store.old) values.now }
     requires countable { CanStep (S.content store.old) }
     requires room { S.limit store.old < most_births }
-    ensures step { (s : Setting) → s.given.cells ≡ S.limit store.old → Begins s (program_of program.now).types (function_of f.now) (cells_seen values.now) (S.content store.old) (S.content store.new) result }
-    ensures fits { IfOk result (λ cells. IsFit (S.content store.new) (S.rows store.new) cells.items) }
+    ensures step { (s : Setting) → s.given.cells ≡ S.limit store.old → Begins s (program_of program.now).types (function_of f.now) (cells_seen values.now) (meant (program_of program.now).types (S.content store.old) (S.rows store.old)) (meant (program_of program.now).types (S.content store.new) (S.rows store.new)) result }
+    ensures fits { IfOk result (λ cells. IsFit (program_of program.now).types (S.content store.new) (S.rows store.new) cells.items) }
     ensures later { OnOk result (Later (S.content store.old) (S.content store.new) (S.rows store.old) (S.rows store.new)) }
     ensures grows { OnOk result (Grows most_births (S.content store.old) (S.content store.new)) }
     ensures limit { S.limit store.new ≡ S.limit store.old }
@@ -188,14 +189,14 @@ pub(crate) fn back<S: Store>(
 ) -> Result<(), Halt>
     requires begin { AllBegin (program_of program.now).functions }
     requires frames { AreFrames (program_of program.now).functions frames.old }
-    requires fits { IsFit (S.content store.old) (S.rows store.old) (all_cells frames.old) }
+    requires fits { IsFit (program_of program.now).types (S.content store.old) (S.rows store.old) (all_cells frames.old) }
     requires countable { CanStep (S.content store.old) }
     requires room { S.limit store.old < most_births }
     ensures step { (s : Setting) (ins : List ℤ) → IsSet s (S.limit store.old) (program_of program.now).texts
-        → Moves (returns s (program_of program.now) frames.old (S.content store.old) ins)
-        (program_of program.now).functions (S.content store.old) frames.new (S.content store.new) ins result }
+        → Moves (returns s (program_of program.now) frames.old (meant (program_of program.now).types (S.content store.old) (S.rows store.old)) ins)
+        (program_of program.now).functions (meant (program_of program.now).types (S.content store.old) (S.rows store.old)) frames.new (meant (program_of program.now).types (S.content store.new) (S.rows store.new)) ins result }
     ensures frames { OnOk result (AreFrames (program_of program.now).functions frames.new) }
-    ensures fits { OnOk result (IsFit (S.content store.new) (S.rows store.new) (all_cells frames.new)) }
+    ensures fits { OnOk result (IsFit (program_of program.now).types (S.content store.new) (S.rows store.new) (all_cells frames.new)) }
     ensures grows { OnOk result (Grows most_births (S.content store.old) (S.content store.new)) }
     ensures limit { S.limit store.new ≡ S.limit store.old }
 {
@@ -227,14 +228,14 @@ fn give_target<S: Store>(
     target: &Option<Location>,
     given: Option<Cell>,
 ) -> Result<(), Ending>
-    requires fits { IsFit (S.content store.old) (S.rows store.old) cells.old.items }
+    requires fits { IsFit (program_of program.now).types (S.content store.old) (S.rows store.old) cells.old.items }
     requires value { IfSome given (CellFits (S.content store.old) (S.rows store.old)) }
     requires countable { CanStep (S.content store.old) }
     requires room { S.limit store.old < most_births }
     ensures step { (s : Setting) → s.given.cells ≡ S.limit store.old
         → LeavesBoth (target_given s (program_of program.now).types (function_of f.now) (option_map location_of target.now) (one_seen given))
-        (S.content store.old) cells.old.items (S.content store.new) cells.new.items result }
-    ensures fits { OnOk result (IsFit (S.content store.new) (S.rows store.new) cells.new.items) }
+        (meant (program_of program.now).types (S.content store.old) (S.rows store.old)) cells.old.items (meant (program_of program.now).types (S.content store.new) (S.rows store.new)) cells.new.items result }
+    ensures fits { OnOk result (IsFit (program_of program.now).types (S.content store.new) (S.rows store.new) cells.new.items) }
     ensures later { OnOk result (Later (S.content store.old) (S.content store.new) (S.rows store.old) (S.rows store.new)) }
     ensures grows { OnOk result (Grows most_births (S.content store.old) (S.content store.new)) }
     ensures limit { S.limit store.new ≡ S.limit store.old }

@@ -2,8 +2,9 @@
 ghost use Rattle.std.specs.Prelude.{◌≡◌, ◌<◌, OnOk};
 ghost use Rattle.life_core.specs.Function.{function_of};
 ghost use Rattle.life_interp.specs.Cells.{cell_seen, cells_seen};
-ghost use Rattle.life_interp.specs.Fits.{most_births, CanBear, CanStep, CellFits, CellsFit, Gives, Grows, IsFit, Later};
+ghost use Rattle.life_interp.specs.Fits.{meant, most_births, CanBear, CanStep, CellFits, CellsFit, Gives, Grows, IsFit, IsNumber};
 ghost use Rattle.life_interp.specs.Steps.{LeavesBoth};
+ghost use Rattle.life_seen.specs.Housed.{Later};
 ghost use Rattle.life_store.specs.Doing.{Setting};
 ghost use Rattle.life_interp.specs.SoFar.{born_with, given, parameters_given};
 
@@ -15,6 +16,7 @@ use crate::value::Cell;
 use life_core::CoreFn;
 use life_store::Store;
 use life_types::{TyId, TypeTable};
+use life_words::put_number;
 
 /// Gives the first locals of a function these values, from left to right.
 pub(crate) fn give_all<S: Store>(
@@ -24,13 +26,13 @@ pub(crate) fn give_all<S: Store>(
     cells: &mut Vec<Cell>,
     values: &[Cell],
 ) -> Result<(), Ending>
-    requires fits { IsFit (S.content store.old) (S.rows store.old) cells.old.items }
+    requires fits { IsFit types.now (S.content store.old) (S.rows store.old) cells.old.items }
     requires values { CellsFit (S.content store.old) (S.rows store.old) values.now }
     requires countable { CanStep (S.content store.old) }
     requires room { S.limit store.old < most_births }
     ensures step { (s : Setting) → s.given.cells ≡ S.limit store.old → LeavesBoth (parameters_given s types.now (function_of f.now) 0 (cells_seen values.now))
-        (S.content store.old) cells.old.items (S.content store.new) cells.new.items result }
-    ensures fits { OnOk result (IsFit (S.content store.new) (S.rows store.new) cells.new.items) }
+        (meant types.now (S.content store.old) (S.rows store.old)) cells.old.items (meant types.now (S.content store.new) (S.rows store.new)) cells.new.items result }
+    ensures fits { OnOk result (IsFit types.now (S.content store.new) (S.rows store.new) cells.new.items) }
     ensures later { OnOk result (Later (S.content store.old) (S.content store.new) (S.rows store.old) (S.rows store.new)) }
     ensures grows { OnOk result (Grows most_births (S.content store.old) (S.content store.new)) }
     ensures limit { S.limit store.new ≡ S.limit store.old }
@@ -53,12 +55,12 @@ pub(crate) fn give<S: Store>(
     value: Cell,
     local: usize,
 ) -> Result<(), Ending>
-    requires fits { IsFit (S.content store.old) (S.rows store.old) cells.old.items }
+    requires fits { IsFit types.now (S.content store.old) (S.rows store.old) cells.old.items }
     requires value { CellFits (S.content store.old) (S.rows store.old) value }
     requires countable { CanBear (S.content store.old) }
     ensures step { (s : Setting) → s.given.cells ≡ S.limit store.old → LeavesBoth (given s types.now (function_of f.now) (cell_seen value) local)
-        (S.content store.old) cells.old.items (S.content store.new) cells.new.items result }
-    ensures fits { OnOk result (IsFit (S.content store.new) (S.rows store.new) cells.new.items) }
+        (meant types.now (S.content store.old) (S.rows store.old)) cells.old.items (meant types.now (S.content store.new) (S.rows store.new)) cells.new.items result }
+    ensures fits { OnOk result (IsFit types.now (S.content store.new) (S.rows store.new) cells.new.items) }
     ensures later { OnOk result (Later (S.content store.old) (S.content store.new) (S.rows store.old) (S.rows store.new)) }
     ensures gives { OnOk result (Gives (S.limit store.old) (S.content store.old) (S.content store.new)) }
     ensures limit { S.limit store.new ≡ S.limit store.old }
@@ -67,7 +69,7 @@ pub(crate) fn give<S: Store>(
         let declared = f.locals[local];
         match value {
             Cell::Number(number) => match sort_of(types, declared) {
-                Sort::Object => born_with(store, cells, declared.ty, number, local),
+                Sort::Object => born_with(types, store, cells, declared.ty, number, local),
                 Sort::Number => {
                     put_at(cells, local, Cell::Number(number));
                     Ok(())
@@ -90,29 +92,29 @@ pub(crate) fn give<S: Store>(
 
 // A new object with a value for the local.
 fn born_with<S: Store>(
+    types: &TypeTable,
     store: &mut S,
     cells: &mut Vec<Cell>,
     ty: TyId,
     number: i64,
     local: usize,
 ) -> Result<(), Ending>
-    requires fits { IsFit (S.content store.old) (S.rows store.old) cells.old.items }
+    requires fits { IsFit types.now (S.content store.old) (S.rows store.old) cells.old.items }
+    requires value { IsNumber types.now ty }
     requires countable { CanBear (S.content store.old) }
     ensures step { (s : Setting) → s.given.cells ≡ S.limit store.old → LeavesBoth (born_with s ty number local)
-        (S.content store.old) cells.old.items (S.content store.new) cells.new.items result }
-    ensures fits { OnOk result (IsFit (S.content store.new) (S.rows store.new) cells.new.items) }
+        (meant types.now (S.content store.old) (S.rows store.old)) cells.old.items (meant types.now (S.content store.new) (S.rows store.new)) cells.new.items result }
+    ensures fits { OnOk result (IsFit types.now (S.content store.new) (S.rows store.new) cells.new.items) }
     ensures later { OnOk result (Later (S.content store.old) (S.content store.new) (S.rows store.old) (S.rows store.new)) }
     ensures gives { OnOk result (Gives (S.limit store.old) (S.content store.old) (S.content store.new)) }
     ensures limit { S.limit store.new ≡ S.limit store.old }
 {
     match new_object(store, ty) {
         Err(ending) => Err(ending),
-        Ok(object) => match store.put(object, 0, 0, number.cast_unsigned()) {
-            Err(_) => unreachable!(),
-            Ok(()) => {
-                put_at(cells, local, Cell::Object(object));
-                Ok(())
-            }
-        },
+        Ok(object) => {
+            put_number(store, object, 0, 0, number.cast_unsigned());
+            put_at(cells, local, Cell::Object(object));
+            Ok(())
+        }
     }
 }

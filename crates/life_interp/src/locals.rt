@@ -1,10 +1,13 @@
 // Instructions that bring locals to life and end them.
-ghost use Rattle.std.specs.Prelude.{◌≡◌, ◌≤◌, ◌+◌, IfErr, IfOk, OnOk, slice_get};
+ghost use Rattle.std.specs.Prelude.{◌≡◌, ◌≤◌, ◌+◌, IfErr, IfOk, OnOk, slice_get, Some};
 ghost use Rattle.life_core.specs.Function.{function_of};
 ghost use Rattle.life_interp.specs.Cells.{pointer_seen};
-ghost use Rattle.life_interp.specs.Fits.{CanBear, CanStep, Grows, IsFit, Later};
+ghost use Rattle.life_interp.specs.Fits.{meant, CanBear, CanStep, Grows, IsFit, IsNumber};
 ghost use Rattle.life_interp.specs.Steps.{BirthFails, LeavesBoth};
-ghost use Rattle.life_store.specs.Cells.{set};
+ghost use Rattle.life_seen.specs.Housed.{IsHoused, Later, Shows};
+ghost use Rattle.life_seen.specs.Kinds.{Kinds};
+ghost use Rattle.life_seen.specs.Seen.{seen};
+ghost use Rattle.life_store.specs.Cells.{at};
 ghost use Rattle.life_store.specs.Content.{live_words_of};
 ghost use Rattle.life_store.specs.Doing.{with_value_object, cell, born_object, born_pointer, Setting};
 ghost use Rattle.life_interp.specs.SoFar.{end_cell, end_locals, live_local};
@@ -16,6 +19,7 @@ use crate::value::{Cell, Pointer};
 use life_core::{CoreFn, Form};
 use life_store::{BirthFault, ObjRef, Store, TrapKind};
 use life_types::{TyId, TypeTable};
+use life_words::born_sized;
 
 /// Brings a local to life.
 pub(crate) fn live<S: Store>(
@@ -26,10 +30,10 @@ pub(crate) fn live<S: Store>(
     local: u32,
     form: Form,
 ) -> Result<(), Ending>
-    requires fits { IsFit (S.content store.old) (S.rows store.old) cells.old.items }
+    requires fits { IsFit types.now (S.content store.old) (S.rows store.old) cells.old.items }
     requires countable { CanStep (S.content store.old) }
-    ensures step { (s : Setting) → s.given.cells ≡ S.limit store.old → LeavesBoth (live_local s types.now (function_of f.now) (slice_get f.now.locals.items local) form local) (S.content store.old) cells.old.items (S.content store.new) cells.new.items result }
-    ensures fits { OnOk result (IsFit (S.content store.new) (S.rows store.new) cells.new.items) }
+    ensures step { (s : Setting) → s.given.cells ≡ S.limit store.old → LeavesBoth (live_local s types.now (function_of f.now) (slice_get f.now.locals.items local) form local) (meant types.now (S.content store.old) (S.rows store.old)) cells.old.items (meant types.now (S.content store.new) (S.rows store.new)) cells.new.items result }
+    ensures fits { OnOk result (IsFit types.now (S.content store.new) (S.rows store.new) cells.new.items) }
     ensures later { OnOk result (Later (S.content store.old) (S.content store.new) (S.rows store.old) (S.rows store.new)) }
     ensures grows { OnOk result (Grows 1 (S.content store.old) (S.content store.new)) }
     ensures limit { S.limit store.new ≡ S.limit store.old }
@@ -39,7 +43,7 @@ pub(crate) fn live<S: Store>(
         let declared = f.locals[index];
         match cell_at(cells, local) {
             Some(Cell::Empty) => match sort_of(types, declared) {
-                Sort::Object => born(store, cells, declared.ty, local),
+                Sort::Object => born(types, store, cells, declared.ty, local),
                 Sort::Pointer => {
                     put_cell(cells, local, Cell::Points(born_pointer(form)));
                     Ok(())
@@ -69,11 +73,18 @@ fn born_pointer(form: Form) -> Pointer
 }
 
 // A new object of one slot for the local.
-fn born<S: Store>(store: &mut S, cells: &mut Vec<Cell>, ty: TyId, local: u32) -> Result<(), Ending>
-    requires fits { IsFit (S.content store.old) (S.rows store.old) cells.old.items }
+fn born<S: Store>(
+    types: &TypeTable,
+    store: &mut S,
+    cells: &mut Vec<Cell>,
+    ty: TyId,
+    local: u32,
+) -> Result<(), Ending>
+    requires fits { IsFit types.now (S.content store.old) (S.rows store.old) cells.old.items }
+    requires value { IsNumber types.now ty }
     requires countable { CanStep (S.content store.old) }
-    ensures step { (s : Setting) → s.given.cells ≡ S.limit store.old → LeavesBoth (born_object s ty local) (S.content store.old) cells.old.items (S.content store.new) cells.new.items result }
-    ensures fits { OnOk result (IsFit (S.content store.new) (S.rows store.new) cells.new.items) }
+    ensures step { (s : Setting) → s.given.cells ≡ S.limit store.old → LeavesBoth (born_object s ty local) (meant types.now (S.content store.old) (S.rows store.old)) cells.old.items (meant types.now (S.content store.new) (S.rows store.new)) cells.new.items result }
+    ensures fits { OnOk result (IsFit types.now (S.content store.new) (S.rows store.new) cells.new.items) }
     ensures later { OnOk result (Later (S.content store.old) (S.content store.new) (S.rows store.old) (S.rows store.new)) }
     ensures grows { OnOk result (Grows 1 (S.content store.old) (S.content store.new)) }
     ensures limit { S.limit store.new ≡ S.limit store.old }
@@ -91,38 +102,38 @@ fn born<S: Store>(store: &mut S, cells: &mut Vec<Cell>, ty: TyId, local: u32) ->
 pub(crate) fn new_object<S: Store>(store: &mut S, ty: TyId) -> Result<ObjRef, Ending>
     requires { CanBear (S.content store.old) }
     ensures number { IfOk result (λ r. r.birth ≡ (S.content store.old).births) }
-    ensures born { OnOk result (S.content store.new ≡ with_value_object ty (S.content store.old)) }
-    ensures row { IfOk result (λ r. S.rows store.new ≡ set (S.rows store.old) r.birth r.row) }
+    ensures shows { (kinds : Kinds) → IsHoused kinds (S.content store.old) (S.rows store.old)
+        → OnOk result (Shows kinds (S.content store.new) (S.rows store.new) (with_value_object ty (seen kinds (S.content store.old) (S.rows store.old)))) }
+    ensures placed { IfOk result (λ r. at (S.rows store.new) r.birth ≡ Some r.row) }
+    ensures later { OnOk result (Later (S.content store.old) (S.content store.new) (S.rows store.old) (S.rows store.new)) }
     ensures room { OnOk result (live_words_of (S.content store.old) + 3 ≤ S.limit store.old) }
     ensures full { IfErr result (BirthFails (S.limit store.old) (S.content store.old)) }
     ensures limit { S.limit store.new ≡ S.limit store.old }
 {
-    match store.birth(ty, 1, 1) {
+    match born_sized(store, ty, 1, 1) {
         Err(BirthFault::Cells) => Err(Ending::Trap(TrapKind::Cells)),
         Err(BirthFault::NoMemory) => Err(Ending::NoMemory),
-        Ok(object) => match store.resize(object, 1, 0) {
-            Err(_) => unreachable!(),
-            Ok(()) => Ok(object),
-        },
+        Ok(object) => Ok(object),
     }
 }
 
 /// Ends locals, in the order of the list.
 pub(crate) fn end<S: Store>(
+    types: &TypeTable,
     store: &mut S,
     cells: &mut Vec<Cell>,
     locals: &[u32],
 ) -> Result<(), Ending>
-    requires { IsFit (S.content store.old) (S.rows store.old) cells.old.items }
-    ensures step { LeavesBoth (end_locals locals.now) (S.content store.old) cells.old.items (S.content store.new) cells.new.items result }
-    ensures fits { OnOk result (IsFit (S.content store.new) (S.rows store.new) cells.new.items) }
+    requires { IsFit types.now (S.content store.old) (S.rows store.old) cells.old.items }
+    ensures step { LeavesBoth (end_locals locals.now) (meant types.now (S.content store.old) (S.rows store.old)) cells.old.items (meant types.now (S.content store.new) (S.rows store.new)) cells.new.items result }
+    ensures fits { OnOk result (IsFit types.now (S.content store.new) (S.rows store.new) cells.new.items) }
     ensures later { OnOk result (Later (S.content store.old) (S.content store.new) (S.rows store.old) (S.rows store.new)) }
     ensures births { OnOk result ((S.content store.new).births ≡ (S.content store.old).births) }
     ensures clock { OnOk result ((S.content store.new).clock ≡ (S.content store.old).clock) }
     ensures limit { S.limit store.new ≡ S.limit store.old }
 {
     for local in locals {
-        match end_one(store, cells, *local) {
+        match end_one(types, store, cells, *local) {
             Err(ending) => return Err(ending),
             Ok(()) => {}
         }
@@ -130,10 +141,15 @@ pub(crate) fn end<S: Store>(
     Ok(())
 }
 
-fn end_one<S: Store>(store: &mut S, cells: &mut Vec<Cell>, local: u32) -> Result<(), Ending>
-    requires { IsFit (S.content store.old) (S.rows store.old) cells.old.items }
-    ensures step { LeavesBoth (λ st. end_cell (cell st local) local st) (S.content store.old) cells.old.items (S.content store.new) cells.new.items result }
-    ensures fits { OnOk result (IsFit (S.content store.new) (S.rows store.new) cells.new.items) }
+fn end_one<S: Store>(
+    types: &TypeTable,
+    store: &mut S,
+    cells: &mut Vec<Cell>,
+    local: u32,
+) -> Result<(), Ending>
+    requires { IsFit types.now (S.content store.old) (S.rows store.old) cells.old.items }
+    ensures step { LeavesBoth (λ st. end_cell (cell st local) local st) (meant types.now (S.content store.old) (S.rows store.old)) cells.old.items (meant types.now (S.content store.new) (S.rows store.new)) cells.new.items result }
+    ensures fits { OnOk result (IsFit types.now (S.content store.new) (S.rows store.new) cells.new.items) }
     ensures later { OnOk result (Later (S.content store.old) (S.content store.new) (S.rows store.old) (S.rows store.new)) }
     ensures births { OnOk result ((S.content store.new).births ≡ (S.content store.old).births) }
     ensures clock { OnOk result ((S.content store.new).clock ≡ (S.content store.old).clock) }

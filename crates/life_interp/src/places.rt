@@ -3,14 +3,18 @@ ghost use Rattle.life_core.specs.Operands.{operand_of};
 ghost use Rattle.life_store.specs.Doing.{found_at};
 ghost use Rattle.life_interp.specs.SoFar.{behind_pointer};
 ghost use Rattle.life_interp.specs.Cells.{pointer_seen};
-ghost use Rattle.life_interp.specs.Fits.{IsFit, IsHoused, IsRef, PointerFits};
+ghost use Rattle.life_interp.specs.Fits.{meant, IsFit, PointerFits};
 ghost use Rattle.life_interp.specs.Steps.{place_in, Finds};
+ghost use Rattle.life_seen.specs.Housed.{IsHoused, IsRef};
+ghost use Rattle.life_seen.specs.Kinds.{kinds_of};
+ghost use Rattle.life_types.specs.Types.{Types};
 
 use crate::ending::Ending;
 use crate::frame::cell_at;
 use crate::value::{Cell, Pointer};
 use life_core::Operand;
 use life_store::{FaultKind, ObjRef, Store};
+use life_types::TypeTable;
 
 /// A position of an object.
 #[derive(Clone, Copy, Debug)]
@@ -21,12 +25,13 @@ pub(crate) struct Position {
 
 /// The position that the operand names: it has no members in the programs that are built so far.
 pub(crate) fn locate<S: Store>(
+    types: &TypeTable,
     store: &S,
     cells: &[Cell],
     operand: &Operand,
 ) -> Result<Position, Ending>
-    requires { IsFit (S.content store.now) (S.rows store.now) cells.now }
-    ensures { Finds (S.content store.now) (S.rows store.now) (place_in (S.content store.now) cells.now (operand_of operand.now)) result }
+    requires { IsFit types.now (S.content store.now) (S.rows store.now) cells.now }
+    ensures { Finds types.now (S.content store.now) (S.rows store.now) (place_in (meant types.now (S.content store.now) (S.rows store.now)) cells.now (operand_of operand.now)) result }
 {
     match operand {
         Operand::Name(location) => match cell_at(cells, location.local) {
@@ -42,9 +47,8 @@ pub(crate) fn locate<S: Store>(
 
 // The position to which the pointer points.
 fn behind_pointer<S: Store>(store: &S, pointer: Pointer) -> Result<Position, Ending>
-    requires housed { IsHoused (S.content store.now) (S.rows store.now) }
-    requires fits { PointerFits (S.content store.now) (S.rows store.now) pointer }
-    ensures { Finds (S.content store.now) (S.rows store.now) (behind_pointer (S.content store.now) (pointer_seen pointer)) result }
+    ensures { (types : Types) → IsHoused (kinds_of types) (S.content store.now) (S.rows store.now) → PointerFits (S.content store.now) (S.rows store.now) pointer
+        → Finds types (S.content store.now) (S.rows store.now) (behind_pointer (meant types (S.content store.now) (S.rows store.now)) (pointer_seen pointer)) result }
 {
     match pointer {
         Pointer::Null => Err(Ending::Fault(FaultKind::Null)),
@@ -66,9 +70,8 @@ fn behind_pointer<S: Store>(store: &S, pointer: Pointer) -> Result<Position, End
 
 // The position, if the object lives and has a slot there.
 fn slot_at<S: Store>(store: &S, object: ObjRef, index: u32) -> Result<Position, Ending>
-    requires housed { IsHoused (S.content store.now) (S.rows store.now) }
-    requires fits { IsRef (S.content store.now) (S.rows store.now) object }
-    ensures { Finds (S.content store.now) (S.rows store.now) (found_at (S.content store.now) object.birth index) result }
+    ensures { (types : Types) → IsHoused (kinds_of types) (S.content store.now) (S.rows store.now) → IsRef (S.content store.now) (S.rows store.now) object
+        → Finds types (S.content store.now) (S.rows store.now) (found_at (meant types (S.content store.now) (S.rows store.now)) object.birth index) result }
 {
     match store.shape(object) {
         Ok(shape) => {

@@ -4,7 +4,7 @@ ghost use Rattle.life_core.specs.Function.{program_of, Program};
 ghost use Rattle.life_core.specs.Link.{leads_seen};
 ghost use Rattle.life_core.specs.Linked.{code_of};
 ghost use Rattle.life_core.specs.Step.{asked_of, step_of};
-ghost use Rattle.life_interp.specs.Fits.{most_births, CanStep, Grows, IsFit};
+ghost use Rattle.life_interp.specs.Fits.{meant, most_births, CanStep, Grows, IsFit};
 ghost use Rattle.life_interp.specs.Frames.{all_cells, AllBegin, AreFrames};
 ghost use Rattle.life_interp.specs.Runs.{links_seen};
 ghost use Rattle.life_interp.specs.Steps.{IsSet};
@@ -40,15 +40,15 @@ pub(crate) fn pass<'p, S: Store, O: Sink>(
     requires linked { map links_seen code.now ≡ map code_of (program_of program.now).functions }
     requires begin { AllBegin (program_of program.now).functions }
     requires frames { AreFrames (program_of program.now).functions frames.old }
-    requires fits { IsFit (S.content store.old) (S.rows store.old) (all_cells frames.old) }
+    requires fits { IsFit (program_of program.now).types (S.content store.old) (S.rows store.old) (all_cells frames.old) }
     requires countable { CanStep (S.content store.old) }
     requires room { S.limit store.old < most_births }
     ensures step { (s : Setting) → IsSet s (S.limit store.old) (program_of program.now).texts → s.given.depth ≡ depth
-        → PointLeads (passes s (program_of program.now) frames.old (S.content store.old) (drop taken.old input.now))
-        (program_of program.now).functions (S.content store.old) (drop taken.old input.now) frames.new (S.content store.new) (drop taken.new input.now)
+        → PointLeads (passes s (program_of program.now) frames.old (meant (program_of program.now).types (S.content store.old) (S.rows store.old)) (drop taken.old input.now))
+        (program_of program.now).functions (meant (program_of program.now).types (S.content store.old) (S.rows store.old)) (drop taken.old input.now) frames.new (meant (program_of program.now).types (S.content store.new) (S.rows store.new)) (drop taken.new input.now)
         (record { old = O.taken out.old; new = O.taken out.new; faults = O.faults out.old; later = O.faults out.new }) result }
     ensures frames { OnOk result (AreFrames (program_of program.now).functions frames.new) }
-    ensures fits { OnOk result (IsFit (S.content store.new) (S.rows store.new) (all_cells frames.new)) }
+    ensures fits { OnOk result (IsFit (program_of program.now).types (S.content store.new) (S.rows store.new) (all_cells frames.new)) }
     ensures grows { OnOk result (Grows most_births (S.content store.old) (S.content store.new)) }
     ensures limit { S.limit store.new ≡ S.limit store.old }
 {
@@ -91,15 +91,15 @@ fn act<'p, S: Store, O: Sink>(
 ) -> Result<(), Halt>
     requires begin { AllBegin (program_of program.now).functions }
     requires frames { AreFrames (program_of program.now).functions frames.old }
-    requires fits { IsFit (S.content store.old) (S.rows store.old) (all_cells frames.old) }
+    requires fits { IsFit (program_of program.now).types (S.content store.old) (S.rows store.old) (all_cells frames.old) }
     requires countable { CanStep (S.content store.old) }
     requires room { S.limit store.old < most_births }
     ensures step { (s : Setting) → IsSet s (S.limit store.old) (program_of program.now).texts → s.given.depth ≡ depth
-        → PointLeads (acts s (program_of program.now) frames.old (S.content store.old) (drop taken.old input.now) (step_of instr.now) place to)
-        (program_of program.now).functions (S.content store.old) (drop taken.old input.now) frames.new (S.content store.new) (drop taken.new input.now)
+        → PointLeads (acts s (program_of program.now) frames.old (meant (program_of program.now).types (S.content store.old) (S.rows store.old)) (drop taken.old input.now) (step_of instr.now) place to)
+        (program_of program.now).functions (meant (program_of program.now).types (S.content store.old) (S.rows store.old)) (drop taken.old input.now) frames.new (meant (program_of program.now).types (S.content store.new) (S.rows store.new)) (drop taken.new input.now)
         (record { old = O.taken out.old; new = O.taken out.new; faults = O.faults out.old; later = O.faults out.new }) result }
     ensures frames { OnOk result (AreFrames (program_of program.now).functions frames.new) }
-    ensures fits { OnOk result (IsFit (S.content store.new) (S.rows store.new) (all_cells frames.new)) }
+    ensures fits { OnOk result (IsFit (program_of program.now).types (S.content store.new) (S.rows store.new) (all_cells frames.new)) }
     ensures grows { OnOk result (Grows most_births (S.content store.old) (S.content store.new)) }
     ensures limit { S.limit store.new ≡ S.limit store.old }
 {

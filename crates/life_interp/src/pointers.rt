@@ -3,7 +3,7 @@ ghost use Rattle.std.specs.Prelude.{◌≡◌, map, slice_get, OnOk};
 ghost use Rattle.life_core.specs.Function.{name_bytes};
 ghost use Rattle.life_core.specs.Operands.{source_of};
 ghost use Rattle.life_interp.specs.Cells.{pointer_seen};
-ghost use Rattle.life_interp.specs.Fits.{CellsFit, IsFit};
+ghost use Rattle.life_interp.specs.Fits.{meant, CellsFit, IsFit};
 ghost use Rattle.life_interp.specs.Steps.{repointed, LeavesCells};
 ghost use Rattle.life_store.specs.Content.{Content};
 ghost use Rattle.life_store.specs.Doing.{text_length, viewed, Setting};
@@ -16,18 +16,20 @@ use crate::places::locate;
 use crate::value::{Cell, Characters, Pointer};
 use life_core::Source;
 use life_store::Store;
+use life_types::TypeTable;
 
 /// Makes a pointer point to something.
 pub(crate) fn aim<S: Store>(
+    types: &TypeTable,
     texts: &[Vec<u8>],
     store: &S,
     cells: &mut Vec<Cell>,
     pointer: u32,
     source: &Source,
 ) -> Result<(), Ending>
-    requires { IsFit (S.content store.now) (S.rows store.now) cells.old.items }
-    ensures step { (s : Setting) → s.texts ≡ map name_bytes texts.now → LeavesCells (aimed s pointer (source_of source.now)) (S.content store.now) cells.old.items cells.new.items result }
-    ensures fits { OnOk result (IsFit (S.content store.now) (S.rows store.now) cells.new.items) }
+    requires { IsFit types.now (S.content store.now) (S.rows store.now) cells.old.items }
+    ensures step { (s : Setting) → s.texts ≡ map name_bytes texts.now → LeavesCells (aimed s pointer (source_of source.now)) (meant types.now (S.content store.now) (S.rows store.now)) cells.old.items cells.new.items result }
+    ensures fits { OnOk result (IsFit types.now (S.content store.now) (S.rows store.now) cells.new.items) }
 {
     match source {
         Source::Null => {
@@ -38,7 +40,7 @@ pub(crate) fn aim<S: Store>(
             put_cell(cells, pointer, Cell::Points(viewed(texts, *number)));
             Ok(())
         }
-        Source::Place(operand) => match locate(store, cells, operand) {
+        Source::Place(operand) => match locate(types, store, cells, operand) {
             Err(ending) => Err(ending),
             Ok(position) => {
                 let to = Pointer::To {

@@ -4,7 +4,7 @@ ghost use Rattle.life_core.specs.Function.{function_of, program_of};
 ghost use Rattle.life_core.specs.Linked.{code_of};
 ghost use Rattle.life_proper.specs.ProperPrograms.{IsProperProgram};
 ghost use Rattle.life_interp.specs.Cells.{cell_seen, cells_seen};
-ghost use Rattle.life_interp.specs.Fits.{most_births, CanStep, CellFits, CellsFit, Grows, IsFit, IsHoused};
+ghost use Rattle.life_interp.specs.Fits.{meant, most_births, CanStep, CellFits, CellsFit, Grows, HoldsNumbers, IsFit};
 ghost use Rattle.life_interp.specs.Runs.{barred_as, links_seen, IsBarred, RunEnds};
 ghost use Rattle.life_interp.specs.Steps.{Begins};
 ghost use Rattle.life_store.specs.Calls.{entry_arguments};
@@ -116,13 +116,13 @@ fn first_cells<S: Store>(
     input: &[i64],
     store: &mut S,
 ) -> Result<Vec<Cell>, Ending>
-    requires housed { IsHoused (S.content store.old) (S.rows store.old) }
+    requires store { HoldsNumbers (program_of program.now).types (S.content store.old) (S.rows store.old) }
     requires countable { CanStep (S.content store.old) }
     requires room { S.limit store.old < most_births }
     requires enough { f.now.parameters ≤ length input.now }
     ensures step { (s : Setting) → s.given.cells ≡ S.limit store.old
-        → Begins s (program_of program.now).types (function_of f.now) (entry_arguments (program_of program.now).types (function_of f.now) 0 f.now.parameters input.now) (S.content store.old) (S.content store.new) result }
-    ensures fits { IfOk result (λ cells. IsFit (S.content store.new) (S.rows store.new) cells.items) }
+        → Begins s (program_of program.now).types (function_of f.now) (entry_arguments (program_of program.now).types (function_of f.now) 0 f.now.parameters input.now) (meant (program_of program.now).types (S.content store.old) (S.rows store.old)) (meant (program_of program.now).types (S.content store.new) (S.rows store.new)) result }
+    ensures fits { IfOk result (λ cells. IsFit (program_of program.now).types (S.content store.new) (S.rows store.new) cells.items) }
     ensures grows { OnOk result (Grows most_births (S.content store.old) (S.content store.new)) }
     ensures limit { S.limit store.new ≡ S.limit store.old }
 {

@@ -2,9 +2,10 @@
 ghost use Rattle.std.specs.Prelude.{◌≡◌, drop, OnOk};
 ghost use Rattle.life_core.specs.Function.{function_of, program_of};
 ghost use Rattle.life_core.specs.Step.{step_of};
-ghost use Rattle.life_interp.specs.Fits.{CanStep, Grows, IsFit, Later};
+ghost use Rattle.life_interp.specs.Fits.{meant, CanStep, Grows, IsFit};
 ghost use Rattle.life_interp.specs.Steps.{IsSet, LeavesBoth};
 ghost use Rattle.life_interp.specs.Walking.{IsOwn, IsQuiet, Performs};
+ghost use Rattle.life_seen.specs.Housed.{Later};
 ghost use Rattle.life_store.specs.Doing.{Setting};
 ghost use Rattle.life_interp.specs.SoFar.{does};
 
@@ -32,13 +33,13 @@ pub(crate) fn perform<S: Store, O: Sink>(
     out: &mut O,
 ) -> Result<(), Ending>
     requires own { IsOwn (step_of instr.now) }
-    requires fits { IsFit (S.content store.old) (S.rows store.old) cells.old.items }
+    requires fits { IsFit (program_of program.now).types (S.content store.old) (S.rows store.old) cells.old.items }
     requires countable { CanStep (S.content store.old) }
     ensures step { (s : Setting) → IsSet s (S.limit store.old) (program_of program.now).texts
         → Performs (does s (program_of program.now).types (function_of f.now) (step_of instr.now))
-        (S.content store.old) cells.old.items (drop taken.old input.now) (S.content store.new) cells.new.items (drop taken.new input.now)
+        (meant (program_of program.now).types (S.content store.old) (S.rows store.old)) cells.old.items (drop taken.old input.now) (meant (program_of program.now).types (S.content store.new) (S.rows store.new)) cells.new.items (drop taken.new input.now)
         (record { old = O.taken out.old; new = O.taken out.new; faults = O.faults out.old; later = O.faults out.new }) result }
-    ensures fits { OnOk result (IsFit (S.content store.new) (S.rows store.new) cells.new.items) }
+    ensures fits { OnOk result (IsFit (program_of program.now).types (S.content store.new) (S.rows store.new) cells.new.items) }
     ensures later { OnOk result (Later (S.content store.old) (S.content store.new) (S.rows store.old) (S.rows store.new)) }
     ensures grows { OnOk result (Grows 1 (S.content store.old) (S.content store.new)) }
     ensures limit { S.limit store.new ≡ S.limit store.old }
@@ -59,23 +60,30 @@ fn act<S: Store>(
 ) -> Result<(), Ending>
     requires quiet { IsQuiet (step_of instr.now) }
     requires own { IsOwn (step_of instr.now) }
-    requires fits { IsFit (S.content store.old) (S.rows store.old) cells.old.items }
+    requires fits { IsFit (program_of program.now).types (S.content store.old) (S.rows store.old) cells.old.items }
     requires countable { CanStep (S.content store.old) }
     ensures step { (s : Setting) → IsSet s (S.limit store.old) (program_of program.now).texts
-        → LeavesBoth (does s (program_of program.now).types (function_of f.now) (step_of instr.now)) (S.content store.old) cells.old.items (S.content store.new) cells.new.items result }
-    ensures fits { OnOk result (IsFit (S.content store.new) (S.rows store.new) cells.new.items) }
+        → LeavesBoth (does s (program_of program.now).types (function_of f.now) (step_of instr.now)) (meant (program_of program.now).types (S.content store.old) (S.rows store.old)) cells.old.items (meant (program_of program.now).types (S.content store.new) (S.rows store.new)) cells.new.items result }
+    ensures fits { OnOk result (IsFit (program_of program.now).types (S.content store.new) (S.rows store.new) cells.new.items) }
     ensures later { OnOk result (Later (S.content store.old) (S.content store.new) (S.rows store.old) (S.rows store.new)) }
     ensures grows { OnOk result (Grows 1 (S.content store.old) (S.content store.new)) }
     ensures limit { S.limit store.new ≡ S.limit store.old }
 {
     match instr {
         Instr::Live { local, form } => live(&program.types, f, store, cells, *local, *form),
-        Instr::End { locals } => end(store, cells, locals),
+        Instr::End { locals } => end(&program.types, store, cells, locals),
         Instr::Eval { into, operation } => evaluate(&program.types, f, *into, *operation, cells),
-        Instr::Load { into, from } => load(store, cells, *into, from),
-        Instr::Save { to, from } => save(store, cells, to, *from),
+        Instr::Load { into, from } => load(&program.types, store, cells, *into, from),
+        Instr::Save { to, from } => save(&program.types, store, cells, to, *from),
         Instr::Aim { pointer, source } => {
-            aim(&program.texts, store, cells, pointer.local, source)
+            aim(
+                &program.types,
+                &program.texts,
+                store,
+                cells,
+                pointer.local,
+                source,
+            )
         }
         Instr::Repoint { pointer, from } => repoint(cells, pointer.local, from.local),
         Instr::Port(_) => unreachable!(),

@@ -2,8 +2,9 @@
 ghost use Rattle.std.specs.Prelude.{◌≡◌, ◌<◌, ◌^◌, pos, OnOk};
 ghost use Rattle.life_core.specs.Function.{function_of};
 ghost use Rattle.life_core.specs.Operands.{operand_of};
-ghost use Rattle.life_interp.specs.Fits.{CellsFit, IsFit, Later};
+ghost use Rattle.life_interp.specs.Fits.{meant, CellsFit, IsFit};
 ghost use Rattle.life_interp.specs.Steps.{loaded, stored, LeavesBoth, LeavesCells};
+ghost use Rattle.life_seen.specs.Housed.{Later};
 ghost use Rattle.life_store.specs.Content.{Content};
 ghost use Rattle.life_store.specs.References.{Rows};
 ghost use Rattle.life_store.specs.Doing.{as_bool, as_char, as_int, computed_into, converted, evaluated, type_of};
@@ -16,6 +17,7 @@ use crate::value::Cell;
 use life_core::{CoreFn, Operand, Operation};
 use life_store::{Store, TrapKind};
 use life_types::{Ty, TypeTable};
+use life_words::{number, put_number};
 
 /// Gives a register a value.
 pub(crate) fn evaluate(
@@ -131,37 +133,37 @@ fn as_int(value: i64) -> i64
 
 /// Reads a value into a register.
 pub(crate) fn load<S: Store>(
+    types: &TypeTable,
     store: &S,
     cells: &mut Vec<Cell>,
     into: u32,
     from: &Operand,
 ) -> Result<(), Ending>
-    requires { IsFit (S.content store.now) (S.rows store.now) cells.old.items }
-    ensures step { LeavesCells (loaded into (operand_of from.now)) (S.content store.now) cells.old.items cells.new.items result }
-    ensures fits { OnOk result (IsFit (S.content store.now) (S.rows store.now) cells.new.items) }
+    requires { IsFit types.now (S.content store.now) (S.rows store.now) cells.old.items }
+    ensures step { LeavesCells (loaded into (operand_of from.now)) (meant types.now (S.content store.now) (S.rows store.now)) cells.old.items cells.new.items result }
+    ensures fits { OnOk result (IsFit types.now (S.content store.now) (S.rows store.now) cells.new.items) }
 {
-    match locate(store, cells, from) {
+    match locate(types, store, cells, from) {
         Err(ending) => Err(ending),
-        Ok(position) => match store.get(position.object, position.index, 0) {
-            Err(_) => unreachable!(),
-            Ok(word) => {
-                put_cell(cells, into, Cell::Number(word.cast_signed()));
-                Ok(())
-            }
-        },
+        Ok(position) => {
+            let word = number(store, position.object, position.index, 0);
+            put_cell(cells, into, Cell::Number(word.cast_signed()));
+            Ok(())
+        }
     }
 }
 
 /// Writes a register's value to a place.
 pub(crate) fn save<S: Store>(
+    types: &TypeTable,
     store: &mut S,
     cells: &[Cell],
     to: &Operand,
     from: u32,
 ) -> Result<(), Ending>
-    requires { IsFit (S.content store.old) (S.rows store.old) cells.now }
-    ensures step { LeavesBoth (stored (operand_of to.now) from) (S.content store.old) cells.now (S.content store.new) cells.now result }
-    ensures fits { OnOk result (IsFit (S.content store.new) (S.rows store.new) cells.now) }
+    requires { IsFit types.now (S.content store.old) (S.rows store.old) cells.now }
+    ensures step { LeavesBoth (stored (operand_of to.now) from) (meant types.now (S.content store.old) (S.rows store.old)) cells.now (meant types.now (S.content store.new) (S.rows store.new)) cells.now result }
+    ensures fits { OnOk result (IsFit types.now (S.content store.new) (S.rows store.new) cells.now) }
     ensures later { OnOk result (Later (S.content store.old) (S.content store.new) (S.rows store.old) (S.rows store.new)) }
     ensures births { OnOk result ((S.content store.new).births ≡ (S.content store.old).births) }
     ensures clock { OnOk result ((S.content store.new).clock ≡ (S.content store.old).clock) }
@@ -169,14 +171,12 @@ pub(crate) fn save<S: Store>(
 {
     match number_at(cells, from) {
         None => Err(Ending::Stray),
-        Some(value) => match locate(store, cells, to) {
+        Some(value) => match locate(types, store, cells, to) {
             Err(ending) => Err(ending),
             Ok(position) => {
                 let word = value.cast_unsigned();
-                match store.put(position.object, position.index, 0, word) {
-                    Err(_) => unreachable!(),
-                    Ok(()) => Ok(()),
-                }
+                put_number(store, position.object, position.index, 0, word);
+                Ok(())
             }
         },
     }

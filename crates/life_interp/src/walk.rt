@@ -2,7 +2,7 @@
 ghost use Rattle.std.specs.Prelude.{◌≡◌, ◌<◌, [], drop, map};
 ghost use Rattle.life_core.specs.Function.{program_of};
 ghost use Rattle.life_core.specs.Linked.{code_of};
-ghost use Rattle.life_interp.specs.Fits.{most_births, CanWalk, IsFit};
+ghost use Rattle.life_interp.specs.Fits.{meant, most_births, CanWalk, IsFit};
 ghost use Rattle.life_interp.specs.Frames.{all_cells, AllBegin, AreFrames};
 ghost use Rattle.life_interp.specs.Runs.{links_seen};
 ghost use Rattle.life_interp.specs.Steps.{IsSet};
@@ -34,11 +34,11 @@ pub(crate) fn walk<'p, S: Store, O: Sink>(
     requires linked { map links_seen code.now ≡ map code_of (program_of program.now).functions }
     requires begin { AllBegin (program_of program.now).functions }
     requires frames { AreFrames (program_of program.now).functions frames.old }
-    requires fits { IsFit (S.content store.old) (S.rows store.old) (all_cells frames.old) }
+    requires fits { IsFit (program_of program.now).types (S.content store.old) (S.rows store.old) (all_cells frames.old) }
     requires countable { CanWalk steps (S.content store.old) }
     requires room { S.limit store.old < most_births }
     ensures { (s : Setting) → IsSet s (S.limit store.old) (program_of program.now).texts → s.given.depth ≡ depth
-        → WalkEnds (from (program_of program.now).functions frames.old (S.content store.old) (drop taken.old input.now) (walk s (program_of program.now) steps) steps [])
+        → WalkEnds (from (program_of program.now).functions frames.old (meant (program_of program.now).types (S.content store.old) (S.rows store.old)) (drop taken.old input.now) (walk s (program_of program.now) steps) steps [])
         (record { old = O.taken out.old; new = O.taken out.new; faults = O.faults out.old; later = O.faults out.new }) result }
 {
     let mut left = steps;

@@ -8,7 +8,7 @@ use Rattle.std.specs.Prelude.{option_map}
 use Rattle.life_core.specs.Function.{function_of, program_of}
 use Rattle.life_interp.specs.SoFar.{results}
 use Rattle.life_interp.specs.Cells.{one_seen, state_of}
-use Rattle.life_interp.specs.Fits.{CellsFit}
+use Rattle.life_interp.specs.Fits.{meant, CellsFit}
 use Rattle.life_interp.specs.Frames.{waiting_cells, AreThere}
 use Rattle.life_interp.specs.Walking.{returns, Halts}
 use Rattle.life_interp.specs.declared.value.Cell.{Cell}
@@ -40,7 +40,7 @@ give_target-requires-clause-fits g c =
     let ws = c.pop.new.self.items in
     let w = c.in-Some.waiting in
     let waiting = subst (CellsFit content rows) (ap waiting_cells c.in-Some.ensures.items ∙ waiting_push ws w) (fit_front content rows (waiting_cells frames.waiting.items) frames.cells.items c.requires.fits.held) in
-    record { housed = c.requires.fits.housed; held = fit_behind content rows (waiting_cells ws) w.cells.items waiting }
+    record { store = c.requires.fits.store; held = fit_behind content rows (waiting_cells ws) w.cells.items waiting }
 
 pub give_target-requires-clause-value : goal.give_target-requires-clause-value
 give_target-requires-clause-value g c =
@@ -56,8 +56,7 @@ returns-in-None-clause-step g c = λ s ins set.
     let p = program_of c.args.program.now in
     let all = c.args.program.now.functions in
     let frames = c.args.frames.now in
-    let content = g.S.Store.content c.args.store.now in
-    let rows = g.S.Store.rows c.args.store.now in
+    let content = meant (program_of c.args.program.now).types (g.S.Store.content c.args.store.now) (g.S.Store.rows c.args.store.now) in
     let at = slice_get_read all.items all.len frames.function c.index-f.result.now all.ok.0 (omega (arith, c.requires.frames.here, length-map all.items function_of, all.ok.0)) c.index-f.ensures in
     let f_is = function_there p.functions frames.function (function_of c.index-f.result.now) (slice_get-map function_of all.items frames.function ∙ ap (option_map function_of) at) in
     let gives : (output : List ℕ) → one_seen c.result_of-result.result ≡ results p.types (function_of c.index-f.result.now) (state_of content frames.cells.items output ins) = λ output.
@@ -75,8 +74,7 @@ returns-in-Err-clause-step g c = λ s ins set.
     let p = program_of c.args.program.now in
     let all = c.args.program.now.functions in
     let frames = c.args.frames.now in
-    let content = g.S.Store.content c.args.store.now in
-    let rows = g.S.Store.rows c.args.store.now in
+    let content = meant (program_of c.args.program.now).types (g.S.Store.content c.args.store.now) (g.S.Store.rows c.args.store.now) in
     let at = slice_get_read all.items all.len frames.function c.index-f.result.now all.ok.0 (omega (arith, c.requires.frames.here, length-map all.items function_of, all.ok.0)) c.index-f.ensures in
     let f_is = function_there p.functions frames.function (function_of c.index-f.result.now) (slice_get-map function_of all.items frames.function ∙ ap (option_map function_of) at) in
     let gives : (output : List ℕ) → one_seen c.result_of-result.result ≡ results p.types (function_of c.index-f.result.now) (state_of content frames.cells.items output ins) = λ output.
@@ -95,8 +93,7 @@ returns-in-Ok-clause-step g c = λ s ins set.
     let p = program_of c.args.program.now in
     let all = c.args.program.now.functions in
     let frames = c.args.frames.now in
-    let content = g.S.Store.content c.args.store.now in
-    let rows = g.S.Store.rows c.args.store.now in
+    let content = meant (program_of c.args.program.now).types (g.S.Store.content c.args.store.now) (g.S.Store.rows c.args.store.now) in
     let at = slice_get_read all.items all.len frames.function c.index-f.result.now all.ok.0 (omega (arith, c.requires.frames.here, length-map all.items function_of, all.ok.0)) c.index-f.ensures in
     let f_is = function_there p.functions frames.function (function_of c.index-f.result.now) (slice_get-map function_of all.items frames.function ∙ ap (option_map function_of) at) in
     let gives : (output : List ℕ) → one_seen c.result_of-result.result ≡ results p.types (function_of c.index-f.result.now) (state_of content frames.cells.items output ins) = λ output.
@@ -108,7 +105,7 @@ returns-in-Ok-clause-step g c = λ s ins set.
     let under = slice_get_read all.items all.len w.function c.index-f-in-Some.result.now all.ok.0 (omega (arith, last, length-map all.items function_of, all.ok.0)) c.index-f-in-Some.ensures in
     let k_is = function_there p.functions w.function (function_of c.index-f-in-Some.result.now) (slice_get-map function_of all.items w.function ∙ ap (option_map function_of) under) in
     back_goes s p frames content ins (function_of c.index-f.result.now) f_is c.result_of-result.result gives ws w c.in-Some.ensures.items (function_of c.index-f-in-Some.result.now) k_is
-    (g.S.Store.content c.give_target.new.store) c.give_target.new.cells.items (c.in-Ok.ensures.step s set.cells)
+    (meant (program_of c.args.program.now).types (g.S.Store.content c.give_target.new.store) (g.S.Store.rows c.give_target.new.store)) c.give_target.new.cells.items (c.in-Ok.ensures.step s set.cells)
 
 pub returns-in-Ok-clause-frames : goal.returns-in-Ok-clause-frames
 returns-in-Ok-clause-frames g c =
@@ -135,6 +132,6 @@ returns-in-Ok-clause-fits g c =
     let d = g.S.Store.content c.give_target.new.store in
     let new = g.S.Store.rows c.give_target.new.store in
     record {
-      housed = c.in-Ok.ensures.fits.housed;
+      store = c.in-Ok.ensures.fits.store;
       held = fit_both d new (waiting_cells ws) c.give_target.new.cells.items (cells_later content d rows new c.in-Ok.ensures.later (waiting_cells ws) (fit_front content rows (waiting_cells ws) w.cells.items waiting)) c.in-Ok.ensures.fits.held;
     }

@@ -5,7 +5,7 @@ use Rattle.life_core.specs.Operands.{argument_of, location_of}
 use Rattle.life_core.specs.Step.{Call}
 use Rattle.life_interp.specs.SoFar.{all_handed}
 use Rattle.life_interp.specs.Cells.{cells_seen, state_of}
-use Rattle.life_interp.specs.Fits.{CellsFit}
+use Rattle.life_interp.specs.Fits.{meant, CellsFit}
 use Rattle.life_interp.specs.Frames.{all_cells, function_at, waiting_cells}
 use Rattle.life_interp.specs.Steps.{TellsNone}
 use Rattle.life_interp.specs.Walking.{acts, Halts}
@@ -20,7 +20,7 @@ pub returns-in-Err-clause-step : goal.returns-in-Err-clause-step
 returns-in-Err-clause-step g c = λ s ins set depth.
     let p = program_of c.args.program.now in
     let frames = c.args.frames.now in
-    let content = g.S.Store.content c.args.store.now in
+    let content = meant (program_of c.args.program.now).types (g.S.Store.content c.args.store.now) (g.S.Store.rows c.args.store.now) in
     let target = option_map location_of c.args.target.now in
     let arguments = map argument_of c.args.arguments.now in
     subst (Halts (acts s p frames content ins (Call target c.args.function arguments) c.args.place c.args.to) content ins) (sym c.halt_at.ensures)
@@ -39,7 +39,7 @@ pub returns-in-Err-entered-clause-step : goal.returns-in-Err-entered-clause-step
 returns-in-Err-entered-clause-step g c = λ s ins set depth.
     let p = program_of c.args.program.now in
     let frames = c.args.frames.now in
-    let content = g.S.Store.content c.args.store.now in
+    let content = meant (program_of c.args.program.now).types (g.S.Store.content c.args.store.now) (g.S.Store.rows c.args.store.now) in
     let target = option_map location_of c.args.target.now in
     let arguments = map argument_of c.args.arguments.now in
     let handed : (output : List ℕ) → all_handed (state_of content frames.cells.items output ins) arguments ≡ Some (cells_seen c.deref-in-Ok.result.now) = λ output.
@@ -53,7 +53,7 @@ pub returns-clause-step : goal.returns-clause-step
 returns-clause-step g c = λ s ins set depth.
     let p = program_of c.args.program.now in
     let frames = c.args.frames.now in
-    let content = g.S.Store.content c.args.store.now in
+    let content = meant (program_of c.args.program.now).types (g.S.Store.content c.args.store.now) (g.S.Store.rows c.args.store.now) in
     let target = option_map location_of c.args.target.now in
     let arguments = map argument_of c.args.arguments.now in
     let handed : (output : List ℕ) → all_handed (state_of content frames.cells.items output ins) arguments ≡ Some (cells_seen c.deref-in-Ok.result.now) = λ output.
@@ -63,7 +63,7 @@ returns-clause-step g c = λ s ins set depth.
     let lt : length frames.waiting.items + 1 < s.given.depth = omega (arith, c.if-len-depth.false, c.len.ensures, frames.waiting.ok.0, depth) in
     let fs = p.functions in
     enters s p frames content ins target c.args.function arguments c.args.place c.args.to (cells_seen c.deref-in-Ok.result.now) handed lt
-    (g.S.Store.content c.entered.new.store) c.in-Ok-entered.cells.items c.wait.new.frames c.wait.result (c.in-Ok-entered.ensures.step s set.cells)
+    (meant (program_of c.args.program.now).types (g.S.Store.content c.entered.new.store) (g.S.Store.rows c.entered.new.store)) c.in-Ok-entered.cells.items c.wait.new.frames c.wait.result (c.in-Ok-entered.ensures.step s set.cells)
     (c.requires.begin c.args.function.0 (function_at fs c.args.function.0) (there_at fs c.args.function.0 c.in-Ok-entered.ensures.there))
     c.wait.ensures.function c.wait.ensures.point c.wait.ensures.cells c.wait.ensures.stack c.wait.ensures.memory
 
@@ -72,5 +72,5 @@ returns-clause-fits g c =
     let content = g.S.Store.content c.args.store.now in
     let rows = g.S.Store.rows c.args.store.now in
     let frames = c.args.frames.now in
-    wait_fits (g.S.Store.content c.entered.new.store) (g.S.Store.rows c.entered.new.store) frames c.wait.new.frames c.in-Ok-entered.cells.items c.wait.result c.wait.ensures.cells c.wait.ensures.held c.in-Ok-entered.ensures.fits
+    wait_fits (program_of c.args.program.now).types (g.S.Store.content c.entered.new.store) (g.S.Store.rows c.entered.new.store) frames c.wait.new.frames c.in-Ok-entered.cells.items c.wait.result c.wait.ensures.cells c.wait.ensures.held c.in-Ok-entered.ensures.fits
     (cells_later content _ rows _ c.in-Ok-entered.ensures.later (all_cells frames) c.requires.fits.held)

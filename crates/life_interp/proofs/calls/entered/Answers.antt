@@ -5,6 +5,7 @@ use Rattle.life_core.specs.Function.{function_of, program_of}
 use Rattle.life_interp.specs.Cells.{cells_seen, world_of}
 use Rattle.life_interp.specs.Walk.{entered_in}
 use Rattle.life_interp.specs.Walking.{Halts}
+use Rattle.life_interp.specs.Fits.{meant}
 use Rattle.life_interp.proofs.FrameLemmas.{enter_goes, enter_halts}
 use Rattle.life_interp.proofs.calls.entered.Goals as goal
 
@@ -12,7 +13,7 @@ pub returns-in-Err-clause-step : goal.returns-in-Err-clause-step
 returns-in-Err-clause-step g c = λ s e ws ins.
     let p = program_of c.args.program.now in
     let fs = c.args.program.now.functions in
-    let content = g.S.Store.content c.args.store.now in
+    let content = meant (program_of c.args.program.now).types (g.S.Store.content c.args.store.now) (g.S.Store.rows c.args.store.now) in
     let values = cells_seen c.args.values.now in
     let there = slice_get_read fs.items fs.len c.args.function.0 c.index-g.result.now fs.ok.0 (omega (arith, c.if-number-len.true, c.len.ensures)) c.index-g.ensures in
     let seen = slice_get-map function_of fs.items c.args.function.0 ∙ ap (option_map function_of) there in
@@ -25,12 +26,12 @@ returns-in-Ok-clause-step g c = λ s e.
     let fs = c.args.program.now.functions in
     let there = slice_get_read fs.items fs.len c.args.function.0 c.index-g.result.now fs.ok.0 (omega (arith, c.if-number-len.true, c.len.ensures)) c.index-g.ensures in
     let seen = slice_get-map function_of fs.items c.args.function.0 ∙ ap (option_map function_of) there in
-    enter_goes s p c.args.function.0 (function_of c.index-g.result.now) (cells_seen c.args.values.now) c.args.place (g.S.Store.content c.args.store.now) seen (g.S.Store.content c.given_cells.new.store) c.in-Ok.cells.items (c.in-Ok.ensures.step s e)
+    enter_goes s p c.args.function.0 (function_of c.index-g.result.now) (cells_seen c.args.values.now) c.args.place (meant (program_of c.args.program.now).types (g.S.Store.content c.args.store.now) (g.S.Store.rows c.args.store.now)) seen (meant (program_of c.args.program.now).types (g.S.Store.content c.given_cells.new.store) (g.S.Store.rows c.given_cells.new.store)) c.in-Ok.cells.items (c.in-Ok.ensures.step s e)
 
 pub returns-else-number-len-clause-step : goal.returns-else-number-len-clause-step
 returns-else-number-len-clause-step g c = λ s e ws ins go n output.
     let p = program_of c.args.program.now in
     let fs = c.args.program.now.functions in
     let past = slice_get_past fs.items c.args.function.0 (omega (arith, c.if-number-len.false, c.len.ensures, fs.ok.0)) in
-    ap (λ o. entered_in s p go ws c.args.place (world_of (g.S.Store.content c.args.store.now) output ins) o (cells_seen c.args.values.now))
+    ap (λ o. entered_in s p go ws c.args.place (world_of (meant (program_of c.args.program.now).types (g.S.Store.content c.args.store.now) (g.S.Store.rows c.args.store.now)) output ins) o (cells_seen c.args.values.now))
     (slice_get-map function_of fs.items c.args.function.0 ∙ ap (option_map function_of) past)

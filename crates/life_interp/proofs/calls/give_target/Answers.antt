@@ -7,14 +7,15 @@ use Rattle.life_interp.specs.SoFar.{target_given}
 use Rattle.life_interp.specs.Cells.{one_seen}
 use Rattle.life_interp.specs.Steps.{LeavesBoth}
 use Rattle.life_interp.specs.declared.value.Cell.{Cell}
+use Rattle.life_interp.specs.Fits.{meant}
 use Rattle.life_interp.proofs.calls.give_target.Goals as goal
 
 pub returns-in-Some-given-clause-step : goal.returns-in-Some-given-clause-step
 returns-in-Some-given-clause-step g c = λ s e.
     let types = (program_of c.args.program.now).types in
     let f = function_of c.args.f.now in
-    let content = g.S.Store.content c.args.store.now in
-    let after = g.S.Store.content c.give.new.store in
+    let content = meant (program_of c.args.program.now).types (g.S.Store.content c.args.store.now) (g.S.Store.rows c.args.store.now) in
+    let after = meant (program_of c.args.program.now).types (g.S.Store.content c.give.new.store) (g.S.Store.rows c.give.new.store) in
     subst (λ (t : Option Location). LeavesBoth (target_given s types f (option_map location_of t) (one_seen c.args.given)) content c.args.cells.now.items after c.give.new.cells.items c.give.result) (sym c.in-Some.is)
     (subst (λ (v : Option Cell). LeavesBoth (target_given s types f (Some (location_of c.in-Some.location)) (one_seen v)) content c.args.cells.now.items after c.give.new.cells.items c.give.result) (sym c.in-Some-given.is)
     (c.give.ensures.step s e))

@@ -7,7 +7,9 @@ use Rattle.life_store.specs.State as state
 use Rattle.life_interp.specs.Cells.{cell_seen, cells_seen, state_of}
 use Rattle.life_interp.specs.Steps.{TellsEnd}
 use Rattle.life_interp.specs.declared.value.Cell.TheVariants as held
-use Rattle.life_interp.proofs.FitLemmas.{later_on, one_later}
+use Rattle.life_interp.specs.Fits.{meant}
+use Rattle.life_seen.proofs.References.{later_then}
+use Rattle.life_interp.proofs.FitLemmas.{one_later}
 use Rattle.life_interp.proofs.FrameLemmas.{index_fits, more_seen, none_seen}
 use Rattle.life_interp.proofs.GiveLemmas.{gives_on}
 use Rattle.life_interp.proofs.LocalLemmas.{on_next_ends}
@@ -24,7 +26,7 @@ returns-in-Err-clause-step g c = λ s e output input.
     let types = c.args.types.now in
     let values = c.args.values.now in
     let v = cell_seen (slice_index_or values i held.Empty) in
-    let st = state_of (g.S.Store.content c.loop-local.store) c.loop-local.cells.items output input in
+    let st = state_of (meant c.args.types.now (g.S.Store.content c.loop-local.store) (g.S.Store.rows c.loop-local.store)) c.loop-local.cells.items output input in
     let more = c.loop-local.invariant.step s e output input ∙ ap (λ (xs : List state.Cell). parameters_given s types f i xs st) (more_seen values i c.loop-local-test.true) in
     subst (λ x. TellsEnd x c.in-Err.ending) (sym more)
     (on_next_ends (given s types f v i st) c.in-Err.ending (parameters_given s types f (i + 1) (drop (i + 1) (cells_seen values))) (c.in-Err.ensures.step s (e ∙ sym c.loop-local.invariant.limit) output input))
@@ -39,12 +41,12 @@ loop-local-preserved g c =
     let q = c.in-Ok.ensures in
     record {
       step = λ s e output input.
-          let st = state_of (g.S.Store.content c.loop-local.store) c.loop-local.cells.items output input in
+          let st = state_of (meant c.args.types.now (g.S.Store.content c.loop-local.store) (g.S.Store.rows c.loop-local.store)) c.loop-local.cells.items output input in
           was.step s e output input
           ∙ ap (λ (xs : List state.Cell). parameters_given s types f i xs st) (more_seen values i c.loop-local-test.true)
           ∙ ap (λ x. on_next x (parameters_given s types f (i + 1) (drop (i + 1) (cells_seen values)))) (q.step s (e ∙ sym was.limit) output input);
       fits = q.fits;
-      later = later_on _ _ _ _ _ _ was.later q.later;
+      later = later_then _ _ _ _ _ _ was.later q.later;
       gives = gives_on _ _ _ _ _ was.limit was.gives q.gives;
       limit = c.give.ensures.limit ∙ was.limit;
     }
@@ -52,6 +54,6 @@ loop-local-preserved g c =
 pub returns-clause-step : goal.returns-clause-step
 returns-clause-step g c = λ s e output input.
     let i = c.loop-local.local in
-    let st = state_of (g.S.Store.content c.loop-local.store) c.loop-local.cells.items output input in
+    let st = state_of (meant c.args.types.now (g.S.Store.content c.loop-local.store) (g.S.Store.rows c.loop-local.store)) c.loop-local.cells.items output input in
     c.loop-local.invariant.step s e output input
     ∙ ap (λ (xs : List state.Cell). parameters_given s c.args.types.now (function_of c.args.f.now) i xs st) (none_seen c.args.values.now i (omega (arith, c.loop-local-test.false)))

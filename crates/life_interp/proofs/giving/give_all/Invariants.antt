@@ -4,7 +4,8 @@ use Rattle.life_core.specs.Function.{function_of}
 use Rattle.life_store.specs.Doing.{Setting}
 use Rattle.life_interp.specs.SoFar.{parameters_given}
 use Rattle.life_interp.specs.Cells.{cells_seen, state_of}
-use Rattle.life_interp.specs.Fits.{Gives, IsFit, Later}
+use Rattle.life_seen.specs.Housed.{Later}
+use Rattle.life_interp.specs.Fits.{meant, Gives, IsFit}
 use Rattle.life_interp.proofs.giving.give_all.Given as goal
 
 -- the values that are left are given as all are
@@ -14,9 +15,9 @@ invariant-loop-local g l =
     let rows = g.S.Store.rows in
     record {
       step : (s : Setting) → s.given.cells ≡ g.S.Store.limit l.initial.store → (output : List ℕ) (input : List ℤ)
-          → parameters_given s l.types (function_of l.f) 0 (cells_seen l.values) (state_of (content l.initial.store) l.initial.cells.items output input)
-          ≡ parameters_given s l.types (function_of l.f) l.local (drop l.local (cells_seen l.values)) (state_of (content l.store) l.cells.items output input);
-      fits : IsFit (content l.store) (rows l.store) l.cells.items;
+          → parameters_given s l.types (function_of l.f) 0 (cells_seen l.values) (state_of (meant l.types (content l.initial.store) (rows l.initial.store)) l.initial.cells.items output input)
+          ≡ parameters_given s l.types (function_of l.f) l.local (drop l.local (cells_seen l.values)) (state_of (meant l.types (content l.store) (rows l.store)) l.cells.items output input);
+      fits : IsFit l.types (content l.store) (rows l.store) l.cells.items;
       later : Later (content l.initial.store) (content l.store) (rows l.initial.store) (rows l.store);
       gives : Gives (g.S.Store.limit l.initial.store) (content l.initial.store) (content l.store);
       limit : g.S.Store.limit l.store ≡ g.S.Store.limit l.initial.store;

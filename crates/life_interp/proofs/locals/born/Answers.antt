@@ -1,44 +1,53 @@
-use Rattle.std.proofs.Common.{ap, sym, ◌∙◌, arith}
-use Rattle.life_store.specs.Cells.{set, at-set_other}
+use Rattle.std.proofs.Common.{◌≡◌, ◌+◌, ap, arith}
 use Rattle.life_store.specs.Content.{Content}
-use Rattle.life_store.specs.Doing.{with_value_object, put_cell}
-use Rattle.life_store.specs.State as state
-use Rattle.life_interp.specs.Cells.{state_of}
+use Rattle.life_seen.specs.Kinds.{kinds_of}
+use Rattle.life_seen.specs.Named.{names_of}
+use Rattle.life_seen.proofs.LiveWords.{live_words_seen}
+use Rattle.life_interp.specs.Fits.{meant}
 use Rattle.life_interp.specs.declared.value.Cell.TheVariants as held
-use Rattle.life_interp.proofs.FitLemmas.{fit_born, later_born, ref_born, set_fits}
-use Rattle.life_interp.proofs.LocalLemmas.{born_step}
-use Rattle.life_interp.proofs.StepLemmas.{put_now}
+use Rattle.life_interp.proofs.FitLemmas.{cells_later, set_fits}
+use Rattle.life_interp.proofs.LocalLemmas.{birth_fails, born_step}
+use Rattle.life_interp.proofs.NumberLemmas.{holds, numbers_born, ref_placed}
 use Rattle.life_interp.proofs.locals.born.Goals as goal
+
+pub returns-in-Err-clause-step : goal.returns-in-Err-clause-step
+returns-in-Err-clause-step g c = λ s e output input.
+    birth_fails s c.args.ty c.args.local (g.S.Store.content c.args.store.now) c.args.types.now (g.S.Store.rows c.args.store.now) c.args.cells.now.items (g.S.Store.limit c.args.store.now) c.in-Err.ending output input c.in-Err.ensures.full e
 
 pub returns-in-Ok-clause-step : goal.returns-in-Ok-clause-step
 returns-in-Ok-clause-step g c = λ s e output input.
     let q = c.in-Ok.ensures in
+    let kinds = kinds_of c.args.types.now in
     let content = g.S.Store.content c.args.store.now in
-    let after = g.S.Store.content c.new_object.new.store in
-    let written = put_now after c.args.cells.now.items c.put_cell.new.cells.items c.args.local (held.Object c.in-Ok.object) output input c.put_cell.ensures in
-    born_step s c.args.ty c.args.local content after c.args.cells.now.items c.put_cell.new.cells.items c.in-Ok.object output input
-    (λ lt. omega (arith, lt, e, q.room)) q.number q.born
-    (ap (λ (d : Content). put_cell c.args.local (state.Named content.births) (state_of d c.args.cells.now.items output input)) (sym q.born)
-    ∙ ap (λ n. put_cell c.args.local (state.Named n) (state_of after c.args.cells.now.items output input)) (sym q.number)
-    ∙ written)
+    let rows = g.S.Store.rows c.args.store.now in
+    let shows = q.shows kinds c.requires.fits.store.housed in
+    let live = live_words_seen kinds (names_of content rows) content in
+    born_step s c.args.ty c.args.local (meant c.args.types.now content rows) (meant c.args.types.now (g.S.Store.content c.new_object.new.store) (g.S.Store.rows c.new_object.new.store)) c.args.cells.now.items c.put_cell.new.cells.items c.in-Ok.object output input
+    (λ lt. omega (arith, lt, e, q.room, live)) q.number shows.is c.put_cell.ensures
 
 pub returns-in-Ok-clause-fits : goal.returns-in-Ok-clause-fits
 returns-in-Ok-clause-fits g c =
     let q = c.in-Ok.ensures in
+    let types = c.args.types.now in
     let content = g.S.Store.content c.args.store.now in
     let rows = g.S.Store.rows c.args.store.now in
-    let r = c.in-Ok.object in
-    let d = with_value_object c.args.ty content in
-    let fit = fit_born content rows r c.args.cells.now.items c.requires.fits q.number d.objects d.clock (λ n ne. at-set_other (set content.objects content.births _) content.births n _ ne ∙ at-set_other content.objects content.births n _ ne) in
-    rw (q.born, q.row, c.put_cell.ensures)
+    let d = g.S.Store.content c.new_object.new.store in
+    let new = g.S.Store.rows c.new_object.new.store in
+    let shows = q.shows (kinds_of types) c.requires.fits.store.housed in
+    let births : d.births ≡ content.births + 1 = ap (λ (x : Content). x.births) shows.is in
+    rw c.put_cell.ensures
     (record {
-      housed = fit.housed;
-      held = set_fits d (set rows r.birth r.row) c.args.cells.now.items c.args.local (held.Object r) fit.held (ref_born content rows r d.objects d.clock q.number);
+      store = holds types d new _ shows (numbers_born types (meant types content rows) c.args.ty c.requires.fits.store.numbers c.requires.value);
+      held = set_fits d new c.args.cells.now.items c.args.local (held.Object c.in-Ok.object)
+          (cells_later content d rows new q.later c.args.cells.now.items c.requires.fits.held)
+          (ref_placed d new c.in-Ok.object (omega (arith, births, q.number)) q.placed);
     })
 
-pub returns-in-Ok-clause-later : goal.returns-in-Ok-clause-later
-returns-in-Ok-clause-later g c =
-    let q = c.in-Ok.ensures in
+pub returns-in-Ok-clause-grows : goal.returns-in-Ok-clause-grows
+returns-in-Ok-clause-grows g c =
+    let shows = c.in-Ok.ensures.shows (kinds_of c.args.types.now) c.requires.fits.store.housed in
     let content = g.S.Store.content c.args.store.now in
-    let d = with_value_object c.args.ty content in
-    rw (q.born, q.row) (later_born content (g.S.Store.rows c.args.store.now) c.in-Ok.object d.objects d.clock q.number)
+    let d = g.S.Store.content c.new_object.new.store in
+    let births : d.births ≡ content.births + 1 = ap (λ (x : Content). x.births) shows.is in
+    let clock : d.clock ≡ content.clock + 1 = ap (λ (x : Content). x.clock) shows.is in
+    record { births = omega (arith, births); clock = omega (arith, clock) }

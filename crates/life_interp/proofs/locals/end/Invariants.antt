@@ -2,7 +2,8 @@ use Rattle.std.proofs.Common.{◌≡◌, List, ℕ, drop}
 use Rattle.std.specs.Prelude.{ℤ}
 use Rattle.life_interp.specs.SoFar.{end_locals}
 use Rattle.life_interp.specs.Cells.{state_of}
-use Rattle.life_interp.specs.Fits.{IsFit, Later}
+use Rattle.life_seen.specs.Housed.{Later}
+use Rattle.life_interp.specs.Fits.{meant, IsFit}
 use Rattle.life_interp.proofs.locals.end.Given as goal
 
 -- the locals that are left end as all do
@@ -10,9 +11,9 @@ abbrev pub invariant-loop-local : goal.invariant-loop-local
 invariant-loop-local g l =
     let content = g.S.Store.content in
     record {
-      step : (output : List ℕ) (input : List ℤ) → end_locals l.locals (state_of (content l.initial.store) l.initial.cells.items output input)
-          ≡ end_locals (drop l.local-index l.locals) (state_of (content l.store) l.cells.items output input);
-      fits : IsFit (content l.store) (g.S.Store.rows l.store) l.cells.items;
+      step : (output : List ℕ) (input : List ℤ) → end_locals l.locals (state_of (meant l.types (content l.initial.store) (g.S.Store.rows l.initial.store)) l.initial.cells.items output input)
+          ≡ end_locals (drop l.local-index l.locals) (state_of (meant l.types (content l.store) (g.S.Store.rows l.store)) l.cells.items output input);
+      fits : IsFit l.types (content l.store) (g.S.Store.rows l.store) l.cells.items;
       later : Later (content l.initial.store) (content l.store) (g.S.Store.rows l.initial.store) (g.S.Store.rows l.store);
       births : (content l.store).births ≡ (content l.initial.store).births;
       clock : (content l.store).clock ≡ (content l.initial.store).clock;

@@ -8,10 +8,15 @@ use Rattle.life_store.specs.State as state
 use Rattle.life_interp.specs.Cells.{pointer_seen, sort_seen, state_of}
 use Rattle.life_interp.specs.declared.value.Cell.{Cell}
 use Rattle.life_interp.specs.declared.value.Cell.TheVariants as held
+use Rattle.life_interp.specs.Fits.{meant}
 use Rattle.life_interp.proofs.FitLemmas.{set_fits}
 use Rattle.life_interp.proofs.LocalLemmas.{born_fits, leaves_as, live_is, live_strays, none_strays}
+use Rattle.life_interp.proofs.NumberLemmas.{object_is_number}
 use Rattle.life_interp.proofs.StepLemmas.{seen, put_now}
 use Rattle.life_interp.proofs.locals.live.Goals as goal
+
+pub born-requires-clause-value : goal.born-requires-clause-value
+born-requires-clause-value g c = object_is_number c.args.types.now c.index-declared.result.now (sym (ap sort_seen c.in-Object.is) ∙ c.sort_of.ensures)
 
 pub returns-in-Object-clause-step : goal.returns-in-Object-clause-step
 returns-in-Object-clause-step g c = λ s e.
@@ -20,7 +25,7 @@ returns-in-Object-clause-step g c = λ s e.
     let there = slice_get_read locals.items locals.len c.args.local local locals.ok.0 (omega (arith, c.if-index-len.true, c.len.ensures)) c.index-declared.ensures in
     let at_cell = ap (λ (cells : List Cell). slice_get cells c.args.local) (sym c.deref.ensures.value) ∙ sym c.cell_at.ensures ∙ c.in-Some-Empty.is ∙ ap (λ (v : Cell). Some v) c.in-Some-Empty.field-0-is in
     let cell_is = seen c.args.cells.now.items c.args.local (Some held.Empty) (sym at_cell) in
-    let content = g.S.Store.content c.args.store.now in
+    let content = meant c.args.types.now (g.S.Store.content c.args.store.now) (g.S.Store.rows c.args.store.now) in
     leaves_as _ _ _ c.born.result
     (λ output input. live_is s c.args.types.now (function_of c.args.f.now) c.args.local local AnObject c.args.form (state_of content c.args.cells.now.items output input) there cell_is (sym (ap sort_seen c.in-Object.is) ∙ c.sort_of.ensures))
     (c.born.ensures.step s e)
@@ -32,7 +37,7 @@ returns-in-Blank-clause-step g c = λ s e output input.
     let there = slice_get_read locals.items locals.len c.args.local local locals.ok.0 (omega (arith, c.if-index-len.true, c.len.ensures)) c.index-declared.ensures in
     let at_cell = ap (λ (cells : List Cell). slice_get cells c.args.local) (sym c.deref.ensures.value) ∙ sym c.cell_at.ensures ∙ c.in-Some-Empty.is ∙ ap (λ (v : Cell). Some v) c.in-Some-Empty.field-0-is in
     let cell_is = seen c.args.cells.now.items c.args.local (Some held.Empty) (sym at_cell) in
-    let content = g.S.Store.content c.args.store.now in
+    let content = meant c.args.types.now (g.S.Store.content c.args.store.now) (g.S.Store.rows c.args.store.now) in
     live_is s c.args.types.now (function_of c.args.f.now) c.args.local local Blank c.args.form (state_of content c.args.cells.now.items output input) there cell_is (sym (ap sort_seen c.in-Blank.is) ∙ c.sort_of.ensures)
 
 pub returns-in-Number-clause-step : goal.returns-in-Number-clause-step
@@ -42,7 +47,7 @@ returns-in-Number-clause-step g c = λ s e output input.
     let there = slice_get_read locals.items locals.len c.args.local local locals.ok.0 (omega (arith, c.if-index-len.true, c.len.ensures)) c.index-declared.ensures in
     let at_cell = ap (λ (cells : List Cell). slice_get cells c.args.local) (sym c.deref.ensures.value) ∙ sym c.cell_at.ensures ∙ c.in-Some-Empty.is ∙ ap (λ (v : Cell). Some v) c.in-Some-Empty.field-0-is in
     let cell_is = seen c.args.cells.now.items c.args.local (Some held.Empty) (sym at_cell) in
-    let content = g.S.Store.content c.args.store.now in
+    let content = meant c.args.types.now (g.S.Store.content c.args.store.now) (g.S.Store.rows c.args.store.now) in
     live_is s c.args.types.now (function_of c.args.f.now) c.args.local local ANumber c.args.form (state_of content c.args.cells.now.items output input) there cell_is (sym (ap sort_seen c.in-Number.is) ∙ c.sort_of.ensures)
 
 pub returns-in-View-clause-step : goal.returns-in-View-clause-step
@@ -52,7 +57,7 @@ returns-in-View-clause-step g c = λ s e output input.
     let there = slice_get_read locals.items locals.len c.args.local local locals.ok.0 (omega (arith, c.if-index-len.true, c.len.ensures)) c.index-declared.ensures in
     let at_cell = ap (λ (cells : List Cell). slice_get cells c.args.local) (sym c.deref.ensures.value) ∙ sym c.cell_at.ensures ∙ c.in-Some-Empty.is ∙ ap (λ (v : Cell). Some v) c.in-Some-Empty.field-0-is in
     let cell_is = seen c.args.cells.now.items c.args.local (Some held.Empty) (sym at_cell) in
-    let content = g.S.Store.content c.args.store.now in
+    let content = meant c.args.types.now (g.S.Store.content c.args.store.now) (g.S.Store.rows c.args.store.now) in
     live_is s c.args.types.now (function_of c.args.f.now) c.args.local local AView c.args.form (state_of content c.args.cells.now.items output input) there cell_is (sym (ap sort_seen c.in-View.is) ∙ c.sort_of.ensures)
 
 pub returns-in-Pointer-clause-step : goal.returns-in-Pointer-clause-step
@@ -62,7 +67,7 @@ returns-in-Pointer-clause-step g c = λ s e output input.
     let there = slice_get_read locals.items locals.len c.args.local local locals.ok.0 (omega (arith, c.if-index-len.true, c.len.ensures)) c.index-declared.ensures in
     let at_cell = ap (λ (cells : List Cell). slice_get cells c.args.local) (sym c.deref.ensures.value) ∙ sym c.cell_at.ensures ∙ c.in-Some-Empty.is ∙ ap (λ (v : Cell). Some v) c.in-Some-Empty.field-0-is in
     let cell_is = seen c.args.cells.now.items c.args.local (Some held.Empty) (sym at_cell) in
-    let content = g.S.Store.content c.args.store.now in
+    let content = meant c.args.types.now (g.S.Store.content c.args.store.now) (g.S.Store.rows c.args.store.now) in
     let st = state_of content c.args.cells.now.items output input in
     live_is s c.args.types.now (function_of c.args.f.now) c.args.local local APointer c.args.form st there cell_is (sym (ap sort_seen c.in-Pointer.is) ∙ c.sort_of.ensures)
     ∙ ap (λ p. Next (put_cell c.args.local (state.Points p) st)) (sym c.born_pointer.ensures)
@@ -73,7 +78,7 @@ returns-in-Pointer-clause-fits g c =
     let content = g.S.Store.content c.args.store.now in
     let rows = g.S.Store.rows c.args.store.now in
     rw c.put_cell.ensures
-    (record { housed = c.requires.fits.housed; held = set_fits content rows c.args.cells.now.items c.args.local (held.Points c.born_pointer.result) c.requires.fits.held (born_fits c.args.form c.born_pointer.result content rows c.born_pointer.ensures) })
+    (record { store = c.requires.fits.store; held = set_fits content rows c.args.cells.now.items c.args.local (held.Points c.born_pointer.result) c.requires.fits.held (born_fits c.args.form c.born_pointer.result content rows c.born_pointer.ensures) })
 
 pub returns-in-Some-Object-clause-step : goal.returns-in-Some-Object-clause-step
 returns-in-Some-Object-clause-step g c = λ s e output input.
@@ -82,7 +87,7 @@ returns-in-Some-Object-clause-step g c = λ s e output input.
     let there = slice_get_read locals.items locals.len c.args.local local locals.ok.0 (omega (arith, c.if-index-len.true, c.len.ensures)) c.index-declared.ensures in
     let at_cell = ap (λ (cells : List Cell). slice_get cells c.args.local) (sym c.deref.ensures.value) ∙ sym c.cell_at.ensures ∙ c.in-Some-Object.is ∙ ap (λ (v : Cell). Some v) c.in-Some-Object.field-0-is in
     let cell_is = seen c.args.cells.now.items c.args.local (Some (held.Object c.in-Some-Object.field-0-0)) (sym at_cell) in
-    live_strays s c.args.types.now (function_of c.args.f.now) c.args.local local c.args.form (state_of (g.S.Store.content c.args.store.now) c.args.cells.now.items output input) (Some (state.Named c.in-Some-Object.field-0-0.birth)) there cell_is refl
+    live_strays s c.args.types.now (function_of c.args.f.now) c.args.local local c.args.form (state_of (meant c.args.types.now (g.S.Store.content c.args.store.now) (g.S.Store.rows c.args.store.now)) c.args.cells.now.items output input) (Some (state.Named c.in-Some-Object.field-0-0.birth)) there cell_is refl
 
 pub returns-in-Some-Number-clause-step : goal.returns-in-Some-Number-clause-step
 returns-in-Some-Number-clause-step g c = λ s e output input.
@@ -91,7 +96,7 @@ returns-in-Some-Number-clause-step g c = λ s e output input.
     let there = slice_get_read locals.items locals.len c.args.local local locals.ok.0 (omega (arith, c.if-index-len.true, c.len.ensures)) c.index-declared.ensures in
     let at_cell = ap (λ (cells : List Cell). slice_get cells c.args.local) (sym c.deref.ensures.value) ∙ sym c.cell_at.ensures ∙ c.in-Some-Number.is ∙ ap (λ (v : Cell). Some v) c.in-Some-Number.field-0-is in
     let cell_is = seen c.args.cells.now.items c.args.local (Some (held.Number c.in-Some-Number.field-0-0)) (sym at_cell) in
-    live_strays s c.args.types.now (function_of c.args.f.now) c.args.local local c.args.form (state_of (g.S.Store.content c.args.store.now) c.args.cells.now.items output input) (Some (state.Number c.in-Some-Number.field-0-0)) there cell_is refl
+    live_strays s c.args.types.now (function_of c.args.f.now) c.args.local local c.args.form (state_of (meant c.args.types.now (g.S.Store.content c.args.store.now) (g.S.Store.rows c.args.store.now)) c.args.cells.now.items output input) (Some (state.Number c.in-Some-Number.field-0-0)) there cell_is refl
 
 pub returns-in-Some-Points-clause-step : goal.returns-in-Some-Points-clause-step
 returns-in-Some-Points-clause-step g c = λ s e output input.
@@ -100,7 +105,7 @@ returns-in-Some-Points-clause-step g c = λ s e output input.
     let there = slice_get_read locals.items locals.len c.args.local local locals.ok.0 (omega (arith, c.if-index-len.true, c.len.ensures)) c.index-declared.ensures in
     let at_cell = ap (λ (cells : List Cell). slice_get cells c.args.local) (sym c.deref.ensures.value) ∙ sym c.cell_at.ensures ∙ c.in-Some-Points.is ∙ ap (λ (v : Cell). Some v) c.in-Some-Points.field-0-is in
     let cell_is = seen c.args.cells.now.items c.args.local (Some (held.Points c.in-Some-Points.field-0-0)) (sym at_cell) in
-    live_strays s c.args.types.now (function_of c.args.f.now) c.args.local local c.args.form (state_of (g.S.Store.content c.args.store.now) c.args.cells.now.items output input) (Some (state.Points (pointer_seen c.in-Some-Points.field-0-0))) there cell_is refl
+    live_strays s c.args.types.now (function_of c.args.f.now) c.args.local local c.args.form (state_of (meant c.args.types.now (g.S.Store.content c.args.store.now) (g.S.Store.rows c.args.store.now)) c.args.cells.now.items output input) (Some (state.Points (pointer_seen c.in-Some-Points.field-0-0))) there cell_is refl
 
 pub returns-in-None-clause-step : goal.returns-in-None-clause-step
 returns-in-None-clause-step g c = λ s e output input.
@@ -108,9 +113,9 @@ returns-in-None-clause-step g c = λ s e output input.
     let local = c.index-declared.result.now in
     let there = slice_get_read locals.items locals.len c.args.local local locals.ok.0 (omega (arith, c.if-index-len.true, c.len.ensures)) c.index-declared.ensures in
     let cell_is = seen c.args.cells.now.items c.args.local None (sym (ap (λ (cells : List Cell). slice_get cells c.args.local) (sym c.deref.ensures.value) ∙ sym c.cell_at.ensures ∙ c.in-None.is)) in
-    live_strays s c.args.types.now (function_of c.args.f.now) c.args.local local c.args.form (state_of (g.S.Store.content c.args.store.now) c.args.cells.now.items output input) None there cell_is refl
+    live_strays s c.args.types.now (function_of c.args.f.now) c.args.local local c.args.form (state_of (meant c.args.types.now (g.S.Store.content c.args.store.now) (g.S.Store.rows c.args.store.now)) c.args.cells.now.items output input) None there cell_is refl
 
 pub returns-else-index-len-clause-step : goal.returns-else-index-len-clause-step
 returns-else-index-len-clause-step g c = λ s e output input.
-    none_strays s c.args.types.now (function_of c.args.f.now) c.args.local c.args.form (state_of (g.S.Store.content c.args.store.now) c.args.cells.now.items output input)
+    none_strays s c.args.types.now (function_of c.args.f.now) c.args.local c.args.form (state_of (meant c.args.types.now (g.S.Store.content c.args.store.now) (g.S.Store.rows c.args.store.now)) c.args.cells.now.items output input)
     (slice_get_past c.args.f.now.locals.items c.args.local (omega (arith, c.if-index-len.false, c.len.ensures, c.args.f.now.locals.ok.0)))

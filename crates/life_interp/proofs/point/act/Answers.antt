@@ -9,6 +9,7 @@ use Rattle.life_core.specs.declared.instr.Instr.{Instr}
 use Rattle.life_core.specs.declared.operand.Argument.{Argument}
 use Rattle.life_interp.specs.Frames.{waiting_cells}
 use Rattle.life_interp.specs.Walking.{acts, Moves, PointEnds, PointLeads, Sunk}
+use Rattle.life_interp.specs.Fits.{meant}
 use Rattle.life_interp.proofs.CodeLists.{function_there}
 use Rattle.life_interp.proofs.FitLemmas.{cells_later, fit_behind, fit_both, fit_front}
 use Rattle.life_interp.proofs.PointLemmas.{act_ends, act_goes, grows_more, leads_quiet, own_else}
@@ -20,7 +21,7 @@ perform-requires g c =
     let frames = c.args.frames.now in
     record {
       own = own_else c.args.instr.now (λ target f xs e. c.in_default.not-Call target f xs e);
-      fits = record { housed = c.requires.fits.housed; held = fit_behind _ _ (waiting_cells frames.waiting.items) frames.cells.items c.requires.fits.held };
+      fits = record { store = c.requires.fits.store; held = fit_behind _ _ (waiting_cells frames.waiting.items) frames.cells.items c.requires.fits.held };
       countable = c.requires.countable;
     }
 
@@ -28,9 +29,9 @@ pub returns-in-Call-clause-step : goal.returns-in-Call-clause-step
 returns-in-Call-clause-step g c = λ s set depth.
     let p = program_of c.args.program.now in
     let frames = c.args.frames.now in
-    let content = g.S.Store.content c.args.store.now in
+    let content = meant (program_of c.args.program.now).types (g.S.Store.content c.args.store.now) (g.S.Store.rows c.args.store.now) in
     let ins = drop c.args.taken.now c.args.input.now in
-    let after = g.S.Store.content c.call.new.store in
+    let after = meant (program_of c.args.program.now).types (g.S.Store.content c.call.new.store) (g.S.Store.rows c.call.new.store) in
     let k : Sunk = record { old = g.O.Sink.taken c.args.out.now; new = g.O.Sink.taken c.args.out.now; faults = g.O.Sink.faults c.args.out.now; later = g.O.Sink.faults c.args.out.now } in
     let called = subst (λ (xs : List Argument). Moves (acts s p frames content ins (Call (option_map location_of c.in-Call.target) c.in-Call.function (map argument_of xs)) c.args.place c.args.to) p.functions content c.call.new.frames after ins c.call.result)
     c.deref.ensures.value (c.call.ensures.step s ins set depth) in
@@ -42,7 +43,7 @@ returns-in-Err g c = record {
   step = λ s set depth.
       let p = program_of c.args.program.now in
       let frames = c.args.frames.now in
-      let content = g.S.Store.content c.args.store.now in
+      let content = meant (program_of c.args.program.now).types (g.S.Store.content c.args.store.now) (g.S.Store.rows c.args.store.now) in
       let ins = drop c.args.taken.now c.args.input.now in
       let all = c.args.program.now.functions in
       let at = slice_get_read all.items all.len frames.function c.index-f.result.now all.ok.0 (omega (arith, c.requires.frames.here, length-map all.items function_of, all.ok.0)) c.index-f.ensures in
@@ -62,21 +63,21 @@ returns-in-Ok g c = record {
   step = λ s set depth.
       let p = program_of c.args.program.now in
       let frames = c.args.frames.now in
-      let content = g.S.Store.content c.args.store.now in
+      let content = meant (program_of c.args.program.now).types (g.S.Store.content c.args.store.now) (g.S.Store.rows c.args.store.now) in
       let ins = drop c.args.taken.now c.args.input.now in
       let all = c.args.program.now.functions in
       let at = slice_get_read all.items all.len frames.function c.index-f.result.now all.ok.0 (omega (arith, c.requires.frames.here, length-map all.items function_of, all.ok.0)) c.index-f.ensures in
       let f_is = function_there p.functions frames.function (function_of c.index-f.result.now) (slice_get-map function_of all.items frames.function ∙ ap (option_map function_of) at) in
       let own = own_else c.args.instr.now (λ target f xs e. c.in_default.not-Call target f xs e) in
       let went = c.in-Ok.ensures.step s set in
-      (went.0, went.1, act_goes s p frames content ins c.args.place c.args.to (step_of c.args.instr.now) own (function_of c.index-f.result.now) f_is (g.S.Store.content c.perform.new.store) c.perform.new.cells.items (drop c.perform.new.taken c.args.input.now) went.0 went.2);
+      (went.0, went.1, act_goes s p frames content ins c.args.place c.args.to (step_of c.args.instr.now) own (function_of c.index-f.result.now) f_is (meant p.types (g.S.Store.content c.perform.new.store) (g.S.Store.rows c.perform.new.store)) c.perform.new.cells.items (drop c.perform.new.taken c.args.input.now) went.0 went.2);
   frames = record { here = c.requires.frames.here; there = c.requires.frames.there };
   fits =
       let frames = c.args.frames.now in
       let content = g.S.Store.content c.args.store.now in
       let rows = g.S.Store.rows c.args.store.now in
       let waiting = cells_later content _ rows _ c.in-Ok.ensures.later (waiting_cells frames.waiting.items) (fit_front content rows (waiting_cells frames.waiting.items) frames.cells.items c.requires.fits.held) in
-      record { housed = c.in-Ok.ensures.fits.housed; held = fit_both _ _ (waiting_cells frames.waiting.items) c.perform.new.cells.items waiting c.in-Ok.ensures.fits.held };
+      record { store = c.in-Ok.ensures.fits.store; held = fit_both _ _ (waiting_cells frames.waiting.items) c.perform.new.cells.items waiting c.in-Ok.ensures.fits.held };
   grows = grows_more _ _ c.in-Ok.ensures.grows;
   limit = c.perform.ensures.limit;
 }

@@ -8,6 +8,7 @@ use Rattle.life_core.specs.Node.{node_seen}
 use Rattle.life_core.specs.Step.{asked_of, step_of}
 use Rattle.life_core.specs.Tree.{Action, Question, Return, Stop}
 use Rattle.life_interp.specs.Walking.{acts, asks, returns, Sunk}
+use Rattle.life_interp.specs.Fits.{meant}
 use Rattle.life_interp.proofs.CodeLists.{codes_length}
 use Rattle.life_interp.proofs.PointLemmas.{leads_as, leads_quiet, passes_at, passes_node, point_seen}
 use Rattle.life_interp.proofs.WalkLemmas.{untouched}
@@ -25,7 +26,7 @@ returns-in-None-clause-step g c = λ s set depth.
     let point = point_seen p frames codes functions c.requires.linked refl lt v there c.deref.result.now c.deref.ensures.value c.link_at.result c.link_at.ensures in
     let k : Sunk = record { old = g.O.Sink.taken c.args.out.now; new = g.O.Sink.taken c.args.out.now; faults = g.O.Sink.faults c.args.out.now; later = g.O.Sink.faults c.args.out.now } in
     let alone = untouched (g.O.Sink.taken c.args.out.now) (g.O.Sink.faults c.args.out.now) in
-    let content = g.S.Store.content c.args.store.now in
+    let content = meant (program_of c.args.program.now).types (g.S.Store.content c.args.store.now) (g.S.Store.rows c.args.store.now) in
     let ins = drop c.args.taken.now c.args.input.now in
     (alone, λ go n output. passes_at s p frames content ins _ (point ∙ ap (option_map link_seen) c.in-None.is) go n output)
 
@@ -39,12 +40,12 @@ returns-in-Action-clause-step g c = λ s set depth.
     let v = c.index-code-frames.result in
     let there = slice_get_read codes _ frames.function v refl (omega (arith, lt, codes_length codes functions c.requires.linked, length-map functions function_of)) c.index-code-frames.is in
     let point = point_seen p frames codes functions c.requires.linked refl lt v there c.deref.result.now c.deref.ensures.value c.link_at.result c.link_at.ensures in
-    let content = g.S.Store.content c.args.store.now in
+    let content = meant (program_of c.args.program.now).types (g.S.Store.content c.args.store.now) (g.S.Store.rows c.args.store.now) in
     let ins = drop c.args.taken.now c.args.input.now in
     let l = link_seen c.in-Some.link in
     let at = point ∙ ap (option_map link_seen) c.in-Some.is in
     let k : Sunk = record { old = g.O.Sink.taken c.args.out.now; new = g.O.Sink.taken c.act.new.out; faults = g.O.Sink.faults c.args.out.now; later = g.O.Sink.faults c.act.new.out } in
-    leads_as _ (acts s p frames content ins (step_of c.in-Action.instr.now) c.in-Some.link.spot.place c.first_way.result) p.functions content ins c.act.new.frames (g.S.Store.content c.act.new.store) (drop c.act.new.taken c.args.input.now) k c.act.result
+    leads_as _ (acts s p frames content ins (step_of c.in-Action.instr.now) c.in-Some.link.spot.place c.first_way.result) p.functions content ins c.act.new.frames (meant (program_of c.args.program.now).types (g.S.Store.content c.act.new.store) (g.S.Store.rows c.act.new.store)) (drop c.act.new.taken c.args.input.now) k c.act.result
     (λ go n output.
     passes_node s p frames content ins l (Action (step_of c.in-Action.instr.now)) at (ap node_seen c.in-Action.is) go n output
     ∙ ap (λ to. acts s p frames content ins (step_of c.in-Action.instr.now) c.in-Some.link.spot.place to go n output) (sym c.first_way.ensures))
@@ -60,7 +61,7 @@ returns-in-Question-clause-step g c = λ s set depth.
     let v = c.index-code-frames.result in
     let there = slice_get_read codes _ frames.function v refl (omega (arith, lt, codes_length codes functions c.requires.linked, length-map functions function_of)) c.index-code-frames.is in
     let point = point_seen p frames codes functions c.requires.linked refl lt v there c.deref.result.now c.deref.ensures.value c.link_at.result c.link_at.ensures in
-    let content = g.S.Store.content c.args.store.now in
+    let content = meant (program_of c.args.program.now).types (g.S.Store.content c.args.store.now) (g.S.Store.rows c.args.store.now) in
     let ins = drop c.args.taken.now c.args.input.now in
     let l = link_seen c.in-Some.link in
     let at = point ∙ ap (option_map link_seen) c.in-Some.is in
@@ -80,15 +81,15 @@ returns-in-Return-clause-step g c = λ s set depth.
     let v = c.index-code-frames.result in
     let there = slice_get_read codes _ frames.function v refl (omega (arith, lt, codes_length codes functions c.requires.linked, length-map functions function_of)) c.index-code-frames.is in
     let point = point_seen p frames codes functions c.requires.linked refl lt v there c.deref.result.now c.deref.ensures.value c.link_at.result c.link_at.ensures in
-    let content = g.S.Store.content c.args.store.now in
+    let content = meant (program_of c.args.program.now).types (g.S.Store.content c.args.store.now) (g.S.Store.rows c.args.store.now) in
     let ins = drop c.args.taken.now c.args.input.now in
     let l = link_seen c.in-Some.link in
     let at = point ∙ ap (option_map link_seen) c.in-Some.is in
     let k : Sunk = record { old = g.O.Sink.taken c.args.out.now; new = g.O.Sink.taken c.args.out.now; faults = g.O.Sink.faults c.args.out.now; later = g.O.Sink.faults c.args.out.now } in
     let alone = untouched (g.O.Sink.taken c.args.out.now) (g.O.Sink.faults c.args.out.now) in
-    leads_as _ (returns s p frames content ins) p.functions content ins c.back.new.frames (g.S.Store.content c.back.new.store) ins k c.back.result
+    leads_as _ (returns s p frames content ins) p.functions content ins c.back.new.frames (meant (program_of c.args.program.now).types (g.S.Store.content c.back.new.store) (g.S.Store.rows c.back.new.store)) ins k c.back.result
     (λ go n output. passes_node s p frames content ins l Return at (ap node_seen c.in-Return.is) go n output)
-    (leads_quiet _ p.functions content ins c.back.new.frames (g.S.Store.content c.back.new.store) k c.back.result alone (c.back.ensures.step s ins set))
+    (leads_quiet _ p.functions content ins c.back.new.frames (meant (program_of c.args.program.now).types (g.S.Store.content c.back.new.store) (g.S.Store.rows c.back.new.store)) k c.back.result alone (c.back.ensures.step s ins set))
 
 pub returns-in-Stop-clause-step : goal.returns-in-Stop-clause-step
 returns-in-Stop-clause-step g c = λ s set depth.
@@ -100,7 +101,7 @@ returns-in-Stop-clause-step g c = λ s set depth.
     let v = c.index-code-frames.result in
     let there = slice_get_read codes _ frames.function v refl (omega (arith, lt, codes_length codes functions c.requires.linked, length-map functions function_of)) c.index-code-frames.is in
     let point = point_seen p frames codes functions c.requires.linked refl lt v there c.deref.result.now c.deref.ensures.value c.link_at.result c.link_at.ensures in
-    let content = g.S.Store.content c.args.store.now in
+    let content = meant (program_of c.args.program.now).types (g.S.Store.content c.args.store.now) (g.S.Store.rows c.args.store.now) in
     let ins = drop c.args.taken.now c.args.input.now in
     let l = link_seen c.in-Some.link in
     let at = point ∙ ap (option_map link_seen) c.in-Some.is in

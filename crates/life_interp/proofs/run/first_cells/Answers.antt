@@ -2,7 +2,7 @@ use Rattle.std.proofs.Common.{List, ap, subst, sym, ◌∙◌}
 use Rattle.life_core.specs.Function.{function_of, program_of}
 use Rattle.life_store.specs.State as state
 use Rattle.life_interp.specs.Cells.{cells_seen}
-use Rattle.life_interp.specs.Fits.{CellsFit}
+use Rattle.life_interp.specs.Fits.{meant, CellsFit}
 use Rattle.life_interp.specs.Steps.{Begins}
 use Rattle.life_interp.proofs.run.first_cells.Goals as goal
 
@@ -14,5 +14,5 @@ given_cells-requires-clause-values g c =
 
 pub returns-in-Ok-clause-step : goal.returns-in-Ok-clause-step
 returns-in-Ok-clause-step g c = λ s e.
-    subst (λ (vs : List state.Cell). Begins s (program_of c.args.program.now).types (function_of c.args.f.now) vs (g.S.Store.content c.args.store.now) (g.S.Store.content c.given_cells.new.store) c.given_cells.result)
+    subst (λ (vs : List state.Cell). Begins s (program_of c.args.program.now).types (function_of c.args.f.now) vs (meant (program_of c.args.program.now).types (g.S.Store.content c.args.store.now) (g.S.Store.rows c.args.store.now)) (meant (program_of c.args.program.now).types (g.S.Store.content c.given_cells.new.store) (g.S.Store.rows c.given_cells.new.store)) c.given_cells.result)
     (ap cells_seen c.deref.ensures.value ∙ c.in-Ok.ensures.values) (c.given_cells.ensures.step s e)

@@ -11,7 +11,7 @@ use Rattle.life_store.specs.Doing.{Given}
 use Rattle.life_store.specs.Meaning.{first_world, run_of, setting_of, IsAdmitted}
 use Rattle.life_store.specs.declared.run.Growth.TheVariants.{Always}
 use Rattle.life_store.proofs.NeverLost.{never_lost}
-use Rattle.life_interp.specs.Fits.{CanStep, IsFit, IsHoused}
+use Rattle.life_interp.specs.Fits.{meant, CanStep, IsFit}
 use Rattle.life_interp.specs.Frames.{waiting_cells, AreThere}
 use Rattle.life_interp.specs.Runs.{RunEnds}
 use Rattle.life_interp.specs.Steps.{IsSet}
@@ -20,7 +20,8 @@ use Rattle.life_interp.specs.Walking.{from, Sunk}
 use Rattle.life_interp.specs.declared.frames.Frames.{Frames}
 use Rattle.life_interp.specs.declared.frames.Waiting.{Waiting}
 use Rattle.life_interp.specs.declared.outcome.Outcome.TheVariants as outcome
-use Rattle.life_interp.proofs.RunLemmas.{all_begin, barred_ends, can_be_barred, fault_ends, front_ends, if_there, not_lost, nothing_housed, of_there, part_ends, run_from_frames, steps_end, trap_ends, value_ends}
+use Rattle.life_interp.proofs.EmptyStore.{holds_nothing, meant_empty}
+use Rattle.life_interp.proofs.RunLemmas.{all_begin, barred_ends, can_be_barred, fault_ends, front_ends, if_there, not_lost, of_there, part_ends, run_from_frames, steps_end, trap_ends, value_ends}
 use Rattle.life_interp.proofs.WalkLemmas.{untouched}
 use Rattle.life_interp.proofs.run.run_on.Goals as goal
 
@@ -35,7 +36,7 @@ first_cells-requires g c =
     let input = c.args.input.now in
     let admitted = of_there p.functions entry f (λ k. IsAdmitted p k input) there c.requires.admitted in
     record {
-      housed = subst (λ (x : Content). IsHoused x (g.S.Store.rows c.args.store.now)) (sym c.requires.empty) (subst (IsHoused _) (sym c.requires.rows) nothing_housed);
+      store = holds_nothing p.types (g.S.Store.content c.args.store.now) (g.S.Store.rows c.args.store.now) c.requires.empty c.requires.rows;
       countable = subst CanStep (sym c.requires.empty) (record { births = omega arith; clock = omega arith });
       room = omega (arith, c.requires.limit);
       enough = admitted.enough;
@@ -53,7 +54,7 @@ barred-requires g c =
     let admitted = of_there p.functions entry f (λ k. IsAdmitted p k input) there c.requires.admitted in
     let given : Given = record { growth = Always; cells = c.args.limits.cells; depth = c.args.limits.depth } in
     let ends = c.in-Err.ensures.step (setting_of given p) (sym c.requires.limit) in
-    can_be_barred given p entry f input c.args.steps c.requires.proper there admitted c.requires.depth (g.S.Store.content c.args.store.now) c.requires.empty c.in-Err.ending ends
+    can_be_barred given p entry f input c.args.steps c.requires.proper there admitted c.requires.depth (meant p.types (g.S.Store.content c.args.store.now) (g.S.Store.rows c.args.store.now)) (meant_empty p.types (g.S.Store.content c.args.store.now) (g.S.Store.rows c.args.store.now) c.requires.empty c.requires.rows) c.in-Err.ending ends
 
 pub returns-in-Err : goal.returns-in-Err
 returns-in-Err g c = λ growth.
@@ -71,7 +72,7 @@ returns-in-Err g c = λ growth.
     let k : Sunk = record { old = g.O.Sink.taken c.args.out.now; new = g.O.Sink.taken c.args.out.now; faults = g.O.Sink.faults c.args.out.now; later = g.O.Sink.faults c.args.out.now } in
     if_there p.functions entry f (λ h. RunEnds (run_of given p entry h input n) k c.barred.result) there
     (subst (RunEnds (run_of given p entry f input n) k) (sym c.barred.ensures)
-    (barred_ends given p entry f input n c.requires.proper there admitted c.requires.depth (g.S.Store.content c.args.store.now) c.requires.empty c.in-Err.ending ends k
+    (barred_ends given p entry f input n c.requires.proper there admitted c.requires.depth (meant p.types (g.S.Store.content c.args.store.now) (g.S.Store.rows c.args.store.now)) (meant_empty p.types (g.S.Store.content c.args.store.now) (g.S.Store.rows c.args.store.now) c.requires.empty c.requires.rows) c.in-Err.ending ends k
     (untouched (g.O.Sink.taken c.args.out.now) (g.O.Sink.faults c.args.out.now))))
 
 pub walk-requires : goal.walk-requires
@@ -84,7 +85,7 @@ walk-requires g c =
       linked = c.requires.linked;
       begin = all_begin p c.requires.proper;
       frames = record { here = c.requires.entry; there = subst (AreThere p.functions) (sym c.new.ensures.items) tt };
-      fits = subst (λ (ws : List Waiting). IsFit (g.S.Store.content c.first_cells.new.store) (g.S.Store.rows c.first_cells.new.store) (waiting_cells ws ++ c.in-Ok.cells.items)) (sym c.new.ensures.items) c.in-Ok.ensures.fits;
+      fits = subst (λ (ws : List Waiting). IsFit p.types (g.S.Store.content c.first_cells.new.store) (g.S.Store.rows c.first_cells.new.store) (waiting_cells ws ++ c.in-Ok.cells.items)) (sym c.new.ensures.items) c.in-Ok.ensures.fits;
       countable = record { births = omega (arith, grows.births, births, c.requires.steps); clock = omega (arith, grows.clock, clock, c.requires.steps) };
       room = omega (arith, c.first_cells.ensures.limit, c.requires.limit);
     }
@@ -102,9 +103,9 @@ returns-in-Returned g c = λ growth.
     let given : Given = record { growth = growth; cells = c.args.limits.cells; depth = c.args.limits.depth } in
     let n = c.args.steps in
     let frames : Frames = record { function = entry; point = Some 1; cells = c.in-Ok.cells; waiting = c.new.result } in
-    let d = g.S.Store.content c.first_cells.new.store in
+    let d = meant p.types (g.S.Store.content c.first_cells.new.store) (g.S.Store.rows c.first_cells.new.store) in
     let walked = from p.functions frames d (drop f.parameters input) (walk (setting_of given p) p n) n [] in
-    let r = run_from_frames given p entry f input n c.requires.proper there admitted frames (g.S.Store.content c.args.store.now) d f.parameters c.requires.depth refl refl c.new.ensures.items refl c.requires.empty (c.in-Ok.ensures.step (setting_of given p) (sym c.requires.limit)) in
+    let r = run_from_frames given p entry f input n c.requires.proper there admitted frames (meant p.types (g.S.Store.content c.args.store.now) (g.S.Store.rows c.args.store.now)) d f.parameters c.requires.depth refl refl c.new.ensures.items refl (meant_empty p.types (g.S.Store.content c.args.store.now) (g.S.Store.rows c.args.store.now) c.requires.empty c.requires.rows) (c.in-Ok.ensures.step (setting_of given p) (sym c.requires.limit)) in
     let k : Sunk = record { old = g.O.Sink.taken c.args.out.now; new = g.O.Sink.taken c.walk.new.out; faults = g.O.Sink.faults c.args.out.now; later = g.O.Sink.faults c.walk.new.out } in
     let set : IsSet (setting_of given p) (g.S.Store.limit c.first_cells.new.store) p.texts = record { cells = sym (c.first_cells.ensures.limit ∙ c.requires.limit); texts = refl } in
     let run = run_of given p entry f input n in
@@ -126,9 +127,9 @@ returns-in-Trap g c = λ growth.
     let given : Given = record { growth = growth; cells = c.args.limits.cells; depth = c.args.limits.depth } in
     let n = c.args.steps in
     let frames : Frames = record { function = entry; point = Some 1; cells = c.in-Ok.cells; waiting = c.new.result } in
-    let d = g.S.Store.content c.first_cells.new.store in
+    let d = meant p.types (g.S.Store.content c.first_cells.new.store) (g.S.Store.rows c.first_cells.new.store) in
     let walked = from p.functions frames d (drop f.parameters input) (walk (setting_of given p) p n) n [] in
-    let r = run_from_frames given p entry f input n c.requires.proper there admitted frames (g.S.Store.content c.args.store.now) d f.parameters c.requires.depth refl refl c.new.ensures.items refl c.requires.empty (c.in-Ok.ensures.step (setting_of given p) (sym c.requires.limit)) in
+    let r = run_from_frames given p entry f input n c.requires.proper there admitted frames (meant p.types (g.S.Store.content c.args.store.now) (g.S.Store.rows c.args.store.now)) d f.parameters c.requires.depth refl refl c.new.ensures.items refl (meant_empty p.types (g.S.Store.content c.args.store.now) (g.S.Store.rows c.args.store.now) c.requires.empty c.requires.rows) (c.in-Ok.ensures.step (setting_of given p) (sym c.requires.limit)) in
     let k : Sunk = record { old = g.O.Sink.taken c.args.out.now; new = g.O.Sink.taken c.walk.new.out; faults = g.O.Sink.faults c.args.out.now; later = g.O.Sink.faults c.walk.new.out } in
     let set : IsSet (setting_of given p) (g.S.Store.limit c.first_cells.new.store) p.texts = record { cells = sym (c.first_cells.ensures.limit ∙ c.requires.limit); texts = refl } in
     let run = run_of given p entry f input n in
@@ -148,9 +149,9 @@ returns-in-Fault g c = λ growth.
     let given : Given = record { growth = growth; cells = c.args.limits.cells; depth = c.args.limits.depth } in
     let n = c.args.steps in
     let frames : Frames = record { function = entry; point = Some 1; cells = c.in-Ok.cells; waiting = c.new.result } in
-    let d = g.S.Store.content c.first_cells.new.store in
+    let d = meant p.types (g.S.Store.content c.first_cells.new.store) (g.S.Store.rows c.first_cells.new.store) in
     let walked = from p.functions frames d (drop f.parameters input) (walk (setting_of given p) p n) n [] in
-    let r = run_from_frames given p entry f input n c.requires.proper there admitted frames (g.S.Store.content c.args.store.now) d f.parameters c.requires.depth refl refl c.new.ensures.items refl c.requires.empty (c.in-Ok.ensures.step (setting_of given p) (sym c.requires.limit)) in
+    let r = run_from_frames given p entry f input n c.requires.proper there admitted frames (meant p.types (g.S.Store.content c.args.store.now) (g.S.Store.rows c.args.store.now)) d f.parameters c.requires.depth refl refl c.new.ensures.items refl (meant_empty p.types (g.S.Store.content c.args.store.now) (g.S.Store.rows c.args.store.now) c.requires.empty c.requires.rows) (c.in-Ok.ensures.step (setting_of given p) (sym c.requires.limit)) in
     let k : Sunk = record { old = g.O.Sink.taken c.args.out.now; new = g.O.Sink.taken c.walk.new.out; faults = g.O.Sink.faults c.args.out.now; later = g.O.Sink.faults c.walk.new.out } in
     let set : IsSet (setting_of given p) (g.S.Store.limit c.first_cells.new.store) p.texts = record { cells = sym (c.first_cells.ensures.limit ∙ c.requires.limit); texts = refl } in
     let run = run_of given p entry f input n in
@@ -170,9 +171,9 @@ returns-in-OutOfSteps g c = λ growth.
     let given : Given = record { growth = growth; cells = c.args.limits.cells; depth = c.args.limits.depth } in
     let n = c.args.steps in
     let frames : Frames = record { function = entry; point = Some 1; cells = c.in-Ok.cells; waiting = c.new.result } in
-    let d = g.S.Store.content c.first_cells.new.store in
+    let d = meant p.types (g.S.Store.content c.first_cells.new.store) (g.S.Store.rows c.first_cells.new.store) in
     let walked = from p.functions frames d (drop f.parameters input) (walk (setting_of given p) p n) n [] in
-    let r = run_from_frames given p entry f input n c.requires.proper there admitted frames (g.S.Store.content c.args.store.now) d f.parameters c.requires.depth refl refl c.new.ensures.items refl c.requires.empty (c.in-Ok.ensures.step (setting_of given p) (sym c.requires.limit)) in
+    let r = run_from_frames given p entry f input n c.requires.proper there admitted frames (meant p.types (g.S.Store.content c.args.store.now) (g.S.Store.rows c.args.store.now)) d f.parameters c.requires.depth refl refl c.new.ensures.items refl (meant_empty p.types (g.S.Store.content c.args.store.now) (g.S.Store.rows c.args.store.now) c.requires.empty c.requires.rows) (c.in-Ok.ensures.step (setting_of given p) (sym c.requires.limit)) in
     let k : Sunk = record { old = g.O.Sink.taken c.args.out.now; new = g.O.Sink.taken c.walk.new.out; faults = g.O.Sink.faults c.args.out.now; later = g.O.Sink.faults c.walk.new.out } in
     let set : IsSet (setting_of given p) (g.S.Store.limit c.first_cells.new.store) p.texts = record { cells = sym (c.first_cells.ensures.limit ∙ c.requires.limit); texts = refl } in
     let run = run_of given p entry f input n in
@@ -192,9 +193,9 @@ returns-in-WriteFault g c = λ growth.
     let given : Given = record { growth = growth; cells = c.args.limits.cells; depth = c.args.limits.depth } in
     let n = c.args.steps in
     let frames : Frames = record { function = entry; point = Some 1; cells = c.in-Ok.cells; waiting = c.new.result } in
-    let d = g.S.Store.content c.first_cells.new.store in
+    let d = meant p.types (g.S.Store.content c.first_cells.new.store) (g.S.Store.rows c.first_cells.new.store) in
     let walked = from p.functions frames d (drop f.parameters input) (walk (setting_of given p) p n) n [] in
-    let r = run_from_frames given p entry f input n c.requires.proper there admitted frames (g.S.Store.content c.args.store.now) d f.parameters c.requires.depth refl refl c.new.ensures.items refl c.requires.empty (c.in-Ok.ensures.step (setting_of given p) (sym c.requires.limit)) in
+    let r = run_from_frames given p entry f input n c.requires.proper there admitted frames (meant p.types (g.S.Store.content c.args.store.now) (g.S.Store.rows c.args.store.now)) d f.parameters c.requires.depth refl refl c.new.ensures.items refl (meant_empty p.types (g.S.Store.content c.args.store.now) (g.S.Store.rows c.args.store.now) c.requires.empty c.requires.rows) (c.in-Ok.ensures.step (setting_of given p) (sym c.requires.limit)) in
     let k : Sunk = record { old = g.O.Sink.taken c.args.out.now; new = g.O.Sink.taken c.walk.new.out; faults = g.O.Sink.faults c.args.out.now; later = g.O.Sink.faults c.walk.new.out } in
     let set : IsSet (setting_of given p) (g.S.Store.limit c.first_cells.new.store) p.texts = record { cells = sym (c.first_cells.ensures.limit ∙ c.requires.limit); texts = refl } in
     let run = run_of given p entry f input n in
@@ -214,9 +215,9 @@ returns g c = λ growth.
     let given : Given = record { growth = growth; cells = c.args.limits.cells; depth = c.args.limits.depth } in
     let n = c.args.steps in
     let frames : Frames = record { function = entry; point = Some 1; cells = c.in-Ok.cells; waiting = c.new.result } in
-    let d = g.S.Store.content c.first_cells.new.store in
+    let d = meant p.types (g.S.Store.content c.first_cells.new.store) (g.S.Store.rows c.first_cells.new.store) in
     let walked = from p.functions frames d (drop f.parameters input) (walk (setting_of given p) p n) n [] in
-    let r = run_from_frames given p entry f input n c.requires.proper there admitted frames (g.S.Store.content c.args.store.now) d f.parameters c.requires.depth refl refl c.new.ensures.items refl c.requires.empty (c.in-Ok.ensures.step (setting_of given p) (sym c.requires.limit)) in
+    let r = run_from_frames given p entry f input n c.requires.proper there admitted frames (meant p.types (g.S.Store.content c.args.store.now) (g.S.Store.rows c.args.store.now)) d f.parameters c.requires.depth refl refl c.new.ensures.items refl (meant_empty p.types (g.S.Store.content c.args.store.now) (g.S.Store.rows c.args.store.now) c.requires.empty c.requires.rows) (c.in-Ok.ensures.step (setting_of given p) (sym c.requires.limit)) in
     let k : Sunk = record { old = g.O.Sink.taken c.args.out.now; new = g.O.Sink.taken c.walk.new.out; faults = g.O.Sink.faults c.args.out.now; later = g.O.Sink.faults c.walk.new.out } in
     let set : IsSet (setting_of given p) (g.S.Store.limit c.first_cells.new.store) p.texts = record { cells = sym (c.first_cells.ensures.limit ∙ c.requires.limit); texts = refl } in
     let run = run_of given p entry f input n in
@@ -237,9 +238,9 @@ unreachable-requires g c =
     let given : Given = record { growth = growth; cells = c.args.limits.cells; depth = c.args.limits.depth } in
     let n = c.args.steps in
     let frames : Frames = record { function = entry; point = Some 1; cells = c.in-Ok.cells; waiting = c.new.result } in
-    let d = g.S.Store.content c.first_cells.new.store in
+    let d = meant p.types (g.S.Store.content c.first_cells.new.store) (g.S.Store.rows c.first_cells.new.store) in
     let walked = from p.functions frames d (drop f.parameters input) (walk (setting_of given p) p n) n [] in
-    let r = run_from_frames given p entry f input n c.requires.proper there admitted frames (g.S.Store.content c.args.store.now) d f.parameters c.requires.depth refl refl c.new.ensures.items refl c.requires.empty (c.in-Ok.ensures.step (setting_of given p) (sym c.requires.limit)) in
+    let r = run_from_frames given p entry f input n c.requires.proper there admitted frames (meant p.types (g.S.Store.content c.args.store.now) (g.S.Store.rows c.args.store.now)) d f.parameters c.requires.depth refl refl c.new.ensures.items refl (meant_empty p.types (g.S.Store.content c.args.store.now) (g.S.Store.rows c.args.store.now) c.requires.empty c.requires.rows) (c.in-Ok.ensures.step (setting_of given p) (sym c.requires.limit)) in
     let k : Sunk = record { old = g.O.Sink.taken c.args.out.now; new = g.O.Sink.taken c.walk.new.out; faults = g.O.Sink.faults c.args.out.now; later = g.O.Sink.faults c.walk.new.out } in
     let set : IsSet (setting_of given p) (g.S.Store.limit c.first_cells.new.store) p.texts = record { cells = sym (c.first_cells.ensures.limit ∙ c.requires.limit); texts = refl } in
     let run = run_of given p entry f input n in

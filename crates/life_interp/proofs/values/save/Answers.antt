@@ -1,20 +1,52 @@
-use Rattle.life_store.specs.Cells.{at-set_other}
-use Rattle.life_interp.proofs.FitLemmas.{fit_changed, later_changed}
-use Rattle.life_interp.proofs.LocalLemmas.{resized_newborn}
+use Rattle.std.proofs.Common.{◌≡◌, Option, IfSome, Some, ap, rules, subst, sym, ◌∙◌, arith}
+use Rattle.std.proofs.lemmas.Int.{to_z-of_z}
+use mir.Val.{SFits}
+use Rattle.std.specs.Int.{w64, cast_unsigned}
+use Rattle.life_core.specs.Operands.{operand_of}
+use Rattle.life_store.specs.Content.{Content, Object, with_object, with_word}
+use Rattle.life_store.specs.Doing.{Next, put_content, word_of_number}
+use Rattle.life_store.specs.References.{HasWord}
+use Rattle.life_seen.specs.Kinds.{kinds_of}
+use Rattle.life_seen.specs.Named.{names_of}
+use Rattle.life_seen.specs.Seen.{object_seen}
+use Rattle.life_interp.specs.Cells.{state_of}
+use Rattle.life_interp.specs.Fits.{meant}
+use Rattle.life_interp.proofs.FitLemmas.{cells_later, later_rows}
+use Rattle.life_interp.proofs.NumberLemmas.{holds_written, plain_here}
+use Rattle.life_interp.proofs.StepLemmas.{a_number, place_found}
 use Rattle.life_interp.proofs.values.save.Goals as goal
 
-pub returns-in-Ok-put-clause-fits : goal.returns-in-Ok-put-clause-fits
-returns-in-Ok-put-clause-fits g c =
+pub put_number-requires : goal.put_number-requires
+put_number-requires g c = subst (λ (o : Option Object). IfSome o (HasWord c.in-Ok.position.index 0)) (sym c.in-Ok.ensures.lives) c.in-Ok.ensures.word
+
+pub returns-in-Ok : goal.returns-in-Ok
+returns-in-Ok g c =
+    let types = c.args.types.now in
     let content = g.S.Store.content c.args.store.now in
     let rows = g.S.Store.rows c.args.store.now in
-    let r = c.in-Ok.position.object in
-    let lives = c.in-Ok.ensures.lives in
-    let new = resized_newborn _ c.in-Ok.ensures.object _ lives c.in-Ok-put.ensures.written in
-    rw (new, c.in-Ok-put.ensures.rows_stay)
-    (fit_changed content rows r c.in-Ok.ensures.object c.args.cells.now c.requires _ content.clock lives (λ n ne. at-set_other content.objects r.birth n _ ne))
-
-pub returns-in-Ok-put-clause-later : goal.returns-in-Ok-put-clause-later
-returns-in-Ok-put-clause-later g c =
-    let content = g.S.Store.content c.args.store.now in
-    let new = resized_newborn _ c.in-Ok.ensures.object _ c.in-Ok.ensures.lives c.in-Ok-put.ensures.written in
-    rw (new, c.in-Ok-put.ensures.rows_stay) (later_changed content (g.S.Store.rows c.args.store.now) _ content.clock)
+    let m = meant types content rows in
+    let d = g.S.Store.content c.put_number.new.store in
+    let new = g.S.Store.rows c.put_number.new.store in
+    let p = c.in-Ok.position in
+    let here = c.in-Ok.ensures in
+    let shows = c.put_number.ensures.shows (kinds_of types) here.object (plain_here types content rows c.requires.store p.object here.object here.lives 0) in
+    let births = ap (λ (x : Content). x.births) shows.is in
+    let later = later_rows content d rows new (omega (arith, births)) c.put_number.ensures.rows in
+    record {
+      step = λ output input.
+          let st = state_of m c.args.cells.now output input in
+          let fits : SFits w64 c.in-Some.value = search rules in
+          let word : c.cast_unsigned-word.result ≡ cast_unsigned w64 c.in-Some.value = c.cast_unsigned-word.ensures ∙ ap (cast_unsigned w64) (to_z-of_z w64 c.in-Some.value fits) in
+          a_number _ _ c.in-Some.value c.in-Some.ensures
+          ∙ place_found (operand_of c.args.to.now) types content rows c.args.cells.now p _ output input here
+          ∙ ap (λ w. Next (put_content (with_object p.object.birth (with_word p.index 0 w (object_seen (kinds_of types) (names_of content rows) here.object)) m) st)) (sym word)
+          ∙ ap (λ (x : Content). Next (state_of x c.args.cells.now output input)) (sym shows.is);
+      fits = record {
+        store = holds_written types content rows c.requires.store d new p.object p.index c.cast_unsigned-word.result here.object here.lives shows;
+        held = cells_later content d rows new later c.args.cells.now c.requires.held;
+      };
+      later = later;
+      births = births;
+      clock = ap (λ (x : Content). x.clock) shows.is;
+      limit = c.put_number.ensures.limit;
+    }

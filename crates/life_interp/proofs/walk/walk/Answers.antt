@@ -1,7 +1,7 @@
 use Rattle.std.proofs.Common.{◌≡◌, ◌-◌, ◌<◌, [], ◌++◌, drop, ap, refl, subst, sym, ◌∙◌, arith}
 use Rattle.life_core.specs.Function.{program_of}
 use Rattle.life_interp.specs.Cells.{world_of}
-use Rattle.life_interp.specs.Fits.{most_births}
+use Rattle.life_interp.specs.Fits.{meant, most_births}
 use Rattle.life_interp.specs.Walk.{walk}
 use Rattle.life_interp.specs.Walking.{from}
 use Rattle.life_interp.proofs.WalkLemmas.{untouched}
@@ -34,11 +34,12 @@ returns-in-Err g c = λ s set depth.
     let p = program_of c.args.program.now in
     let at = c.loop-left in
     let content = g.S.Store.content in
+    let rows = g.S.Store.rows in
     let went = at.invariant.walked s set depth in
     let taken = g.O.Sink.taken in
     let faults = g.O.Sink.faults in
-    ends_there s p at.frames (content at.store) (drop at.taken c.args.input.now)
-    (from p.functions c.args.frames.now (content c.args.store.now) (drop c.args.taken.now c.args.input.now) (walk s p c.args.steps) c.args.steps [])
+    ends_there s p at.frames (meant p.types (content at.store) (rows at.store)) (drop at.taken c.args.input.now)
+    (from p.functions c.args.frames.now (meant p.types (content c.args.store.now) (rows c.args.store.now)) (drop c.args.taken.now c.args.input.now) (walk s p c.args.steps) c.args.steps [])
     at.left c.in-Err.halt
     (taken c.args.out.now) (taken at.out) (taken c.pass.new.out) (faults c.args.out.now) (faults at.out) (faults c.pass.new.out)
     went.0 c.loop-left-test.true went.1 went.2 (c.in-Err.ensures.step s (record { cells = set.cells ∙ sym at.invariant.limit; texts = set.texts }) depth)
@@ -62,7 +63,7 @@ loop-left-preserved g c =
             went.0 ++ did.0,
             takes_on (taken c.args.out.now) (taken at.out) (taken c.pass.new.out) (faults c.args.out.now) (faults at.out) (faults c.pass.new.out) went.0 did.0 went.1 did.1,
             went.2
-                ∙ a_step s p at.frames (g.S.Store.content at.store) (drop at.taken c.args.input.now) at.left went.0 c.loop-left-test.true
+                ∙ a_step s p at.frames (meant p.types (g.S.Store.content at.store) (g.S.Store.rows at.store)) (drop at.taken c.args.input.now) at.left went.0 c.loop-left-test.true
                 ∙ did.2 (walk s p (at.left - 1)) (at.left - 1) went.0,
           );
     }
@@ -71,7 +72,7 @@ pub returns : goal.returns
 returns g c = λ s set depth.
     let p = program_of c.args.program.now in
     let at = c.loop-left in
-    let content = g.S.Store.content at.store in
+    let content = meant p.types (g.S.Store.content at.store) (g.S.Store.rows at.store) in
     let ins = drop at.taken c.args.input.now in
     let went = at.invariant.walked s set depth in
     let none : at.left ≡ 0 = omega (arith, c.loop-left-test.false) in

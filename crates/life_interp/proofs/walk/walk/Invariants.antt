@@ -1,7 +1,7 @@
 use Rattle.std.proofs.Common.{◌≡◌, ℕ, List, [], drop}
 use Rattle.life_core.specs.Function.{program_of}
 use Rattle.life_store.specs.Doing.{Setting}
-use Rattle.life_interp.specs.Fits.{CanWalk, IsFit}
+use Rattle.life_interp.specs.Fits.{meant, CanWalk, IsFit}
 use Rattle.life_interp.specs.Frames.{all_cells, AreFrames}
 use Rattle.life_interp.specs.Steps.{IsSet}
 use Rattle.life_interp.specs.Walk.{walk}
@@ -15,17 +15,18 @@ decreases-loop-left g l = l.left
 abbrev pub invariant-loop-left : goal.invariant-loop-left
 invariant-loop-left g l =
     let content = g.S.Store.content in
+    let rows = g.S.Store.rows in
     let most = g.S.Store.limit in
     let taken = g.O.Sink.taken in
     let faults = g.O.Sink.faults in
     let p = program_of l.program in
     record {
       there : AreFrames p.functions l.frames;
-      fits : IsFit (content l.store) (g.S.Store.rows l.store) (all_cells l.frames);
+      fits : IsFit p.types (content l.store) (rows l.store) (all_cells l.frames);
       countable : CanWalk l.left (content l.store);
       limit : most l.store ≡ most l.initial.store;
       walked : (s : Setting) → IsSet s (most l.initial.store) p.texts → s.given.depth ≡ l.depth → (text : List ℕ)
           × Takes (record { old = taken l.initial.out; new = taken l.out; faults = faults l.initial.out; later = faults l.out }) text
-          × (from p.functions l.initial.frames (content l.initial.store) (drop l.initial.taken l.input) (walk s p l.fn.steps) l.fn.steps []
-          ≡ from p.functions l.frames (content l.store) (drop l.taken l.input) (walk s p l.left) l.left text);
+          × (from p.functions l.initial.frames (meant p.types (content l.initial.store) (rows l.initial.store)) (drop l.initial.taken l.input) (walk s p l.fn.steps) l.fn.steps []
+          ≡ from p.functions l.frames (meant p.types (content l.store) (rows l.store)) (drop l.taken l.input) (walk s p l.left) l.left text);
     }
