@@ -99,7 +99,7 @@ module _ (types : Types) (ordered : IsOrdered types) (f : Function) (rest : ℕ 
 
   -- ---- what ends
 
-  end_stands : (x : ℕ) → OnNext (end_cell (local_parts types f x) (cell st x) x st) (Stands types f rest)
+  pub end_stands : (x : ℕ) → OnNext (end_cell (local_parts types f x) (cell st x) x st) (Stands types f rest)
   end_stands x = over (cell st x) refl
     where
       ended_object_follows : (n : ℕ) (o : Option Object) → OnNext (end_object (local_parts types f x) o n x st) (Follows types f st)

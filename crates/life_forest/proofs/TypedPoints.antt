@@ -25,7 +25,7 @@ use Rattle.life_forest.proofs.TypedSteps.{IsSlotFree, PointersAim, typed_step}
 module _ (types : Types) (ordered : IsOrdered types) (once : HasEachOnce types) (names texts : ℕ) (fs : List Function) (f : Function) (formed : is_well_formed_function types names texts fs f ≡ true) (points : ArePointsFormed types texts fs f)
     (ready : HasReadyWays types f) where
   -- what is born isn't there, and a slot always is
-  slot_free : (p : ℕ) (bits : Ready) → Reaches types f p bits → (i : Step) → AreReady bits (touched_by f i) → IsSlotFree types f i
+  pub slot_free : (p : ℕ) (bits : Ready) → Reaches types f p bits → (i : Step) → AreReady bits (touched_by f i) → IsSlotFree types f i
   slot_free p bits way (Live x form) are = go (slot_at types f x) refl
     where
       go : (b : Bool) → slot_at types f x ≡ b → slot_at types f x ≡ false

@@ -53,7 +53,7 @@ abbrev pub IsSlotFree : Types → Function → Step → Type 0
 IsSlotFree types f (Live x form) = slot_at types f x ≡ false
 IsSlotFree types f _ = Unit {0}
 
-if_there : (b : Bool) (u t : Ty) → (if b then u else ty.Void) ≡ t → is_void t ≡ false → (b ≡ true) × (u ≡ t)
+pub if_there : (b : Bool) (u t : Ty) → (if b then u else ty.Void) ≡ t → is_void t ≡ false → (b ≡ true) × (u ≡ t)
 if_there true u t e some = (refl, e)
 if_there false u t e some = absurd (false≢true (sym some ∙ ap is_void (sym e)))
 
@@ -61,7 +61,7 @@ owner_solid : (t : Ty) → is_owner t ≡ true → is_void t ≡ false
 owner_solid ty.Void e = absurd (false≢true e)
 owner_solid _ e = refl
 
-value_solid : (t : Ty) → is_value t ≡ true → is_void t ≡ false
+pub value_solid : (t : Ty) → is_value t ≡ true → is_void t ≡ false
 value_solid ty.Void e = absurd (false≢true e)
 value_solid _ e = refl
 
@@ -127,7 +127,7 @@ module _ (types : Types) (ordered : IsOrdered types) (once : HasEachOnce types) 
   location_same : (l : Location) → shapes.location_type types f l ≡ location_type types f l
   location_same l = within_same types l.members (shapes.local_type types f l.local) ∙ ap (λ (id : Option TyId). type_within types id l.members) (shaped l.local)
 
-  operand_same : (o : Operand) → shapes.operand_type types f o ≡ operand_type types f o
+  pub operand_same : (o : Operand) → shapes.operand_type types f o ≡ operand_type types f o
   operand_same (Name l) = location_same l
   operand_same (Through p members) =
       within_same types members (shapes.target_type types (shapes.location_type types f p))

@@ -4,6 +4,7 @@ pub mod FrameTypes
 pub mod Frames
 pub mod Kinds
 pub mod Owned
+pub mod Settled
 pub mod Sorted
 pub mod Typed
 pub mod Values
