@@ -1,5 +1,5 @@
 -- What a well-formed instruction copies holds no unique_ptr, nor do the elements of vectors in it.
-use Rattle.std.proofs.Common.{◌≡◌, ℕ, zero, suc, ◌<◌, Bool, true, false, ◌&&◌, ◌||◌, not, List, [], ◌∷◌, Option, Some, None, refl, sym, ap, subst, ◌∙◌, arith}
+use Rattle.std.proofs.Common.{◌≡◌, ℕ, zero, suc, ◌<◌, Bool, true, false, ◌||◌, List, [], ◌∷◌, Option, Some, None, refl, sym, ap, subst, ◌∙◌, arith}
 use Rattle.std.proofs.lemmas.Bool.{and_parts, false≢true}
 use Rattle.std.specs.Prelude.{slice_get}
 use Rattle.life_types.specs.Pointees.{or_void}
@@ -11,11 +11,10 @@ use Rattle.life_types.specs.declared.ty.Ty.TheVariants as ty
 use Rattle.life_types.specs.declared.ty.TyId.{TyId}
 use Rattle.life_types.proofs.TreeLemmas.{tree_made}
 use Rattle.life_core.specs.Function.{Function}
-use Rattle.life_core.specs.Operands.{Location, Operand, Name, Through}
+use Rattle.life_core.specs.Operands.{Operand, Name, Through}
 use Rattle.life_pset.specs.Shapes.{local_type, location_type, member_of, member_type, members_type, operand_type, target_of, target_type, tree_if}
 use Rattle.life_proper.specs.WellFormedPrograms.{is_member, may_stand}
 use Rattle.life_store.specs.Parts.{Parts, Single, Raw, Iterates, Views, Text, Vector, Unique, Member, NoMember, parts_at, parts_of, struct_of}
-use Rattle.life_store.proofs.CellLemmas.{none_some, some_same}
 use Rattle.life_forest.proofs.Laying.{parts_made}
 
 -- no unique_ptr is copied with a value of these parts

@@ -1,10 +1,9 @@
 -- What stands in the cells of locals that are there, and what the places of operands are: no place that is ready is astray.
-use Rattle.std.proofs.Common.{◌≡◌, ℕ, zero, suc, Bool, true, false, ◌&&◌, ◌||◌, not, List, [], ◌∷◌, length, map, option_map, Option, Some, None, refl, sym, ap, subst, ◌∙◌}
+use Rattle.std.proofs.Common.{◌≡◌, ℕ, Bool, true, false, ◌&&◌, ◌||◌, not, List, [], ◌∷◌, length, option_map, Option, Some, None, refl, sym, ap, subst, ◌∙◌}
 use Rattle.std.proofs.lemmas.Bool.{and_from, and_parts, false≢true}
 use Rattle.std.proofs.lemmas.Option.{slice_get-map}
 use Rattle.std.specs.Prelude.{ℤ, nat_lt, slice_get}
-use Rattle.life_types.specs.Pointees.{pointee}
-use Rattle.life_types.specs.TypeTests.{is_constant, is_pointer, is_value, is_void}
+use Rattle.life_types.specs.TypeTests.{is_pointer, is_value, is_void}
 use Rattle.life_types.specs.Types.{Types}
 use Rattle.life_types.specs.declared.ty.Ty.{Ty}
 use Rattle.life_types.specs.declared.ty.Ty.TheVariants as ty
@@ -27,11 +26,10 @@ use Rattle.life_store.specs.Cells.{at}
 use Rattle.life_store.specs.Content.{Object, is_valid_in}
 use Rattle.life_store.specs.Effects.{cell}
 use Rattle.life_store.specs.Places.{Found, Here, Fixed, Outside, Wrong, Astray, behind_cell, behind_pointer, found_if, found_in, found_text, here_if, is_valid, locate, location_cell, member_cell, named_by, reached_if, reached_in}
-use Rattle.life_store.specs.State.{Characters, Target, Pointer, Null, Wild, To, Static, Cell, Empty, Named, Number, Points, State, is_there, ready_of}
+use Rattle.life_store.specs.State.{Target, Pointer, Null, Wild, To, Static, Cell, Empty, Named, Number, Points, State, is_there, ready_of}
 use Rattle.life_store.proofs.CellLemmas.{none_some, some_same}
-use Rattle.life_forest.specs.FrameTypes.{IsFrame}
 use Rattle.life_forest.specs.Settled.{IsPoised, KindsFit}
-use Rattle.life_forest.specs.Sorted.{Aims, Counts, Fits, Names, PointerFits, Sort, StaticFits, sort_at, sort_if}
+use Rattle.life_forest.specs.Sorted.{Aims, Counts, Names, PointerFits, Sort, StaticFits, sort_at, sort_if}
 use Rattle.life_forest.proofs.SeenTypes.{pointee_points, pointer_solid}
 use Rattle.life_forest.proofs.Slots.{register_only}
 

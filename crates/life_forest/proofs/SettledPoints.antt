@@ -1,6 +1,6 @@
 -- At each point of a proper function that is reached, whatever kinds its instructions have: an instruction doesn't stray, and a frame stands behind it
 -- with the locals that readiness says, each of its sort.
-use Rattle.std.proofs.Common.{◌≡◌, ℕ, Bool, true, false, ◌&&◌, not, List, Option, Some, None, refl, sym, ap, subst, ◌∙◌}
+use Rattle.std.proofs.Common.{◌≡◌, ℕ, true, not, List, Option, Some, None, refl, sym, ap, subst}
 use Rattle.std.proofs.lemmas.Bool.{and_parts}
 use Rattle.std.specs.Prelude.{slice_get}
 use Rattle.life_types.specs.Pointees.{ty_of}
@@ -24,7 +24,7 @@ use Rattle.life_store.specs.Effects.{Setting, Effect, Next, Traps, Faults, Stray
 use Rattle.life_store.specs.State.{State, ready_of}
 use Rattle.life_forest.specs.FrameTypes.{Stands}
 use Rattle.life_forest.specs.Frames.{OnNext}
-use Rattle.life_forest.specs.Settled.{IsPoised, KindsFit, PointersFit, Settles}
+use Rattle.life_forest.specs.Settled.{KindsFit, PointersFit, Settles}
 use Rattle.life_forest.specs.Sorted.{AreSorted}
 use Rattle.life_forest.proofs.CopiedTypes.{LocalsStand}
 use Rattle.life_forest.proofs.SettledSteps.{IsOneFrame, step_settles}

@@ -1,5 +1,5 @@
 -- No instruction that is well formed and ready strays: behind it the locals are there that readiness says, each of its sort.
-use Rattle.std.proofs.Common.{◌≡◌, ℕ, Bool, true, false, ◌&&◌, not, List, [], ◌∷◌, ◌++◌, Option, Some, refl, sym, ap, subst, ◌∙◌}
+use Rattle.std.proofs.Common.{◌≡◌, ℕ, true, not, List, refl, subst}
 use Rattle.std.proofs.lemmas.Bool.{and_parts}
 use Rattle.life_types.specs.Trees.{IsOrdered, holds_unique}
 use Rattle.life_types.specs.TypeTests.{is_constant, is_iterator, is_pointer, is_void}
@@ -16,14 +16,13 @@ use Rattle.life_pset.specs.Shapes.{operand_type, tree_if}
 use Rattle.life_proper.specs.OperandTypes.{aims_at, are_compared, is_owner, is_range, keeps_const, same, takes, walks}
 use Rattle.life_proper.specs.Placed.{is_const_base, is_const_place, is_number, is_number_of, is_number_of_if, object_at, type_in, type_of, type_of_element}
 use Rattle.life_proper.specs.Placed as placed
-use Rattle.life_proper.specs.WellFormed.{is_change_of, is_port, is_well_formed_step}
+use Rattle.life_proper.specs.WellFormed.{is_change_of, is_well_formed_step}
 use Rattle.life_store.specs.Doing.{does}
 use Rattle.life_store.specs.Effects.{Setting}
 use Rattle.life_store.specs.State.{State, ready_of}
 use Rattle.life_forest.specs.FrameTypes.{Stands}
 use Rattle.life_forest.specs.Settled.{IsPoised, Settles}
 use Rattle.life_forest.proofs.CopiedTypes.{LocalsStand}
-use Rattle.life_forest.proofs.ReadyCells.{number_any}
 use Rattle.life_forest.proofs.SettlingCopies.{copies_settle}
 use Rattle.life_forest.proofs.SettlingEdits.{changes_settle, makes_settle}
 use Rattle.life_forest.proofs.SettlingLives.{HaveMembers, ends_settle, lives_settle}

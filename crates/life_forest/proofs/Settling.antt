@@ -1,5 +1,5 @@
 -- Ways to settle: what is done with a number, a pointer, a place or what was got, and a cell that is given a value of its sort.
-use Rattle.std.proofs.Common.{◌≡◌, ℕ, Bool, true, false, ◌&&◌, ◌||◌, not, cond, List, [], ◌∷◌, Option, Some, None, refl, sym, ap, subst, ◌∙◌, ⊎_elim}
+use Rattle.std.proofs.Common.{◌≡◌, ℕ, Bool, true, false, ◌||◌, not, cond, List, [], ◌∷◌, Option, Some, None, refl, sym, ap, subst, ◌∙◌, ⊎_elim}
 use Rattle.std.proofs.lemmas.Bool.{and_parts, false≢true}
 use Rattle.std.specs.Prelude.{ℤ, slice_get, slice_set}
 use Rattle.life_types.specs.TypeTests.{is_constant, is_pointer, is_raw, is_value}
@@ -7,19 +7,19 @@ use Rattle.life_types.specs.Types.{Types}
 use Rattle.life_types.specs.declared.ty.Ty.{Ty}
 use Rattle.life_core.specs.Function.{Function}
 use Rattle.life_core.specs.Operands.{Location, Operand}
-use Rattle.life_core.specs.Ready.{AreBits, IsThere, Ready, set_bits}
+use Rattle.life_core.specs.Ready.{AreBits, Ready, set_bits}
 use Rattle.life_core.specs.Touched.{by_members, part_uses, written}
 use Rattle.life_pset.specs.Shapes.{members_type, ty_if}
 use Rattle.life_pset.specs.Shapes as shapes
 use Rattle.life_proper.specs.OperandTypes.{keeps_const}
-use Rattle.life_proper.specs.Placed.{is_const_place, is_number, object_at, register_at, type_at, type_in}
+use Rattle.life_proper.specs.Placed.{is_const_place, is_number, register_at, type_at, type_in}
 use Rattle.life_store.specs.Content.{Content}
-use Rattle.life_store.specs.Effects.{Setting, Effect, Next, Traps, Faults, Strays, Attempt, Got, GotTrap, GotFault, GotLost, cell, got_or, on_got, on_number, on_pointer, put_cell, put_content, then_get}
-use Rattle.life_store.specs.Iterators.{at_index, iterator, standing}
-use Rattle.life_store.specs.Places.{Found, Here, Fixed, Outside, Wrong, Astray, is_valid, location_cell, member_pointed, on_found, on_place, pointed}
+use Rattle.life_store.specs.Effects.{Effect, Next, Attempt, Got, GotTrap, GotFault, GotLost, cell, got_or, on_got, on_number, on_pointer, put_cell, put_content, then_get}
+use Rattle.life_store.specs.Iterators.{at_index, standing}
+use Rattle.life_store.specs.Places.{Found, Here, Fixed, Outside, Wrong, Astray, is_valid, member_pointed, on_place, pointed}
 use Rattle.life_store.specs.Content.{Object}
-use Rattle.life_store.specs.State.{Characters, Pointer, Null, Wild, To, Static, Cell, Empty, Named, Number, Points, State, ready_of}
-use Rattle.life_store.specs.Views.{is_valid_range, part_of, usable, used}
+use Rattle.life_store.specs.State.{Characters, Pointer, Null, Wild, To, Static, Cell, Named, Number, Points, State, ready_of}
+use Rattle.life_store.specs.Views.{is_valid_range, part_of, usable}
 use Rattle.life_store.specs.declared.run.FaultKind.{FaultKind}
 use Rattle.life_store.specs.declared.run.FaultKind.TheVariants as fault
 use Rattle.life_store.proofs.CellLemmas.{cell_cases, ready_set}

@@ -1,6 +1,6 @@
 -- Copies settle: nothing that is copied holds a unique_ptr.
-use Rattle.std.proofs.Common.{◌≡◌, ℕ, Bool, true, false, ◌&&◌, not, List, [], ◌∷◌, ◌++◌, length, Option, Some, None, refl, sym, ap, subst, ◌∙◌}
-use Rattle.std.proofs.lemmas.Bool.{and_parts, false≢true}
+use Rattle.std.proofs.Common.{◌≡◌, ℕ, Bool, true, false, not, List, [], ◌∷◌, ◌++◌, length, Option, Some, None, refl, sym, ap, subst, ◌∙◌}
+use Rattle.std.proofs.lemmas.Bool.{false≢true}
 use Rattle.std.specs.Prelude.{drop, slice_index, take}
 use Rattle.life_types.specs.Trees.{IsOrdered, holds_unique}
 use Rattle.life_types.specs.TypeTests.{is_void}
@@ -21,14 +21,14 @@ use Rattle.life_store.specs.Doing.{copied_to, copies, on_character, replaced}
 use Rattle.life_store.specs.Effects.{Setting, Next, Strays, Attempt, Got, put_content, word_of_number}
 use Rattle.life_store.specs.Held.{owned_in, slots_at, words_at}
 use Rattle.life_store.specs.Owners.{Words, copied, copied_buffer, copied_slots, sized_birth}
-use Rattle.life_store.specs.Parts.{Parts, Single, Raw, Iterates, Views, Text, Vector, Unique, Member, NoMember, operand_parts, operand_type, parts_at, parts_if, width}
+use Rattle.life_store.specs.Parts.{Parts, Single, Raw, Iterates, Views, Text, Vector, Unique, Member, NoMember, operand_parts, parts_if, width}
 use Rattle.life_store.specs.Places.{Spot, locate, on_place, operand_word}
 use Rattle.life_store.specs.State.{State, ready_of}
 use Rattle.life_forest.specs.Settled.{IsPoised, Settles}
 use Rattle.life_forest.proofs.CopiedTypes.{LocalsStand, NoUnique, copied_free, operand_stands}
 use Rattle.life_forest.proofs.OneNumber.{also_solid, same_solid}
 use Rattle.life_forest.proofs.ReadyCells.{place_well}
-use Rattle.life_forest.proofs.Settling.{Well, settle_got, settle_place, well_then}
+use Rattle.life_forest.proofs.Settling.{settle_got, settle_place, well_then}
 use Rattle.life_forest.proofs.SettlingEdits.{Comes, joined_comes, sized_comes}
 use Rattle.life_forest.proofs.SettlingNumbers.{text_settles}
 use Rattle.life_forest.proofs.SettlingOwners.{place_there}

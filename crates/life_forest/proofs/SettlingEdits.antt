@@ -1,5 +1,5 @@
 -- Births and changes of owners are never lost, and instructions that change owners settle.
-use Rattle.std.proofs.Common.{◌≡◌, ◌⊎◌, inl, inr, ⊎_elim, ℕ, zero, suc, ◌+◌, ◌*◌, Bool, true, false, ◌&&◌, not, cond, if◌then◌else◌, List, [], ◌∷◌, ◌++◌, length, map, Option, Some, None, refl, sym, ap, subst, ◌∙◌}
+use Rattle.std.proofs.Common.{◌≡◌, ◌⊎◌, inl, inr, ⊎_elim, ℕ, zero, suc, ◌+◌, ◌*◌, Bool, true, false, not, if◌then◌else◌, List, [], ◌∷◌, ◌++◌, length, Option, Some, None, refl, sym, ap, subst, ◌∙◌}
 use Rattle.std.proofs.lemmas.Bool.{and_parts, false≢true}
 use Rattle.std.specs.Prelude.{ℤ, nat_eq, nat_lt, slice_get, slice_set}
 use Rattle.std.specs.Int.{cast_unsigned, w64}
@@ -22,26 +22,26 @@ use Rattle.life_core.specs.Ready.{AreBits, CanLeave, IsThere, Ready, set_bits}
 use Rattle.life_core.specs.Step.{Change, PushBack, PopBack, Clear, Reserve, Erase, Set, Append}
 use Rattle.life_core.specs.Touched.{characters_uses, change_leaves, change_uses, change_writes, if_object, made_leaves, made_uses, part_uses, place_uses, unless_object, written}
 use Rattle.life_core.proofs.ReadyLemmas.{bits_left, bits_right}
-use Rattle.life_proper.specs.OperandTypes.{is_composed, is_owner, owned_target, same, walks}
-use Rattle.life_proper.specs.Placed.{is_consumed, is_given, is_number_of, object_at, register_at, result_at, slot_at, type_at, type_in, type_of}
+use Rattle.life_proper.specs.OperandTypes.{is_composed, is_owner, owned_target, walks}
+use Rattle.life_proper.specs.Placed.{is_consumed, is_given, is_number_of, object_at, register_at, result_at, slot_at, type_in, type_of}
 use Rattle.life_proper.specs.WellFormed.{are_characters, is_change_of, is_made_for}
 use Rattle.life_store.specs.Content.{Content, live_words_of, with_birth}
 use Rattle.life_store.specs.Doing.{changed, changes, edits, erases, made_fresh, made_of, makes, on_given, pointer_to, pushes, remade, replaced}
-use Rattle.life_store.specs.Edits.{Edit, Push, Pop, Clear as ClearAll, Reserve as Room, Put, Add, buffer_of, capacity_of, characters_of, edited, erased, grown, owned_at, popped, pushed, regrown, reserved, rewritten, size_of, with_room}
-use Rattle.life_store.specs.Effects.{Setting, Effect, Next, Strays, Attempt, Got, GotTrap, GotFault, GotLost, cell, got_or, on_got, on_next, on_number, put_cell, put_content, then_get, word_of_number}
+use Rattle.life_store.specs.Edits.{Edit, Push, Pop, Clear as ClearAll, Reserve as Room, Put, Add, buffer_of, capacity_of, characters_of, edited, erased, grown, owned_at, popped, regrown, rewritten, size_of, with_room}
+use Rattle.life_store.specs.Effects.{Setting, Effect, Next, Attempt, Got, GotTrap, GotFault, GotLost, cell, got_or, on_got, on_next, put_cell, put_content, word_of_number}
 use Rattle.life_store.specs.Held.{owner_word}
-use Rattle.life_store.specs.Iterators.{below, erasable, index_in, iterator}
-use Rattle.life_store.specs.Owners.{Words, birth, consumed, fresh, joined, object_with, owning, sized_birth}
+use Rattle.life_store.specs.Iterators.{below, erasable, iterator}
+use Rattle.life_store.specs.Owners.{Words, birth, consumed, fresh, joined, object_with, sized_birth}
 use Rattle.life_store.specs.Parts.{Parts, Single, Raw, Iterates, Views, Text, Vector, Unique, Member, NoMember, characters_type, local_parts, location_parts, operand_parts, parts_at, parts_if, width}
-use Rattle.life_store.specs.Places.{Spot, location_cell, on_location, operand_word, owner_spot_if, pointed}
-use Rattle.life_store.specs.State.{Pointer, Null, Wild, To, Static, Cell, Empty, Named, Number, Points, State, ready_of}
+use Rattle.life_store.specs.Places.{Spot, location_cell, on_location, operand_word, pointed}
+use Rattle.life_store.specs.State.{Pointer, Null, Wild, To, Static, Cell, Empty, Named, Number, State, ready_of}
 use Rattle.life_store.specs.Views.{seen_words, used}
 use Rattle.life_store.specs.declared.run.FaultKind.TheVariants as fault
 use Rattle.life_store.specs.declared.run.TrapKind.TheVariants as trap
 use Rattle.life_store.proofs.CellLemmas.{ready_set}
 use Rattle.life_forest.specs.Settled.{IsPoised, Settles}
-use Rattle.life_forest.proofs.ReadyCells.{location_is_object, number_any, number_cell, object_cell}
-use Rattle.life_forest.proofs.SeenTypes.{iterator_points, parts_typed}
+use Rattle.life_forest.proofs.ReadyCells.{number_any, number_cell, object_cell}
+use Rattle.life_forest.proofs.SeenTypes.{parts_typed}
 use Rattle.life_forest.proofs.Settling.{IsUsed, Well, ready_pointed, settle_got, settle_number, sorted_put, well_if, well_or, well_then}
 use Rattle.life_forest.proofs.SettlingOwners.{location_settles, owner_settles}
 use Rattle.life_forest.proofs.SettlingPointers.{iterator_at, used_at}

@@ -1,9 +1,9 @@
 -- Instructions by which locals come to life and end settle.
-use Rattle.std.proofs.Common.{◌≡◌, ◌⊎◌, inl, inr, ⊎_elim, ℕ, ◌+◌, ◌*◌, ◌<◌, Bool, true, false, ◌&&◌, ◌||◌, not, List, [], ◌∷◌, length, map, option_map, Option, Some, None, refl, sym, ap, subst, ◌∙◌, arith}
+use Rattle.std.proofs.Common.{◌≡◌, ℕ, ◌+◌, ◌*◌, ◌<◌, Bool, true, false, ◌&&◌, ◌||◌, not, List, [], ◌∷◌, length, option_map, Option, Some, None, refl, sym, ap, subst, ◌∙◌, arith}
 use Rattle.std.proofs.lemmas.Bool.{and_parts, false≢true}
 use Rattle.std.proofs.lemmas.Option.{slice_get-map}
 use Rattle.std.specs.List.{list_all}
-use Rattle.std.specs.Prelude.{ℤ, nat_lt, slice_get, slice_set}
+use Rattle.std.specs.Prelude.{nat_lt, slice_get, slice_set}
 use Rattle.life_types.specs.Pointees.{or_void}
 use Rattle.life_types.specs.Trees.{IsOrdered, members_at}
 use Rattle.life_types.specs.TypeTests.{is_pointer, is_raw, is_reference}
@@ -21,7 +21,7 @@ use Rattle.life_core.specs.Holdings.{Holding, held_by, held_if, sort_of}
 use Rattle.life_core.specs.Kinds.{has_kind, is_object, is_register}
 use Rattle.life_core.specs.Ready.{CanLeave, IsBit, IsThere, Ready, set_bits}
 use Rattle.life_pset.specs.Shapes.{ty_if}
-use Rattle.life_proper.specs.Placed.{is_slot_local, object_at, register_at, result_at, slot_at, type_at}
+use Rattle.life_proper.specs.Placed.{is_slot_local, object_at, result_at, slot_at, type_at}
 use Rattle.life_proper.specs.WellFormed.{can_end, can_live}
 use Rattle.life_proper.specs.WellFormedPrograms.{fits_kind}
 use Rattle.life_store.specs.Births.{born_object, born_owner, end_cell, end_locals, end_object, live_as, live_local, live_of, live_over, with_value_object}
@@ -29,14 +29,14 @@ use Rattle.life_store.specs.Cells.{at}
 use Rattle.life_store.specs.Content.{Content, Object, live_words_of}
 use Rattle.life_store.specs.Effects.{Setting, Effect, Next, Traps, Faults, Strays, cell, on_next, put_cell, put_content}
 use Rattle.life_store.specs.Owners.{born_pointer, empty_view, fresh, object_with}
-use Rattle.life_store.specs.Parts.{Parts, Text, Vector, Unique, Member, NoMember, Iterates, Views, characters_type, held_type_if, local_parts, parts_at, struct_of}
+use Rattle.life_store.specs.Parts.{Parts, Text, Vector, Unique, Member, Iterates, Views, characters_type, held_type_if, local_parts, parts_at, struct_of}
 use Rattle.life_store.specs.State.{Pointer, Wild, Cell, Empty, Named, Number, Points, State, is_there, ready_of}
 use Rattle.life_store.specs.declared.run.TrapKind.TheVariants as trap
 use Rattle.life_store.proofs.CellLemmas.{empty_cell_is, none_some, ready_set, some_same}
 use Rattle.life_forest.specs.FrameTypes.{Stands}
 use Rattle.life_forest.specs.Frames.{OnNext}
 use Rattle.life_forest.specs.Settled.{KindsFit, Settles}
-use Rattle.life_forest.specs.Sorted.{Aims, AreSorted, Counts, Names, PointerFits, Sort, sort_at, sort_if}
+use Rattle.life_forest.specs.Sorted.{AreSorted, Counts, PointerFits, sort_if}
 use Rattle.life_forest.proofs.ReadyCells.{pointer_no_object}
 use Rattle.life_forest.proofs.SeenTypes.{parts_typed}
 use Rattle.life_forest.proofs.Settling.{settle_got, settle_if, sorted_put}

@@ -1,40 +1,37 @@
 -- Instructions on numbers settle.
-use Rattle.std.proofs.Common.{◌≡◌, ℕ, Bool, true, false, ◌&&◌, not, cond, List, [], ◌∷◌, ◌++◌, Option, Some, None, Ok, Err, refl, sym, ap, subst, ◌∙◌}
+use Rattle.std.proofs.Common.{◌≡◌, ℕ, Bool, true, false, ◌&&◌, not, cond, List, [], ◌∷◌, Option, Some, Ok, Err, refl, sym, ap, subst, ◌∙◌}
 use Rattle.std.proofs.lemmas.Bool.{and_parts, false≢true}
-use Rattle.std.specs.Prelude.{ℤ, nat_lt, pos, slice_set}
-use Rattle.life_types.specs.TypeTests.{is_constant, is_pointer, is_raw, is_value, is_view, is_void}
+use Rattle.std.specs.Prelude.{ℤ, nat_lt, slice_set}
+use Rattle.life_types.specs.TypeTests.{is_pointer, is_raw, is_value, is_view}
 use Rattle.life_types.specs.Types.{Types}
 use Rattle.life_types.specs.declared.ty.Ty.{Ty}
 use Rattle.life_types.specs.declared.ty.Ty.TheVariants as ty
 use Rattle.life_core.specs.declared.operation.Operation.{Operation}
 use Rattle.life_core.specs.declared.operation.Operation.TheVariants as operation
 use Rattle.life_core.specs.Function.{Function}
-use Rattle.life_core.specs.Operands.{Base, Location, Operand}
-use Rattle.life_core.specs.Operands as source
+use Rattle.life_core.specs.Operands.{Location, Operand}
 use Rattle.life_core.specs.Ready.{AreBits, IsThere, Ready}
 use Rattle.life_core.specs.Step.{Port, Writes, WritesView, Takes}
-use Rattle.life_core.specs.Touched.{base_uses, operation_uses, place_uses, port_uses}
+use Rattle.life_core.specs.Touched.{operation_uses, place_uses, port_uses}
 use Rattle.life_core.proofs.ReadyLemmas.{port_behind}
 use Rattle.life_pset.specs.Shapes.{operand_type, ty_if}
 use Rattle.life_proper.specs.OperandTypes.{are_compared, is_promoted, same}
 use Rattle.life_proper.specs.Placed.{is_const_place, is_number, is_number_of, is_place, register_at, type_at, type_in, type_of}
 use Rattle.life_proper.specs.WellFormed.{answer_of, is_operation_of, is_port}
-use Rattle.life_store.specs.Content.{Object}
-use Rattle.life_store.specs.Doing.{compared, computed_into, evaluated, input_taken, loaded, loaded_from, number_text, on_character, on_view, port, same_into, saved, sized, told, with_output}
-use Rattle.life_store.specs.Edits.{buffer_of, owned_at, size_of}
-use Rattle.life_store.specs.Effects.{Setting, Effect, Next, Traps, Strays, Got, cell, converted, on_got, on_number, put_cell, then_get, type_of as ty_of_local}
+use Rattle.life_store.specs.Doing.{compared, computed_into, evaluated, input_taken, loaded, number_text, on_character, on_view, port, same_into, saved, told, with_output}
+use Rattle.life_store.specs.Effects.{Setting, Effect, Next, Traps, Strays, Got, cell, converted, on_number, put_cell, then_get, type_of as ty_of_local}
 use Rattle.life_store.specs.Iterators.{is_one_object, iterator, same_position, standing}
 use Rattle.life_store.specs.Numbers.{Computed, combined, is_zero, negated, truth}
 use Rattle.life_store.specs.Parts.{Parts, Single, Raw, Iterates, Views, Text, Vector, Unique, Member, NoMember, location_parts}
-use Rattle.life_store.specs.Places.{Found, locate, location_cell, operand_word, on_found}
+use Rattle.life_store.specs.Places.{locate, location_cell, operand_word, on_found}
 use Rattle.life_store.specs.State.{Characters, Pointer, Cell, Number, Points, State, ready_of}
 use Rattle.life_store.specs.Views.{are_same, seen_bytes, text_size, usable, used}
 use Rattle.life_store.specs.declared.run.TrapKind.TheVariants as trap
 use Rattle.life_forest.specs.Settled.{IsPoised, Settles}
 use Rattle.life_forest.specs.Sorted.{PointerFits}
-use Rattle.life_forest.proofs.ReadyCells.{PlaceWell, location_pointer, number_any, number_cell, place_well}
+use Rattle.life_forest.proofs.ReadyCells.{location_pointer, number_any, number_cell, place_well}
 use Rattle.life_forest.proofs.TypedSteps.{if_there, value_solid}
-use Rattle.life_forest.proofs.Settling.{IsUsed, Well, number_settles, settle_got, settle_if, settle_number, settle_place, standing_well, used_well, well_if, well_then}
+use Rattle.life_forest.proofs.Settling.{IsUsed, Well, number_settles, settle_got, settle_number, settle_place, standing_well, used_well, well_if, well_then}
 
 pub text_settles : (types : Types) (f : Function) (bits : Ready) (texts : List (List ℕ)) (s : Characters) (go : ℤ → Effect) → ((z : ℤ) → Settles types f bits (go z)) → Settles types f bits (on_character texts s go)
 text_settles types f bits texts s go each = go_if (nat_lt s.index (text_size texts s)) _

@@ -1,7 +1,7 @@
 -- Instructions that look at owners, and make pointers to what they have, settle.
-use Rattle.std.proofs.Common.{◌≡◌, ℕ, Bool, true, false, ◌&&◌, ◌||◌, not, if◌then◌else◌, List, [], ◌∷◌, ◌++◌, Option, Some, None, refl, sym, ap, subst, ◌∙◌}
+use Rattle.std.proofs.Common.{◌≡◌, ℕ, Bool, true, false, ◌||◌, not, if◌then◌else◌, List, [], ◌∷◌, ◌++◌, Option, Some, None, refl, sym, ap, subst, ◌∙◌}
 use Rattle.std.proofs.lemmas.Bool.{and_parts, false≢true}
-use Rattle.std.specs.Prelude.{ℤ, pos, slice_index, slice_set}
+use Rattle.std.specs.Prelude.{pos, slice_index, slice_set}
 use Rattle.life_types.specs.Pointees.{ty_of}
 use Rattle.life_types.specs.Trees.{IsOrdered}
 use Rattle.life_types.specs.TypeTests.{is_constant, is_pointer, is_raw, is_view, is_void}
@@ -20,21 +20,20 @@ use Rattle.life_core.specs.Touched.{base_uses, part_uses, place_uses, source_use
 use Rattle.life_core.proofs.ReadyLemmas.{bits_left, bits_right}
 use Rattle.life_pset.specs.Shapes.{ty_if}
 use Rattle.life_pset.specs.Shapes as shapes
-use Rattle.life_proper.specs.OperandTypes.{aims_at, gets, is_composed, is_owner, is_range, keeps_const, owned_element, owned_target, same, seen_element, spans, walks}
+use Rattle.life_proper.specs.OperandTypes.{aims_at, gets, is_composed, is_owner, keeps_const, owned_element, owned_target, spans, walks}
 use Rattle.life_proper.specs.Placed.{is_const_base, is_const_place, is_number_of, is_place, object_at, type_at, type_in, type_of, type_of_element}
 use Rattle.life_proper.specs.Placed as placed
 use Rattle.life_proper.specs.WellFormed.{is_source_of}
-use Rattle.life_proper.proofs.HeldSorts.{same_is, same_void}
-use Rattle.life_store.specs.Content.{Object}
+use Rattle.life_proper.proofs.HeldSorts.{same_void}
 use Rattle.life_store.specs.Doing.{aimed, aimed_at, cursor, element, element_at, giving, moved_to, moves, moves_from, on_character, owned_pointer, owner_element, pointer_to, sized, target_at, whole_of}
 use Rattle.life_store.specs.Edits.{buffer_of, owned_at, size_of}
-use Rattle.life_store.specs.Effects.{Setting, Effect, Next, Strays, cell, on_got, put_cell, put_content}
+use Rattle.life_store.specs.Effects.{Setting, Effect, Next, cell, on_got, put_cell, put_content}
 use Rattle.life_store.specs.Held.{owned_in, owner_word, slot_words}
 use Rattle.life_store.specs.Iterators.{at_index, end_index}
 use Rattle.life_store.specs.Owners.{empty_view, taken}
 use Rattle.life_store.specs.Parts.{Parts, Single, Raw, Iterates, Views, Text, Vector, Unique, Member, NoMember, local_parts, local_type, parts_at, parts_of, word_within}
 use Rattle.life_store.specs.Places.{Found, Here, Fixed, Outside, Wrong, Astray, Spot, locate, location_cell, on_found, on_location, on_spot, operand_word, owner_spot_if, pointed}
-use Rattle.life_store.specs.State.{Characters, Pointer, Null, To, Static, Cell, Named, Number, State, ready_of}
+use Rattle.life_store.specs.State.{Null, Static, Cell, Number, State, ready_of}
 use Rattle.life_store.specs.Views.{seen_count, used, viewed}
 use Rattle.life_store.specs.declared.run.FaultKind.TheVariants as fault
 use Rattle.life_forest.specs.Settled.{IsPoised, Settles}
@@ -42,7 +41,7 @@ use Rattle.life_forest.specs.Sorted.{PointerFits, StaticFits}
 use Rattle.life_forest.proofs.Operands.{FoundWell, operand_well}
 use Rattle.life_forest.proofs.ReadyCells.{PlaceWell, location_is_object, number_any, object_cell, place_well}
 use Rattle.life_forest.proofs.SeenTypes.{parts_typed, range_points, raw_points, view_is}
-use Rattle.life_forest.proofs.Settling.{IsUsed, Well, number_settles, settle_got, settle_place, static_kept, well_or}
+use Rattle.life_forest.proofs.Settling.{IsUsed, Well, number_settles, settle_got, settle_place, well_or}
 use Rattle.life_forest.proofs.SettlingNumbers.{text_settles}
 use Rattle.life_forest.proofs.SettlingPointers.{aims_points, aims_solid, element_settles, given, indexed, seen_range, used_at, walks_points, walks_solid}
 use Rattle.life_forest.proofs.Shaped.{IsShaped}

@@ -1,9 +1,9 @@
 -- Instructions that make pointers from pointers settle.
-use Rattle.std.proofs.Common.{◌≡◌, ℕ, zero, suc, ◌+◌, Bool, true, false, ◌&&◌, not, cond, if◌then◌else◌, List, [], ◌∷◌, ◌++◌, Option, Some, None, refl, sym, ap, subst, ◌∙◌}
+use Rattle.std.proofs.Common.{◌≡◌, ℕ, zero, suc, ◌+◌, Bool, true, false, if◌then◌else◌, ◌∷◌, ◌++◌, Option, Some, None, refl, sym, ap, subst, ◌∙◌}
 use Rattle.std.proofs.lemmas.Bool.{and_parts, false≢true}
 use Rattle.std.specs.Prelude.{ℤ, pos, negsuc, ◌+ℤ◌, nat_le, nat_lt}
 use Rattle.life_types.specs.Pointees.{ty_of}
-use Rattle.life_types.specs.TypeTests.{is_constant, is_iterator, is_pointer, is_raw, is_value, is_view}
+use Rattle.life_types.specs.TypeTests.{is_constant, is_iterator, is_pointer, is_raw}
 use Rattle.life_types.specs.Types.{Types}
 use Rattle.life_types.specs.declared.ty.Ty.{Ty}
 use Rattle.life_types.specs.declared.ty.Ty.TheVariants as ty
@@ -17,17 +17,17 @@ use Rattle.life_core.specs.Operands as source
 use Rattle.life_core.specs.Ready.{AreBits, IsThere, Ready, set_bits}
 use Rattle.life_core.specs.Touched.{count_uses, part_uses, which_uses, written}
 use Rattle.life_core.proofs.ReadyLemmas.{bits_left, bits_right}
-use Rattle.life_proper.specs.OperandTypes.{aims_at, are_alike, is_range, keeps_const, same, seen_element, takes, walks}
+use Rattle.life_proper.specs.OperandTypes.{aims_at, are_alike, is_range, keeps_const, seen_element, takes, walks}
 use Rattle.life_proper.specs.Placed.{is_number, is_number_of, is_number_of_if, type_in, type_of_element}
 use Rattle.life_proper.specs.Placed as placed
 use Rattle.life_proper.proofs.HeldSorts.{same_void}
-use Rattle.life_store.specs.Doing.{advanced, count_in, cursor, cut, element, element_at, pointer_to, type_if}
-use Rattle.life_store.specs.Effects.{Setting, Effect, Next, Attempt, Got, GotTrap, cell, on_got, on_number, on_pointer, then_get, type_of}
-use Rattle.life_store.specs.Iterators.{at_index, below, below_if, chosen, count_of, directed, element_of, end_index, index_in, iterator, last_of, start_of, standing, stepped, up_to}
+use Rattle.life_store.specs.Doing.{advanced, count_in, cursor, cut, element, element_at, type_if}
+use Rattle.life_store.specs.Effects.{Setting, Got, GotTrap, cell, on_got, on_number, on_pointer, type_of}
+use Rattle.life_store.specs.Iterators.{at_index, below, below_if, chosen, count_of, directed, element_of, end_index, index_in, iterator, last_of, start_of, stepped, up_to}
 use Rattle.life_store.specs.Parts.{location_type}
 use Rattle.life_store.specs.Places.{location_cell, pointed}
-use Rattle.life_store.specs.State.{Pointer, Null, Wild, To, Static, Cell, Number, Points, State, ready_of}
-use Rattle.life_store.specs.Views.{is_span, left_from, part_count, part_of, seen_count, usable, used}
+use Rattle.life_store.specs.State.{Pointer, Null, Wild, To, Static, Cell, Number, State, ready_of}
+use Rattle.life_store.specs.Views.{is_span, part_count, part_of, seen_count, used}
 use Rattle.life_store.specs.declared.run.TrapKind.TheVariants as trap
 use Rattle.life_forest.specs.Settled.{IsPoised, Settles}
 use Rattle.life_forest.specs.Sorted.{PointerFits}

@@ -1,8 +1,7 @@
 -- What comes of an instruction that is ready: no stray step, and with it the locals that are there, each of its sort.
-use Rattle.std.specs.Prelude.{◌≡◌, ◌⊎◌, ℕ, true, List, [], ◌∷◌, Some, slice_get}
-use Rattle.life_types.specs.Trees.{IsOrdered}
+use Rattle.std.specs.Prelude.{◌≡◌, ℕ, true, Some, slice_get}
 use Rattle.life_types.specs.TypeTests.{is_pointer}
-use Rattle.life_types.specs.Types.{HasEachOnce, Types}
+use Rattle.life_types.specs.Types.{Types}
 use Rattle.life_core.specs.declared.program.Local.{Local}
 use Rattle.life_core.specs.Function.{Function}
 use Rattle.life_core.specs.Operands.{Location}
