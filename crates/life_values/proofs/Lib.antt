@@ -4,5 +4,7 @@ pub mod Deep
 pub mod DeepSteps
 pub mod Emptying
 pub mod Ends
+pub mod Flat
+pub mod Joining
 pub mod Meant
 pub mod Owners

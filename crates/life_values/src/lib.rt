@@ -3,6 +3,8 @@
 
 mod deep_end;
 mod layout;
+mod layouts;
 
 pub use deep_end::end_deep;
-pub use layout::Layout;
+pub use layout::{Holds, Layout, Leaf};
+pub use layouts::layouts_of;
