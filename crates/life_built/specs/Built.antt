@@ -65,6 +65,11 @@ is_built_if_any (Some e) = is_built_expression e
 
 -- ---- declarations and simple statements
 
+-- alone stands a call
+abbrev pub is_call : Form → Bool
+is_call (call f arguments delimiters) = true
+is_call _ = false
+
 -- a reference that isn't aimed at a place of its type would keep a temporary
 abbrev pub needs_no_temporary : Ty → Typed → Bool
 needs_no_temporary (ty.Reference target constant) e = is_place_of e.category target
@@ -87,7 +92,7 @@ abbrev pub is_built_simple : SimpleForm → Bool
 is_built_simple (assign target equals initial) = is_built_expression target && is_built_value initial
 is_built_simple (compound target operator place e) = is_built_expression target && is_built_expression e
 is_built_simple (step target operator place) = is_built_expression target
-is_built_simple (discarded e) = is_built_expression e
+is_built_simple (discarded e) = is_call e.form && is_built_expression e
 
 abbrev pub is_built_step : Option SimpleForm → Bool
 is_built_step None = true

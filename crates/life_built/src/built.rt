@@ -156,6 +156,16 @@ fn is_built_value(value: &TypedInitial) -> bool
     }
 }
 
+// Alone stands a call.
+fn is_call(form: &ExprForm) -> bool
+    ensures { (f : Form) → result ≡ spec.is_call (form_view form.now f) }
+{
+    match form {
+        ExprForm::Call { .. } => true,
+        _ => false,
+    }
+}
+
 fn is_built_simple(simple: &TypedSimple) -> bool
     ensures { result ≡ spec.is_built_simple (simple_view simple.now) }
 {
@@ -167,7 +177,9 @@ fn is_built_simple(simple: &TypedSimple) -> bool
             is_built_expression(target) && is_built_expression(value)
         }
         TypedSimple::Step { target, .. } => is_built_expression(target),
-        TypedSimple::Call(expression) => is_built_expression(expression),
+        TypedSimple::Call(expression) => {
+            is_call(&expression.form) && is_built_expression(expression)
+        }
     }
 }
 

@@ -2,8 +2,6 @@
 use Rattle.std.specs.Prelude.{◌≡◌, length, true}
 use Rattle.life_built.specs.Built.{is_built}
 use Rattle.life_keys.specs.NamedTokens.{are_named}
-use Rattle.life_tree.specs.Grammar.{Fits}
-use Rattle.life_tree.specs.LongTokens.{are_longs}
 use Rattle.life_tree.specs.Tree.{tokens_of}
 use Rattle.life_tree.specs.Views.{program_tree}
 use Rattle.life_tree.specs.declared.program.Program.{Program}
@@ -13,11 +11,9 @@ use Rattle.life_well_typed.specs.Mains.{HasIntMain}
 use Rattle.life_well_typed.specs.Names.{HasNames}
 use Rattle.life_well_typed.specs.Results.{HasResults, HasTable}
 
--- a tree that was read from a text: its literals are longs, its names are in its table, and it has the forms of the grammar
-pub record IsRead (tree : Program) : Type 0 where
-  pub longs : are_longs (tokens_of (program_tree tree)) ≡ true
-  pub named : are_named (length tree.names.items) (tokens_of (program_tree tree)) ≡ true
-  pub fits : Fits (program_tree tree)
+-- a tree that was read from a text: its names are in its table
+abbrev pub IsRead : Program → Type 0
+IsRead tree = are_named (length tree.names.items) (tokens_of (program_tree tree)) ≡ true
 
 -- a typed program of such a tree: its names are in its table, and no two functions have one; as far as it is built it is well typed
 pub record IsTyped (p : ProgramForm) : Type 0 where

@@ -23,16 +23,14 @@ use life_elab::{ElabFault, elaborate, is_built};
 use life_elab_laws::{translations_are_proper, translations_have_short_places};
 use life_fix::program_diagnostics;
 use life_parse::parse;
-use life_parse_laws::{trees_have_longs, trees_have_names};
+use life_parse_laws::trees_have_names;
 use life_rules::ListedDiag;
 use life_sound::accept;
 use life_tree::Program;
 use life_typed::Typed;
 use life_types::Place;
 use life_typing::{IllFault, IllKind, resolve};
-use life_typing_laws::{
-    resolved_programs_are_as_parsed, resolved_programs_are_well_typed, resolved_programs_have_names,
-};
+use life_typing_laws::{resolved_programs_are_well_typed, resolved_programs_have_names};
 use std::alloc::Global;
 use std::sync::ledger::Ledger;
 
@@ -55,7 +53,6 @@ pub fn check_text<L: Ledger>(
     ensures ticks { TakesFew (ComesTo bytes.now) steps.old steps.new }
 {
     let tree = parse(alloc, bytes)?;
-    trees_have_longs();
     trees_have_names();
     check_tree(alloc, tree, steps)
 }
@@ -71,7 +68,6 @@ fn check_tree<L: Ledger>(
     ensures ticks { TakesFew (ResolvedComesTo (resolved tree)) steps.old steps.new }
 {
     let typed = typed_of(alloc, tree)?;
-    resolved_programs_are_as_parsed();
     resolved_programs_are_well_typed();
     resolved_programs_have_names();
     check_typed(alloc, typed, steps)

@@ -1,6 +1,5 @@
 -- What all laws ask of an expression and of what it is made by, and the ways to make a form: as a value, by tests, as a pointer, as a place, in parentheses.
 use Rattle.std.proofs.Common.{◌≡◌, ◌⊎◌, ℕ, Bool, true, false, cond, List, [], slice_get, Option, Some, None, refl, sym, ap, ◌∙◌, subst}
-use Rattle.std.proofs.lemmas.Bool.{false≢true}
 use Rattle.life_types.specs.TypeTests.{is_raw, is_value}
 use Rattle.life_types.specs.Types.{Types}
 use Rattle.life_types.specs.contracts.ty.TyPartialEq.TheImpl.{ghosts as compared}
@@ -22,7 +21,6 @@ use Rattle.life_core.specs.Operands.{Argument, Location, Operand}
 use Rattle.life_core.specs.Tree.{Tree}
 use Rattle.life_well_typed.specs.Expressions.{parameter_types, typed_in}
 use Rattle.life_well_typed.specs.Given.{is_number, is_pointer}
-use Rattle.life_well_typed.specs.Statements.{ends_in_arguments}
 use Rattle.life_writer.specs.Around.{Around, own_type}
 use Rattle.life_writer.specs.Around as around
 use Rattle.life_writer.specs.Behind.{closed_by, lasting}
@@ -91,9 +89,8 @@ module _ (a : Around) (visible : List ℕ) (types : Types) (texts : ℕ) (fs : L
     pub points : is_pointer e.ty ≡ true → (s : State) → Standing s → Points e.ty s (pointing a form s)
     -- what is made of conditions decides
     pub decides : (place : Place) (b : Behind) (w : State → Gives Tree) → decision a form place b ≡ Some w → (s : State) → Standing s → Decided s (w s)
-    -- what is a call is one of a function that is there; and what stands alone and is none is a number
+    -- what is a call is one of a function that is there
     pub calls : (c : Called) → call_of form ≡ Some c → IsCall c e.ty
-    pub alone : ends_in_arguments form ≡ true → call_of form ≡ None → is_number e.ty ≡ true
 
   -- of a whole expression
   pub record IsWhole (form : Form) : Type 0 where
@@ -213,7 +210,6 @@ module _ (a : Around) (visible : List ℕ) (types : Types) (texts : ℕ) (fs : L
     points = λ p. absurd (number_no_pointer e.ty (of_number e.ty t is v) p);
     decides = decides;
     calls = λ d at. absurd (none_some (sym none ∙ at));
-    alone = λ ends at. of_number e.ty t is v;
   }
 
   pub value_form : (form : Form) (e : Typed) (t : Ty) → e.ty ≡ Of t → e.category ≡ category.Value → is_value t ≡ true → call_of form ≡ None → ((place : Place) (b : Behind) → decision a form place b ≡ None)
@@ -229,9 +225,9 @@ module _ (a : Around) (visible : List ℕ) (types : Types) (texts : ℕ) (fs : L
   literal form e t is v none plain makes lands = value_form form e t (ap (λ (y : Typed). y.ty) is) (ap (λ (y : Typed). y.category) is) v none plain makes lands
 
   -- a pointer that is no place
-  pub pointer_form : (form : Form) (e : Typed) → IsKind a.program.types e → e.category ≡ category.Value → (is_number e.ty ≡ true → ⊥) → call_of form ≡ None → ends_in_arguments form ≡ false → ((place : Place) (b : Behind) → decision a form place b ≡ None)
+  pub pointer_form : (form : Form) (e : Typed) → IsKind a.program.types e → e.category ≡ category.Value → (is_number e.ty ≡ true → ⊥) → call_of form ≡ None → ((place : Place) (b : Behind) → decision a form place b ≡ None)
       → (is_pointer e.ty ≡ true → (s : State) → Standing s → Points e.ty s (pointing a form s)) → IsForm form e
-  pointer_form form e kind c never none ends plain points = record {
+  pointer_form form e kind c never none plain points = record {
     kind = kind;
     computes = λ at n. absurd (never n);
     lands = λ at n. absurd (never n);
@@ -239,14 +235,13 @@ module _ (a : Around) (visible : List ℕ) (types : Types) (texts : ℕ) (fs : L
     points = points;
     decides = λ place b w at. absurd (none_some (sym (plain place b) ∙ at));
     calls = λ d at. absurd (none_some (sym none ∙ at));
-    alone = λ h at. absurd (false≢true (sym ends ∙ h));
   }
 
   -- a place
-  pub place_form : (form : Form) (e : Typed) → IsKind a.program.types e → (e.category ≡ category.Value → ⊥) → call_of form ≡ None → ends_in_arguments form ≡ false → ((place : Place) (b : Behind) → decision a form place b ≡ None)
+  pub place_form : (form : Form) (e : Typed) → IsKind a.program.types e → (e.category ≡ category.Value → ⊥) → call_of form ≡ None → ((place : Place) (b : Behind) → decision a form place b ≡ None)
       → ((id : TyId) (constant : Bool) → e.category ≡ category.Place id constant → is_value (type_at a.program.types id) ≡ true → (s : State) → Standing s → Placed (type_at a.program.types id) constant s (operand a form s))
       → (is_pointer e.ty ≡ true → (s : State) → Standing s → Points e.ty s (pointing a form s)) → IsForm form e
-  place_form form e kind c none ends plain names points = record {
+  place_form form e kind c none plain names points = record {
     kind = kind;
     computes = λ at. absurd (c at);
     lands = λ at. absurd (c at);
@@ -254,7 +249,6 @@ module _ (a : Around) (visible : List ℕ) (types : Types) (texts : ℕ) (fs : L
     points = points;
     decides = λ place b w at. absurd (none_some (sym (plain place b) ∙ at));
     calls = λ d at. absurd (none_some (sym none ∙ at));
-    alone = λ h at. absurd (false≢true (sym ends ∙ h));
   }
 
   -- what is in parentheses
@@ -267,5 +261,4 @@ module _ (a : Around) (visible : List ℕ) (types : Types) (texts : ℕ) (fs : L
     points = λ p s stands. subst (λ (x : ExprType). Points x s (pointing a inner s)) t (is.points (ap is_pointer t ∙ p) s stands);
     decides = λ place b. is.decides place (closed_by closing b);
     calls = λ d at. subst (IsCall d) t (is.calls d at);
-    alone = λ ends at. absurd (false≢true ends);
   }

@@ -151,7 +151,7 @@ module _ (a : Around) (visible : List ℕ) (types : Types) (texts : ℕ) (fs : L
       go (a_null at v) = v
 
   variable_form : (x : ℕ) (e : Typed) → Contains visible x → IsVariable a.program.types x (slice_get a.function.locals x) e → IsForm a visible types texts fs f setting (local x) e
-  variable_form x e c h = place_form a visible types texts fs f setting (local x) e kind (variable_no_value x e h) refl refl (λ place b. refl) (λ id constant at v s stands. variable_names x e s stands c h id constant at v) (λ p s stands. go (pointer_type e.ty p) s stands)
+  variable_form x e c h = place_form a visible types texts fs f setting (local x) e kind (variable_no_value x e h) refl (λ place b. refl) (λ id constant at v s stands. variable_names x e s stands c h id constant at v) (λ p s stands. go (pointer_type e.ty p) s stands)
     where
       kind : IsKind a.program.types e
       kind = kind_local a.program.types a.function.locals x e setting.variables h
@@ -194,7 +194,6 @@ module _ (a : Around) (visible : List ℕ) (types : Types) (texts : ℕ) (fs : L
             points = λ p. absurd (no_pointer k.0 p);
             decides = λ place b w at. absurd (none_some at);
             calls = λ c at. subst (λ (d : Called). IsCall a visible types texts fs f setting d e.ty) (some_same at) is;
-            alone = λ ends none. absurd (none_some (sym none));
           }
         where
           no_pointer : (e.ty ≡ Of ty.Void) ⊎ (is_number e.ty ≡ true) → is_pointer e.ty ≡ true → ⊥
@@ -206,7 +205,7 @@ module _ (a : Around) (visible : List ℕ) (types : Types) (texts : ℕ) (fs : L
   dereference_form : (inner : Form) (e : Typed) → (d : IsDereferenced a.program.types (typed_in inner) e) → IsWhole a visible types texts fs f setting inner → IsForm a visible types texts fs f setting (dereference inner) e
   dereference_form inner e d is =
       place_form a visible types texts fs f setting (dereference inner) e (kind_of_place a.program.types e d.target d.constant d.form d.is (is_number_kind (type_at a.program.types d.target) own d.value))
-      (λ at. value_place (sym at ∙ ap (λ (y : Typed). y.category) d.is)) refl refl (λ place b. refl) names (λ p. absurd (number_no_pointer e.ty (of_number a visible types texts fs f setting e.ty (type_at a.program.types d.target) own d.value) p))
+      (λ at. value_place (sym at ∙ ap (λ (y : Typed). y.category) d.is)) refl (λ place b. refl) names (λ p. absurd (number_no_pointer e.ty (of_number a visible types texts fs f setting e.ty (type_at a.program.types d.target) own d.value) p))
     where
       own : e.ty ≡ Of (type_at a.program.types d.target)
       own = ap (λ (y : Typed). y.ty) d.is
@@ -225,7 +224,7 @@ module _ (a : Around) (visible : List ℕ) (types : Types) (texts : ℕ) (fs : L
 
   address_form : (inner : Form) (e : Typed) → (d : IsAddressed a.program.types (typed_in inner) e) → IsWhole a visible types texts fs f setting inner → IsForm a visible types texts fs f setting (address_of inner) e
   address_form inner e d is =
-      pointer_form a visible types texts fs f setting (address_of inner) e (record { kind = is_pointer_kind d.target d.constant own d.worth; place = λ id c at. absurd (value_place (sym no ∙ at)) }) no (λ n. false≢true (sym (ap is_number own) ∙ n)) refl refl (λ place b. refl)
+      pointer_form a visible types texts fs f setting (address_of inner) e (record { kind = is_pointer_kind d.target d.constant own d.worth; place = λ id c at. absurd (value_place (sym no ∙ at)) }) no (λ n. false≢true (sym (ap is_number own) ∙ n)) refl (λ place b. refl)
       (λ p s stands. subst (λ (t : ExprType). Points t s (pointing a (address_of inner) s)) (sym own)
       (seen_part types texts fs f (gifts.nothing types texts fs f) tt None s (operand a inner s) (a_place types texts fs f (type_at a.program.types d.target) d.constant) (λ o. aimed (Aimed o)) (a_pointing types texts fs f (Of (ty.Raw d.target d.constant)))
       (is.names d.target d.constant d.place d.worth s stands)
@@ -244,7 +243,7 @@ module _ (a : Around) (visible : List ℕ) (types : Types) (texts : ℕ) (fs : L
 
   null_form : (e : Typed) → e.ty ≡ NullPointer → e.category ≡ category.Value → IsForm a visible types texts fs f setting null e
   null_form e t c =
-      pointer_form a visible types texts fs f setting null e (record { kind = a_null t c; place = λ id d at. absurd (value_place (sym c ∙ at)) }) c (λ n. false≢true (sym (ap is_number t) ∙ n)) refl refl (λ place b. refl)
+      pointer_form a visible types texts fs f setting null e (record { kind = a_null t c; place = λ id d at. absurd (value_place (sym c ∙ at)) }) c (λ n. false≢true (sym (ap is_number t) ∙ n)) refl (λ place b. refl)
       (λ p s stands. leaf_part types texts fs f (aimed Null) s (a_pointing types texts fs f e.ty) (λ b. null_given types texts fs f e.ty) (λ b k alive. null_filling f (length s.locals) k))
 
   -- ---- operators: what is written by each row
@@ -321,8 +320,8 @@ module _ (a : Around) (visible : List ℕ) (types : Types) (texts : ℕ) (fs : L
 
     -- each form by the way it is made
     pub expression : (form : Form) (e : Typed) → is_built_form form ≡ true → IsMadeOf a.program a.function.locals visible e form → IsForm a visible types texts fs f setting form e
-    expression (number n) e b h = literal a visible types texts fs f setting (number n) e (number_type n) h.0 (number_value n) refl (λ place b. refl) (λ place behind into s wanted stands. constant_part types texts fs f into (number_type n) place (values.long n) s (number_value n) wanted) (λ place behind r s. refl)
-    expression (character c) e b h = literal a visible types texts fs f setting (character c) e ty.Char h.0 refl refl (λ place b. refl) (λ place behind into s wanted stands. constant_part types texts fs f into ty.Char place (pos c) s refl wanted) (λ place behind r s. refl)
+    expression (number n) e b h = literal a visible types texts fs f setting (number n) e (number_type n) h (number_value n) refl (λ place b. refl) (λ place behind into s wanted stands. constant_part types texts fs f into (number_type n) place (values.long n) s (number_value n) wanted) (λ place behind r s. refl)
+    expression (character c) e b h = literal a visible types texts fs f setting (character c) e ty.Char h refl refl (λ place b. refl) (λ place behind into s wanted stands. constant_part types texts fs f into ty.Char place (pos c) s refl wanted) (λ place behind r s. refl)
     expression (boolean x) e b h = literal a visible types texts fs f setting (boolean x) e ty.Bool h refl refl (λ place b. refl) (λ place behind into s wanted stands. constant_part types texts fs f into ty.Bool place (values.truth x) s refl wanted) (λ place behind r s. refl)
     expression null e b h = null_form e h.0 h.1
     expression (local x) e b h = variable_form x e h.0 h.1

@@ -10,11 +10,11 @@ use Rattle.life_types.specs.declared.ty.Ty.TheVariants as ty
 use Rattle.life_types.specs.declared.ty.TyId.{TyId}
 use Rattle.life_tree.specs.declared.operator.CompoundOperator.{CompoundOperator}
 use Rattle.life_tree.specs.declared.operator.StepOperator.{StepOperator}
-use Rattle.life_built.specs.Built.{is_built_expression, is_built_simple}
+use Rattle.life_built.specs.Built.{is_built_expression, is_built_simple, is_call}
 use Rattle.life_typed.specs.BaseTypes.{type_at}
 use Rattle.life_typed.specs.Operators.{promoted}
 use Rattle.life_typed.specs.Statements.{can_step, compounded}
-use Rattle.life_typed.specs.TypedForm.{Typed, whole as whole_form}
+use Rattle.life_typed.specs.TypedForm.{Form, Typed, call, whole as whole_form}
 use Rattle.life_typed.specs.TypedStatement.{SimpleForm, assign, compound, discarded, one, several, step}
 use Rattle.life_typed.specs.declared.typed_expr.ExprType.{ExprType}
 use Rattle.life_typed.specs.declared.typed_expr.ExprType.TheVariants.{Of}
@@ -33,7 +33,7 @@ use Rattle.life_proper.specs.declared.known.Known.{Known}
 use Rattle.life_proper.specs.declared.known.Known.TheVariants as known
 use Rattle.life_well_typed.specs.Expressions.{IsExpression, parameter_types}
 use Rattle.life_well_typed.specs.Given.{is_given, is_number}
-use Rattle.life_well_typed.specs.Statements.{IsSimple, ends_in_arguments}
+use Rattle.life_well_typed.specs.Statements.{IsSimple}
 use Rattle.life_proper.proofs.ReadyTests.{uses_ready}
 use Rattle.life_writer.specs.Around.{Around, own_type}
 use Rattle.life_writer.specs.Around as around
@@ -63,7 +63,7 @@ use Rattle.life_elab_laws.proofs.Pending.{same_pending}
 use Rattle.life_elab_laws.proofs.RowTypes.{promoted_is}
 use Rattle.life_elab_laws.proofs.Setting.{Setting}
 use Rattle.life_elab_laws.proofs.SimpleTypes.{IsFree, compound_answer, compounded_numbers, free_place, own_counts, own_plain, own_same, step_answer, step_value}
-use Rattle.life_elab_laws.proofs.TypedKinds.{HasKind, a_null, a_number as of_number, a_pointer as of_pointer, no_value, operand_kind, promoted_value, value_place}
+use Rattle.life_elab_laws.proofs.TypedKinds.{HasKind, a_null, a_number as of_number, a_pointer as of_pointer, no_value, none_some, operand_kind, promoted_value, value_place}
 use Rattle.life_elab_laws.proofs.Values.{by_values}
 use Rattle.life_elab_laws.proofs.VariablePlaces.{Stands, stands_later}
 
@@ -265,8 +265,13 @@ module _ (a : Around) (visible : List ℕ) (types : Types) (texts : ℕ) (fs : L
   not_void : (e : Typed) (c : Called) (behind : Place) (t : Ty) (s : State) → is_value t ≡ true → discarded_as a e (Some c) behind t s ≡ (value a (whole_form e) behind t None s).state
   not_void e c behind t s = by_values (λ t. discarded_as a e (Some c) behind t s ≡ (value a (whole_form e) behind t None s).state) refl refl refl refl refl t
 
-  discarded_part : (e : Typed) (behind : Place) (s : State) → is_built_expression e ≡ true → Whole e → ends_in_arguments e.form ≡ true → Standing s → Acts s (written_alone a e behind s)
-  discarded_part e behind s b h ends stands = go (call_of e.form) refl
+  -- it is the call that it is
+  no_other : (form : Form) → is_call form ≡ true → call_of form ≡ None → ⊥
+  no_other (call f arguments delimiters) is none = none_some (sym none)
+  no_other _ is none = false≢true is
+
+  discarded_part : (e : Typed) (behind : Place) (s : State) → is_built_expression e ≡ true → Whole e → is_call e.form ≡ true → Standing s → Acts s (written_alone a e behind s)
+  discarded_part e behind s b h calls stands = go (call_of e.form) refl
     where
       form : IsForm a visible types texts fs f setting e.form e
       form = expression a visible types texts fs f setting e.form e b h
@@ -275,7 +280,7 @@ module _ (a : Around) (visible : List ℕ) (types : Types) (texts : ℕ) (fs : L
       kept n = kept_part e behind s (whole e b h) n stands
 
       go : (o : Option Called) → call_of e.form ≡ o → Acts s (discarded_as a e o behind (own_type e.ty) s)
-      go None none_is = kept (form.alone ends none_is)
+      go None none_is = absurd (no_other e.form calls none_is)
       go (Some c) at = kind is.kind
         where
           is : IsCall a visible types texts fs f setting c e.ty
@@ -304,7 +309,7 @@ module _ (a : Around) (visible : List ℕ) (types : Types) (texts : ℕ) (fs : L
       let n = step_value (own_type target.ty) plain.iterator (subst (λ (t : Ty). can_step t ≡ true) (own_same target.ty) h.0) in
       stepped_part target o place (promoted (own_type target.ty) (own_type target.ty)) s is (free_place a.program.types target is.kind h.1.0) (own_counts target.ty n)
       (promoted_value (own_type target.ty) (own_type target.ty)) (promoted_is (own_type target.ty) (own_type target.ty)) stands
-  done_part (discarded e) behind s b h stands = discarded_part e behind s b h.1 h.0 stands
+  done_part (discarded e) behind s b h stands = let parts = and_parts (is_call e.form) (is_built_expression e) b in discarded_part e behind s parts.1 h parts.0 stands
 
   -- .. makes no temporaries
   pub simple_part : (it : SimpleForm) (behind : Place) (s : State) → is_built_simple it ≡ true → IsSimple a.program a.function.locals a.function.result visible it → Standing s → Acts s (simple a it behind s)

@@ -1,3 +1,1 @@
-pub mod CharactersFit
-pub mod LongFiles
 pub mod NamedFiles

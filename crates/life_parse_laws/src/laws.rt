@@ -2,17 +2,9 @@
 ghost use Rattle.std.specs.Prelude.{◌≡◌, ℕ, List, length, true};
 ghost use Rattle.life_keys.specs.NamedTokens.{are_named};
 ghost use Rattle.life_parse.specs.Ends.{IsSource};
-ghost use Rattle.life_tree.specs.Grammar.{Fits};
-ghost use Rattle.life_tree.specs.LongTokens.{are_longs};
 ghost use Rattle.life_tree.specs.Tree.{tokens_of};
 ghost use Rattle.life_tree.specs.Views.{program_tree};
 ghost use Rattle.life_tree.specs.declared.program.Program.{Program};
-
-/// In the tree of a file each number and each character is a long, at most 2^63 - 1 (ISO/IEC 14882:2017 [lex.icon], [lex.ccon]), and the tree fits the grammar.
-pub fn trees_have_longs()
-    ensures { (bytes : List ℕ) (p : Program) → IsSource bytes p
-        → (are_longs (tokens_of (program_tree p)) ≡ true) × Fits (program_tree p) }
-{}
 
 /// Each name in the tree of a file is in its table of names.
 pub fn trees_have_names()

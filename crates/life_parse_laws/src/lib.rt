@@ -1,6 +1,6 @@
-//! What holds of each tree that a file has: its numbers and characters are longs, and its names are in its table of names.
+//! What holds of each tree that a file has: its names are in its table of names.
 #![tactic(auto)]
 
 mod laws;
 
-pub use laws::{trees_have_longs, trees_have_names};
+pub use laws::trees_have_names;

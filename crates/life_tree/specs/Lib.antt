@@ -1,6 +1,5 @@
 pub mod Branches
 pub mod Grammar
-pub mod LongTokens
 pub mod Rules
 pub mod Separated
 pub mod Tree

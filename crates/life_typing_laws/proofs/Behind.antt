@@ -36,9 +36,16 @@ pub record Behind (A : Type 0) (Is : A → Type 0) (Named : ℕ → Type 0) (nam
   pub named : (n : ℕ) → Named n → LocalsNamed n scope.locals → LocalsNamed n x.1.locals
   pub is : Is x.0
 
+-- .. where nothing more is known of it
+abbrev pub MadeBehind : (A : Type 0) → (ℕ → Type 0) → List NameId → Scope → A × Scope → Type 0
+MadeBehind A = Behind A (λ x. Unit {0})
+
 -- a variable
+abbrev pub VariableBehind : (A : Type 0) → NameId → Scope → A × Scope → Type 0
+VariableBehind A name scope = MadeBehind A (λ n. nat_lt name.0 n ≡ true) (name ∷ []) scope
+
 abbrev pub LocalBehind : NameId → Scope → ℕ × Scope → Type 0
-LocalBehind name scope = Behind ℕ (λ n. Unit {0}) (λ n. nat_lt name.0 n ≡ true) (name ∷ []) scope
+LocalBehind = VariableBehind ℕ
 
 pub local_behind : (l : TypedLocal) (scope : Scope) → IsFree l.name scope → Finds (LocalBehind l.name scope) (declared l scope)
 local_behind l scope free x e = record { stays = declared_stays l scope free x e; named = λ n named all. local_named n l scope named all x e; is = tt }

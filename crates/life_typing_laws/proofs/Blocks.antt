@@ -1,7 +1,6 @@
 -- Whole statements: each rule of the grammar, and so each block, keeps what holds of what typing makes of a statement.
 use Rattle.std.proofs.Common.{◌≡◌, ℕ, Bool, true, false, Option, None, Some, [], ◌∷◌, map, Vec, Ok, refl}
 use Rattle.std.specs.declared.alloc.Global.{Global}
-use Rattle.std.proofs.lemmas.Bool.{and_from}
 use Rattle.life_types.specs.Types.{Types}
 use Rattle.life_types.specs.declared.place.Place.{Place}
 use Rattle.life_tree.specs.declared.stmt.BlockItem.{BlockItem, roll-BlockItem}
@@ -43,17 +42,13 @@ use Rattle.life_unique.proofs.StatementLayers.{parts_item, parts_plain, parts_st
 use Rattle.life_unique.proofs.StatementLayers.{trees_for, trees_if, trees_item, trees_plain, trees_range_for, trees_stmt}
 use Rattle.life_unique.proofs.StatementLayers.{tree_of_item, tree_of_plain, tree_of_stmt, tree_of_block, tree_of_branch, tree_of_else, tree_of_else_if, tree_of_for, tree_of_if, tree_of_range_for}
 use Rattle.life_unique.specs.SettledStatements.{Opened-BlockItem, Opened-PlainStmt, Opened-Stmt, Opened-Block, Opened-Branch, Opened-Else, Opened-ElseIf, Opened-For, Opened-If, Opened-RangeFor}
-use Rattle.life_well_typed.specs.AsParsed.{has_longs, has_longs_if_any, is_start_as_parsed, is_statement_as_parsed, is_step_as_parsed}
 use Rattle.life_well_typed.specs.Statements.{is_one}
 use Rattle.life_typing_laws.proofs.BlockParts.{declare_good, range_good}
-use Rattle.life_typing_laws.proofs.DeclarationLaws.{DeclaredBehind, HeadBehind, StartBehind, declaration_behind, head_behind, rest_read, start_behind}
+use Rattle.life_typing_laws.proofs.DeclarationLaws.{DeclaredBehind, HeadBehind, StartBehind, declaration_behind, head_behind, start_behind}
 use Rattle.life_typing_laws.proofs.Each.{each_of, made_of_three}
 use Rattle.life_typing_laws.proofs.Loops.{assert_good, branch_good, break_good, continue_good, empty_good, for_good, none_good, print_good, return_good, sentence_good, while_good}
-use Rattle.life_typing_laws.proofs.Longs.{IsLong}
-use Rattle.life_typing_laws.proofs.LongValues.{AreParsedItems, condition_long, IsLongIfAny, IsParsedSimple, IsParsedStep, items_long, optional_condition_long, optional_simple_long, returned_long, simple_long}
 use Rattle.life_typing_laws.proofs.NamedTrees.{IsNamedTree}
-use Rattle.life_typing_laws.proofs.ReadTrees.{IsRead}
-use Rattle.life_typing_laws.proofs.StatementLaws.{BranchLaws, ElseIfLaws, IsParsed, ItemLaws, PartLaws, Said, SaysOf, again, alone_by, around_said, behind_made, block_says, if_laws, loop_said, no_else_says, made, still}
+use Rattle.life_typing_laws.proofs.StatementLaws.{BranchLaws, ElseIfLaws, ItemLaws, PartLaws, Said, SaysOf, again, alone_by, around_said, behind_made, block_says, if_laws, loop_said, no_else_says, made, still}
 use Rattle.life_typing_laws.proofs.Statements.{GoodBlock, GoodItem}
 use Rattle.life_typing_laws.proofs.Turns.{block_good}
 use Rattle.life_typing_laws.proofs.Yields.{Yields, yields_ok, yields_then}
@@ -134,59 +129,59 @@ item_layer (open_stmt.Declare d semicolon) = record {
   good = declare_good d semicolon;
   says = λ around scope types.
       let whole : Tree = views.block_item_step (open_stmt.Declare d semicolon) in
-      yields_then (DeclaredBehind d.value.name d.value.initializer scope) (Said (IsRead whole) (λ n. IsNamedTree n whole) false (d.value.name.id ∷ []) scope) (declaration d.value scope types) _
+      yields_then (DeclaredBehind d.value.name scope) (Said (λ n. IsNamedTree n whole) false (d.value.name.id ∷ []) scope) (declaration d.value scope types) _
       (declaration_behind d.value.ty d.value.name d.value.initializer scope types) (λ x b.
-      yields_ok (Said (IsRead whole) (λ n. IsNamedTree n whole) false (d.value.name.id ∷ []) scope) (typed.declaration x.0.0 semicolon, x.0.1) x.1
-      (record { stays = b.stays; named = λ n named. b.named n named.0.1.0; is = record { alone = λ none. absurd (cc); parsed = λ read. b.is read.1.0.1.1.1; ended = refl } }));
+      yields_ok (Said (λ n. IsNamedTree n whole) false (d.value.name.id ∷ []) scope) (typed.declaration x.0.0 semicolon, x.0.1) x.1
+      (record { stays = b.stays; named = λ n named. b.named n named.0.1.0; is = record { alone = λ none. absurd (cc); ended = refl } }));
 }
-item_layer (open_stmt.Stmt s) = record { good = λ around v scope types x h served sound there. s.1.good around v scope types x h served sound there; says = λ around scope types. again scope (s.1.says around scope types) (λ read. read.1) (λ n named. named) }
+item_layer (open_stmt.Stmt s) = record { good = λ around v scope types x h served sound there. s.1.good around v scope types x h served sound there; says = λ around scope types. again scope (s.1.says around scope types) (λ n named. named) }
 
 -- ---- statements
 
-jump_says : {Read : Type 0} {Named : ℕ → Type 0} (b : Bool) (s : StmtForm) (place : Place) (scope : Scope) (types : Types) → is_one s ≡ true → IsParsed s → ends s ≡ false
-    → Yields (Said Read Named false [] scope) (given (in_loop_only b s place) (λ t. Ok ((t, scope), types)))
-jump_says true s place scope types alone parsed no_end = still scope s types alone (λ read. parsed) no_end
-jump_says false s place scope types alone parsed no_end = λ x e. absurd (cc)
+jump_says : {Named : ℕ → Type 0} (b : Bool) (s : StmtForm) (place : Place) (scope : Scope) (types : Types) → is_one s ≡ true → ends s ≡ false
+    → Yields (Said Named false [] scope) (given (in_loop_only b s place) (λ t. Ok ((t, scope), types)))
+jump_says true s place scope types alone no_end = still scope s types alone no_end
+jump_says false s place scope types alone no_end = λ x e. absurd (cc)
 
 plain_layer : (l : Layer-PlainStmt claims) → PartLaws (parts.plain_step (of_parts_plain (parts_plain claims l))) (views.plain_step (trees_plain (parts_plain claims l))) (texts.plain_step (ends_plain (parts_plain claims l)))
-plain_layer (open_stmt.Block b) = record { good = b.1.good.good; says = λ around scope types. again scope (b.1.says around scope types) (λ read. read.1) (λ n named. named) }
-plain_layer (open_stmt.Empty place) = record { good = empty_good place; says = λ around scope types. still scope (typed.empty place) types refl (λ read. refl) refl }
+plain_layer (open_stmt.Block b) = record { good = b.1.good.good; says = λ around scope types. again scope (b.1.says around scope types) (λ n named. named) }
+plain_layer (open_stmt.Empty place) = record { good = empty_good place; says = λ around scope types. still scope (typed.empty place) types refl refl }
 plain_layer (open_stmt.Simple s semicolon) = record {
   good = sentence_good s.value semicolon;
-  says = λ around scope types. made scope IsParsedSimple (simple_statement s.value scope types) (λ y. typed.sentence y semicolon) (λ read. simple_long s.value read.1.1.0 scope types) (λ y. refl) (λ y l. l) (λ y. refl);
+  says = λ around scope types. made scope (simple_statement s.value scope types) (λ y. typed.sentence y semicolon) (λ y. refl) (λ y. refl);
 }
 plain_layer (open_stmt.While keyword opening decides closing body) = record {
   good = while_good keyword decides.value closing (stmt_part body.value.0) body.value.1.good (alone_by body.value.1.says);
-  says = λ around scope types. behind_made scope IsLong (condition decides.value scope types) _ (λ read. condition_long decides.value read.1.0.1.0 scope types) (λ x l.
+  says = λ around scope types. behind_made scope (condition decides.value scope types) _ (λ x.
       around_said scope (stmt_part body.value.0 (in_loop around) scope x.1) (λ s. typed.while_loop keyword x.0 closing s) (body.value.1.says (in_loop around) scope x.1) (λ n named. named.1)
-      (λ s is. record { alone = λ none. refl; parsed = λ read. and_from (has_longs x.0.form) (is_statement_as_parsed s) (l read) (is.parsed read.1.1); ended = refl }));
+      (λ s is. record { alone = λ none. refl; ended = refl }));
 }
-plain_layer (open_stmt.For loop) = record { good = loop.value.1.good; says = λ around scope types. again scope (loop.value.1.says around scope types) (λ read. read.1) (λ n named. named) }
-plain_layer (open_stmt.RangeFor loop) = record { good = loop.value.1.good; says = λ around scope types. again scope (loop.value.1.says around scope types) (λ read. read.1) (λ n named. named) }
+plain_layer (open_stmt.For loop) = record { good = loop.value.1.good; says = λ around scope types. again scope (loop.value.1.says around scope types) (λ n named. named) }
+plain_layer (open_stmt.RangeFor loop) = record { good = loop.value.1.good; says = λ around scope types. again scope (loop.value.1.says around scope types) (λ n named. named) }
 plain_layer (open_stmt.Break keyword semicolon) = record {
   good = break_good keyword semicolon;
-  says = λ around scope types. jump_says around.in_loop (typed.loop_break keyword semicolon) keyword scope types refl refl refl;
+  says = λ around scope types. jump_says around.in_loop (typed.loop_break keyword semicolon) keyword scope types refl refl;
 }
 plain_layer (open_stmt.Continue keyword semicolon) = record {
   good = continue_good keyword semicolon;
-  says = λ around scope types. jump_says around.in_loop (typed.loop_continue keyword semicolon) keyword scope types refl refl refl;
+  says = λ around scope types. jump_says around.in_loop (typed.loop_continue keyword semicolon) keyword scope types refl refl;
 }
 plain_layer (open_stmt.Return keyword value semicolon) = record {
   good = return_good keyword value semicolon;
-  says = λ around scope types. made scope IsLongIfAny (returned around.result keyword value scope types) (λ y. typed.returned keyword y semicolon) (λ read. returned_long around.result keyword value read.1.1.0 scope types) (λ y. refl) (λ y l. l) (λ y. refl);
+  says = λ around scope types. made scope (returned around.result keyword value scope types) (λ y. typed.returned keyword y semicolon) (λ y. refl) (λ y. refl);
 }
 plain_layer (open_stmt.Print name items semicolon) = record {
   good = print_good items.items semicolon;
-  says = λ around scope types. made scope AreParsedItems (conditions.items items.items scope types) (λ y. typed.print y semicolon) (λ read. items_long items.items read.1.1.1.1.1.0 scope types) (λ y. refl) (λ y l. l) (λ y. refl);
+  says = λ around scope types. made scope (conditions.items items.items scope types) (λ y. typed.print y semicolon) (λ y. refl) (λ y. refl);
 }
 plain_layer (open_stmt.Assert keyword opening decides closing semicolon) = record {
   good = assert_good keyword decides.value closing semicolon;
-  says = λ around scope types. made scope IsLong (condition decides.value scope types) (λ y. typed.assertion keyword y closing semicolon) (λ read. condition_long decides.value read.1.1.0.1.0 scope types) (λ y. refl) (λ y l. l) (λ y. refl);
+  says = λ around scope types. made scope (condition decides.value scope types) (λ y. typed.assertion keyword y closing semicolon) (λ y. refl) (λ y. refl);
 }
 
 stmt_layer : (l : Layer-Stmt claims) → PartLaws (parts.stmt_step (of_parts_stmt (parts_stmt claims l))) (views.stmt_step (trees_stmt (parts_stmt claims l))) (texts.stmt_step (ends_stmt (parts_stmt claims l)))
-stmt_layer (open_stmt.If i) = record { good = i.value.1.good; says = λ around scope types. again scope (i.value.1.says around scope types) (λ read. read.1) (λ n named. named) }
-stmt_layer (open_stmt.Plain s) = record { good = s.1.good; says = λ around scope types. again scope (s.1.says around scope types) (λ read. read.1) (λ n named. named) }
+stmt_layer (open_stmt.If i) = record { good = i.value.1.good; says = λ around scope types. again scope (i.value.1.says around scope types) (λ n named. named) }
+stmt_layer (open_stmt.Plain s) = record { good = s.1.good; says = λ around scope types. again scope (s.1.says around scope types) (λ n named. named) }
 
 if_by : (first : Both claims.branch) (more : Vec (Both claims.else_if) Global) (last : Option (Both claims.else_))
     → PartLaws (parts.if_step (of_parts_if (parts_if claims (record { first = first; more = more; last = last })))) (views.if_step (trees_if (parts_if claims (record { first = first; more = more; last = last })))) (texts.if_step (ends_if (parts_if claims (record { first = first; more = more; last = last }))))
@@ -201,17 +196,11 @@ for_layer l = record {
   says = λ around scope types.
       let rest : Tree = for_rest_tree l.first_semicolon l.condition l.second_semicolon l.step in
       let whole : Tree = views.for_step (trees_for (parts_for claims l)) in
-      yields_then (StartBehind l.start rest scope) (Said (IsRead whole) (λ n. IsNamedTree n whole) false [] scope) (for_start_part l.start scope types) _ (start_behind l.start rest scope types) (λ x first.
-      yields_then (λ y. IsRead whole → IsLongIfAny y) (Said (IsRead whole) (λ n. IsNamedTree n whole) false [] scope) (optional_condition l.condition x.0.1 x.1) _
-      (λ y gave read. optional_condition_long l.condition (rest_read l.start rest read.0.1.0.1).1.1.0 x.0.1 x.1 y gave) (λ y decided.
-      yields_then (λ z. IsRead whole → IsParsedStep z) (Said (IsRead whole) (λ n. IsNamedTree n whole) false [] scope) (optional_simple l.step x.0.1 y.1) _
-      (λ z gave read. optional_simple_long l.step (rest_read l.start rest read.0.1.0.1).1.1.1.1 x.0.1 y.1 z gave) (λ z stepped.
+      yields_then (StartBehind l.start rest scope) (Said (λ n. IsNamedTree n whole) false [] scope) (for_start_part l.start scope types) _ (start_behind l.start rest scope types) (λ x first.
+      behind_made scope (optional_condition l.condition x.0.1 x.1) _ (λ y.
+      behind_made scope (optional_simple l.step x.0.1 y.1) _ (λ z.
       loop_said scope (start_names l.start) x.0 (stmt_part l.body.value.0 (in_loop around) x.0.1 z.1) (λ s. typed.for_loop l.keyword x.0.0 l.first_semicolon y.0 l.second_semicolon z.0 l.closing s) first
-      (l.body.value.1.says (in_loop around) x.0.1 z.1) (λ n named. (named.0.0, named.1)) (λ s is. record {
-        alone = λ none. refl;
-        parsed = λ read. and_from (is_start_as_parsed x.0.0) _ (first.is read.0.1.0.1) (and_from (has_longs_if_any y.0) _ (decided read) (and_from (is_step_as_parsed z.0) (is_statement_as_parsed s) (stepped read) (is.parsed read.1)));
-        ended = refl;
-      }))));
+      (l.body.value.1.says (in_loop around) x.0.1 z.1) (λ n named. (named.0.0, named.1)) (λ s is. record { alone = λ none. refl; ended = refl }))));
 }
 
 range_for_layer : (l : Layer-RangeFor claims) → PartLaws (parts.range_for_step (of_parts_range_for (parts_range_for claims l))) (views.range_for_step (trees_range_for (parts_range_for claims l))) false
@@ -219,14 +208,10 @@ range_for_layer l = record {
   good = range_good (of_parts_range_for (parts_range_for claims l));
   says = λ around scope types.
       let whole : Tree = views.range_for_step (trees_range_for (parts_range_for claims l)) in
-      yields_then (HeadBehind l.name l.range.value scope) (Said (IsRead whole) (λ n. IsNamedTree n whole) false [] scope) (range_head l.ty l.name l.colon l.range.value scope types) _
+      yields_then (HeadBehind l.name scope) (Said (λ n. IsNamedTree n whole) false [] scope) (range_head l.ty l.name l.colon l.range.value scope types) _
       (head_behind l.ty l.name l.colon l.range.value scope types) (λ x first.
       loop_said scope (l.name.id ∷ []) x.0 (stmt_part l.body.value.0 (in_loop around) x.0.1 x.1) (λ s. typed.range_loop l.keyword x.0.0.local l.name l.colon x.0.0.range l.closing s) first
-      (l.body.value.1.says (in_loop around) x.0.1 x.1) (λ n named. (named.0.0.1.0, named.1)) (λ s is. record {
-        alone = λ none. refl;
-        parsed = λ read. and_from (has_longs x.0.0.range.form) (is_statement_as_parsed s) (first.is read.0.1.0.1.1.1.1) (is.parsed read.1);
-        ended = refl;
-      }));
+      (l.body.value.1.says (in_loop around) x.0.1 x.1) (λ n named. (named.0.0.1.0, named.1)) (λ s is. record { alone = λ none. refl; ended = refl }));
 }
 
 -- ---- each block
@@ -285,9 +270,9 @@ block_laws = ind-Block
         texts.item_step texts.plain_step texts.stmt_step texts.block_step texts.branch_step texts.else_step texts.else_if_step texts.for_step texts.if_step texts.range_for_step (parts_branch claims l))
         (record {
           good = branch_good l.keyword l.condition.value l.closing (stmt_part l.body.value.0) l.body.value.1.good (alone_by l.body.value.1.says);
-          says = λ around scope types. behind_made scope IsLong (condition l.condition.value scope types) _ (λ read. condition_long l.condition.value read.0.1.0 scope types) (λ y long.
+          says = λ around scope types. behind_made scope (condition l.condition.value scope types) _ (λ y.
               around_said scope (stmt_part l.body.value.0 around scope y.1) (λ s. typed.branch l.keyword y.0 l.closing s) (l.body.value.1.says around scope y.1) (λ n named. named)
-              (λ s is. record { alone = λ none. refl; parsed = λ read. and_from (has_longs y.0.form) (is_statement_as_parsed s) (long read) (is.parsed read.1); ended = is.ended }));
+              (λ s is. record { alone = λ none. refl; ended = is.ended }));
         })
 
     else_made : (x : Opened-Else) (l : Layer-Else claims) → parts_else claims l ≡ x → claims.else_ (roll-Else x)
@@ -297,7 +282,7 @@ block_laws = ind-Block
         (tree_of_else (parts_else claims l))
         (fold-roll-Else Bool Bool Bool Bool Bool Bool Bool Bool Bool Bool
         texts.item_step texts.plain_step texts.stmt_step texts.block_step texts.branch_step texts.else_step texts.else_if_step texts.for_step texts.if_step texts.range_for_step (parts_else claims l))
-        (record { good = l.body.value.1.good; says = λ around scope types. again scope (l.body.value.1.says around scope types) (λ read. read.1) (λ n named. named.1) })
+        (record { good = l.body.value.1.good; says = λ around scope types. again scope (l.body.value.1.says around scope types) (λ n named. named.1) })
 
     else_if_made : (x : Opened-ElseIf) (l : Layer-ElseIf claims) → parts_else_if claims l ≡ x → claims.else_if (roll-ElseIf x)
     else_if_made x l = made_of_three ElseIfLaws roll-ElseIf else_if_part else_if_view else_if_ends (parts_else_if claims l) x

@@ -23,7 +23,6 @@ use Rattle.life_typing_laws.specs.Sound.{IsFinal, IsSound}
 use Rattle.life_typing_laws.proofs.Domains.{Around}
 use Rattle.life_typing_laws.proofs.Blocks.{block_laws}
 use Rattle.life_typing_laws.proofs.NamedTrees.{IsNamedTree}
-use Rattle.life_typing_laws.proofs.ReadTrees.{IsRead}
 use Rattle.life_typing_laws.proofs.StatementLaws.{Said}
 use Rattle.life_typing_laws.proofs.Statements.{IsPart, is_block}
 use Rattle.life_typing_laws.proofs.Steps.{allowed_ok, bound, same_value}
@@ -44,7 +43,7 @@ body_reads result is_main b scope types x h =
     step.gave ∙ ap (λ (y : (StmtForm × Scope) × Types). Ok y) (same_value step.value x fine.1)
 
 pub body_said : (result : TyId) (is_main : Bool) (b : Block) (scope : Scope) (types : Types)
-    → Yields (Said (IsRead (block_tree b)) (λ n. IsNamedTree n (block_tree b)) (block_ends b) [] scope) (body result is_main b scope types)
+    → Yields (Said (λ n. IsNamedTree n (block_tree b)) (block_ends b) [] scope) (body result is_main b scope types)
 body_said result is_main b scope types x h = (block_laws b).says (around_body result) scope types x (body_reads result is_main b scope types x h)
 
 pub body_part : (result : TyId) (is_main : Bool) (b : Block) (v : Visible) (scope : Scope) (types : Types) (x : (StmtForm × Scope) × Types) → body result is_main b scope types ≡ Ok x

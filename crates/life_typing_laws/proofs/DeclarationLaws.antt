@@ -1,10 +1,9 @@
 -- What declarations, the heads of loops over ranges and the starts of loops give, and the scope behind them.
-use Rattle.std.proofs.Common.{ℕ, [], ◌∷◌, Option, None, Some, Ok, refl}
-use Rattle.std.specs.Prelude.{◌≡◌, false, nat_lt, true}
+use Rattle.std.proofs.Common.{◌≡◌, ℕ, false, Option, None, Some, Ok}
 use Rattle.life_types.specs.Types.{Types}
 use Rattle.life_types.specs.declared.place.Place.{Place}
 use Rattle.life_tree.specs.Tree.{Tree}
-use Rattle.life_tree.specs.Views.{expr_tree, for_clauses_form, initializer_tree}
+use Rattle.life_tree.specs.Views.{for_clauses_form}
 use Rattle.life_tree.specs.declared.declaration.DeclaredType.{DeclaredType}
 use Rattle.life_tree.specs.declared.declaration.DeclaredType.TheVariants as declared_type
 use Rattle.life_tree.specs.declared.declaration.Initializer.{Initializer}
@@ -29,107 +28,75 @@ use Rattle.life_type_stmt.specs.Given.{given_first, value_fault}
 use Rattle.life_type_stmt.specs.Ranges.{RangeForm, RangeHead, element_place, element_type, elements_of, range_head, range_of}
 use Rattle.life_type_stmt.specs.Simples.{simple_statement}
 use Rattle.life_type_stmt.specs.Statements.{for_start_part, start_names}
-use Rattle.life_well_typed.specs.AsParsed.{is_start_as_parsed}
-use Rattle.life_typing_laws.proofs.Behind.{Behind, LocalBehind, local_behind}
+use Rattle.life_typing_laws.proofs.Behind.{LocalBehind, MadeBehind, VariableBehind, local_behind}
 use Rattle.life_typing_laws.proofs.Fitting.{lower_none}
-use Rattle.life_typing_laws.proofs.Longs.{IsLong}
-use Rattle.life_typing_laws.proofs.LongValues.{auto_first, elements_long, first_given, IsLongRange, IsParsedFirst, IsParsedSimple, simple_long}
 use Rattle.life_typing_laws.proofs.NamedTrees.{IsNamedTree}
-use Rattle.life_typing_laws.proofs.ReadTrees.{IsRead}
 use Rattle.life_typing_laws.proofs.Staying.{finds_allowed, free_to_declare, stays_not}
-use Rattle.life_typing_laws.proofs.Wholes.{expr_laws}
 use Rattle.life_typing_laws.proofs.Yields.{Yields, yields_behind, yields_given, yields_given_with, yields_ok, yields_then}
 
 -- ---- a variable that no name hides
 
-module _ (A : Type 0) (Is : A → Type 0) (name : Identifier) (scope : Scope) where
-  -- what stands behind it has this name
-  abbrev VariableBehind : A × Scope → Type 0
-  VariableBehind = Behind A Is (λ n. nat_lt name.id.0 n ≡ true) (name.id ∷ []) scope
-
-  variable_behind : (w : Written) (form : ℕ → A) (types : Types) → redeclared scope name.id ≡ None → ((n : ℕ) → Is (form n))
-      → Yields VariableBehind (given (declared (local_of name w) scope) (λ n. Ok ((form n.0, n.1), types)))
-  variable_behind w form types free is =
-      yields_given_with (LocalBehind name.id scope) VariableBehind (declared (local_of name w) scope) _ (local_behind (local_of name w) scope (free_to_declare name.id scope free)) (λ n b.
-      yields_ok VariableBehind (form n.0, n.1) types (record { stays = b.stays; named = b.named; is = is n.0 }))
+variable_behind : (A : Type 0) (name : Identifier) (scope : Scope) (w : Written) (form : ℕ → A) (types : Types) → redeclared scope name.id ≡ None
+    → Yields (VariableBehind A name.id scope) (given (declared (local_of name w) scope) (λ n. Ok ((form n.0, n.1), types)))
+variable_behind A name scope w form types free =
+    yields_given_with (LocalBehind name.id scope) (VariableBehind A name.id scope) (declared (local_of name w) scope) _ (local_behind (local_of name w) scope (free_to_declare name.id scope free)) (λ n b.
+    yields_ok (VariableBehind A name.id scope) (form n.0, n.1) types (record { stays = b.stays; named = b.named; is = tt }))
 
 -- ---- declarations
 
-abbrev IsParsedDeclared : Option Initializer → DeclarationForm → Type 0
-IsParsedDeclared i d = IsRead (initializer_tree i) → IsParsedFirst d.value
+abbrev pub DeclaredBehind : Identifier → Scope → DeclarationForm × Scope → Type 0
+DeclaredBehind name scope = VariableBehind DeclarationForm name.id scope
 
-abbrev pub DeclaredBehind : Identifier → Option Initializer → Scope → DeclarationForm × Scope → Type 0
-DeclaredBehind name i scope = VariableBehind DeclarationForm (IsParsedDeclared i) name scope
-
-pub declaration_behind : (t : DeclaredType) (name : Identifier) (i : Option Initializer) (scope : Scope) (types : Types) → Yields (DeclaredBehind name i scope) (declaration_by t name i scope types)
+pub declaration_behind : (t : DeclaredType) (name : Identifier) (i : Option Initializer) (scope : Scope) (types : Types) → Yields (DeclaredBehind name scope) (declaration_by t name i scope types)
 declaration_behind (declared_type.Written t) name i scope types =
-    yields_behind (DeclaredBehind name i scope) (written_local t name.place scope types) _ (λ w.
-    yields_then (λ v. IsRead (initializer_tree i) → IsParsedFirst v) (DeclaredBehind name i scope) (given_first (type_at w.1 w.0.ty) i scope w.1) _
-    (λ v gave read. first_given (type_at w.1 w.0.ty) i read scope w.1 v gave) (λ v parsed.
-    yields_given_with _ (DeclaredBehind name i scope) (allowed (lower_kind (redeclared scope name.id) (variable_fault v.1 (type_at w.1 w.0.ty) v.0)) name.place) _
+    yields_behind (DeclaredBehind name scope) (written_local t name.place scope types) _ (λ w.
+    yields_behind (DeclaredBehind name scope) (given_first (type_at w.1 w.0.ty) i scope w.1) _ (λ v.
+    yields_given_with _ (DeclaredBehind name scope) (allowed (lower_kind (redeclared scope name.id) (variable_fault v.1 (type_at w.1 w.0.ty) v.0)) name.place) _
     (finds_allowed (lower_kind (redeclared scope name.id) (variable_fault v.1 (type_at w.1 w.0.ty) v.0)) name.place) (λ _ fine.
-    variable_behind DeclarationForm (IsParsedDeclared i) name scope w.0 (λ n. record { local = n; name = name; value = v.0 }) v.1
-    (lower_none (redeclared scope name.id) (variable_fault v.1 (type_at w.1 w.0.ty) v.0) fine).0 (λ n. parsed))))
+    variable_behind DeclarationForm name scope w.0 (λ n. record { local = n; name = name; value = v.0 }) v.1 (lower_none (redeclared scope name.id) (variable_fault v.1 (type_at w.1 w.0.ty) v.0) fine).0)))
 declaration_behind (declared_type.Auto a) name i scope types =
-    yields_then (λ v. IsRead (initializer_tree i) → IsParsedFirst v) (DeclaredBehind name i scope) (auto_given i scope types) _ (λ v gave read. auto_first i read scope types v gave) (λ v parsed.
-    yields_given_with _ (DeclaredBehind name i scope) (allowed (redeclared scope name.id) name.place) _ (finds_allowed (redeclared scope name.id) name.place) (λ _ fine.
-    yields_behind (DeclaredBehind name i scope) (auto_local a name.place v.0 scope v.1) _ (λ w.
-    variable_behind DeclarationForm (IsParsedDeclared i) name scope w.0 (λ n. record { local = n; name = name; value = v.0 }) w.1 fine (λ n. parsed))))
+    yields_behind (DeclaredBehind name scope) (auto_given i scope types) _ (λ v.
+    yields_given_with _ (DeclaredBehind name scope) (allowed (redeclared scope name.id) name.place) _ (finds_allowed (redeclared scope name.id) name.place) (λ _ fine.
+    yields_behind (DeclaredBehind name scope) (auto_local a name.place v.0 scope v.1) _ (λ w.
+    variable_behind DeclarationForm name scope w.0 (λ n. record { local = n; name = name; value = v.0 }) w.1 fine)))
 
 -- ---- loops over ranges
 
-abbrev IsRangeBehind : Identifier → Expr → Scope → RangeForm → Type 0
-IsRangeBehind name e scope r = (redeclared scope name.id ≡ None) × (IsRead (expr_tree e) → IsLongRange r)
+abbrev IsFreeBehind : Identifier → Scope → RangeForm → Type 0
+IsFreeBehind name scope r = redeclared scope name.id ≡ None
 
-range_behind : (name : Identifier) (colon : Place) (e : Expr) (scope : Scope) (types : Types) → Yields (IsRangeBehind name e scope) (range_of name colon e scope types)
+range_behind : (name : Identifier) (colon : Place) (e : Expr) (scope : Scope) (types : Types) → Yields (IsFreeBehind name scope) (range_of name colon e scope types)
 range_behind name colon e scope types =
-    yields_then (λ x. IsRead (expr_tree e) → IsLong x) (IsRangeBehind name e scope) (expr_meaning e scope types) _ (λ x gave read. (expr_laws e).long read scope types x gave) (λ x l.
-    yields_given (IsRangeBehind name e scope) (literal_allowed false x.0) _ (λ _.
-    yields_given_with _ (IsRangeBehind name e scope) (allowed (redeclared scope name.id) name.place) _ (finds_allowed (redeclared scope name.id) name.place) (λ _ fine.
-    yields_given_with (λ r. IsRead (expr_tree e) → IsLongRange r) (IsRangeBehind name e scope) (elements_of (range_element x.0.ty (is_constant x.0.category)) colon x.0) _
-    (λ r gave read. elements_long (range_element x.0.ty (is_constant x.0.category)) colon x.0 (l read) r gave) (λ r long.
-    yields_ok (IsRangeBehind name e scope) r x.1 (fine, long)))))
+    yields_behind (IsFreeBehind name scope) (expr_meaning e scope types) _ (λ x.
+    yields_given (IsFreeBehind name scope) (literal_allowed false x.0) _ (λ _.
+    yields_given_with _ (IsFreeBehind name scope) (allowed (redeclared scope name.id) name.place) _ (finds_allowed (redeclared scope name.id) name.place) (λ _ fine.
+    yields_given (IsFreeBehind name scope) (elements_of (range_element x.0.ty (is_constant x.0.category)) colon x.0) _ (λ r. yields_ok (IsFreeBehind name scope) r x.1 fine))))
 
-abbrev IsLongHead : Expr → RangeHead → Type 0
-IsLongHead e h = IsRead (expr_tree e) → IsLong h.range
+abbrev pub HeadBehind : Identifier → Scope → RangeHead × Scope → Type 0
+HeadBehind name scope = VariableBehind RangeHead name.id scope
 
-abbrev pub HeadBehind : Identifier → Expr → Scope → RangeHead × Scope → Type 0
-HeadBehind name e scope = VariableBehind RangeHead (IsLongHead e) name scope
-
-pub head_behind : (t : DeclaredType) (name : Identifier) (colon : Place) (e : Expr) (scope : Scope) (types : Types) → Yields (HeadBehind name e scope) (range_head t name colon e scope types)
+pub head_behind : (t : DeclaredType) (name : Identifier) (colon : Place) (e : Expr) (scope : Scope) (types : Types) → Yields (HeadBehind name scope) (range_head t name colon e scope types)
 head_behind (declared_type.Written t) name colon e scope types =
-    yields_behind (HeadBehind name e scope) (written_local t name.place scope types) _ (λ w.
-    yields_then (IsRangeBehind name e scope) (HeadBehind name e scope) (range_of name colon e scope w.1) _ (range_behind name colon e scope w.1) (λ r range.
-    yields_given (HeadBehind name e scope) (allowed (value_fault kinds.WrongType r.1 (type_at w.1 w.0.ty) (element_type r.1 r.0.element) (element_place r.0.element)) name.place) _ (λ _.
-    variable_behind RangeHead (IsLongHead e) name scope w.0 (λ n. record { local = n; range = r.0.range }) r.1 range.0 (λ n. range.1))))
+    yields_behind (HeadBehind name scope) (written_local t name.place scope types) _ (λ w.
+    yields_then (IsFreeBehind name scope) (HeadBehind name scope) (range_of name colon e scope w.1) _ (range_behind name colon e scope w.1) (λ r free.
+    yields_given (HeadBehind name scope) (allowed (value_fault kinds.WrongType r.1 (type_at w.1 w.0.ty) (element_type r.1 r.0.element) (element_place r.0.element)) name.place) _ (λ _.
+    variable_behind RangeHead name scope w.0 (λ n. record { local = n; range = r.0.range }) r.1 free)))
 head_behind (declared_type.Auto a) name colon e scope types =
-    yields_then (IsRangeBehind name e scope) (HeadBehind name e scope) (range_of name colon e scope types) _ (range_behind name colon e scope types) (λ r range.
-    yields_behind (HeadBehind name e scope) (auto_written a name.place (element_type r.1 r.0.element) (element_place r.0.element) scope r.1) _ (λ w.
-    variable_behind RangeHead (IsLongHead e) name scope w.0 (λ n. record { local = n; range = r.0.range }) w.1 range.0 (λ n. range.1)))
+    yields_then (IsFreeBehind name scope) (HeadBehind name scope) (range_of name colon e scope types) _ (range_behind name colon e scope types) (λ r free.
+    yields_behind (HeadBehind name scope) (auto_written a name.place (element_type r.1 r.0.element) (element_place r.0.element) scope r.1) _ (λ w.
+    variable_behind RangeHead name scope w.0 (λ n. record { local = n; range = r.0.range }) w.1 free))
 
 -- ---- what a `for` begins with
 
-abbrev IsParsedStart : Tree → Option ForStartForm → Type 0
-IsParsedStart t s = IsRead t → is_start_as_parsed s ≡ true
-
 abbrev pub StartBehind : Option ForStart → Tree → Scope → Option ForStartForm × Scope → Type 0
-StartBehind start rest scope = Behind (Option ForStartForm) (IsParsedStart (for_clauses_form start rest)) (λ n. IsNamedTree n (for_clauses_form start rest)) (start_names start) scope
+StartBehind start rest scope = MadeBehind (Option ForStartForm) (λ n. IsNamedTree n (for_clauses_form start rest)) (start_names start) scope
 
 pub start_behind : (start : Option ForStart) (rest : Tree) (scope : Scope) (types : Types) → Yields (StartBehind start rest scope) (for_start_part start scope types)
-start_behind None rest scope types = yields_ok (StartBehind None rest scope) (None, scope) types (record { stays = stays_not scope; named = λ n named all. all; is = λ read. refl })
+start_behind None rest scope types = yields_ok (StartBehind None rest scope) (None, scope) types (record { stays = stays_not scope; named = λ n named all. all; is = tt })
 start_behind (Some (for_start.Declaration d)) rest scope types =
-    yields_then (DeclaredBehind d.value.name d.value.initializer scope) (StartBehind (Some (for_start.Declaration d)) rest scope) (declaration_by d.value.ty d.value.name d.value.initializer scope types) _
+    yields_then (DeclaredBehind d.value.name scope) (StartBehind (Some (for_start.Declaration d)) rest scope) (declaration_by d.value.ty d.value.name d.value.initializer scope types) _
     (declaration_behind d.value.ty d.value.name d.value.initializer scope types) (λ x b.
-    yields_ok (StartBehind (Some (for_start.Declaration d)) rest scope) (Some (declared_first x.0.0), x.0.1) x.1
-    (record { stays = b.stays; named = λ n named. b.named n named.1.0; is = λ read. b.is read.1.1.0 }))
+    yields_ok (StartBehind (Some (for_start.Declaration d)) rest scope) (Some (declared_first x.0.0), x.0.1) x.1 (record { stays = b.stays; named = λ n named. b.named n named.1.0; is = tt }))
 start_behind (Some (for_start.Simple s)) rest scope types =
-    yields_then (λ y. IsRead (for_clauses_form (Some (for_start.Simple s)) rest) → IsParsedSimple y) (StartBehind (Some (for_start.Simple s)) rest scope) (simple_statement s.value scope types) _
-    (λ y gave read. simple_long s.value read.0 scope types y gave) (λ y parsed.
-    yields_ok (StartBehind (Some (for_start.Simple s)) rest scope) (Some (done_first y.0), scope) y.1
-    (record { stays = stays_not scope; named = λ n named all. all; is = parsed }))
-
--- what follows the start
-pub rest_read : (start : Option ForStart) (rest : Tree) → IsRead (for_clauses_form start rest) → IsRead rest
-rest_read None rest read = read.1
-rest_read (Some (for_start.Declaration d)) rest read = read.1.1.1
-rest_read (Some (for_start.Simple s)) rest read = read.1
+    yields_behind (StartBehind (Some (for_start.Simple s)) rest scope) (simple_statement s.value scope types) _ (λ y.
+    yields_ok (StartBehind (Some (for_start.Simple s)) rest scope) (Some (done_first y.0), scope) y.1 (record { stays = stays_not scope; named = λ n named all. all; is = tt }))

@@ -1,4 +1,4 @@
--- What holds of each of a list, and of each with what stands at the same place in another.
+-- What holds of each of a list, and of what is made of a layer.
 use Rattle.std.proofs.Common.{List, [], ◌∷◌, map, ◌≡◌, subst, sym}
 use Rattle.life_unique.proofs.Lists.{Both}
 
@@ -11,24 +11,10 @@ pub each_of : {A B : Type 0} (Known : A → Type 0) (Holds : B → Type 0) (f : 
 each_of Known Holds f holds [] = tt
 each_of Known Holds f holds (x ∷ xs) = (holds x.0 x.1, each_of Known Holds f holds xs)
 
-abbrev pub Pairwise : {A B : Type 0} → (A → B → Type 0) → List A → List B → Type 0
-Pairwise Holds [] [] = Unit {0}
-Pairwise Holds (x ∷ xs) (y ∷ ys) = Holds x y × Pairwise Holds xs ys
-Pairwise Holds _ _ = ⊥
-
--- it holds of what two functions make of each, if that is known of each
-pub paired : {A B C : Type 0} (Holds : B → C → Type 0) (f : A → B) (g : A → C) (xs : List (Both (λ (x : A). Holds (f x) (g x)))) → Pairwise Holds (map f (map (λ z. z.0) xs)) (map g (map (λ z. z.0) xs))
-paired Holds f g [] = tt
-paired Holds f g (x ∷ xs) = (x.1, paired Holds f g xs)
-
 pub both_same : {A B : Type 0} (Holds : A → B → Type 0) {x x' : A} {y y' : B} → x ≡ x' → y ≡ y' → Holds x y → Holds x' y'
 both_same Holds {x = x} {x' = x'} {y = y} {y' = y'} e d h = subst (λ z. Holds x' z) d (subst (λ z. Holds z y) e h)
 
--- .. and so of what is made of a layer, by what rolling it up makes of both
-pub made_of : {O X A B : Type 0} (Holds : A → B → Type 0) (roll : O → X) (of : X → A) (tree : X → B) (o o' : O) {x : A} {y : B} → of (roll o) ≡ x → tree (roll o) ≡ y → Holds x y → o ≡ o' → Holds (of (roll o')) (tree (roll o'))
-made_of Holds roll of tree o o' made seen holds e = subst (λ z. Holds (of (roll z)) (tree (roll z))) e (both_same Holds (sym made) (sym seen) holds)
-
--- .. of one alone
+-- it holds of what is made of a layer, by what rolling it up makes of it
 pub made_alone : {O X A : Type 0} (Holds : A → Type 0) (roll : O → X) (of : X → A) (o o' : O) {x : A} → of (roll o) ≡ x → Holds x → o ≡ o' → Holds (of (roll o'))
 made_alone Holds roll of o o' made holds e = subst (λ z. Holds (of (roll z))) e (subst Holds (sym made) holds)
 
@@ -37,10 +23,3 @@ pub made_of_three : {O X A B C : Type 0} (Holds : A → B → C → Type 0) (rol
     → of (roll o) ≡ x → tree (roll o) ≡ y → end (roll o) ≡ z → Holds x y z → o ≡ o' → Holds (of (roll o')) (tree (roll o')) (end (roll o'))
 made_of_three Holds roll of tree end o o' {z = z} made seen ended holds e =
     subst (λ u. Holds (of (roll u)) (tree (roll u)) (end (roll u))) e (subst (λ c. Holds (of (roll o)) (tree (roll o)) c) (sym ended) (both_same (λ a b. Holds a b z) (sym made) (sym seen) holds))
-
--- .. or it holds of the first of each alone
-pub each_first : {A B : Type 0} (R : A → B → Type 0) (P : A → Type 0) → ((x : A) (y : B) → R x y → P x) → (xs : List A) (ys : List B) → Pairwise R xs ys → EachHolds P xs
-each_first R P one [] [] pairs = tt
-each_first R P one (x ∷ xs) (y ∷ ys) pairs = (one x y pairs.0, each_first R P one xs ys pairs.1)
-each_first R P one [] (y ∷ ys) pairs = absurd pairs
-each_first R P one (x ∷ xs) [] pairs = absurd pairs

@@ -14,7 +14,7 @@ use Rattle.life_typed.specs.Programs.{FunctionForm, ProgramForm}
 use Rattle.life_typed.specs.Delimiters.{DelimitersForm}
 use Rattle.life_typed.specs.TypedForm.{Form, Typed, call, forms, local}
 use Rattle.life_typed.specs.declared.typed_program.TypedLocal.{TypedLocal}
-use Rattle.life_typing_laws.specs.Served.{is_served_form}
+use Rattle.life_built.specs.Built.{is_built_form}
 use Rattle.life_names.specs.Checked.{Checked}
 use Rattle.life_names.specs.Environment.{Scope, SignatureView}
 use Rattle.life_names.specs.Found.{given}
@@ -60,17 +60,17 @@ answer_place types _ place form parts = tt
 
 -- a form that has no operands, and its table
 module _ (m : Meaning) (e : Typed) (gives : (scope : Scope) (types : Types) → m scope types ≡ Ok (e, types))
-    (is : (p : ProgramForm) (locals : List TypedLocal) (v : Visible) (types : Types) → is_served_form e.form ≡ true → IsTyped p locals v types e) where
+    (is : (p : ProgramForm) (locals : List TypedLocal) (v : Visible) (types : Types) → IsTyped p locals v types e) where
   pub alone_good : Good m
   alone_good scope types x h served =
       let parts = ok_parts e types x (sym (gives scope types) ∙ h) in
-      record { same = sym parts.1; is = λ p locals v sound final. subst (IsTyped p locals v types) parts.0 (is p locals v types (subst (λ (y : Typed). is_served_form y.form ≡ true) (sym parts.0) served)) }
+      record { same = sym parts.1; is = λ p locals v sound final. subst (IsTyped p locals v types) parts.0 (is p locals v types) }
 
 -- what is never served
-pub never_good : (m : Meaning) → ((scope : Scope) (types : Types) (x : Typed × Types) → m scope types ≡ Ok x → is_served_form x.0.form ≡ false) → Good m
+pub never_good : (m : Meaning) → ((scope : Scope) (types : Types) (x : Typed × Types) → m scope types ≡ Ok x → is_built_form x.0.form ≡ false) → Good m
 never_good m never scope types x h served = not_served x.0.form (never scope types x h) served
 
-pub never_good_behind : (q : PartMeaning) → ((left : Typed) (scope : Scope) (types : Types) (x : Typed × Types) → q left scope types ≡ Ok x → is_served_form x.0.form ≡ false) → GoodBehind q
+pub never_good_behind : (q : PartMeaning) → ((left : Typed) (scope : Scope) (types : Types) (x : Typed × Types) → q left scope types ≡ Ok x → is_built_form x.0.form ≡ false) → GoodBehind q
 never_good_behind q never left scope types x h served = not_served x.0.form (never left scope types x h) served
 
 -- ---- variables
@@ -152,8 +152,8 @@ call_good name arguments good scope types x e served =
     let c = called_is name arguments scope types x good e in
     let form_is : x.0.form ≡ call c.f.0 (forms c.y.0) arguments.delimiters =
     subst (λ (z : Typed). z.form ≡ call c.f.0 (forms c.y.0) arguments.delimiters) c.is (answer_form c.y.1 (type_at c.y.1 c.f.1.result) name.place (call c.f.0 (forms c.y.0) arguments.delimiters)) in
-    let served_all : is_served_form (forms c.passed.read.more) ≡ true =
-    subst (λ (es : List Typed). is_served_form (forms es) ≡ true) c.passed.read.all (subst (λ (f : Form). is_served_form f ≡ true) form_is served) in
+    let served_all : is_built_form (forms c.passed.read.more) ≡ true =
+    subst (λ (es : List Typed). is_built_form (forms es) ≡ true) c.passed.read.all (subst (λ (f : Form). is_built_form f ≡ true) form_is served) in
     let table : c.y.1 ≡ types = c.passed.read.same served_all in
     record {
       same = sym c.table ∙ table;

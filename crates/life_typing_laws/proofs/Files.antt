@@ -1,4 +1,4 @@
--- Whole files: what is resolved, built, and as it was parsed, is well typed.
+-- Whole files: what is resolved and built is well typed.
 use Rattle.std.proofs.Common.{◌≡◌, inr, ⊎_elim, ℕ, zero, suc, Bool, true, false, ◌&&◌, Option, Some, Ok, Err, List, [], ◌∷◌, length, slice_get, refl, sym, ap, subst, ◌∙◌, arith}
 use Rattle.std.specs.Prelude.{unwrap_or}
 use Rattle.std.proofs.lemmas.Bool.{and_parts}
@@ -23,7 +23,6 @@ use Rattle.life_typing.specs.Names.{DeclaredView}
 use Rattle.life_typing.specs.Progress.{ProgressView, nothing_defined}
 use Rattle.life_typing.specs.Resolves.{bodies_of, finished, no_flags, resolved, texts_of, with_definitions}
 use Rattle.life_typing.specs.Structs.{with_structure}
-use Rattle.life_well_typed.specs.AsParsed.{is_as_parsed}
 use Rattle.life_well_typed.specs.Functions.{AreWellTyped, IsWellTyped, IsWellTypedFunction}
 use Rattle.life_well_typed.specs.Mains.{HasIntMain, HaveIntMains}
 use Rattle.life_well_typed.specs.Results.{HasResults, HasTable, HaveResults}
@@ -203,17 +202,15 @@ module _ (tree : Program) (q : ProgressView) (ends : Ends (bodies_of tree) (text
   all_well : IsWhole p
   all_well = (each_well p q.functions function_well, (each_gives q.types q.functions function_gives, (each_int p.names q.types q.functions int_main, table_well)))
 
-pub resolved_well_typed : (tree : Program) (p : ProgramForm) → resolved tree ≡ Ok p → is_built p ≡ true → is_as_parsed p ≡ true → IsWhole p
-resolved_well_typed tree p e built parsed =
+pub resolved_well_typed : (tree : Program) (p : ProgramForm) → resolved tree ≡ Ok p → is_built p ≡ true → IsWhole p
+resolved_well_typed tree p e built =
     let step = answered (with_definitions (bodies_of tree) tree.definitions.items (nothing_defined (texts_of tree))) (λ q. Ok (finished tree q)) p e in
     let same : finished tree step.value ≡ p = same_answer (finished tree step.value) p step.behind in
-    subst IsWhole same (all_well tree step.value (of step.value step.gave
-    (subst (λ (r : ProgramForm). is_built r ≡ true) (sym same) built) (subst (λ (r : ProgramForm). is_as_parsed r ≡ true) (sym same) parsed)))
+    subst IsWhole same (all_well tree step.value (of step.value step.gave (subst (λ (r : ProgramForm). is_built r ≡ true) (sym same) built)))
   where
-    of : (q : ProgressView) → with_definitions (bodies_of tree) tree.definitions.items (nothing_defined (texts_of tree)) ≡ Ok q → is_built (finished tree q) ≡ true → is_as_parsed (finished tree q) ≡ true
-        → Ends (bodies_of tree) (texts_of tree) q
-    of q gave built parsed =
+    of : (q : ProgressView) → with_definitions (bodies_of tree) tree.definitions.items (nothing_defined (texts_of tree)) ≡ Ok q → is_built (finished tree q) ≡ true → Ends (bodies_of tree) (texts_of tree) q
+    of q gave built =
         let parts = and_parts (has_built_types q.types) (has_no_structs q.structs && are_built_functions q.types q.functions) built in
         let more = and_parts (has_no_structs q.structs) (are_built_functions q.types q.functions) parts.1 in
         goes_on (bodies_of tree) (texts_of tree) tree.definitions.items (nothing_defined (texts_of tree)) q refl (begins tree) (all_come tree) gave
-        (λ n form d there noted has. served_functions q.types q.functions n form more.1 parsed there) (no_structs_there q.structs more.0)
+        (λ n form d there noted has. served_functions q.types q.functions n form more.1 there) (no_structs_there q.structs more.0)

@@ -12,7 +12,6 @@ pub mod Declaring
 pub mod Domains
 pub mod Each
 pub mod Entered
-pub mod ExpressionLaws
 pub mod Expressions
 pub mod Files
 pub mod Fitting
@@ -24,8 +23,6 @@ pub mod HeaderTypes
 pub mod Headers
 pub mod HeadersStay
 pub mod Known
-pub mod LongValues
-pub mod Longs
 pub mod Loops
 pub mod NamedTrees
 pub mod Operands
@@ -34,7 +31,6 @@ pub mod Parameters
 pub mod Pieces
 pub mod Prefixes
 pub mod ProgramLaws
-pub mod ReadTrees
 pub mod Reading
 pub mod Scopes
 pub mod Simples
@@ -42,7 +38,7 @@ pub mod StatementLaws
 pub mod Statements
 pub mod Staying
 pub mod Steps
-pub mod TargetLaws
+pub mod Targets
 pub mod Turns
 pub mod Typed
 pub mod Unserved

@@ -1,5 +1,5 @@
--- Functions and whole files: what is resolved of a tree that is read is as it is read; and if the tree's names are in a table of so many, so are its own, and no two functions have one.
-use Rattle.std.proofs.Common.{ap, ◌&&◌, ◌≡◌, ℕ, ◌-◌, ◌^◌, zero, suc, Bool, true, not, List, [], ◌∷◌, ◌++◌, length, map, nat_lt, Option, None, Some, refl, slice_get, slice_set, sym, subst, ◌∙◌}
+-- Functions and whole files: where a tree's names are in a table of so many, so are those of what is resolved of it, and no two functions have one.
+use Rattle.std.proofs.Common.{◌≡◌, ℕ, ◌-◌, ◌^◌, zero, suc, Bool, true, not, List, [], ◌∷◌, ◌++◌, length, map, nat_lt, Option, None, Some, refl, slice_get, slice_set, sym, subst, ◌∙◌}
 use Rattle.std.proofs.lemmas.Bool.{and_from, and_parts, ltb-true}
 use Rattle.std.proofs.lemmas.List.{length-map}
 use Rattle.std.proofs.lemmas.List.Folds.{list_all-append}
@@ -33,7 +33,6 @@ use Rattle.life_typing.specs.Pieces.{pieces}
 use Rattle.life_typing.specs.Progress.{ProgressView, nothing_defined}
 use Rattle.life_typing.specs.Resolves.{bodies_of, finished, resolved, texts_of, with_definition, with_definitions}
 use Rattle.life_typing.specs.Structs.{added_unless_empty, found_structure, member_types, named_structure, types_of, unless, with_structure}
-use Rattle.life_well_typed.specs.AsParsed.{are_as_parsed, is_as_parsed, is_statement_as_parsed}
 use Rattle.life_well_typed.specs.Names.{have_own_names, is_function_named, is_local_named}
 use Rattle.life_typing_laws.proofs.Bodies.{body_said}
 use Rattle.life_typing_laws.proofs.Domains.{Piece}
@@ -43,7 +42,6 @@ use Rattle.life_typing_laws.proofs.HeaderTypes.{by_seen}
 use Rattle.life_typing_laws.proofs.Behind.{LocalsNamed, NamedBehind, local_named}
 use Rattle.life_typing_laws.proofs.NamedTrees.{IsNamedTree, tree_named}
 use Rattle.life_typing_laws.proofs.OwnNames.{meant_own_names, nothing_meant}
-use Rattle.life_typing_laws.proofs.ReadTrees.{IsRead}
 use Rattle.life_typing_laws.proofs.StatementLaws.{Said}
 use Rattle.life_typing_laws.proofs.Yields.{Finds, finds_behind, finds_if, finds_none, finds_ok, finds_then}
 
@@ -73,15 +71,6 @@ module _ (test : FunctionForm → Bool) where
       of : (o : Option FunctionForm) → slice_get fs n ≡ o → All (changed_at n change fs o)
       of None is = all
       of (Some f) is = set_all fs n (change f) all (passes f (all_at fs n f all is))
-
--- ---- as they were parsed
-
-abbrev is_parsed : FunctionForm → Bool
-is_parsed f = is_statement_as_parsed f.body
-
-are_parsed : (fs : List FunctionForm) → list_all is_parsed fs ≡ are_as_parsed fs
-are_parsed [] = refl
-are_parsed (f ∷ fs) = ap (λ (b : Bool). is_parsed f && b) (are_parsed fs)
 
 -- ---- with names in a table of so many
 
@@ -116,10 +105,10 @@ module _ (names : ℕ) where
 
 -- ---- definitions
 
--- behind what is read, if so much was, and whose names are in a table of so many, if those are: the functions so far, and the variables of the one at hand
-module _ (names : ℕ) (Read Named : Type 0) where
+-- behind what has names in a table of so many, if so much is known: the functions so far, and the variables of the one at hand
+module _ (names : ℕ) (Named : Type 0) where
   abbrev IsSoFar : ProgressView → Type 0
-  IsSoFar p = (Read → All is_parsed p.functions) × (Named → All (is_function_named names) p.functions × LocalsNamed names p.scope.locals)
+  IsSoFar p = Named → All (is_function_named names) p.functions × LocalsNamed names p.scope.locals
 
   -- .. of what has this scope and so many functions
   abbrev IsBeside : {A : Type 0} → A × ProgressView → Type 0
@@ -132,19 +121,17 @@ module _ (names : ℕ) (Read Named : Type 0) where
       → Finds (IsBeside {A = PartsView}) (header_with bodies before f p h)
   header_so_far bodies before f p (headers.sound returned known types) named so_far =
       finds_then (AreNamedBehind {A = List Piece}) (IsBeside {A = PartsView}) _ _
-      (finds_then (AreNamedBehind {A = List Bool}) (AreNamedBehind {A = List Piece}) _ _ (λ x e n. each_parameter names known.types f.parameters.items (named n) [] p.scope (so_far.1 n).1 x e) (λ x kept.
+      (finds_then (AreNamedBehind {A = List Bool}) (AreNamedBehind {A = List Piece}) _ _ (λ x e n. each_parameter names known.types f.parameters.items (named n) [] p.scope (so_far n).1 x e) (λ x kept.
       finds_behind (AreNamedBehind {A = List Piece}) _ _ (λ y. finds_ok (AreNamedBehind {A = List Piece}) (pieces x.1 f, x.1) kept)))
-      (λ x kept. finds_ok (IsBeside {A = PartsView}) (sound_header returned known types p x) (so_far.0, λ n. ((so_far.1 n).0, kept n)))
+      (λ x kept. finds_ok (IsBeside {A = PartsView}) (sound_header returned known types p x) (λ n. ((so_far n).0, kept n)))
   header_so_far bodies before f p (headers.ill_at returned known fault) named so_far = finds_behind (IsBeside {A = PartsView}) _ _ (λ x. finds_none (IsBeside {A = PartsView}) fault)
 
   -- a function is declared for the first time
   first_so_far : (f : Function) (h : PartsView) (p : ProgressView) → (Named → nat_lt f.name.id.0 names ≡ true) → IsSoFar p → Finds (IsBeside {A = ℕ}) (declared_first f h p)
   first_so_far f h p named so_far =
-      finds_then (AreNamedBehind {A = ℕ}) (IsBeside {A = ℕ}) _ _ (finds_if (AreNamedBehind {A = ℕ}) (nat_lt (length p.scope.functions) (2 ^ 32 - 1)) _ _ (λ n. (so_far.1 n).1)) (λ x kept.
-      finds_ok (IsBeside {A = ℕ}) (x.0, record (with_first f h p) { scope = x.1 }) (
-        λ r. more_all is_parsed p.functions (without_body f h.returned p.scope) (so_far.0 r) refl,
-        λ n. (more_all (is_function_named names) p.functions (without_body f h.returned p.scope) (so_far.1 n).0 (and_from (nat_lt f.name.id.0 names) true (named n) refl), kept n),
-      ))
+      finds_then (AreNamedBehind {A = ℕ}) (IsBeside {A = ℕ}) _ _ (finds_if (AreNamedBehind {A = ℕ}) (nat_lt (length p.scope.functions) (2 ^ 32 - 1)) _ _ (λ n. (so_far n).1)) (λ x kept.
+      finds_ok (IsBeside {A = ℕ}) (x.0, record (with_first f h p) { scope = x.1 })
+      (λ n. (more_all (is_function_named names) p.functions (without_body f h.returned p.scope) (so_far n).0 (and_from (nat_lt f.name.id.0 names) true (named n) refl), kept n)))
 
   declared_so_far : (before : Entity) (f : Function) (h : PartsView) (p : ProgressView) → (Named → nat_lt f.name.id.0 names ≡ true) → IsSoFar p → Finds (IsBeside {A = ℕ}) (declared before f h p)
   declared_so_far (entity.Function number) f h p named so_far = finds_ok (IsBeside {A = ℕ}) (number, p) so_far
@@ -152,24 +139,22 @@ module _ (names : ℕ) (Read Named : Type 0) where
   declared_so_far (entity.Structure number) f h p named so_far = first_so_far f h p named so_far
   declared_so_far (entity.Local number) f h p named so_far = first_so_far f h p named so_far
 
-  behind_so_far : (b : FunctionBody) (f : Function) (number : ℕ) (returned : TyId) (p : ProgressView) → (Read → IsRead (body_tree b)) → (Named → IsNamedTree names (body_tree b)) → IsSoFar p
+  behind_so_far : (b : FunctionBody) (f : Function) (number : ℕ) (returned : TyId) (p : ProgressView) → (Named → IsNamedTree names (body_tree b)) → IsSoFar p
       → Finds IsSoFar (behind_header_as b f number returned p)
-  behind_so_far (function_body.Block b) f number returned p read named so_far =
-      finds_then (λ x. Said (IsRead (block_tree b)) (λ n. IsNamedTree n (block_tree b)) (block_ends b) [] p.scope x.0) IsSoFar _ _ (λ x gave. body_said returned (is_main p.scope f.name.id) b p.scope p.types x gave) (λ x said.
-      finds_ok IsSoFar (body_kept f number p x.0.0 x.0.1 x.1) (
-        λ r. changed_all is_parsed number (bodied f.name.place x.0.1.locals x.0.0) (λ g passed. said.is.parsed (read r)) p.functions (so_far.0 r),
-        λ n. (changed_all (is_function_named names) number (bodied f.name.place x.0.1.locals x.0.0) (bodied_named names f.name.place x.0.1.locals x.0.0 (said.named names (named n) (so_far.1 n).1)) p.functions (so_far.1 n).0, refl),
-      ))
-  behind_so_far (function_body.Declared place) f number returned p read named so_far = finds_ok IsSoFar (record p { scope = without_locals p.scope }) (so_far.0, λ n. ((so_far.1 n).0, refl))
+  behind_so_far (function_body.Block b) f number returned p named so_far =
+      finds_then (λ x. Said (λ n. IsNamedTree n (block_tree b)) (block_ends b) [] p.scope x.0) IsSoFar _ _ (λ x gave. body_said returned (is_main p.scope f.name.id) b p.scope p.types x gave) (λ x said.
+      finds_ok IsSoFar (body_kept f number p x.0.0 x.0.1 x.1)
+      (λ n. (changed_all (is_function_named names) number (bodied f.name.place x.0.1.locals x.0.0) (bodied_named names f.name.place x.0.1.locals x.0.0 (said.named names (named n) (so_far n).1)) p.functions (so_far n).0, refl)))
+  behind_so_far (function_body.Declared place) f number returned p named so_far = finds_ok IsSoFar (record p { scope = without_locals p.scope }) (λ n. ((so_far n).0, refl))
 
-  function_so_far : (bodies : List Bool) (f : Function) (p : ProgressView) → (Read → IsRead (function_tree f)) → (Named → IsNamedTree names (function_tree f)) → IsSoFar p → Finds IsSoFar (with_function bodies f p)
-  function_so_far bodies f p read named so_far =
+  function_so_far : (bodies : List Bool) (f : Function) (p : ProgressView) → (Named → IsNamedTree names (function_tree f)) → IsSoFar p → Finds IsSoFar (with_function bodies f p)
+  function_so_far bodies f p named so_far =
       finds_then (IsBeside {A = PartsView}) IsSoFar _ _
       (header_so_far bodies (meaning p.scope f.name.id) f (record p { scope = headers.function_seen f p.scope }) (headers.header_types p.pointing f p.scope p.types)
-      (λ n. parameters_named names f.commas.items f.parameters.items (named n).1.1.1.0.0) (so_far.0, λ n. ((so_far.1 n).0, by_seen f p.scope (λ (s : Scope). LocalsNamed names s.locals) (so_far.1 n).1 (so_far.1 n).1))) (λ x h.
+      (λ n. parameters_named names f.commas.items f.parameters.items (named n).1.1.1.0.0) (λ n. ((so_far n).0, by_seen f p.scope (λ (s : Scope). LocalsNamed names s.locals) (so_far n).1 (so_far n).1))) (λ x h.
       finds_then (IsBeside {A = ℕ}) IsSoFar _ _ (declared_so_far (meaning p.scope f.name.id) f x.0 x.1 (λ n. (named n).1.1.0) h) (λ y d.
-      finds_then IsSoFar IsSoFar _ _ (behind_so_far f.body f y.0 x.0.returned y.1 (λ r. (read r).1.1.1.1.1) (λ n. (named n).1.1.1.1) d) (λ z b.
-      finds_ok IsSoFar (with_parameters_forgotten f z) (b.0, λ n. ((b.1 n).0, still_named names f.parameters.items z.scope (b.1 n).1)))))
+      finds_then IsSoFar IsSoFar _ _ (behind_so_far f.body f y.0 x.0.returned y.1 (λ n. (named n).1.1.1.1) d) (λ z b.
+      finds_ok IsSoFar (with_parameters_forgotten f z) (λ n. ((b n).0, still_named names f.parameters.items z.scope (b n).1)))))
 
   -- structs have no bodies and no variables
   structure_so_far : (s : StructDefinition) (p : ProgressView) → IsSoFar p → Finds IsSoFar (with_structure s p)
@@ -178,22 +163,21 @@ module _ (names : ℕ) (Read Named : Type 0) where
       (finds_behind (IsBeside {A = StructureView}) (unless (not (is_seen p.scope s.name.id)) kinds.Redeclared s.name.place) _ (λ _.
       finds_behind (IsBeside {A = StructureView}) (member_types s.members.items p.scope p.types) _ (λ x.
       finds_behind (IsBeside {A = StructureView}) (added_unless_empty s.name.place (types_of x.0) x.1) _ (λ y. finds_ok (IsBeside {A = StructureView}) _ so_far))))
-      (λ x d. finds_then (AreNamedBehind {A = ℕ}) IsSoFar _ _ (finds_if (AreNamedBehind {A = ℕ}) (nat_lt (length x.1.scope.structs) (2 ^ 32 - 1)) _ _ (λ n. (d.1 n).1)) (λ y kept. finds_ok IsSoFar _ (d.0, λ n. ((d.1 n).0, kept n))))
+      (λ x d. finds_then (AreNamedBehind {A = ℕ}) IsSoFar _ _ (finds_if (AreNamedBehind {A = ℕ}) (nat_lt (length x.1.scope.structs) (2 ^ 32 - 1)) _ _ (λ n. (d n).1)) (λ y kept. finds_ok IsSoFar _ (λ n. ((d n).0, kept n))))
 
   -- .. and each function is what its name means
   abbrev IsBetween : ProgressView → Type 0
   IsBetween p = IsSoFar p × (Named → AreMeant names [] p)
 
-  definition_so_far : (bodies : List Bool) (d : Definition) (p : ProgressView) → (Read → IsRead (definition_tree d)) → (Named → IsNamedTree names (definition_tree d)) → IsBetween p → Finds IsBetween (with_definition bodies d p)
-  definition_so_far bodies (definition.Struct s) p read named so_far q e = (structure_so_far s p so_far.0 q e, λ n. structure_meant names s p (so_far.1 n) q e)
-  definition_so_far bodies (definition.Function f) p read named so_far q e =
-      (function_so_far bodies f p (λ r. (read r).1) named so_far.0 q e, λ n. function_meant names bodies f p (ltb-true f.name.id.0 names (named n).1.1.0) (so_far.1 n) q e)
+  definition_so_far : (bodies : List Bool) (d : Definition) (p : ProgressView) → (Named → IsNamedTree names (definition_tree d)) → IsBetween p → Finds IsBetween (with_definition bodies d p)
+  definition_so_far bodies (definition.Struct s) p named so_far q e = (structure_so_far s p so_far.0 q e, λ n. structure_meant names s p (so_far.1 n) q e)
+  definition_so_far bodies (definition.Function f) p named so_far q e =
+      (function_so_far bodies f p named so_far.0 q e, λ n. function_meant names bodies f p (ltb-true f.name.id.0 names (named n).1.1.0) (so_far.1 n) q e)
 
-  definitions_so_far : (bodies : List Bool) (ds : List Definition) (p : ProgressView) → (Read → IsRead (list_tree (map definition_tree ds))) → (Named → IsNamedTree names (list_tree (map definition_tree ds))) → IsBetween p
-      → Finds IsBetween (with_definitions bodies ds p)
-  definitions_so_far bodies [] p read named so_far = finds_ok IsBetween p so_far
-  definitions_so_far bodies (d ∷ ds) p read named so_far =
-      finds_then IsBetween IsBetween _ _ (definition_so_far bodies d p (λ r. (read r).0) (λ n. (named n).0) so_far) (λ q more. definitions_so_far bodies ds q (λ r. (read r).1) (λ n. (named n).1) more)
+  definitions_so_far : (bodies : List Bool) (ds : List Definition) (p : ProgressView) → (Named → IsNamedTree names (list_tree (map definition_tree ds))) → IsBetween p → Finds IsBetween (with_definitions bodies ds p)
+  definitions_so_far bodies [] p named so_far = finds_ok IsBetween p so_far
+  definitions_so_far bodies (d ∷ ds) p named so_far =
+      finds_then IsBetween IsBetween _ _ (definition_so_far bodies d p (λ n. (named n).0) so_far) (λ q more. definitions_so_far bodies ds q (λ n. (named n).1) more)
 
 -- ---- files
 
@@ -201,16 +185,12 @@ abbrev count_of : Program → ℕ
 count_of tree = length tree.names.items
 
 abbrev IsOf : Program → ProgressView → Type 0
-IsOf tree = IsBetween (count_of tree) (IsRead (program_tree tree)) (IsNamedTree (count_of tree) (program_tree tree))
+IsOf tree = IsBetween (count_of tree) (IsNamedTree (count_of tree) (program_tree tree))
 
 so_far : (tree : Program) → Finds (IsOf tree) (with_definitions (bodies_of tree) tree.definitions.items (nothing_defined (texts_of tree)))
 so_far tree =
-    definitions_so_far (count_of tree) (IsRead (program_tree tree)) (IsNamedTree (count_of tree) (program_tree tree)) (bodies_of tree) tree.definitions.items (nothing_defined (texts_of tree)) (λ read. read.1) (λ named. named)
-    ((λ read. refl, λ named. (refl, refl)), λ named. nothing_meant tree)
-
-pub program_parsed : (tree : Program) → IsRead (program_tree tree) → Finds (λ p. is_as_parsed p ≡ true) (resolved tree)
-program_parsed tree read =
-    finds_then (IsOf tree) (λ (p : ProgramForm). is_as_parsed p ≡ true) _ _ (so_far tree) (λ q all. finds_ok (λ (p : ProgramForm). is_as_parsed p ≡ true) (finished tree q) (sym (are_parsed q.functions) ∙ all.0.0 read))
+    definitions_so_far (count_of tree) (IsNamedTree (count_of tree) (program_tree tree)) (bodies_of tree) tree.definitions.items (nothing_defined (texts_of tree)) (λ named. named)
+    (λ named. (refl, refl), λ named. nothing_meant tree)
 
 -- .. in a program's table; and no two functions have one name
 abbrev HasNamedFunctions : ProgramForm → Type 0
@@ -220,4 +200,4 @@ pub resolved_named : (tree : Program) → are_named (count_of tree) (tokens_of (
 resolved_named tree tokens =
     let named = tree_named (count_of tree) (program_tree tree) tokens in
     finds_then (IsOf tree) HasNamedFunctions _ _ (so_far tree) (λ q all.
-    finds_ok HasNamedFunctions (finished tree q) (subst (λ n. list_all (is_function_named n) q.functions ≡ true) (sym (length-map tree.names.items text_items)) (all.0.1 named).0, meant_own_names (count_of tree) q (all.1 named)))
+    finds_ok HasNamedFunctions (finished tree q) (subst (λ n. list_all (is_function_named n) q.functions ≡ true) (sym (length-map tree.names.items text_items)) (all.0 named).0, meant_own_names (count_of tree) q (all.1 named)))

@@ -15,7 +15,7 @@ use Rattle.life_type_expr.specs.Operands.{literal_allowed}
 use Rattle.life_well_typed.specs.Expressions.{AreExpressions}
 use Rattle.life_well_typed.specs.Visible.{Visible}
 use Rattle.life_typing_laws.proofs.Each.{EachHolds}
-use Rattle.life_typing_laws.specs.Served.{is_served_form}
+use Rattle.life_built.specs.Built.{is_built_form}
 use Rattle.life_typing_laws.specs.Sound.{IsFinal, IsSound}
 use Rattle.life_typing_laws.proofs.Steps.{allowed_ok, bound, given_ok, same_value}
 use Rattle.life_typing_laws.proofs.Typed.{Good}
@@ -24,8 +24,8 @@ use Rattle.life_typing_laws.proofs.Typed.{Good}
 pub record IsRead (done : List Typed) (scope : Scope) (types : Types) (x : List Typed × Types) : Type 0 where
   pub more : List Typed
   pub all : x.0 ≡ done ++ more
-  pub same : is_served_form (forms more) ≡ true → x.1 ≡ types
-  pub are : (p : ProgramForm) (locals : List TypedLocal) (v : Visible) → is_served_form (forms more) ≡ true → IsSound v scope types → IsFinal p locals scope types → AreExpressions p locals v.visible (forms more)
+  pub same : is_built_form (forms more) ≡ true → x.1 ≡ types
+  pub are : (p : ProgramForm) (locals : List TypedLocal) (v : Visible) → is_built_form (forms more) ≡ true → IsSound v scope types → IsFinal p locals scope types → AreExpressions p locals v.visible (forms more)
 
 pub append_none : {A : Type 0} (xs : List A) → xs ++ [] ≡ xs
 append_none [] = refl
@@ -52,9 +52,9 @@ all_read targets done (m ∷ ms) scope types x good e =
     record {
       more = step.value.0 ∷ rest.more;
       all = rest.all ∙ append_assoc done (step.value.0 ∷ []) rest.more;
-      same = λ served. let parts = and_parts (is_served_form step.value.0.form) (is_served_form (forms rest.more)) served in rest.same parts.1 ∙ (good.0 scope types step.value step.gave parts.0).same;
+      same = λ served. let parts = and_parts (is_built_form step.value.0.form) (is_built_form (forms rest.more)) served in rest.same parts.1 ∙ (good.0 scope types step.value step.gave parts.0).same;
       are = λ p locals v served sound final.
-          let parts = and_parts (is_served_form step.value.0.form) (is_served_form (forms rest.more)) served in
+          let parts = and_parts (is_built_form step.value.0.form) (is_built_form (forms rest.more)) served in
           let table : step.value.1 ≡ types = (good.0 scope types step.value step.gave parts.0).same in (
             ((good.0 scope types step.value step.gave parts.0).is p locals v sound final).is,
             rest.are p locals v parts.1 (subst (IsSound v scope) (sym table) sound) (subst (IsFinal p locals scope) (sym table) final),

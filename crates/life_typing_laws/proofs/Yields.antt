@@ -2,7 +2,7 @@
 use Rattle.std.proofs.Common.{◌≡◌, Bool, true, false, Ok, Err, if◌then◌else◌, subst}
 use Rattle.life_types.specs.Types.{Types}
 use Rattle.life_names.specs.Checked.{Checked, Ill, ◌>>=◌}
-use Rattle.life_names.specs.Found.{Found, found_in, found_with, given}
+use Rattle.life_names.specs.Found.{Found, found_in, given}
 use Rattle.life_typing.specs.Answers.{Answer, ◌>>◌}
 use Rattle.life_typing_laws.proofs.Steps.{answered, bound, found_ok, given_ok}
 
@@ -40,10 +40,6 @@ yields_behind Q first rest behind y e = let b = bound first rest y e in behind b
 pub finds_if : {A : Type 0} (P : A → Type 0) (b : Bool) (x : A) (ill : Ill) → P x → Finds P (if b then Ok x else Err ill)
 finds_if P true x ill holds = finds_ok P x holds
 finds_if P false x ill holds = finds_none P ill
-
-pub finds_with : {A B : Type 0} (Q : B → Type 0) (found : Found A) (find : A → Found B) → ((x : A) → Finds Q (find x)) → Finds Q (found_with found find)
-finds_with Q (Ok x) find behind = behind x
-finds_with Q (Err ill) find behind = finds_none Q ill
 
 pub finds_then : {A B : Type 0} (P : A → Type 0) (Q : B → Type 0) (first : Answer A) (rest : A → Answer B) → Finds P first → ((x : A) → P x → Finds Q (rest x)) → Finds Q (first >> rest)
 finds_then P Q first rest held behind y e = let b = answered first rest y e in behind b.value (held b.value b.gave) y b.behind

@@ -1,5 +1,5 @@
 -- Expressions that are well typed: each is what the tables of types give from its operands. Nothing is said of forms that aren't built so far.
-use Rattle.std.specs.Prelude.{◌≡◌, ◌<◌, ◌^◌, ℕ, Bool, true, false, ◌&&◌, List, [], ◌∷◌, Contains, Ok, length, map, slice_get, take, Option, None, Some}
+use Rattle.std.specs.Prelude.{◌≡◌, ℕ, Bool, true, false, ◌&&◌, List, [], ◌∷◌, Contains, Ok, length, map, slice_get, take, Option, None, Some}
 use Rattle.life_types.specs.TypeTests.{is_raw}
 use Rattle.life_types.specs.Types.{Types}
 use Rattle.life_types.specs.declared.ty.Ty.TheVariants as ty
@@ -68,8 +68,8 @@ module _ (p : ProgramForm) (locals : List TypedLocal) (visible : List ℕ) where
 
     -- this expression is made of this
     pub IsMadeOf : Typed → Form → Type 0
-    IsMadeOf e (number n) = (e ≡ value e.place (number_type n) e.form) × (n < 2 ^ 63)
-    IsMadeOf e (character c) = (e ≡ value e.place ty.Char e.form) × (c < 2 ^ 63)
+    IsMadeOf e (number n) = e ≡ value e.place (number_type n) e.form
+    IsMadeOf e (character c) = e ≡ value e.place ty.Char e.form
     IsMadeOf e (boolean b) = e ≡ value e.place ty.Bool e.form
     IsMadeOf e null = (e.ty ≡ expr_type.NullPointer) × (e.category ≡ category.Value)
     IsMadeOf e (local x) = Contains visible x × IsVariable p.types x (slice_get locals x) e

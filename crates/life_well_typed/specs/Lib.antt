@@ -1,4 +1,3 @@
-pub mod AsParsed
 pub mod Expressions
 pub mod Functions
 pub mod Given

@@ -7,7 +7,7 @@ use Rattle.life_typed.specs.BaseTypes.{type_at}
 use Rattle.life_typed.specs.Operators.{is_condition}
 use Rattle.life_typed.specs.Programs.{ProgramForm}
 use Rattle.life_typed.specs.Statements.{can_step, compounded, is_printed}
-use Rattle.life_typed.specs.TypedForm.{Form, Typed, null, local, paren, dereference, address_of, whole}
+use Rattle.life_typed.specs.TypedForm.{Typed, whole}
 use Rattle.life_typed.specs.TypedStatement.{StmtForm, DeclarationForm, ForStartForm, InitialForm, ItemForm, SimpleForm, one, several, assign, compound, step, discarded, declared_first, done_first, printed, line_end, block, empty, sentence, branching, while_loop, for_loop, range_loop, loop_break, loop_continue, returned, print, assertion, branch, declaration, no_more, chain}
 use Rattle.life_typed.specs.declared.typed_program.TypedLocal.{TypedLocal}
 use Rattle.life_type_expr.specs.Lists.{fits_at_all}
@@ -17,15 +17,6 @@ use Rattle.life_type_stmt.specs.Simples.{is_place, type_of}
 use Rattle.life_well_typed.specs.Expressions.{IsExpression}
 use Rattle.life_well_typed.specs.Given.{is_given}
 use Rattle.life_well_typed.specs.Visible.{Visible, after, after_start}
-
--- what ends in arguments is none of these: a call that stands alone
-abbrev pub ends_in_arguments : Form → Bool
-ends_in_arguments null = false
-ends_in_arguments (local x) = false
-ends_in_arguments (paren inner closing) = false
-ends_in_arguments (dereference e) = false
-ends_in_arguments (address_of e) = false
-ends_in_arguments _ = true
 
 -- it declares nothing that is visible behind it
 abbrev pub is_one : StmtForm → Bool
@@ -62,7 +53,7 @@ module _ (p : ProgramForm) (locals : List TypedLocal) (result : TyId) where
   IsSimple visible (compound target o place e) =
       (fits_at_all (compounded o (type_of target.ty) e.ty) ≡ true) × IsTarget visible target × IsWhole visible e
   IsSimple visible (step target o place) = (can_step (type_of target.ty) ≡ true) × IsTarget visible target
-  IsSimple visible (discarded e) = (ends_in_arguments e.form ≡ true) × IsWhole visible e
+  IsSimple visible (discarded e) = IsWhole visible e
 
   abbrev pub IsSimpleIfAny : List ℕ → Option SimpleForm → Type 0
   IsSimpleIfAny visible None = Unit {0}

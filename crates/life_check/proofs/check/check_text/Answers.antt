@@ -9,10 +9,7 @@ returns-in_err-tree-clause-finds g c =
     rw (e.1, e.2) (unparsed_finds c.args.bytes.now c.in_err-tree.field-0.0 c.in_err-tree.ensures.ends c.in_err-tree.ensures.only)
 
 pub check_tree-requires : goal.check_tree-requires
-check_tree-requires g c =
-    let source = c.in_ok-tree.ensures.ends.0 in
-    let read = c.trees_have_longs.ensures c.args.bytes.now c.in_ok-tree.tree source in
-    record { longs = read.0; named = c.trees_have_names.ensures c.args.bytes.now c.in_ok-tree.tree source; fits = read.1 }
+check_tree-requires g c = c.trees_have_names.ensures c.args.bytes.now c.in_ok-tree.tree c.in_ok-tree.ensures.ends.0
 
 pub returns-clause-finds : goal.returns-clause-finds
 returns-clause-finds g c = tree_finds c.args.bytes.now c.in_ok-tree.tree c.check_tree.result c.in_ok-tree.ensures.ends c.check_tree.ensures.finds

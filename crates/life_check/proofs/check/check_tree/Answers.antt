@@ -12,13 +12,12 @@ pub check_typed-requires : goal.check_typed-requires
 check_typed-requires g c =
     let tree = c.args.tree in
     let typed = program_view c.in_ok-typed.typed in
-    let parsed = c.resolved_programs_are_as_parsed.ensures tree typed c.in_ok-typed.ensures c.requires.longs c.requires.fits in
     record {
-      well_typed = λ built. c.resolved_programs_are_well_typed.ensures.well_typed tree typed c.in_ok-typed.ensures built parsed;
-      results = λ built. c.resolved_programs_are_well_typed.ensures.results tree typed c.in_ok-typed.ensures built parsed;
-      mains = λ built. c.resolved_programs_are_well_typed.ensures.mains tree typed c.in_ok-typed.ensures built parsed;
-      table = λ built. c.resolved_programs_are_well_typed.ensures.table tree typed c.in_ok-typed.ensures built parsed;
-      names = c.resolved_programs_have_names.ensures tree typed c.in_ok-typed.ensures c.requires.named;
+      well_typed = λ built. c.resolved_programs_are_well_typed.ensures.well_typed tree typed c.in_ok-typed.ensures built;
+      results = λ built. c.resolved_programs_are_well_typed.ensures.results tree typed c.in_ok-typed.ensures built;
+      mains = λ built. c.resolved_programs_are_well_typed.ensures.mains tree typed c.in_ok-typed.ensures built;
+      table = λ built. c.resolved_programs_are_well_typed.ensures.table tree typed c.in_ok-typed.ensures built;
+      names = c.resolved_programs_have_names.ensures tree typed c.in_ok-typed.ensures c.requires;
     }
 
 pub returns-clause-finds : goal.returns-clause-finds
