@@ -8,7 +8,6 @@ pub mod Pointers
 pub mod PointsAsked
 pub mod ProperFunctions
 pub mod Readiness
-pub mod ReadyFromSorts
 pub mod ReadyTests
 pub mod ResultsFound
 pub mod Sorted
