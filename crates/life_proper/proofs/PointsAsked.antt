@@ -39,7 +39,8 @@ proper_functions p proper n f at = record {
 -- ---- each point of a proper function
 
 module _ (types : Types) (texts : ℕ) (fs : List Function) (f : Function) where
-  formed_spots : (t : Tree) → list_all (is_well_formed_spot types texts fs f) (spots t) ≡ is_well_formed_tree types texts fs f t
+  -- the points of a tree are as it is
+  pub formed_spots : (t : Tree) → list_all (is_well_formed_spot types texts fs f) (spots t) ≡ is_well_formed_tree types texts fs f t
   formed_spots Skip = refl
   formed_spots (Then a b) = two_parts (is_well_formed_spot types texts fs f) (spots a) (spots b) _ _ (formed_spots a) (formed_spots b)
   formed_spots (Acts place i) = and_true (is_well_formed_step types texts fs f i)

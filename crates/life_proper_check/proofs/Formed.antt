@@ -19,14 +19,14 @@ use Rattle.life_core.specs.Operands.{Argument, Value, GivenOver, PointerOf, Slot
 use Rattle.life_core.specs.Operands as source
 use Rattle.life_core.specs.Served.{is_served, is_served_as, is_served_local, is_served_program, is_served_spot}
 use Rattle.life_core.specs.Step.{Step, Live, End, Eval, Load, Save, Aim, Repoint, Call, Ports}
-use Rattle.life_core.specs.Tree.{Tree, Skip, Then, Acts, Asks, Both, Either, Negated, Choice, Turns, Breaks, Continues, Returns, Stops, Node, Action, Question, Spot, spots}
+use Rattle.life_core.specs.Tree.{Node, Action, Question, Spot, spots}
 use Rattle.life_proper.specs.OperandTypes.{is_composed}
-use Rattle.life_proper.specs.WellFormed.{are_arguments_for, goes_to, have_own_slots, is_argument_for, is_call, is_source_of, is_well_formed_node, is_well_formed_spot, is_well_formed_step, is_well_formed_test, is_well_formed_tree, types_taken}
+use Rattle.life_proper.specs.WellFormed.{are_arguments_for, goes_to, have_own_slots, is_argument_for, is_call, is_source_of, is_well_formed_node, is_well_formed_spot, is_well_formed_step, types_taken}
 use Rattle.life_proper.specs.WellFormedPrograms.{IsWellFormedProgram, are_well_formed_locals, have_names, have_own_names, is_name, is_result_local, is_result_of, is_well_formed_function, is_well_formed_local, may_stand, names_parameters}
 use Rattle.life_core.specs.Kinds.{is_register}
 use Rattle.std.specs.Prelude.{is_none, nat_eq, nat_le}
 use Rattle.life_proper.proofs.HeldSorts.{not_false, shape_same}
-use Rattle.life_proper.proofs.SpotTests.{three_parts, two_parts}
+use Rattle.life_proper.proofs.PointsAsked.{formed_spots}
 use Rattle.life_proper_check.specs.ServedForms.{are_formed_locals, are_served_for, has_no_structs, is_formed_function, is_formed_header, is_formed_local, is_formed_node, is_formed_program, is_formed_result, is_formed_spot, is_formed_step, is_register_of, is_served_call, is_served_for, is_served_source_of, is_simple, is_simple_or_pointer}
 
 -- ---- instructions
@@ -92,30 +92,6 @@ module _ (types : Types) (texts : ℕ) (fs : List Function) (f : Function) where
   all_formed (s ∷ xs) e =
       let both = and_parts (is_formed_spot types texts fs f s) (list_all (is_formed_spot types texts fs f) xs) e in
       and_from _ _ (node_formed s.node both.0) (all_formed xs both.1)
-
-  -- the points of a tree
-  spots_formed : (t : Tree) → list_all (is_well_formed_spot types texts fs f) (spots t) ≡ is_well_formed_tree types texts fs f t
-  spots_formed Skip = refl
-  spots_formed (Then a b) = two_parts (is_well_formed_spot types texts fs f) (spots a) (spots b) _ _ (spots_formed a) (spots_formed b)
-  spots_formed (Acts place i) = true_behind (is_well_formed_step types texts fs f i)
-    where
-      true_behind : (b : Bool) → (b && true) ≡ b
-      true_behind false = refl
-      true_behind true = refl
-  spots_formed (Asks place t) = true_behind (is_well_formed_test types texts fs f t)
-    where
-      true_behind : (b : Bool) → (b && true) ≡ b
-      true_behind false = refl
-      true_behind true = refl
-  spots_formed (Both a b) = two_parts (is_well_formed_spot types texts fs f) (spots a) (spots b) _ _ (spots_formed a) (spots_formed b)
-  spots_formed (Either a b) = two_parts (is_well_formed_spot types texts fs f) (spots a) (spots b) _ _ (spots_formed a) (spots_formed b)
-  spots_formed (Negated a) = spots_formed a
-  spots_formed (Choice t a b) = three_parts (is_well_formed_spot types texts fs f) (spots t) (spots a) (spots b) _ _ _ (spots_formed t) (spots_formed a) (spots_formed b)
-  spots_formed (Turns t body step) = three_parts (is_well_formed_spot types texts fs f) (spots t) (spots body) (spots step) _ _ _ (spots_formed t) (spots_formed body) (spots_formed step)
-  spots_formed Breaks = refl
-  spots_formed Continues = refl
-  spots_formed (Returns place) = refl
-  spots_formed (Stops place) = refl
 
 -- ---- locals
 
@@ -197,7 +173,7 @@ module _ (types : Types) (ordered : IsOrdered types) (names texts : ℕ) (fs : L
       let d = and_parts (is_formed_result f.result (slice_get types.types f.result.0) (slice_get f.locals f.parameters)) (are_formed_locals types names f.parameters 0 f.locals) c.1 in
       and_from _ _ a.0 (and_from _ _ b.0 (and_from _ _ c.0 (and_from _ _
       (result_formed types f.result (slice_get types.types f.result.0) (slice_get f.locals f.parameters) d.0)
-      (and_from _ _ (locals_formed types ordered names f.parameters 0 f.locals s.0 d.1) (sym (spots_formed types texts fs f f.body) ∙ all_formed types texts fs f (spots f.body) both.1)))))
+      (and_from _ _ (locals_formed types ordered names f.parameters 0 f.locals s.0 d.1) (sym (formed_spots types texts fs f f.body) ∙ all_formed types texts fs f (spots f.body) both.1)))))
 
   functions_formed : (gs : List Function) → list_all (is_served types) gs ≡ true → list_all (is_formed_function types names texts fs) gs ≡ true → list_all (is_well_formed_function types names texts fs) gs ≡ true
   functions_formed [] served e = refl
