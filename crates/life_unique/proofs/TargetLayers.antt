@@ -1,14 +1,11 @@
--- Layers of targets whose parts are seen as trees, or settled.
+-- Layers of targets whose parts are settled.
 use Rattle.std.proofs.Common.{◌≡◌}
 use Rattle.life_unique.proofs.Lists.{Both}
-use Rattle.life_tree.specs.Tree.{Tree}
 use Rattle.life_tree.specs.declared.simple.Target.{Target, roll-Target}
 use Rattle.life_tree.specs.declared.simple.Target.TheFolds.{fold-roll-Target}
-use Rattle.life_tree.specs.Views.{target_step}
 use Rattle.life_unique.specs.SettledSimples.{kept_target}
 use Rattle.life_tree.specs.declared.simple.Target.TheFolds.{map-Target}
 use Rattle.life_tree.specs.declared.simple.Target.TheOpen as open_target
-use Rattle.life_tree.specs.Views.{target_tree}
 use Rattle.life_unique.specs.SettledSimples.{Opened-Target}
 use Rattle.life_unique.specs.SettledSimples.{settled_target}
 
@@ -20,13 +17,6 @@ Layer-Target claim = open_target.Target-F (Both claim)
 abbrev pub parts_target : (claim : Target → Type 0) → Layer-Target claim → Opened-Target
 parts_target claim = map-Target (Both claim) Target (λ z. z.0)
 
--- ---- a layer's parts as trees
-
-abbrev pub trees_target : Opened-Target → open_target.Target-F Tree
-trees_target = map-Target Target
-    Tree
-    target_tree
-
 -- ---- a layer's parts, settled
 
 abbrev pub settle_target : Opened-Target → Opened-Target
@@ -34,11 +24,7 @@ settle_target = map-Target Target
     Target
     settled_target
 
--- ---- what is made of a layer, as a tree and settled
-
-pub tree_of_target : (l : Opened-Target) → target_tree (roll-Target l) ≡ target_step (trees_target l)
-tree_of_target = fold-roll-Target Tree
-    target_step
+-- ---- what is made of a layer, settled
 
 pub settled_of_target : (l : Opened-Target) → settled_target (roll-Target l) ≡ kept_target (settle_target l)
 settled_of_target = fold-roll-Target Target
