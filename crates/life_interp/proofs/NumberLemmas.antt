@@ -1,8 +1,8 @@
 -- Objects whose words are numbers: nothing in the store owns, and they come to life, are written and end as the meaning has it.
-use Rattle.std.proofs.Common.{◌≡◌, ℕ, zero, suc, ◌+◌, ◌<◌, ◌≤◌, List, [], ◌∷◌, length, Option, Some, None, IsSome, refl, sym, ap, subst, ◌∙◌, arith}
+use Rattle.std.proofs.Common.{◌≡◌, ℕ, zero, suc, ◌+◌, ◌<◌, List, [], ◌∷◌, length, Option, Some, None, IsSome, refl, sym, ap, subst, ◌∙◌, arith}
 use Rattle.std.proofs.lemmas.List.{length-map}
 use Rattle.std.proofs.lemmas.Option.{same_Some}
-use Rattle.std.specs.Prelude.{ℤ, slice_get}
+use Rattle.std.specs.Prelude.{slice_get}
 use Rattle.life_types.specs.Types.{Types, class, class_at}
 use Rattle.life_types.specs.declared.ty.Class.{Class}
 use Rattle.life_types.specs.declared.ty.Class.TheVariants.{Value, Pointer, Owner, Aggregate}
@@ -14,7 +14,7 @@ use Rattle.life_core.specs.declared.program.Local.{Local}
 use Rattle.life_core.specs.declared.program.LocalKind.{LocalKind}
 use Rattle.life_store.specs.Cells.{at, set, unset, at-set_same}
 use Rattle.life_store.specs.Content.{Slot, Object, Content, newborn, with_birth, with_object, with_word, without}
-use Rattle.life_store.specs.Doing.{with_value_object, word_of_number}
+use Rattle.life_store.specs.Doing.{with_value_object}
 use Rattle.life_store.specs.Held.{resized_at, resized_if}
 use Rattle.life_store.specs.Kinds.{Kind, Plain, kind_in}
 use Rattle.life_store.specs.Parts.{Parts, Single, parts_of, parts_within}

@@ -1,12 +1,12 @@
 -- What a reference names in the store is what its number names in the meaning.
-use Rattle.std.proofs.Common.{◌≡◌, ℕ, ◌<◌, ◌≤◌, length, true, false, Option, Some, None, Result, Ok, Err, refl, sym, ap, subst, ◌∙◌, arith, IfSome}
+use Rattle.std.proofs.Common.{◌≡◌, ℕ, ◌<◌, ◌≤◌, length, Option, Some, None, Result, Ok, Err, refl, sym, ap, subst, ◌∙◌, arith, IfSome}
 use Rattle.std.proofs.lemmas.Bool.{le-ltb, lt-ltb}
 use Rattle.std.proofs.lemmas.List.{length-map}
 use Rattle.std.specs.Prelude.{nat_lt, option_map}
 use Rattle.life_types.specs.Types.{Types}
 use Rattle.life_store.specs.Cells.{at}
 use Rattle.life_store.specs.Content.{Object, Content, is_valid_in}
-use Rattle.life_store.specs.Doing.{Found, Here, Astray, found_at, found_in, here_if}
+use Rattle.life_store.specs.Doing.{Astray, found_at, found_in, here_if}
 use Rattle.life_store.specs.References.{Rows, asked_of, object_of, shape_of}
 use Rattle.life_store.specs.declared.object.Dead.{Dead}
 use Rattle.life_store.specs.declared.object.ObjRef.{ObjRef}

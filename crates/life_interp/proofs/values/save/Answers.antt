@@ -1,10 +1,10 @@
-use Rattle.std.proofs.Common.{◌≡◌, Option, IfSome, Some, ap, rules, subst, sym, ◌∙◌, arith}
+use Rattle.std.proofs.Common.{◌≡◌, Option, IfSome, ap, rules, subst, sym, ◌∙◌, arith}
 use Rattle.std.proofs.lemmas.Int.{to_z-of_z}
 use mir.Val.{SFits}
 use Rattle.std.specs.Int.{w64, cast_unsigned}
 use Rattle.life_core.specs.Operands.{operand_of}
 use Rattle.life_store.specs.Content.{Content, Object, with_object, with_word}
-use Rattle.life_store.specs.Doing.{Next, put_content, word_of_number}
+use Rattle.life_store.specs.Doing.{Next, put_content}
 use Rattle.life_store.specs.References.{HasWord}
 use Rattle.life_seen.specs.Kinds.{kinds_of}
 use Rattle.life_seen.specs.Named.{names_of}
