@@ -55,6 +55,7 @@ pub mod Rewriting
 pub mod SeenTypes
 pub mod SettledPoints
 pub mod SettledSteps
+pub mod SettledTests
 pub mod Settling
 pub mod SettlingCopies
 pub mod SettlingEdits
