@@ -3,6 +3,7 @@ pub mod Adding
 pub mod Aims
 pub mod Among
 pub mod Apart
+pub mod Begins
 pub mod Below
 pub mod Beside
 pub mod ByParts
@@ -30,6 +31,8 @@ pub mod Frames
 pub mod FromTypes
 pub mod Given
 pub mod Growing
+pub mod HeldPointers
+pub mod KeptPointers
 pub mod Knowing
 pub mod Laying
 pub mod Listed
@@ -37,6 +40,7 @@ pub mod Lists
 pub mod Lives
 pub mod Lying
 pub mod Maps
+pub mod MemberPointers
 pub mod Members
 pub mod Objects
 pub mod OneNumber

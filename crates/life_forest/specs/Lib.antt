@@ -1,7 +1,9 @@
+pub mod Begins
 pub mod Changes
 pub mod Forest
 pub mod FrameTypes
 pub mod Frames
+pub mod HeldPointers
 pub mod Kinds
 pub mod Owned
 pub mod Settled
