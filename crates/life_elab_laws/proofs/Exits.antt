@@ -1,5 +1,5 @@
 -- What is known between statements: each living variable is there, and no other one is.
-use Rattle.std.proofs.Common.{◌≡◌, ℕ, zero, suc, Bool, true, false, ◌&&◌, ◌||◌, is_none, List, [], ◌∷◌, length, slice_get, Option, Some, None, refl, sym, ◌∙◌, subst, arith}
+use Rattle.std.proofs.Common.{◌≡◌, ℕ, zero, suc, Bool, true, false, ◌&&◌, is_none, List, [], ◌∷◌, length, slice_get, Option, Some, None, refl, sym, ◌∙◌, subst, arith}
 use Rattle.std.proofs.lemmas.Bool.{and_from}
 use Rattle.life_types.specs.Types.{Types}
 use Rattle.life_types.specs.declared.ty.NameId.{NameId}
@@ -7,10 +7,12 @@ use Rattle.life_core.specs.Function.{Function}
 use Rattle.life_core.specs.Kinds.{is_register}
 use Rattle.life_core.specs.Tree.{Tree}
 use Rattle.life_core.specs.declared.program.Local.{Local}
+use Rattle.life_core.specs.declared.program.LocalKind.{LocalKind}
+use Rattle.life_core.specs.declared.program.LocalKind.TheVariants as kind
 use Rattle.life_proper.specs.declared.known.Known.{Known}
 use Rattle.life_proper.specs.declared.known.Known.TheVariants as known
 use Rattle.life_proper.specs.Checking.{Flow, before_next, flow, joined}
-use Rattle.life_proper.specs.Knowing.{State, agreed_all, are_implied, forgotten, is_implied, is_intermediate, known_at, met, is_blank, is_forgotten}
+use Rattle.life_proper.specs.Knowing.{State, agreed_all, are_implied, forgotten, is_implied, is_intermediate, known_at, met, is_forgotten, is_lost}
 use Rattle.life_elab_laws.proofs.Among.{Among}
 use Rattle.life_elab_laws.proofs.Falling.{falling}
 use Rattle.life_elab_laws.proofs.Knowledge.{agreed_length, at_agreed}
@@ -136,12 +138,13 @@ implied_same known.Ready b e = subst (λ (c : Known). is_implied known.Ready c �
 
 -- what is kept at the head of a loop is no intermediate register
 kept_there : (l : Local) (a : Known) → is_forgotten l a ≡ false → is_intermediate l ≡ false
-kept_there l a e = go (is_register l.kind) (is_none l.name) (is_blank a) e
+kept_there l a e = go l.kind (is_none l.name) e
   where
-    go : (register nameless blank : Bool) → (nameless && (register || blank)) ≡ false → (register && nameless) ≡ false
-    go true true blank h = h
-    go true false blank h = refl
-    go false nameless blank h = refl
+    go : (k : LocalKind) (nameless : Bool) → (nameless && is_lost k a) ≡ false → (is_register k && nameless) ≡ false
+    go kind.Object nameless h = refl
+    go kind.Register true h = h
+    go kind.Register false h = refl
+    go kind.Range nameless h = refl
 
 -- what is known at the head is known on the way back, where both know the same of all but intermediate registers
 pub forgotten_implied : (ls : List Local) (k j : List Known) → length k ≡ length ls → length j ≡ length ls

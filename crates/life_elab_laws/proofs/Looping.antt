@@ -1,5 +1,5 @@
 -- Loops: what is known at the head of a loop is known again wherever control comes back to it.
-use Rattle.std.proofs.Common.{◌≡◌, ◌⊎◌, inl, inr, ℕ, zero, suc, Bool, true, false, ◌&&◌, ◌||◌, List, [], ◌∷◌, ◌++◌, length, slice_get, take, Some, None, refl, sym, ap, ◌∙◌, subst, arith, is_none}
+use Rattle.std.proofs.Common.{◌≡◌, ◌⊎◌, inl, inr, ℕ, zero, suc, Bool, true, false, ◌&&◌, List, [], ◌∷◌, ◌++◌, length, slice_get, take, Some, None, refl, sym, ap, ◌∙◌, subst, arith, is_none}
 use Rattle.std.proofs.lemmas.Bool.{and_from}
 use Rattle.std.proofs.lemmas.Option.{same_Some}
 use Rattle.life_types.specs.Types.{Types}
@@ -7,10 +7,9 @@ use Rattle.life_types.specs.declared.ty.NameId.{NameId}
 use Rattle.life_core.specs.Function.{Function}
 use Rattle.life_core.specs.Tree.{Tree, Turns, trees}
 use Rattle.life_core.specs.declared.program.Local.{Local}
-use Rattle.life_core.specs.Kinds.{is_register}
 use Rattle.life_proper.specs.declared.known.Known.{Known}
 use Rattle.life_proper.specs.Checking.{Flow, flow, joined, of_body, of_step, of_test}
-use Rattle.life_proper.specs.Knowing.{State as Knowing, are_implied, comes_back, forgotten, is_intermediate, known_at, met, is_blank, is_forgotten}
+use Rattle.life_proper.specs.Knowing.{State as Knowing, are_implied, comes_back, forgotten, is_intermediate, known_at, met, is_forgotten, is_lost}
 use Rattle.life_proper.specs.ResultsKnown.{ReturnsKnown}
 use Rattle.life_proper.proofs.Joining.{joined_end}
 use Rattle.life_well_typed.specs.Visible.{Visible, behind}
@@ -48,7 +47,7 @@ forgotten_at (u ∷ ls) [] y l at e = refl
 forgotten_at (u ∷ ls) (x ∷ k) zero l at e = rw here refl
   where
     here : is_forgotten u x ≡ false
-    here = ap (λ (b : Bool). b && (is_register u.kind || is_blank x)) (ap (λ (v : Local). is_none v.name) (same_Some u l at) ∙ e)
+    here = ap (λ (b : Bool). b && is_lost u.kind x) (ap (λ (v : Local). is_none v.name) (same_Some u l at) ∙ e)
 forgotten_at (u ∷ ls) (x ∷ k) (suc y) l at e = forgotten_at ls k y l at e
 
 module _ (types : Types) (texts : ℕ) (fs : List Function) (f : Function) where

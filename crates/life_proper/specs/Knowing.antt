@@ -1,7 +1,9 @@
 -- What is known of the locals where a point is reached.
-use Rattle.std.specs.Prelude.{ℕ, Bool, true, false, ◌&&◌, ◌||◌, if◌then◌else◌, List, [], ◌∷◌, Option, Some, None, is_none, map, slice_get}
+use Rattle.std.specs.Prelude.{ℕ, Bool, true, false, ◌&&◌, if◌then◌else◌, List, [], ◌∷◌, Option, Some, None, is_none, map, slice_get}
 use Rattle.std.specs.Option.{unwrap_or}
 use Rattle.life_core.specs.declared.program.Local.{Local}
+use Rattle.life_core.specs.declared.program.LocalKind.{LocalKind}
+use Rattle.life_core.specs.declared.program.LocalKind.TheVariants.{Object, Register, Range}
 use Rattle.life_core.specs.Function.{Function}
 use Rattle.life_core.specs.Kinds.{is_register}
 use Rattle.life_core.specs.Ready.{entry_ready}
@@ -44,13 +46,19 @@ are_implied (a ∷ more) (b ∷ others) = is_implied a b && are_implied more oth
 abbrev pub is_intermediate : Local → Bool
 is_intermediate l = is_register l.kind && is_none l.name
 
--- .. of which nothing is known at the head of a loop, nor of an object or an iterator without a name that isn't there: a turn makes it or doesn't
 abbrev pub is_blank : Known → Bool
 is_blank known.Blank = true
 is_blank _ = false
 
+-- what isn't known at the head of a loop of a local without a name: an intermediate value, and a hidden range or iterator that isn't there, since a turn writes it
+-- or doesn't. An object is known: a turn that brings it to life ends it
+abbrev pub is_lost : LocalKind → Known → Bool
+is_lost Object a = false
+is_lost Register a = true
+is_lost Range a = is_blank a
+
 abbrev pub is_forgotten : Local → Known → Bool
-is_forgotten l a = is_none l.name && (is_register l.kind || is_blank a)
+is_forgotten l a = is_none l.name && is_lost l.kind a
 
 abbrev pub forgotten : List Local → List Known → List Known
 forgotten (l ∷ ls) (a ∷ more) = (if is_forgotten l a then known.Unknown else a) ∷ forgotten ls more

@@ -108,10 +108,10 @@ abbrev pub have_own_names : List Function → Bool
 have_own_names [] = true
 have_own_names (f ∷ fs) = not (list_any (is_of_name f.name) fs) && have_own_names fs
 
--- each member of each struct has a name
+-- each struct has a member, and each of these a name
 abbrev pub have_names : ℕ → List (List TyId) → List (List NameId) → Bool
 have_names names [] [] = true
-have_names names (ids ∷ structs) (ns ∷ members) = nat_eq (length ids) (length ns) && (list_all (is_name names) ns && have_names names structs members)
+have_names names (ids ∷ structs) (ns ∷ members) = nat_lt 0 (length ids) && (nat_eq (length ids) (length ns) && (list_all (is_name names) ns && have_names names structs members))
 have_names names _ _ = false
 
 pub record IsWellFormedProgram (p : Program) : Type 0 where

@@ -1,7 +1,6 @@
 // What is known of all locals of a function, in the order of their numbers.
 ghost use Rattle.std.specs.Prelude.{◌≡◌, if◌then◌else◌, IfOk, slice_get, slice_set};
-ghost use Rattle.life_core.specs.Kinds.{is_register};
-ghost use Rattle.life_proper.specs.Knowing.{agreed, agreed_all, are_implied, at_head, comes_back, forgotten, is_blank, is_forgotten, known_at, met, same};
+ghost use Rattle.life_proper.specs.Knowing.{agreed, agreed_all, are_implied, at_head, comes_back, forgotten, is_blank, is_forgotten, is_lost, known_at, met, same};
 ghost use Rattle.life_proper.specs.Seen.{state_seen};
 ghost use Rattle.life_proper.specs.Turns.{kept_by};
 ghost use Rattle.life_proper.specs.declared.known.Known.TheVariants as known;
@@ -153,20 +152,21 @@ pub(crate) fn copied(alloc: Global, here: &State) -> Result<State, NoMemory>
     }
 }
 
-// Whether nothing is known of it at the head of a loop: it is a register without a name, which holds an
-// intermediate value or the result, or it has no name and isn't there.
+// Whether nothing is known of it at the head of a loop: it has no name, and holds an intermediate value or
+// the result, or a hidden range or iterator that isn't there.
 fn is_forgotten(local: &Local, k: Known) -> bool
     ensures { result ≡ is_forgotten local.now k }
 {
-    local.name.is_none() && (is_register(local.kind) || is_blank(k))
+    local.name.is_none() && is_lost(local.kind, k)
 }
 
-fn is_register(kind: LocalKind) -> bool
-    ensures { result ≡ is_register kind }
+fn is_lost(kind: LocalKind, k: Known) -> bool
+    ensures { result ≡ is_lost kind k }
 {
     match kind {
+        LocalKind::Object => false,
         LocalKind::Register => true,
-        _ => false,
+        LocalKind::Range => is_blank(k),
     }
 }
 
