@@ -32,6 +32,7 @@ pub mod FromTypes
 pub mod Given
 pub mod Growing
 pub mod HeldPointers
+pub mod Keeping
 pub mod KeptPointers
 pub mod Knowing
 pub mod Laying
@@ -94,3 +95,4 @@ pub mod Vectors
 pub mod Widths
 pub mod Words
 pub mod Worked
+pub mod WrittenPointers

@@ -33,7 +33,7 @@ five_words Wild = refl
 five_words (To t) = refl
 five_words (Static c) = refl
 
-abbrev sets : ℕ → List ℕ → List ℕ → List ℕ
+abbrev pub sets : ℕ → List ℕ → List ℕ → List ℕ
 sets w [] xs = xs
 sets w (v ∷ vs) xs = sets (w + 1) vs (slice_set xs w v)
 
@@ -52,7 +52,7 @@ sets_back zero (v ∷ vs) (x ∷ xs) le =
 sets_back (suc w) vs [] le = absurd (omega (arith, le))
 sets_back (suc w) vs (x ∷ xs) le = ap (λ (ys : List ℕ). take (length vs) (drop (suc w) ys)) (sets_behind w vs x xs) ∙ sets_back w vs xs (omega (arith, le))
 
-first_puts : (w : ℕ) (vs : List ℕ) (s : Slot) (ss : List Slot) → words_if (slice_get (puts_in 0 w vs (s ∷ ss)) 0) ≡ sets w vs s.words
+pub first_puts : (w : ℕ) (vs : List ℕ) (s : Slot) (ss : List Slot) → words_if (slice_get (puts_in 0 w vs (s ∷ ss)) 0) ≡ sets w vs s.words
 first_puts w [] s ss = refl
 first_puts w (v ∷ vs) s ss = first_puts (w + 1) vs (record { words = slice_set s.words w v; stamp = s.stamp }) ss
 
