@@ -33,6 +33,7 @@ pub mod Given
 pub mod Growing
 pub mod HeldPointers
 pub mod Keeping
+pub mod KeepingEdits
 pub mod KeptPointers
 pub mod Knowing
 pub mod Laying
