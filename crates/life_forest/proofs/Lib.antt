@@ -32,6 +32,8 @@ pub mod FromTypes
 pub mod Given
 pub mod Growing
 pub mod HeldPointers
+pub mod Holding
+pub mod HoldingChanges
 pub mod Keeping
 pub mod KeepingEdits
 pub mod KeptPointers
