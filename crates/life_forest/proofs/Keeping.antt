@@ -15,7 +15,7 @@ use Rattle.life_store.specs.Parts.{Parts, Single, Raw, Iterates, Views, Text, Ve
 use Rattle.life_store.proofs.CellLemmas.{none_some, some_same, set_cases, unset_cases}
 use Rattle.life_forest.proofs.Coming.{IfGot, got_then, if_room}
 use Rattle.life_forest.proofs.Puts.{puts_in, wrote_is}
-use Rattle.life_forest.proofs.Staying.{Stays, stays_birth, stays_filled, stays_renamed_object, stays_resized, stays_self, stays_without, stays_wrote}
+use Rattle.life_forest.proofs.Staying.{Stays, stays_birth, stays_filled, stays_more, stays_renamed_object, stays_resized, stays_self, stays_without, stays_wrote}
 use Rattle.life_forest.proofs.WrittenPointers.{IsNoPointer, SamePointers, apart_pointers, same_if, same_then}
 
 -- what was there is there still with the same pointers, unless it may change
@@ -25,6 +25,10 @@ pub record Keeps (types : Types) (loose : ℕ → Type 0) (c d : Content) : Type
 
 pub keeps_self : (types : Types) (loose : ℕ → Type 0) (c : Content) → Keeps types loose c c
 keeps_self types loose c = record { stays = stays_self loose c; kept = λ n o x lt fixed was there. same_if types o x (some_same (sym was ∙ there)) }
+
+-- what may change for some may for more
+pub keeps_more : (types : Types) (loose more : ℕ → Type 0) (c d : Content) → ((n : ℕ) → loose n → more n) → Keeps types loose c d → Keeps types more c d
+keeps_more types loose more c d le keeps = record { stays = stays_more loose more c d le keeps.stays; kept = λ n o x lt fixed was there. keeps.kept n o x lt (λ h. fixed (le n h)) was there }
 
 module _ (types : Types) (ordered : IsOrdered types) (loose : ℕ → Type 0) (c : Content) where
   -- an object that may change, or is new

@@ -28,12 +28,14 @@ pub mod FrameChanges
 pub mod FrameMoves
 pub mod FrameWords
 pub mod Frames
+pub mod FreshPointers
 pub mod FromTypes
 pub mod Given
 pub mod Growing
 pub mod HeldPointers
 pub mod Holding
 pub mod HoldingChanges
+pub mod HoldingWrites
 pub mod Keeping
 pub mod KeepingEdits
 pub mod KeptPointers

@@ -1,6 +1,7 @@
 -- An object holds what it should behind a pointer that is written to one of its members.
 use Rattle.std.proofs.Common.{◌≡◌, ◌≢◌, ⊎_elim, ℕ, zero, suc, ◌+◌, ◌≤◌, ◌<◌, Bool, true, false, List, [], ◌∷◌, length, Option, Some, None, refl, sym, ap, subst, ◌∙◌, arith}
 use Rattle.std.proofs.lemmas.Bool.Decides.{eqb_tells, nat_tests}
+use Rattle.std.proofs.lemmas.List.{length-set}
 use Rattle.std.specs.Prelude.{◌&&◌, ◌||◌, drop, nat_eq, nat_le, nat_lt, slice_get, slice_set, take}
 use Rattle.life_types.specs.Trees.{IsOrdered}
 use Rattle.life_types.specs.Types.{Types}
@@ -27,7 +28,7 @@ pointer_back Wild = refl
 pointer_back (To t) = refl
 pointer_back (Static c) = text_back c.text c.index c.count
 
-five_words : (p : Pointer) → length (pointer_words p) ≡ 5
+pub five_words : (p : Pointer) → length (pointer_words p) ≡ 5
 five_words Null = refl
 five_words Wild = refl
 five_words (To t) = refl
@@ -64,3 +65,43 @@ written_back c n w vs o s there one le =
     ∙ ap (λ (ss : List Slot). take (length vs) (drop w (words_if (slice_get (puts_in 0 w vs ss) 0)))) one
     ∙ ap (λ (ws : List ℕ). take (length vs) (drop w ws)) (first_puts w vs s [])
     ∙ sets_back w vs s.words le
+
+-- ---- .. and a part of it
+
+inside : (k u n : ℕ) (zs : List ℕ) → u + k ≤ n → take k (drop u (take n zs)) ≡ take k (drop u zs)
+inside zero u n zs le = none (drop u (take n zs)) ∙ sym (none (drop u zs))
+  where
+    none : (xs : List ℕ) → take 0 xs ≡ []
+    none [] = refl
+    none (x ∷ xs) = refl
+inside (suc k) u zero zs le = absurd (omega (arith, le))
+inside (suc k) zero (suc n) [] le = refl
+inside (suc k) zero (suc n) (z ∷ zs) le = ap (λ (ys : List ℕ). z ∷ ys) (inside k zero n zs (omega (arith, le)))
+inside (suc k) (suc u) (suc n) [] le = refl
+inside (suc k) (suc u) (suc n) (z ∷ zs) le = inside (suc k) u n zs (omega (arith, le))
+
+pub drop_further : (w u : ℕ) (xs : List ℕ) → drop u (drop w xs) ≡ drop (w + u) xs
+drop_further zero u xs = let s : 0 + u ≡ u = omega arith in sym (ap (λ v. drop v xs) s)
+drop_further (suc w) u [] = let s : suc w + u ≡ suc (w + u) = omega arith in nothing u ∙ sym (ap (λ v. drop {A = ℕ} v []) s)
+  where
+    nothing : (k : ℕ) → drop {A = ℕ} k [] ≡ []
+    nothing zero = refl
+    nothing (suc k) = refl
+drop_further (suc w) u (x ∷ xs) = let s : suc w + u ≡ suc (w + u) = omega arith in drop_further w u xs ∙ sym (ap (λ v. drop v (x ∷ xs)) s)
+
+pub part_back : (w : ℕ) (vs xs : List ℕ) → w + length vs ≤ length xs → (u k : ℕ) → u + k ≤ length vs → take k (drop (w + u) (sets w vs xs)) ≡ take k (drop u vs)
+part_back w vs xs fits u k le =
+    ap (λ (ys : List ℕ). take k ys) (sym (drop_further w u (sets w vs xs)))
+    ∙ sym (inside k u (length vs) (drop w (sets w vs xs)) le)
+    ∙ ap (λ (ys : List ℕ). take k (drop u ys)) (sets_back w vs xs fits)
+
+pub sets_length : (w : ℕ) (vs xs : List ℕ) → length (sets w vs xs) ≡ length xs
+sets_length w [] xs = refl
+sets_length w (v ∷ vs) xs = sets_length (w + 1) vs (slice_set xs w v) ∙ length-set xs w v
+
+-- a pointer that is read where it begins
+pub pointer_read : (p : Pointer) → pointer_in (take 5 (drop 0 (pointer_words p))) ≡ p
+pointer_read Null = refl
+pointer_read Wild = refl
+pointer_read (To t) = refl
+pointer_read (Static c) = text_back c.text c.index c.count

@@ -41,7 +41,7 @@ pointer_plain (Unique id target) is u k = is
 pointer_plain (Member first others) is u k = is
 pointer_plain NoMember is u k = is
 
-pointer_width : (p : Parts) → IsPointer p → width p ≡ 5
+pub pointer_width : (p : Parts) → IsPointer p → width p ≡ 5
 pointer_width Raw is = refl
 pointer_width Iterates is = refl
 pointer_width Views is = refl

@@ -66,7 +66,7 @@ same_if types o x e u q begins = ap (λ (y : Object). pointer_at y u) e
 pub same_then : (types : Types) (o p x : Object) → p.ty ≡ x.ty → SamePointers types o p → SamePointers types p x → SamePointers types o x
 same_then types o p x type first second u q begins = first u q (ap (λ ty. begins_at types ty u) type ∙ begins) ∙ second u q begins
 
-gap : (a b : ℕ) → a ≤ b → (d : ℕ) × (b ≡ a + d)
+pub gap : (a b : ℕ) → a ≤ b → (d : ℕ) × (b ≡ a + d)
 gap zero b le = (b, omega arith)
 gap (suc a) zero le = absurd (omega (arith, le))
 gap (suc a) (suc b) le = let r = gap a b (omega (arith, le)) in let e = r.1 in (r.0, omega (arith, e))
