@@ -128,7 +128,7 @@ module _ (types : Types) (ordered : IsOrdered types) where
       go None h = refl
       go (Some _) h = refl
 
-  members_stand : (ms : List ℕ) (id : Option TyId) → MayStand id → MayStand (members_type types id ms)
+  pub members_stand : (ms : List ℕ) (id : Option TyId) → MayStand id → MayStand (members_type types id ms)
   members_stand [] id e = e
   members_stand (m ∷ ms) id e = members_stand ms (member_type types id m) (member_stands id m e)
 

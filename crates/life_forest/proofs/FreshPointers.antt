@@ -43,7 +43,7 @@ pub record FreshWords (types : Types) (n : ℕ) (begins : ℕ → Option TyId) (
   pub new : (u : ℕ) (q : TyId) → begins u ≡ Some q → IsNew (pointer_in (take 5 (drop u ws)))
   pub fits : (u : ℕ) (q : TyId) (t : Ty) → begins u ≡ Some q → slice_get types.types q.0 ≡ Some t → PointerFits t (pointer_in (take 5 (drop u ws)))
 
-front_words : (k u : ℕ) (xs ys : List ℕ) → u + k ≤ length xs → take k (drop u (xs ++ ys)) ≡ take k (drop u xs)
+pub front_words : (k u : ℕ) (xs ys : List ℕ) → u + k ≤ length xs → take k (drop u (xs ++ ys)) ≡ take k (drop u xs)
 front_words zero u xs ys le = none (drop u (xs ++ ys)) ∙ sym (none (drop u xs))
   where
     none : (zs : List ℕ) → take 0 zs ≡ []

@@ -40,6 +40,7 @@ use Rattle.life_forest.proofs.Lists.{length_back, length_front}
 use Rattle.life_forest.proofs.Members.{within_self}
 use Rattle.life_forest.proofs.Operands.{FoundWell, IsPlace, OperandAims, on_location_next, on_spot_next, operand_well}
 use Rattle.life_forest.proofs.Placed.{place_owns}
+use Rattle.life_forest.proofs.PlainTypes.{HasNoPointer}
 use Rattle.life_forest.proofs.StandingChanges.{on_got_each, on_number_next}
 use Rattle.life_forest.proofs.WrittenPointers.{IsNoPointer}
 
@@ -108,11 +109,15 @@ module _ (types : Types) (ordered : IsOrdered types) (f : Function) (rest : ℕ 
     abbrev spot : Spot
     spot = record { object = n; index = i; word = w }
 
-    -- one word of it may be written
-    pub place_writes : width_at types part ≡ 1 → (len : ℕ) → len ≤ 1 → MayWrite types ordered (IsOwned types st.world.content) st.world.content n w len
-    place_writes one len le =
+    -- words that are no pointer's may be written
+    pub place_words : HasNoPointer (parts_at types part) → (len : ℕ) → len ≤ width_at types part → MayWrite types ordered (IsOwned types st.world.content) st.world.content n w len
+    place_words free len le =
         inr (λ x e j lt. subst (λ (y : Object). IsNoPointer (kind_in (parts_at types y.ty) (w + j))) (some_same (sym place.there ∙ e))
-        (subst IsNoPointer (sym (place.within.words j (omega (arith, le, lt, one)))) (narrow_free (parts_at types part) j (omega (arith, one)) (omega (arith, le, lt, one)))))
+        (subst IsNoPointer (sym (place.within.words j (omega (arith, le, lt)))) (free j (omega (arith, le, lt)))))
+
+    -- .. as one word may
+    pub place_writes : width_at types part ≡ 1 → (len : ℕ) → len ≤ 1 → MayWrite types ordered (IsOwned types st.world.content) st.world.content n w len
+    place_writes one len le = place_words (λ u lt. narrow_free (parts_at types part) u (omega (arith, one)) lt) len (omega (arith, le, one))
 
     -- ---- one edit of an owner
 

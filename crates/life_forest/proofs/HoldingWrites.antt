@@ -37,7 +37,7 @@ use Rattle.life_forest.proofs.Staying.{Stays, stays_wrote}
 use Rattle.life_forest.proofs.WrittenPointers.{gap, sets_apart}
 
 -- the first word of a value isn't a later one of a pointer
-first_word : (p : Parts) (j : ℕ) → 0 < width p → kind_in p 0 ≡ Pointing (suc j) → ⊥
+pub first_word : (p : Parts) (j : ℕ) → 0 < width p → kind_in p 0 ≡ Pointing (suc j) → ⊥
 first_word Single j some e = cc
 first_word Raw j some e = cc
 first_word Iterates j some e = cc
@@ -53,12 +53,12 @@ first_word (Member first others) j some e =
 first_word NoMember j some e = omega (arith, some)
 
 -- the words of the first slot
-first_written : (w : ℕ) (vs : List ℕ) (ss : List Slot) → words_if (slice_get (puts_in 0 w vs ss) 0) ≡ sets w vs (words_if (slice_get ss 0))
+pub first_written : (w : ℕ) (vs : List ℕ) (ss : List Slot) → words_if (slice_get (puts_in 0 w vs ss) 0) ≡ sets w vs (words_if (slice_get ss 0))
 first_written w vs (s ∷ ss) = first_puts w vs s ss
 first_written w [] [] = refl
 first_written w (v ∷ vs) [] = first_written (w + 1) vs []
 
-first_wide : (n : ℕ) (ss : List Slot) → 0 < length ss → AllWide n ss → length (words_if (slice_get ss 0)) ≡ n
+pub first_wide : (n : ℕ) (ss : List Slot) → 0 < length ss → AllWide n ss → length (words_if (slice_get ss 0)) ≡ n
 first_wide n [] some wide = absurd (omega (arith, some))
 first_wide n (s ∷ ss) some wide = wide.0
 

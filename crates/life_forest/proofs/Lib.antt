@@ -35,6 +35,8 @@ pub mod Growing
 pub mod HeldPointers
 pub mod Holding
 pub mod HoldingChanges
+pub mod HoldingCopies
+pub mod HoldingLives
 pub mod HoldingWrites
 pub mod Keeping
 pub mod KeepingEdits
@@ -54,6 +56,7 @@ pub mod Operands
 pub mod OwnedAims
 pub mod Owners
 pub mod Placed
+pub mod PlainTypes
 pub mod Pushing
 pub mod Puts
 pub mod ReadyCells

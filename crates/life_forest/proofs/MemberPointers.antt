@@ -68,7 +68,7 @@ written_back c n w vs o s there one le =
 
 -- ---- .. and a part of it
 
-inside : (k u n : ℕ) (zs : List ℕ) → u + k ≤ n → take k (drop u (take n zs)) ≡ take k (drop u zs)
+pub inside : (k u n : ℕ) (zs : List ℕ) → u + k ≤ n → take k (drop u (take n zs)) ≡ take k (drop u zs)
 inside zero u n zs le = none (drop u (take n zs)) ∙ sym (none (drop u zs))
   where
     none : (xs : List ℕ) → take 0 xs ≡ []
