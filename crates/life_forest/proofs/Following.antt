@@ -48,15 +48,15 @@ one_slot [] e = absurd (omega (arith, e))
 one_slot (s ∷ []) e = (s, refl)
 one_slot (s ∷ (t ∷ ss)) e = absurd (omega (arith, e))
 
-module _ (types : Types) (c d : Content) (stays : Stays (IsOwned types c) c d) where
-  -- a variable that lives and wasn't owned is one still
-  pub variable_stays : (hand : ℕ → ℕ) → IsStore types hand c → (id : Option TyId) (n : ℕ) → IsVariable c id n → 0 < hand n → 0 < alive d n → IsVariable d id n
-  variable_stays hand store id n v held living =
+module _ (types : Types) (loose : ℕ → Type 0) (c d : Content) (stays : Stays loose c d) where
+  -- a variable that lives and doesn't change its size is one still
+  pub variable_stays : (hand : ℕ → ℕ) → IsStore types hand c → (id : Option TyId) (n : ℕ) → IsVariable c id n → (loose n → ⊥) → 0 < alive d n → IsVariable d id n
+  variable_stays hand store id n v fixed living =
       let x = lives (kinds_of types) d n living in
       let born = store.forest.births n v.object v.there in
       let w = stays.was n x.0 born x.1 in
       let same : w.object ≡ v.object = some_same (sym w.there ∙ v.there) in
-      let slots = one_slot x.0.slots (sym (w.size (λ owned. let h = store.forest.held n in let a = alive_le (kinds_of types) c n in omega (arith, owned, h, a, held))) ∙ ap (λ (o : Object). length o.slots) same ∙ ap length v.one) in
+      let slots = one_slot x.0.slots (sym (w.size fixed) ∙ ap (λ (o : Object). length o.slots) same ∙ ap length v.one) in
       record { object = x.0; there = x.1; type = v.type ∙ ap Some (sym (ap (λ (o : Object). o.ty) same) ∙ w.type); slot = slots.0; one = slots.1 }
 
   -- what was aimed at is, whatever was done
@@ -72,12 +72,10 @@ module _ (types : Types) (c d : Content) (stays : Stays (IsOwned types c) c d) w
   pointer_stays id (To t) well = aims_stay id t well
   pointer_stays id (Static s) well = well
 
-  -- a frame that waits is as its locals say still, where what it has is in the hand before and behind
-  pub waiting_stays : (g : Function) (cells : List Cell) (hand left : ℕ → ℕ) → IsStore types hand c → IsStore types left d → ((k : ℕ) → times (named_in cells) k ≤ hand k) → ((k : ℕ) → times (named_in cells) k ≤ left k) → IsFrame types g c cells → IsFrame types g d cells
-  waiting_stays g cells hand left store later before behind frame = record {
-    objects = λ x n e. variable_stays hand store (local_type types g x) n (frame.objects x n e)
-        (let i = in_hand cells x n e in let b = before n in omega arith)
-        (let i = in_hand cells x n e in let b = behind n in let h = later.forest.held n in omega arith);
+  -- a frame that waits is as its locals say still, where what it names lives and doesn't change its size
+  pub waiting_stays : (g : Function) (cells : List Cell) (hand left : ℕ → ℕ) → IsStore types hand c → IsStore types left d → ((x n : ℕ) → slice_get cells x ≡ Some (Named n) → loose n → ⊥) → ((k : ℕ) → times (named_in cells) k ≤ left k) → IsFrame types g c cells → IsFrame types g d cells
+  waiting_stays g cells hand left store later fixed behind frame = record {
+    objects = λ x n e. variable_stays hand store (local_type types g x) n (frame.objects x n e) (fixed x n e) (let i = in_hand cells x n e in let b = behind n in let h = later.forest.held n in omega arith);
     pointers = λ x p e. pointer_stays (seen_type types (local_type types g x)) p (frame.pointers x p e);
   }
 
@@ -89,12 +87,12 @@ module _ (types : Types) (f : Function) (rest : ℕ → ℕ) (st : State) (stand
     store = store;
     frame = record {
       objects = λ x n e. ⊎_elim
-          (λ old. variable_stays types st.world.content st'.world.content follows.stays (λ k. times (named_in st.cells) k + rest k) stands.store (local_type types f x) n (stands.frame.objects x n old)
-          (let i = in_hand st.cells x n old in omega arith)
+          (λ old. variable_stays types (IsOwned types st.world.content) st.world.content st'.world.content follows.stays (λ k. times (named_in st.cells) k + rest k) stands.store (local_type types f x) n (stands.frame.objects x n old)
+          (λ owned. let i = in_hand st.cells x n old in let h = stands.store.forest.held n in let a = alive_le (kinds_of types) st.world.content n in omega (arith, owned, i, h, a))
           (let i = in_hand st'.cells x n e in let h = store.forest.held n in omega arith))
           (λ new. new)
           (follows.named x n e);
-      pointers = λ x p e. ⊎_elim (λ old. pointer_stays types st.world.content st'.world.content follows.stays (seen_type types (local_type types f x)) p (stands.frame.pointers x p old)) (λ new. new) (follows.aimed x p e);
+      pointers = λ x p e. ⊎_elim (λ old. pointer_stays types (IsOwned types st.world.content) st.world.content st'.world.content follows.stays (seen_type types (local_type types f x)) p (stands.frame.pointers x p old)) (λ new. new) (follows.aimed x p e);
     };
   }
 

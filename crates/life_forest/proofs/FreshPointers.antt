@@ -3,7 +3,7 @@ use Rattle.std.proofs.Common.{◌≡◌, ⊎_elim, ℕ, zero, suc, ◌+◌, ◌�
 use Rattle.std.proofs.lemmas.Bool.{and_parts, false≢true}
 use Rattle.std.specs.Prelude.{drop, slice_get, take}
 use Rattle.life_types.specs.TypeTests.{is_raw}
-use Rattle.life_types.specs.Trees.{AllBelow, IsOrdered, members_at, tree_at, tree_of}
+use Rattle.life_types.specs.Trees.{AllBelow, IsOrdered, Reference, TypeTree, members_at, tree_at, tree_of}
 use Rattle.life_types.specs.Trees as tree
 use Rattle.life_types.specs.Types.{Types}
 use Rattle.life_types.specs.declared.ty.Ty.{Ty}
@@ -25,7 +25,7 @@ use Rattle.life_forest.specs.Begins.{begins_at, begins_of, first_begins, struct_
 use Rattle.life_forest.specs.Sorted.{PointerFits}
 use Rattle.life_forest.proofs.Begins.{begins_made, row_cases}
 use Rattle.life_forest.proofs.Coming.{IfGot, got_then}
-use Rattle.life_forest.proofs.KeptPointers.{begun_at}
+use Rattle.life_forest.proofs.BegunPointers.{begun_at}
 use Rattle.life_forest.proofs.Laying.{parts_made}
 use Rattle.life_forest.proofs.Lists.{drop_front}
 use Rattle.life_forest.proofs.MemberPointers.{drop_further, five_words, pointer_read}
@@ -36,6 +36,15 @@ IsNew Null = Unit {0}
 IsNew Wild = Unit {0}
 IsNew (To t) = ⊥
 IsNew (Static s) = s.text ≡ None
+
+-- a reference doesn't come to life, and no struct has one
+abbrev pub NoReference : TypeTree → Type 0
+NoReference (Reference target constant) = ⊥
+NoReference _ = Unit {0}
+
+no_reference : (t : TypeTree) → is_member t ≡ true → NoReference t
+no_reference (Reference target constant) e = false≢true e
+no_reference _ e = tt
 
 -- so many words, in which such pointers begin
 pub record FreshWords (types : Types) (n : ℕ) (begins : ℕ → Option TyId) (ws : List ℕ) : Type 0 where
@@ -103,7 +112,7 @@ module _ (types : Types) (ordered : IsOrdered types) (s : Setting) (how : Form) 
   abbrev FreshOf : TyId → Type 0
   FreshOf id = (d : Content) → IfGot (fresh s how (parts_at types id) d) (λ v. FreshWords types (width_at types id) (begins_at types id) v.0)
 
-  fresh_struct : (n : ℕ) (ids : List TyId) → AllBelow n ids → ((id : TyId) → id.0 < n → is_member (tree_at types id) ≡ true → may_stand (tree_at types id) ≡ true → FreshOf id) → may_stand (tree.struct_of (tree_at types) ids) ≡ true
+  fresh_struct : (n : ℕ) (ids : List TyId) → AllBelow n ids → ((id : TyId) → id.0 < n → NoReference (tree_at types id) → may_stand (tree_at types id) ≡ true → FreshOf id) → may_stand (tree.struct_of (tree_at types) ids) ≡ true
       → (d : Content) → IfGot (fresh s how (struct_of (parts_at types) ids) d) (λ v. FreshWords types (width (struct_of (parts_at types) ids)) (struct_begins types (begins_at types) ids) v.0)
   fresh_struct n [] below each stand d = fresh_plain types 0 [] refl
   fresh_struct n (id ∷ ids) below each stand d =
@@ -111,17 +120,17 @@ module _ (types : Types) (ordered : IsOrdered types) (s : Setting) (how : Form) 
       let inner = and_parts (may_stand (tree_at types id)) (may_stand (tree.struct_of (tree_at types) ids)) outer.1 in
       got_then (fresh s how (parts_at types id) d) (λ a. then_get (fresh s how (struct_of (parts_at types) ids) a.1) (λ b. Got (a.0 ++ b.0, b.1)))
       (λ v. FreshWords types (width_at types id) (begins_at types id) v.0) (λ v. FreshWords types (width (struct_of (parts_at types) (id ∷ ids))) (struct_begins types (begins_at types) (id ∷ ids)) v.0)
-      (each id below.0 outer.0 inner.0 d)
+      (each id below.0 (no_reference (tree_at types id) outer.0) inner.0 d)
       (λ a h. got_then (fresh s how (struct_of (parts_at types) ids) a.1) (λ b. Got (a.0 ++ b.0, b.1))
       (λ v. FreshWords types (width (struct_of (parts_at types) ids)) (struct_begins types (begins_at types) ids) v.0) (λ v. FreshWords types (width (struct_of (parts_at types) (id ∷ ids))) (struct_begins types (begins_at types) (id ∷ ids)) v.0)
       (fresh_struct n ids below.1 each inner.1 a.1)
       (λ b k. fresh_joined types (width_at types id) (width (struct_of (parts_at types) ids)) (begins_at types id) (struct_begins types (begins_at types) ids) a.0 b.0 (λ u q e. (begun_at types ordered id u q e).fits) h k))
 
-  fresh_within : (n : ℕ) (id : TyId) → id.0 < n → is_member (tree_at types id) ≡ true → may_stand (tree_at types id) ≡ true → FreshOf id
+  fresh_within : (n : ℕ) (id : TyId) → id.0 < n → NoReference (tree_at types id) → may_stand (tree_at types id) ≡ true → FreshOf id
   fresh_within zero id lt member stand d = absurd (omega (arith, lt))
   fresh_within (suc n) id lt member stand d =
       subst (λ (p : Parts). IfGot (fresh s how p d) (λ v. FreshWords types (width p) (begins_at types id) v.0)) (sym (parts_made types ordered id))
-      (go (λ x below m e. fresh_within n x (omega (arith, below, lt)) m e) (slice_get types.types id.0) refl (sym (ap is_member (tree_made types ordered id)) ∙ member) (sym (ap may_stand (tree_made types ordered id)) ∙ stand))
+      (go (λ x below m e. fresh_within n x (omega (arith, below, lt)) m e) (slice_get types.types id.0) refl (subst NoReference (tree_made types ordered id) member) (sym (ap may_stand (tree_made types ordered id)) ∙ stand))
     where
       -- by what begins there
       by_begins : (o : Option Ty) → slice_get types.types id.0 ≡ o → (n : ℕ) (ws : List ℕ) → FreshWords types n (begins_of types (begins_at types) id o) ws → FreshWords types n (begins_at types id) ws
@@ -149,7 +158,7 @@ module _ (types : Types) (ordered : IsOrdered types) (s : Setting) (how : Form) 
       raw_new form.Plain = tt
       raw_new form.Zero = tt
 
-      go : ((x : TyId) → x.0 < id.0 → is_member (tree_at types x) ≡ true → may_stand (tree_at types x) ≡ true → FreshOf x) → (o : Option Ty) → slice_get types.types id.0 ≡ o → is_member (tree_of types (tree_at types) o) ≡ true → may_stand (tree_of types (tree_at types) o) ≡ true
+      go : ((x : TyId) → x.0 < id.0 → NoReference (tree_at types x) → may_stand (tree_at types x) ≡ true → FreshOf x) → (o : Option Ty) → slice_get types.types id.0 ≡ o → NoReference (tree_of types (tree_at types) o) → may_stand (tree_of types (tree_at types) o) ≡ true
           → IfGot (fresh s how (parts_of types (parts_at types) o) d) (λ v. FreshWords types (width (parts_of types (parts_at types) o)) (begins_at types id) v.0)
       go each None there m e = plain None there (0 ∷ []) refl (λ u. refl)
       go each (Some ty.View) there m e = by_begins (Some ty.View) there 5 (pointer_words empty_view) (fresh_first types id empty_view refl (λ t h. tt))
@@ -157,7 +166,7 @@ module _ (types : Types) (ordered : IsOrdered types) (s : Setting) (how : Form) 
       go each (Some (ty.Span target constant)) there m e = by_begins (Some (ty.Span target constant)) there 5 (pointer_words empty_view) (fresh_first types id empty_view refl (λ t h. tt))
       go each (Some (ty.Raw target constant)) there m e =
           by_begins (Some (ty.Raw target constant)) there 5 (pointer_words (born_pointer how)) (fresh_first types id (born_pointer how) (raw_new how) (λ t h. raw_fits how t (sym (ap is_raw (some_same (sym there ∙ h))))))
-      go each (Some (ty.Reference target constant)) there m e = absurd (false≢true m)
+      go each (Some (ty.Reference target constant)) there m e = absurd m
       go each (Some (ty.Struct number)) there m e =
           let below = ordered.parts id.0 (ty.Struct number) there in
           got_same (fresh s how (struct_of (parts_at types) (members_at types number)) d)
@@ -172,12 +181,12 @@ module _ (types : Types) (ordered : IsOrdered types) (s : Setting) (how : Form) 
       go each (Some ty.Text) there m e = owner (Some ty.Text) there (characters_type types) 1 (λ u. refl)
       go each (Some (ty.Vector element)) there m e = owner (Some (ty.Vector element)) there element (width_at types element) (λ u. refl)
       go each (Some (ty.Unique target)) there m e = plain (Some (ty.Unique target)) there (0 ∷ []) refl (λ u. refl)
-      go each (Some ty.Void) there m e = absurd (false≢true m)
+      go each (Some ty.Void) there m e = plain (Some ty.Void) there (0 ∷ []) refl (λ u. refl)
       go each (Some ty.Bool) there m e = plain (Some ty.Bool) there (0 ∷ []) refl (λ u. refl)
       go each (Some ty.Char) there m e = plain (Some ty.Char) there (0 ∷ []) refl (λ u. refl)
       go each (Some ty.Int) there m e = plain (Some ty.Int) there (0 ∷ []) refl (λ u. refl)
       go each (Some ty.Long) there m e = plain (Some ty.Long) there (0 ∷ []) refl (λ u. refl)
       go each (Some ty.Size) there m e = plain (Some ty.Size) there (0 ∷ []) refl (λ u. refl)
 
-  pub fresh_pointers : (id : TyId) → is_member (tree_at types id) ≡ true → may_stand (tree_at types id) ≡ true → (d : Content) → IfGot (fresh s how (parts_at types id) d) (λ v. FreshWords types (width_at types id) (begins_at types id) v.0)
+  pub fresh_pointers : (id : TyId) → NoReference (tree_at types id) → may_stand (tree_at types id) ≡ true → (d : Content) → IfGot (fresh s how (parts_at types id) d) (λ v. FreshWords types (width_at types id) (begins_at types id) v.0)
   fresh_pointers id member stand d = fresh_within (suc id.0) id (omega arith) member stand d

@@ -22,7 +22,7 @@ use Rattle.life_forest.specs.HeldPointers.{HoldWell, HoldsWell}
 use Rattle.life_forest.specs.Settled.{PointersFit}
 use Rattle.life_forest.specs.Sorted.{AreSorted, PointerFits}
 use Rattle.life_forest.proofs.Begins.{pointer_begins}
-use Rattle.life_forest.proofs.Following.{IsOwned, pointer_stays}
+use Rattle.life_forest.proofs.Following.{pointer_stays}
 use Rattle.life_forest.proofs.SeenTypes.{pointer_parts, pointer_solid}
 use Rattle.life_forest.proofs.Shaped.{IsShaped}
 use Rattle.life_forest.proofs.StandingPointers.{IsPointer}
@@ -85,9 +85,9 @@ module _ (types : Types) (ordered : IsOrdered types) (f : Function) (st : State)
           subst (PointerFits (ty_if types (members_type types (shapes.local_type types f l.local) (m ∷ ms)))) k.is (k.well.fits k.word part (ty_if types (members_type types (shapes.local_type types f l.local) (m ∷ ms))) k.begins number)
 
 -- what an object holds is well still where these words are as they were, whatever else was done
-pub holds_stay : (types : Types) (c d : Content) (n : ℕ) (id : TyId) → Stays (IsOwned types c) c d → ((u : ℕ) (part : TyId) → begins_at types id u ≡ Some part → words_at c n 0 u 5 ≡ words_at d n 0 u 5) → HoldsWell types c n id → HoldsWell types d n id
-holds_stay types c d n id stays same well = record {
-  aims = λ u part begins. pointer_stays types c d stays (seen_type types (Some part)) (pointer_in (words_at d n 0 u 5))
+pub holds_stay : (types : Types) (loose : ℕ → Type 0) (c d : Content) (n : ℕ) (id : TyId) → Stays loose c d → ((u : ℕ) (part : TyId) → begins_at types id u ≡ Some part → words_at c n 0 u 5 ≡ words_at d n 0 u 5) → HoldsWell types c n id → HoldsWell types d n id
+holds_stay types loose c d n id stays same well = record {
+  aims = λ u part begins. pointer_stays types loose c d stays (seen_type types (Some part)) (pointer_in (words_at d n 0 u 5))
       (subst (λ (ws : List ℕ). PointsWell types c (seen_type types (Some part)) (pointer_in ws)) (same u part begins) (well.aims u part begins));
   fits = λ u part t begins there. subst (λ (ws : List ℕ). PointerFits t (pointer_in ws)) (same u part begins) (well.fits u part t begins there);
 }

@@ -23,7 +23,6 @@ use Rattle.life_forest.specs.Sorted.{PointerFits}
 use Rattle.life_forest.proofs.Following.{IsOwned, in_hand}
 use Rattle.life_forest.proofs.HeldPointers.{holds_stay}
 use Rattle.life_forest.proofs.Keeping.{Keeps, keeps_self}
-use Rattle.life_forest.proofs.Staying.{Stays}
 use Rattle.life_forest.proofs.Steps.{alive_le}
 use Rattle.life_forest.proofs.WrittenPointers.{pointer_at}
 
@@ -65,9 +64,9 @@ module _ (types : Types) (f : Function) (st : State) where
 
 module _ (types : Types) (f : Function) (rest : ℕ → ℕ) (st : State) (stands : Stands types f rest st) where
   -- what a cell named and doesn't change whole holds well
-  pub kept_holds : (loose : ℕ → Type 0) (d : Content) → Keeps types loose st.world.content d → Stays (IsOwned types st.world.content) st.world.content d → (x n : ℕ) (id : TyId) → (loose n → ⊥) → cell st x ≡ Some (Named n) → local_type types f x ≡ Some id
+  pub kept_holds : (loose : ℕ → Type 0) (d : Content) → Keeps types loose st.world.content d → (x n : ℕ) (id : TyId) → (loose n → ⊥) → cell st x ≡ Some (Named n) → local_type types f x ≡ Some id
       → HoldsWell types st.world.content n id → HoldsWell types d n id
-  kept_holds loose d keeps stays x n id fixed named typed well = go (at d.objects n) refl
+  kept_holds loose d keeps x n id fixed named typed well = go (at d.objects n) refl
     where
       go : (y : Option Object) → at d.objects n ≡ y → HoldsWell types d n id
       go None gone = gone_holds types d n id gone
@@ -76,7 +75,7 @@ module _ (types : Types) (f : Function) (rest : ℕ → ℕ) (st : State) (stand
           let born = stands.store.forest.births n v.object v.there in
           let before = keeps.stays.was n y born there in
           let type : id ≡ y.ty = some_same (sym typed ∙ v.type) ∙ ap (λ (o : Object). o.ty) (some_same (sym v.there ∙ before.there)) ∙ before.type in
-          holds_stay types st.world.content d n id stays
+          holds_stay types loose st.world.content d n id keeps.stays
           (λ u part begins.
           ap (λ (o : Option Object). take 5 (drop u (words_if (slice_get (slots_if o) 0)))) v.there
           ∙ keeps.kept n v.object y born fixed v.there there u part (ap (λ ty. begins_at types ty u) (sym type) ∙ begins)
@@ -88,7 +87,7 @@ module _ (types : Types) (f : Function) (rest : ℕ → ℕ) (st : State) (stand
   unowned x n named owned = let i = in_hand st.cells x n named in let h = stands.store.forest.held n in let a = alive_le (kinds_of types) st.world.content n in omega (arith, owned, i, h, a)
 
   pub named_holds : (d : Content) → KeepsOn types f st d → (x n : ℕ) (id : TyId) → cell st x ≡ Some (Named n) → local_type types f x ≡ Some id → HoldsWell types st.world.content n id → HoldsWell types d n id
-  named_holds d keeps x n id named typed well = kept_holds (IsOwned types st.world.content) d keeps keeps.stays x n id (unowned x n named) named typed well
+  named_holds d keeps x n id named typed well = kept_holds (IsOwned types st.world.content) d keeps x n id (unowned x n named) named typed well
 
   pub held_holds : (st' : State) → KeepsHeld types f st st' → HoldWell types f st → HoldWell types f st'
   held_holds st' h held x n id named typed = let was = h.named x n named in named_holds st'.world.content h.keeps x n id was typed (held x n id was typed)

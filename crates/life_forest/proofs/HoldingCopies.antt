@@ -35,7 +35,7 @@ use Rattle.life_forest.proofs.HoldingChanges.{place_words}
 use Rattle.life_forest.proofs.HoldingWrites.{ValueWell, first_word, written_holds}
 use Rattle.life_forest.proofs.Keeping.{copied_keeps, ended_keeps, keeps_self}
 use Rattle.life_forest.proofs.KeepingEdits.{replaced_keeps}
-use Rattle.life_forest.proofs.KeptPointers.{IsBegun, begun_at}
+use Rattle.life_forest.proofs.BegunPointers.{IsBegun, begun_at}
 use Rattle.life_forest.proofs.Lists.{drop_front, length_back, length_front}
 use Rattle.life_forest.proofs.MemberPointers.{drop_further, inside}
 use Rattle.life_forest.proofs.Operands.{FoundWell, IsPlace, OperandAims, on_spot_next, operand_well, place_named}

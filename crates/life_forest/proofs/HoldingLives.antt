@@ -9,7 +9,7 @@ use Rattle.life_core.specs.declared.instr.Form.{Form}
 use Rattle.life_core.specs.declared.program.Local.{Local}
 use Rattle.life_core.specs.Function.{Function}
 use Rattle.life_core.specs.Holdings.{Holding, Blank, AnObject, ANumber, APointer, AView, sort_of}
-use Rattle.life_proper.specs.WellFormedPrograms.{is_member, may_stand}
+use Rattle.life_proper.specs.WellFormedPrograms.{may_stand}
 use Rattle.life_store.specs.Births.{born_object, born_owner, end_cell, end_locals, end_object, live_as, live_local, live_of, live_over, with_value_object}
 use Rattle.life_store.specs.Cells.{at, at-set_same}
 use Rattle.life_store.specs.Content.{Object, Content, live_words_of, newborn, with_birth, without}
@@ -33,11 +33,11 @@ use Rattle.life_forest.proofs.Copying.{Sized, sized_birth_came}
 use Rattle.life_forest.proofs.FittingBirths.{got_both}
 use Rattle.life_forest.proofs.Following.{IsOwned}
 use Rattle.life_forest.proofs.Frames.{on_got_next}
-use Rattle.life_forest.proofs.FreshPointers.{FreshWords, IsNew, fresh_pointers}
+use Rattle.life_forest.proofs.FreshPointers.{FreshWords, IsNew, NoReference, fresh_pointers}
 use Rattle.life_forest.proofs.Holding.{KeepsHeld, KeepsOn, held_cell, held_content, held_holds, held_self, named_holds, next_holds}
 use Rattle.life_forest.proofs.HoldingWrites.{first_wide, first_written}
 use Rattle.life_forest.proofs.Keeping.{BornKeeps, ended_keeps, fresh_keeps, keeps_birth, keeps_resized, keeps_self, keeps_without, object_keeps}
-use Rattle.life_forest.proofs.KeptPointers.{begun_at}
+use Rattle.life_forest.proofs.BegunPointers.{begun_at}
 use Rattle.life_forest.proofs.Laying.{laid_at}
 use Rattle.life_forest.proofs.MemberPointers.{part_back, sets}
 use Rattle.life_forest.proofs.Puts.{puts_in, wrote_is}
@@ -53,7 +53,7 @@ new_well types d id (Static s) new = subst (λ (n : Option ℕ). IsOfText types 
 -- ---- an object that comes to life
 
 module _ (types : Types) (ordered : IsOrdered types) (hand : ℕ → ℕ) (c : Content) (store : IsStore types hand c) where
-  pub born_holds : (s : Setting) (ty : TyId) (how : Form) → is_member (tree_at types ty) ≡ true → may_stand (tree_at types ty) ≡ true
+  pub born_holds : (s : Setting) (ty : TyId) (how : Form) → NoReference (tree_at types ty) → may_stand (tree_at types ty) ≡ true
       → IfGot (object_with s ty (parts_at types ty) (fresh s how (parts_at types ty)) c) (λ b. HoldsWell types b.1 b.0 ty)
   born_holds s ty how member stand =
       got_then (sized_birth s ty (width (parts_at types ty)) 1 c) (λ b. then_get (fresh s how (parts_at types ty) b.1) (λ v. Got (b.0, wrote b.0 0 0 v.0 v.1)))
@@ -102,7 +102,7 @@ module _ (types : Types) (ordered : IsOrdered types) (f : Function) (rest : ℕ 
       one : (a b : ℕ) → Named a ≡ Named b → a ≡ b
       one a b e = cc
 
-  pub owner_holds : (s : Setting) (x : ℕ) (ty : TyId) (how : Form) → local_type types f x ≡ Some ty → is_member (tree_at types ty) ≡ true → may_stand (tree_at types ty) ≡ true → OnNext (born_owner s ty (parts_at types ty) how x st) (HoldWell types f)
+  pub owner_holds : (s : Setting) (x : ℕ) (ty : TyId) (how : Form) → local_type types f x ≡ Some ty → NoReference (tree_at types ty) → may_stand (tree_at types ty) ≡ true → OnNext (born_owner s ty (parts_at types ty) how x st) (HoldWell types f)
   owner_holds s x ty how typed member stand =
       on_got_next (object_with s ty (parts_at types ty) (fresh s how (parts_at types ty)) c) (λ b. Next (put_cell x (Named b.0) (put_content b.1 st))) (λ b. BornKeeps types ordered Loose c b × HoldsWell types b.1 b.0 ty) (HoldWell types f)
       (got_both (object_with s ty (parts_at types ty) (fresh s how (parts_at types ty)) c) (BornKeeps types ordered Loose c) (λ b. HoldsWell types b.1 b.0 ty)
@@ -141,7 +141,7 @@ module _ (types : Types) (ordered : IsOrdered types) (f : Function) (rest : ℕ 
       unlike n e = cc
 
   -- .. by its type
-  module _ (s : Setting) (x : ℕ) (how : Form) (ty : TyId) (local : local_type types f x ≡ Some ty) (member : is_member (tree_at types ty) ≡ true) (stand : may_stand (tree_at types ty) ≡ true) where
+  module _ (s : Setting) (x : ℕ) (how : Form) (ty : TyId) (local : local_type types f x ≡ Some ty) (member : NoReference (tree_at types ty)) (stand : may_stand (tree_at types ty) ≡ true) where
     of_parts : (p : Parts) → parts_at types ty ≡ p → OnNext (live_of s ty p how x st) (HoldWell types f)
     of_parts Single is = tt
     of_parts Raw is = tt
@@ -167,11 +167,11 @@ module _ (types : Types) (ordered : IsOrdered types) (f : Function) (rest : ℕ 
     lives_over (Some (Number z)) wide = tt
     lives_over (Some (Points p)) wide = tt
 
-  -- what a local is that may come to life: of its type, which is neither void nor a reference
+  -- what a local is that may come to life: of its type, which is no reference
   pub record IsLiving (x : ℕ) (l : Local) : Type 0 where
     pub local : local_type types f x ≡ Some l.ty
     pub value : sort_of types f x ≡ AnObject → width_at types l.ty ≡ 1
-    pub member : is_member (tree_at types l.ty) ≡ true
+    pub member : NoReference (tree_at types l.ty)
     pub stand : may_stand (tree_at types l.ty) ≡ true
 
   pub lives_hold : (s : Setting) (x : ℕ) (how : Form) → ((l : Local) → slice_get f.locals x ≡ Some l → IsLiving x l) → OnNext (live_local s types f (slice_get f.locals x) how x st) (HoldWell types f)

@@ -28,7 +28,7 @@ use Rattle.life_forest.proofs.Coming.{below_or}
 use Rattle.life_forest.proofs.Following.{IsOwned, pointer_stays}
 use Rattle.life_forest.proofs.Holding.{KeepsOn, gone_holds, held_cell, held_holds, held_self, kept_holds, unowned}
 use Rattle.life_forest.proofs.Keeping.{Keeps, keeps_more, keeps_self, keeps_wrote}
-use Rattle.life_forest.proofs.KeptPointers.{IsBegun, begun_at}
+use Rattle.life_forest.proofs.BegunPointers.{IsBegun, begun_at}
 use Rattle.life_forest.proofs.MemberPointers.{first_puts, five_words, part_back, pointer_read, sets, sets_length}
 use Rattle.life_forest.proofs.Members.{path_within}
 use Rattle.life_forest.proofs.Puts.{puts_in, wrote_is}
@@ -171,7 +171,7 @@ module _ (types : Types) (ordered : IsOrdered types) (f : Function) (rest : ℕ 
 
       object_holds : HoldsWell types (wrote n 0 (word_within types (Some id) ms) vs d) n id
       object_holds = record {
-        aims = λ u q begins. pointer_stays types c done stays (seen_type types (Some q)) (pointer_in (words_at done n 0 u 5))
+        aims = λ u q begins. pointer_stays types (IsOwned types c) c done stays (seen_type types (Some q)) (pointer_in (words_at done n 0 u 5))
             (⊎_elim
             (λ same. subst (λ (ws : List ℕ). PointsWell types c (seen_type types (Some q)) (pointer_in ws)) (sym same) ((held x n id named typed).aims u q begins))
             (λ h. subst (λ (ws : List ℕ). PointsWell types c (seen_type types (Some q)) (pointer_in ws)) (sym h.is) (well.aims h.word q h.begins))
@@ -189,7 +189,7 @@ module _ (types : Types) (ordered : IsOrdered types) (f : Function) (rest : ℕ 
         (λ same. subst (λ (k : ℕ). HoldsWell types done k other) same (subst (HoldsWell types done n) (one_type same) (itself (at d.objects n) refl)))
         (λ apart. kept_holds types f rest st stands (λ k. IsOwned types c k ⊎ (n ≡ k)) done
         (keeps_wrote types ordered (λ k. IsOwned types c k ⊎ (n ≡ k)) c n 0 w vs d (inl (inl (inr refl))) (keeps_more types (IsOwned types c) (λ k. IsOwned types c k ⊎ (n ≡ k)) c d (λ k h. inl h) keeps))
-        stays y m other (λ h. ⊎_elim (λ owned. unowned types f rest st stands y m named_y owned) (λ e. apart e) h) named_y typed_y (held y m other named_y typed_y))
+        y m other (λ h. ⊎_elim (λ owned. unowned types f rest st stands y m named_y owned) (λ e. apart e) h) named_y typed_y (held y m other named_y typed_y))
       where
         one_type : n ≡ m → id ≡ other
         one_type same =

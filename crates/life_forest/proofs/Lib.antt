@@ -4,6 +4,7 @@ pub mod Aims
 pub mod Among
 pub mod Apart
 pub mod Begins
+pub mod BegunPointers
 pub mod Below
 pub mod Beside
 pub mod ByParts
@@ -31,16 +32,19 @@ pub mod Frames
 pub mod FreshPointers
 pub mod FromTypes
 pub mod Given
+pub mod GivenPointers
 pub mod Growing
 pub mod HeldPointers
+pub mod HeldPoints
 pub mod Holding
+pub mod HoldingAims
 pub mod HoldingChanges
 pub mod HoldingCopies
 pub mod HoldingLives
+pub mod HoldingSteps
 pub mod HoldingWrites
 pub mod Keeping
 pub mod KeepingEdits
-pub mod KeptPointers
 pub mod Knowing
 pub mod Laying
 pub mod Listed
@@ -82,7 +86,6 @@ pub mod Single
 pub mod Slots
 pub mod Sparing
 pub mod Spots
-pub mod StandingAims
 pub mod StandingChanges
 pub mod StandingCopies
 pub mod StandingErase

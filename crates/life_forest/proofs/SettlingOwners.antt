@@ -69,20 +69,20 @@ target_owner : (types : Types) (t : Ty) → (owned_target types t ≡ ty.Void �
 target_owner types (ty.Unique target) some = refl
 target_owner types _ some = absurd (some refl)
 
-target_composed : (types : Types) (t : Ty) → (owned_target types t ≡ ty.Void → ⊥) → is_composed t ≡ true
+pub target_composed : (types : Types) (t : Ty) → (owned_target types t ≡ ty.Void → ⊥) → is_composed t ≡ true
 target_composed types (ty.Unique target) some = refl
 target_composed types _ some = absurd (some refl)
 
-span_kinds : (types : Types) (t u : Ty) → spans types t u ≡ true → (is_pointer t ≡ true) × (is_owner u ≡ true)
+pub span_kinds : (types : Types) (t u : Ty) → spans types t u ≡ true → (is_pointer t ≡ true) × (is_owner u ≡ true)
 span_kinds types (ty.Span target constant) (ty.Vector element) e = (refl, refl)
 span_kinds types ty.View ty.Text e = (refl, refl)
 span_kinds types _ _ e = absurd (false≢true e)
 
-gets_raw : (types : Types) (t u : Ty) → gets types t u ≡ true → is_raw t ≡ true
+pub gets_raw : (types : Types) (t u : Ty) → gets types t u ≡ true → is_raw t ≡ true
 gets_raw types (ty.Raw target constant) u e = refl
 gets_raw types _ u e = absurd (false≢true e)
 
-gets_solid : (types : Types) (t : Ty) → gets types t ty.Void ≡ true → ⊥
+pub gets_solid : (types : Types) (t : Ty) → gets types t ty.Void ≡ true → ⊥
 gets_solid types (ty.Raw target constant) e = same_void (ty_of types target) e
 gets_solid types _ e = false≢true e
 
@@ -158,15 +158,18 @@ module _ (types : Types) (ordered : IsOrdered types) (once : HasEachOnce types) 
 
   -- ---- a pointer is aimed
 
-  place_aims : (s : Setting) (p : Location) (o : Operand) → aims_at types (type_in types f p) (type_of types f o) ≡ true → keeps_const (is_constant (type_in types f p)) (is_const_place types f o) ≡ true
-      → AreBits true (ready_of st) (place_uses o ++ part_uses p) → Settles types f (behind p) (aimed_at s types f p o st (locate types f o st))
-  place_aims s p o e keeps uses =
-      let pointer = aims_points types (type_in types f p) (type_of types f o) e in
-      let last = bits_right true (ready_of st) (place_uses o) (part_uses p) uses in
-      settle_place types f (behind p) o (locate types f o st) (λ n i object. pointed types f p (pointer_to st.world.content n i (operand_word types f o st)) st) (λ c. on_character s.texts c (λ z. pointed types f p (at_index 0 c.index (Static c)) st))
-      (place_well types f st at_point o (place_there o (solid (is_void (type_of types f o)) refl)) (bits_left true (ready_of st) (place_uses o) (part_uses p) uses))
-      (λ n i object. given types f st at_point p (pointer_to st.world.content n i (operand_word types f o st)) pointer tt last)
-      (λ c const. text_settles types f (behind p) s.texts c (λ z. pointed types f p (at_index 0 c.index (Static c)) st) (λ z. given types f st at_point p (at_index 0 c.index (Static c)) pointer (const_fits c.text const) last))
+  -- what points to characters of a text takes them as const
+  pub const_fits : (p : Location) (o : Operand) → keeps_const (is_constant (type_in types f p)) (is_const_place types f o) ≡ true → (n : Option ℕ) → is_const_place types f o ≡ true → StaticFits (type_in types f p) n
+  const_fits p o keeps None const = tt
+  const_fits p o keeps (Some n) const = go (is_constant (type_in types f p)) (is_const_place types f o) const keeps
+    where
+      go : (a b : Bool) → b ≡ true → (a || not b) ≡ true → a ≡ true
+      go true b h k = refl
+      go false b h k = absurd (false≢true (sym (ap not h) ∙ k))
+
+  -- a place that is aimed at is there
+  pub aimed_there : (p : Location) (o : Operand) → aims_at types (type_in types f p) (type_of types f o) ≡ true → is_place types f o ≡ true
+  aimed_there p o e = place_there o (solid (is_void (type_of types f o)) refl)
     where
       void_is : (t : Ty) → is_void t ≡ true → t ≡ ty.Void
       void_is ty.Void h = refl
@@ -176,13 +179,15 @@ module _ (types : Types) (ordered : IsOrdered types) (once : HasEachOnce types) 
       solid false h = h
       solid true h = absurd (aims_solid types (type_in types f p) (subst (λ (u : Ty). aims_at types (type_in types f p) u ≡ true) (void_is (type_of types f o) h) e))
 
-      const_fits : (n : Option ℕ) → is_const_place types f o ≡ true → StaticFits (type_in types f p) n
-      const_fits None const = tt
-      const_fits (Some n) const = go (is_constant (type_in types f p)) (is_const_place types f o) const keeps
-        where
-          go : (a b : Bool) → b ≡ true → (a || not b) ≡ true → a ≡ true
-          go true b h k = refl
-          go false b h k = absurd (false≢true (sym (ap not h) ∙ k))
+  place_aims : (s : Setting) (p : Location) (o : Operand) → aims_at types (type_in types f p) (type_of types f o) ≡ true → keeps_const (is_constant (type_in types f p)) (is_const_place types f o) ≡ true
+      → AreBits true (ready_of st) (place_uses o ++ part_uses p) → Settles types f (behind p) (aimed_at s types f p o st (locate types f o st))
+  place_aims s p o e keeps uses =
+      let pointer = aims_points types (type_in types f p) (type_of types f o) e in
+      let last = bits_right true (ready_of st) (place_uses o) (part_uses p) uses in
+      settle_place types f (behind p) o (locate types f o st) (λ n i object. pointed types f p (pointer_to st.world.content n i (operand_word types f o st)) st) (λ c. on_character s.texts c (λ z. pointed types f p (at_index 0 c.index (Static c)) st))
+      (place_well types f st at_point o (aimed_there p o e) (bits_left true (ready_of st) (place_uses o) (part_uses p) uses))
+      (λ n i object. given types f st at_point p (pointer_to st.world.content n i (operand_word types f o st)) pointer tt last)
+      (λ c const. text_settles types f (behind p) s.texts c (λ z. pointed types f p (at_index 0 c.index (Static c)) st) (λ z. given types f st at_point p (at_index 0 c.index (Static c)) pointer (const_fits p o keeps c.text const) last))
 
   pub aims_settle : (s : Setting) (p : Location) (sr : Source) → is_source_of types texts fs f (type_in types f p) sr ≡ true → AreBits true (ready_of st) (source_uses sr ++ part_uses p) → Settles types f (behind p) (aimed s types f p sr st)
   aims_settle s p source.Null e uses = given types f st at_point p Null (raw_points (type_in types f p) e) e uses

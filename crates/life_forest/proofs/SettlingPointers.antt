@@ -64,7 +64,7 @@ part_well false i (Some n) count = well_if (nat_le i count) _ _ (λ k. Unit {0})
 -- ---- kinds of pointers
 
 -- what a raw pointer takes is one
-alike_raw : (types : Types) (t u : Ty) → are_alike types t u ≡ true → is_raw u ≡ is_raw t
+pub alike_raw : (types : Types) (t u : Ty) → are_alike types t u ≡ true → is_raw u ≡ is_raw t
 alike_raw types (ty.Raw t c) (ty.Raw u d) e = refl
 alike_raw types (ty.Reference t c) (ty.Reference u d) e = refl
 alike_raw types (ty.Iterator t c) (ty.Iterator u d) e = refl
@@ -72,7 +72,7 @@ alike_raw types (ty.Span t c) (ty.Span u d) e = refl
 alike_raw types ty.View ty.View e = refl
 alike_raw types _ _ e = absurd (false≢true e)
 
-alike_points : (types : Types) (t u : Ty) → are_alike types t u ≡ true → (is_pointer t ≡ true) × (is_pointer u ≡ true)
+pub alike_points : (types : Types) (t u : Ty) → are_alike types t u ≡ true → (is_pointer t ≡ true) × (is_pointer u ≡ true)
 alike_points types (ty.Raw t c) (ty.Raw u d) e = (refl, refl)
 alike_points types (ty.Reference t c) (ty.Reference u d) e = (refl, refl)
 alike_points types (ty.Iterator t c) (ty.Iterator u d) e = (refl, refl)
@@ -86,11 +86,11 @@ alike_fits types t u Wild alike keeps fits = tt
 alike_fits types t u (To target) alike keeps fits = tt
 alike_fits types t u (Static s) alike keeps fits = static_kept u t s.text keeps fits
 
-iterator_other : (t : Ty) → is_iterator t ≡ true → is_raw t ≡ false
+pub iterator_other : (t : Ty) → is_iterator t ≡ true → is_raw t ≡ false
 iterator_other (ty.Iterator target constant) e = refl
 iterator_other _ e = absurd (false≢true e)
 
-range_other : (t : Ty) → is_range t ≡ true → is_raw t ≡ false
+pub range_other : (t : Ty) → is_range t ≡ true → is_raw t ≡ false
 range_other (ty.Span target constant) e = refl
 range_other ty.View e = refl
 range_other _ e = absurd (false≢true e)
@@ -229,28 +229,32 @@ module _ (types : Types) (f : Function) (st : State) (at_point : IsPoised types 
       unlike : which.Target ≡ which.Index r → ⊥
       unlike k = cc
 
+  at_void : (p l : Location) → aims_at types (type_in types f p) (seen_element types (type_in types f l)) ≡ true → seen_element types (type_in types f l) ≡ ty.Void → ⊥
+  at_void p l h void = aims_solid types (type_in types f p) (subst (λ (u : Ty). aims_at types (type_in types f p) u ≡ true) void h)
+
+  -- what has elements that are pointed to is a span or a view
+  no_element : (p l : Location) (w : Which) → aims_at types (type_in types f p) (type_of_element types f (source.Pointer l) w) ≡ true → seen_element types (type_in types f l) ≡ ty.Void → ⊥
+  no_element p l (which.Index r) h void = go (is_number_of types f ty.Size r) h
+    where
+      go : (x : Bool) → aims_at types (type_in types f p) (if x then seen_element types (type_in types f l) else ty.Void) ≡ true → ⊥
+      go true k = at_void p l k void
+      go false k = aims_solid types (type_in types f p) k
+  no_element p l which.First h void = at_void p l h void
+  no_element p l which.Last h void = at_void p l h void
+  no_element p l which.Target h void = aims_solid types (type_in types f p) h
+
+  pub seen_element_range : (p l : Location) (w : Which) → aims_at types (type_in types f p) (type_of_element types f (source.Pointer l) w) ≡ true → (is_pointer (type_in types f l) ≡ true) × (is_raw (type_in types f l) ≡ false)
+  seen_element_range p l w e = seen_range types (type_in types f l) (λ void. no_element p l w e void)
+
   pub seen_elements_settle : (p l : Location) (w : Which) → aims_at types (type_in types f p) (type_of_element types f (source.Pointer l) w) ≡ true → keeps_const (is_constant (type_in types f p)) (is_constant (type_in types f l)) ≡ true
       → AreBits true (ready_of st) (l.local ∷ (which_uses w ++ part_uses p)) → Settles types f (behind p) (element types f p (source.Pointer l) w st)
   seen_elements_settle p l w e keeps uses =
-      let range = seen_range types (type_in types f l) (λ void. no_element w e void) in
+      let range = seen_element_range p l w e in
       settle_got types f (behind p) (used st.world.content (location_cell types f l st)) (λ v. element_at types f p w (seen_count v) v st) (IsUsed (type_in types f l)) (used_at l (type_in types f l) refl range.0 range.1 uses.0)
       (λ v h. element_settles p (type_in types f l) w (seen_count v) v (aims_points types (type_in types f p) (type_of_element types f (source.Pointer l) w) e) keeps h (λ target. no_target w e target) (indexed p (source.Pointer l) w e) uses.1)
     where
       no_target : (w : Which) → aims_at types (type_in types f p) (type_of_element types f (source.Pointer l) w) ≡ true → w ≡ which.Target → ⊥
       no_target w h target = aims_solid types (type_in types f p) (subst (λ (x : Which). aims_at types (type_in types f p) (type_of_element types f (source.Pointer l) x) ≡ true) target h)
-
-      at_void : aims_at types (type_in types f p) (seen_element types (type_in types f l)) ≡ true → seen_element types (type_in types f l) ≡ ty.Void → ⊥
-      at_void h void = aims_solid types (type_in types f p) (subst (λ (u : Ty). aims_at types (type_in types f p) u ≡ true) void h)
-
-      no_element : (w : Which) → aims_at types (type_in types f p) (type_of_element types f (source.Pointer l) w) ≡ true → seen_element types (type_in types f l) ≡ ty.Void → ⊥
-      no_element (which.Index r) h void = go (is_number_of types f ty.Size r) h
-        where
-          go : (x : Bool) → aims_at types (type_in types f p) (if x then seen_element types (type_in types f l) else ty.Void) ≡ true → ⊥
-          go true k = at_void k void
-          go false k = aims_solid types (type_in types f p) k
-      no_element which.First h void = at_void h void
-      no_element which.Last h void = at_void h void
-      no_element which.Target h void = aims_solid types (type_in types f p) h
 
   pub seen_cursors_settle : (p l : Location) (end : RangeEnd) → walks types (type_in types f p) (seen_element types (type_in types f l)) ≡ true → keeps_const (is_constant (type_in types f p)) (is_constant (type_in types f l)) ≡ true
       → AreBits true (ready_of st) (l.local ∷ part_uses p) → Settles types f (behind p) (cursor types f p (source.Pointer l) end st)

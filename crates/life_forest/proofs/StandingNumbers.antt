@@ -1,4 +1,4 @@
--- A frame stands behind each instruction on numbers.
+-- What each instruction on numbers gives a register, and that a frame stands behind them.
 use Rattle.std.proofs.Common.{◌≡◌, ℕ, List, [], ◌∷◌, Option, Some, Ok, Err, sym, ap, subst, ◌∙◌}
 use Rattle.std.specs.Prelude.{ℤ, pos, Bool}
 use Rattle.life_types.specs.Trees.{IsOrdered}
@@ -11,7 +11,7 @@ use Rattle.life_core.specs.Operands.{Base, Location, Operand}
 use Rattle.life_core.specs.Operands as source
 use Rattle.life_core.specs.Step.{Port, Writes, WritesView, Takes}
 use Rattle.life_store.specs.Content.{Object, Content, with_object, with_word}
-use Rattle.life_store.specs.Doing.{compared, computed_into, evaluated, input_taken, loaded, loaded_from, number_text, port, same_into, saved, sized, told, with_output}
+use Rattle.life_store.specs.Doing.{as_long, compared, computed_into, evaluated, input_taken, loaded, loaded_from, number_text, port, same_into, saved, sized, told, with_output}
 use Rattle.life_store.specs.Edits.{buffer_of, size_of}
 use Rattle.life_store.specs.Effects.{Setting, Effect, Next, Strays, cell, converted, on_got, on_number, put_cell, type_of, word_of_number}
 use Rattle.life_store.specs.Held.{wrote_if}
@@ -39,35 +39,58 @@ on_place_each Outside go fixed Q here text = tt
 on_place_each (Wrong kind) go fixed Q here text = tt
 on_place_each Astray go fixed Q here text = tt
 
-module _ (types : Types) (ordered : IsOrdered types) (f : Function) (rest : ℕ → ℕ) (st : State) (stands : Stands types f rest st) where
-  abbrev c : Content
-  c = st.world.content
+-- whatever holds where a register is given a number
+module _ (types : Types) (f : Function) (st : State) (Q : State → Type 0) (given : (r : ℕ) (z : ℤ) → Q (put_cell r (Number z) st)) where
+  computed_gives : (r : ℕ) (computed : Computed) → OnNext (computed_into r computed st) Q
+  computed_gives r (Ok z) = given r z
+  computed_gives r (Err kind) = tt
 
-  given : (r : ℕ) (z : ℤ) → Stands types f rest (put_cell r (Number z) st)
-  given r z = number_stands types ordered f rest st stands r z
+  pub evaluated_gives : (r : ℕ) (op : Operation) → OnNext (evaluated types f r op st) Q
+  evaluated_gives r (operation.Number z) = given r z
+  evaluated_gives r (operation.Convert q) = on_number_next (cell st q) (λ z. Next (put_cell r (Number (converted (type_of types f r) z)) st)) Q (λ z. given r _)
+  evaluated_gives r (operation.Negate q) = on_number_next (cell st q) (λ z. computed_into r (negated (type_of types f r) z) st) Q (λ z. computed_gives r (negated (type_of types f r) z))
+  evaluated_gives r (operation.IsZero q) = on_number_next (cell st q) (λ z. computed_into r (truth (is_zero z)) st) Q (λ z. computed_gives r (truth (is_zero z)))
+  evaluated_gives r (operation.Binary operator a b) =
+      on_number_next (cell st a) (λ x. on_number (cell st b) (λ y. computed_into r (combined (type_of types f a) operator x y) st)) Q
+      (λ x. on_number_next (cell st b) (λ y. computed_into r (combined (type_of types f a) operator x y) st) Q (λ y. computed_gives r (combined (type_of types f a) operator x y)))
 
-  computed_stands : (r : ℕ) (computed : Computed) → OnNext (computed_into r computed st) (Stands types f rest)
-  computed_stands r (Ok z) = given r z
-  computed_stands r (Err kind) = tt
-
-  pub evaluated_stands : (r : ℕ) (op : Operation) → OnNext (evaluated types f r op st) (Stands types f rest)
-  evaluated_stands r (operation.Number z) = given r z
-  evaluated_stands r (operation.Convert q) = on_number_next (cell st q) (λ z. Next (put_cell r (Number (converted (type_of types f r) z)) st)) (Stands types f rest) (λ z. given r _)
-  evaluated_stands r (operation.Negate q) = on_number_next (cell st q) (λ z. computed_into r (negated (type_of types f r) z) st) (Stands types f rest) (λ z. computed_stands r (negated (type_of types f r) z))
-  evaluated_stands r (operation.IsZero q) = on_number_next (cell st q) (λ z. computed_into r (truth (is_zero z)) st) (Stands types f rest) (λ z. computed_stands r (truth (is_zero z)))
-  evaluated_stands r (operation.Binary operator a b) =
-      on_number_next (cell st a) (λ x. on_number (cell st b) (λ y. computed_into r (combined (type_of types f a) operator x y) st)) (Stands types f rest)
-      (λ x. on_number_next (cell st b) (λ y. computed_into r (combined (type_of types f a) operator x y) st) (Stands types f rest) (λ y. computed_stands r (combined (type_of types f a) operator x y)))
-
-  pub loaded_stands : (s : Setting) (r : ℕ) (o : Operand) → OnNext (loaded s types f r o st) (Stands types f rest)
-  loaded_stands s r o = over (locate types f o st)
+  pub loaded_gives : (s : Setting) (r : ℕ) (o : Operand) → OnNext (loaded s types f r o st) Q
+  loaded_gives s r o = over (locate types f o st)
     where
-      over : (found : Found) → OnNext (loaded_from s types f r o st found) (Stands types f rest)
+      over : (found : Found) → OnNext (loaded_from s types f r o st found) Q
       over (Here n i object) = given r _
-      over (Fixed t) = on_character_next s.texts t (λ z. Next (put_cell r (Number z) st)) (Stands types f rest) (λ z. given r z)
+      over (Fixed t) = on_character_next s.texts t (λ z. Next (put_cell r (Number z) st)) Q (λ z. given r z)
       over Outside = tt
       over (Wrong kind) = tt
       over Astray = tt
+
+  -- ---- sizes and comparisons
+
+  pub sizes_give : (r : ℕ) (b : Base) → OnNext (sized types f r b st) Q
+  sizes_give r (source.Owner o) =
+      on_place_each (locate types f o st) (λ n i object. on_got (buffer_of st.world.content (record { object = n; index = i; word = operand_word types f o st })) (λ b. Next (put_cell r (Number (pos (size_of st.world.content b))) st))) (λ t. Strays) Q
+      (λ n i object. on_got_each (buffer_of st.world.content (record { object = n; index = i; word = operand_word types f o st })) (λ b. Next (put_cell r (Number (pos (size_of st.world.content b))) st)) Q (λ b. given r _))
+      (λ t. tt)
+  sizes_give r (source.Pointer l) = on_got_each (used st.world.content (location_cell types f l st)) (λ v. Next (put_cell r (Number (pos (seen_count v))) st)) Q (λ v. given r _)
+
+  pub sames_give : (s : Setting) (r : ℕ) (a b : Location) (equal : Bool) → OnNext (same_into s types f r a b equal st) Q
+  sames_give s r a b equal = on_got_each (compared s types f (location_parts types f a) a b st) (λ same. Next (put_cell r (Number (told same equal)) st)) Q (λ same. given r _)
+
+-- .. and where something is written, or an input taken
+module _ (types : Types) (f : Function) (st : State) (Q : State → Type 0) (outputs : (text : List ℕ) → Q (with_output text st)) (takes : (r : ℕ) (z : ℤ) (zs : List ℤ) → Q (put_cell r (Number z) (record st { world = record (st.world) { input = zs } }))) where
+  pub ports_give : (s : Setting) (p : Port) → OnNext (port s types f p st) Q
+  ports_give s (Writes r) = on_number_next (cell st r) (λ z. Next (with_output (number_text (type_of types f r) z) st)) Q (λ z. outputs (number_text (type_of types f r) z))
+  ports_give s (WritesView l) =
+      on_got_each (used st.world.content (location_cell types f l st)) (λ p. Next (with_output (seen_bytes s.texts st.world.content p) st)) Q (λ p. outputs (seen_bytes s.texts st.world.content p))
+  ports_give s (Takes r) = go st.world.input
+    where
+      go : (input : List ℤ) → OnNext (input_taken r input st) Q
+      go [] = tt
+      go (z ∷ zs) = takes r (as_long z) zs
+
+module _ (types : Types) (ordered : IsOrdered types) (f : Function) (rest : ℕ → ℕ) (st : State) (stands : Stands types f rest st) where
+  abbrev c : Content
+  c = st.world.content
 
   -- a number is written to a place of its type
   pub saves_stand : (o : Operand) (r : ℕ) (part : TyId) → operand_type types f o ≡ Some part → OperandAims types f st o → parts_at types part ≡ Single
@@ -91,29 +114,7 @@ module _ (types : Types) (ordered : IsOrdered types) (f : Function) (rest : ℕ 
       over z (Wrong kind) place = tt
       over z Astray place = tt
 
-  -- ---- sizes and comparisons
-
-  pub sizes_stand : (r : ℕ) (b : Base) → OnNext (sized types f r b st) (Stands types f rest)
-  sizes_stand r (source.Owner o) =
-      on_place_each (locate types f o st) (λ n i object. on_got (buffer_of c (record { object = n; index = i; word = operand_word types f o st })) (λ b. Next (put_cell r (Number (pos (size_of c b))) st))) (λ t. Strays) (Stands types f rest)
-      (λ n i object. on_got_each (buffer_of c (record { object = n; index = i; word = operand_word types f o st })) (λ b. Next (put_cell r (Number (pos (size_of c b))) st)) (Stands types f rest) (λ b. given r _))
-      (λ t. tt)
-  sizes_stand r (source.Pointer l) = on_got_each (used c (location_cell types f l st)) (λ v. Next (put_cell r (Number (pos (seen_count v))) st)) (Stands types f rest) (λ v. given r _)
-
-  pub sames_stand : (s : Setting) (r : ℕ) (a b : Location) (equal : Bool) → OnNext (same_into s types f r a b equal st) (Stands types f rest)
-  sames_stand s r a b equal = on_got_each (compared s types f (location_parts types f a) a b st) (λ same. Next (put_cell r (Number (told same equal)) st)) (Stands types f rest) (λ same. given r _)
-
-  -- ---- what goes out and comes in
-
-  outputs_stand : (text : List ℕ) → Stands types f rest (with_output text st)
-  outputs_stand text = record { store = stands.store; frame = stands.frame }
-
   pub ports_stand : (s : Setting) (p : Port) → OnNext (port s types f p st) (Stands types f rest)
-  ports_stand s (Writes r) = on_number_next (cell st r) (λ z. Next (with_output (number_text (type_of types f r) z) st)) (Stands types f rest) (λ z. outputs_stand (number_text (type_of types f r) z))
-  ports_stand s (WritesView l) =
-      on_got_each (used c (location_cell types f l st)) (λ p. Next (with_output (seen_bytes s.texts c p) st)) (Stands types f rest) (λ p. outputs_stand (seen_bytes s.texts c p))
-  ports_stand s (Takes r) = go st.world.input
-    where
-      go : (input : List ℤ) → OnNext (input_taken r input st) (Stands types f rest)
-      go [] = tt
-      go (z ∷ zs) = number_stands types ordered f rest (record st { world = record (st.world) { input = zs } }) (record { store = stands.store; frame = stands.frame }) r _
+  ports_stand s p =
+      ports_give types f st (Stands types f rest) (λ text. record { store = stands.store; frame = stands.frame })
+      (λ r z zs. number_stands types ordered f rest (record st { world = record (st.world) { input = zs } }) (record { store = stands.store; frame = stands.frame }) r z) s p

@@ -19,26 +19,27 @@ use Rattle.life_store.specs.Births.{born_owner, live_as, live_local, live_of, li
 use Rattle.life_store.specs.Content.{Object}
 use Rattle.life_store.specs.Doing.{changed, does, edits, erases, on_given, pushes}
 use Rattle.life_store.specs.Edits.{Push, Put, Add, Reserve as Room, buffer_of}
-use Rattle.life_store.specs.Effects.{Setting, Effect, Next, Strays, cell, on_next, put_cell, word_of_number}
-use Rattle.life_store.specs.Iterators.{iterator}
+use Rattle.life_store.specs.Effects.{Setting, Attempt, Got, GotTrap, GotFault, GotLost, Effect, Next, Strays, cell, on_next, put_cell, word_of_number}
+use Rattle.life_store.specs.Iterators.{at_index, iterator}
 use Rattle.life_store.specs.Owners.{born_pointer, consumed, empty_view}
 use Rattle.life_store.specs.Parts.{Parts, Single, Raw, Iterates, Views, Text, Vector, Unique, Member, NoMember, local_type, location_type, operand_parts, operand_type, parts_at, parts_if, width_at}
-use Rattle.life_store.specs.Places.{Spot, location_cell}
-use Rattle.life_store.specs.State.{Wild, Cell, Empty, Named, Number, Points, State}
-use Rattle.life_store.specs.Views.{seen_words, used}
+use Rattle.life_store.specs.Places.{Spot, location_cell, pointed}
+use Rattle.life_store.specs.State.{Pointer, Wild, Cell, Empty, Named, Number, Points, State}
+use Rattle.life_store.specs.Views.{part_of, seen_words, used}
 use Rattle.life_forest.specs.FrameTypes.{PointsWell, Stands, seen_type}
 use Rattle.life_forest.specs.Frames.{OnNext}
+use Rattle.life_forest.proofs.Coming.{IfGot}
+use Rattle.life_forest.proofs.GivenPointers.{advances_give, cuts_give, empties_give, gets_give, nulls_give, owned_cursors_give, owned_elements_give, places_give, repoints_give, seen_cursors_give, seen_elements_give, texts_give, wholes_give}
 use Rattle.life_forest.proofs.Operands.{AimsFrom, IsPlace, OperandAims, on_spot_next}
 use Rattle.life_forest.proofs.OwnedAims.{OwnsType}
 use Rattle.life_forest.proofs.Retargets.{Retargets}
-use Rattle.life_forest.proofs.StandingAims.{advances_stand, cuts_stand, empties_stand, gets_stand, nulls_stand, owned_cursors_stand, owned_elements_stand, places_stand, repoints_stand, seen_cursors_stand, seen_elements_stand, texts_stand, wholes_stand}
 use Rattle.life_forest.proofs.StandingChanges.{on_got_each, on_number_next, text_changes}
 use Rattle.life_forest.proofs.StandingCopies.{copies_stand}
 use Rattle.life_forest.proofs.StandingErase.{erases_stand}
 use Rattle.life_forest.proofs.StandingLives.{ends_stand, owner_stands, value_stands}
-use Rattle.life_forest.proofs.StandingNumbers.{evaluated_stands, loaded_stands, ports_stand, sames_stand, saves_stand, sizes_stand}
+use Rattle.life_forest.proofs.StandingNumbers.{evaluated_gives, loaded_gives, ports_stand, sames_give, saves_stand, sizes_give}
 use Rattle.life_forest.proofs.StandingOwners.{makes_stand, moves_stand}
-use Rattle.life_forest.proofs.StandingPointers.{IsPointer, pointer_stands}
+use Rattle.life_forest.proofs.StandingPointers.{IsPointer, number_stands, pointed_stands, pointer_stands}
 use Rattle.life_forest.proofs.StandingVectors.{clear_stands, pop_stands, push_number_stands, push_object_stands, reserve_stands}
 
 -- ---- what is asked of an instruction
@@ -148,13 +149,32 @@ module _ (types : Types) (ordered : IsOrdered types) (f : Function) (rest : ℕ 
 
   -- ---- pointers
 
+  -- nothing else is asked of a pointer that is given
+  abbrev AnyPointer : Pointer → Type 0
+  AnyPointer v = Unit {0}
+
+  stood : (p : Location) (part : TyId) → TakesPointer types f st p part → (v : Pointer) → PointsWell types st.world.content (seen_type types (Some part)) v → AnyPointer v → OnNext (pointed types f p v st) (Stands types f rest)
+  stood p part into v well any = pointed_stands types ordered f rest st stands p part v into.0 into.1 well
+
+  got_any : {A : Type 0} (x : Attempt A) (P : A → Type 0) → ((a : A) → P a) → IfGot x P
+  got_any (Got a) P each = each a
+  got_any (GotTrap kind) P each = tt
+  got_any (GotFault kind) P each = tt
+  got_any GotLost P each = tt
+
+  any_iterator : (q : Location) → IfGot (iterator st.world.content (location_cell types f q st)) (λ v. (i : ℕ) → AnyPointer (at_index st.world.content.clock i v))
+  any_iterator q = got_any (iterator st.world.content (location_cell types f q st)) (λ v. (i : ℕ) → AnyPointer (at_index st.world.content.clock i v)) (λ v i. tt)
+
+  any_used : (q : Location) → IfGot (used st.world.content (location_cell types f q st)) (λ v. (i : ℕ) → AnyPointer (at_index st.world.content.clock i v))
+  any_used q = got_any (used st.world.content (location_cell types f q st)) (λ v. (i : ℕ) → AnyPointer (at_index st.world.content.clock i v)) (λ v i. tt)
+
   source_stands : (p : Location) (part : TyId) → TakesPointer types f st p part → (sr : Source) → IsTypedSource types f st part sr → OnNext (does s types f (Aim p sr) st) (Stands types f rest)
-  source_stands p part into source.Null typed = nulls_stand types ordered f rest st stands p part into.0 into.1 s
-  source_stands p part into (source.Text n) typed = texts_stand types ordered f rest st stands p part into.0 into.1 s n typed
-  source_stands p part into source.Empty typed = empties_stand types ordered f rest st stands p part into.0 into.1 s
-  source_stands p part into (source.Place o) typed = places_stand types ordered f rest st stands p part into.0 into.1 s o typed.0 typed.1.0 typed.1.1 typed.2
-  source_stands p part into (source.Whole o) typed = wholes_stand types ordered f rest st stands p part into.0 into.1 typed.0 typed.2.0 typed.2.1 typed.2.2 s o typed.1.0 typed.1.1
-  source_stands p part into (source.Get l) typed = gets_stand types ordered f rest st stands p part into.0 into.1 typed.0 typed.2.0 typed.2.1 typed.2.2 s l typed.1
+  source_stands p part into source.Null typed = nulls_give types ordered f rest st stands p part AnyPointer (Stands types f rest) (stood p part into) (λ t. tt) s tt
+  source_stands p part into (source.Text n) typed = texts_give types ordered f rest st stands p part AnyPointer (Stands types f rest) (stood p part into) (λ t. tt) s n tt typed
+  source_stands p part into source.Empty typed = empties_give types ordered f rest st stands p part AnyPointer (Stands types f rest) (stood p part into) (λ t. tt) s tt
+  source_stands p part into (source.Place o) typed = places_give types ordered f rest st stands p part AnyPointer (Stands types f rest) (stood p part into) (λ t. tt) s o typed.0 typed.1.0 typed.1.1 typed.2 (λ t e. tt)
+  source_stands p part into (source.Whole o) typed = wholes_give types ordered f rest st stands p part AnyPointer (Stands types f rest) (stood p part into) (λ t. tt) typed.0 typed.2.0 typed.2.1 typed.2.2 s o typed.1.0 typed.1.1
+  source_stands p part into (source.Get l) typed = gets_give types ordered f rest st stands p part AnyPointer (Stands types f rest) (stood p part into) (λ t. tt) typed.0 typed.2.0 typed.2.1 typed.2.2 s l tt typed.1
 
   -- ---- changes
 
@@ -248,23 +268,23 @@ module _ (types : Types) (ordered : IsOrdered types) (f : Function) (rest : ℕ 
   pub step_stands : (i : Step) → IsTypedStep types f st i → OnNext (does s types f i st) (Stands types f rest)
   step_stands (Live x form) typed = live_stands x form typed
   step_stands (End xs) typed = ends_stand types ordered f rest xs st stands
-  step_stands (Eval r operation) typed = evaluated_stands types ordered f rest st stands r operation
-  step_stands (Load r o) typed = loaded_stands types ordered f rest st stands s r o
+  step_stands (Eval r operation) typed = evaluated_gives types f st (Stands types f rest) (number_stands types ordered f rest st stands) r operation
+  step_stands (Load r o) typed = loaded_gives types f st (Stands types f rest) (number_stands types ordered f rest st stands) s r o
   step_stands (Save o r) typed = saves_stand types ordered f rest st stands o r typed.0 typed.1.0 typed.1.1 typed.2
   step_stands (Copy to from) typed = copies_stand types ordered f rest st stands s to from typed.0 typed.1 typed.2.0 typed.3.0 typed.4 typed.2.1 typed.3.1
   step_stands (Move to y) typed = moves_stand types ordered f rest st stands to y typed.0 typed.1.0 typed.1.1 typed.2 typed.3
   step_stands (Aim p sr) typed = source_stands p typed.0 typed.1 sr typed.2
-  step_stands (Repoint p q) typed = repoints_stand types ordered f rest st stands p typed.0 typed.1.0 typed.1.1 q typed.2.0 typed.2.1
+  step_stands (Repoint p q) typed = repoints_give types ordered f rest st stands p typed.0 AnyPointer (Stands types f rest) (stood p typed.0 typed.1) (λ t. tt) q typed.2.0 typed.2.1 (λ v e. tt)
   step_stands (Element p (source.Owner o) w) typed =
-      let t = typed.2 in owned_elements_stand types ordered f rest st stands p typed.0 typed.1.0 typed.1.1 t.0 t.2.0 t.2.1 t.2.2 o w t.1.0 t.1.1
-  step_stands (Element p (source.Pointer l) w) typed = seen_elements_stand types ordered f rest st stands p typed.0 typed.1.0 typed.1.1 l w typed.2.0 typed.2.1
+      let t = typed.2 in owned_elements_give types ordered f rest st stands p typed.0 AnyPointer (Stands types f rest) (stood p typed.0 typed.1) (λ t. tt) t.0 t.2.0 t.2.1 t.2.2 o w t.1.0 t.1.1
+  step_stands (Element p (source.Pointer l) w) typed = seen_elements_give types ordered f rest st stands p typed.0 AnyPointer (Stands types f rest) (stood p typed.0 typed.1) (λ t. tt) l w typed.2.0 typed.2.1 (any_used l)
   step_stands (Cursor p (source.Owner o) end) typed =
-      let t = typed.2 in owned_cursors_stand types ordered f rest st stands p typed.0 typed.1.0 typed.1.1 t.0 t.2.0 t.2.1 t.2.2 o end t.1.0 t.1.1
-  step_stands (Cursor p (source.Pointer l) end) typed = seen_cursors_stand types ordered f rest st stands p typed.0 typed.1.0 typed.1.1 l end typed.2.0 typed.2.1
-  step_stands (Advance p q r way) typed = advances_stand types ordered f rest st stands p typed.0 typed.1.0 typed.1.1 s q r way typed.2.0 typed.2.1
-  step_stands (Cut p q r count) typed = cuts_stand types ordered f rest st stands p typed.0 typed.1.0 typed.1.1 q r count typed.2.0 typed.2.1
-  step_stands (Size r base) typed = sizes_stand types ordered f rest st stands r base
-  step_stands (Same r a b equal) typed = sames_stand types ordered f rest st stands s r a b equal
+      let t = typed.2 in owned_cursors_give types ordered f rest st stands p typed.0 AnyPointer (Stands types f rest) (stood p typed.0 typed.1) (λ t. tt) t.0 t.2.0 t.2.1 t.2.2 o end t.1.0 t.1.1
+  step_stands (Cursor p (source.Pointer l) end) typed = seen_cursors_give types ordered f rest st stands p typed.0 AnyPointer (Stands types f rest) (stood p typed.0 typed.1) (λ t. tt) l end typed.2.0 typed.2.1 (any_used l)
+  step_stands (Advance p q r way) typed = advances_give types ordered f rest st stands p typed.0 AnyPointer (Stands types f rest) (stood p typed.0 typed.1) (λ t. tt) s q r way typed.2.0 typed.2.1 (any_iterator q)
+  step_stands (Cut p q r count) typed = cuts_give types ordered f rest st stands p typed.0 AnyPointer (Stands types f rest) (stood p typed.0 typed.1) (λ t. tt) q r count typed.2.0 typed.2.1 (got_any (used st.world.content (location_cell types f q st)) (λ v. (i k : ℕ) → AnyPointer (part_of st.world.content.clock i k v)) (λ v i k. tt))
+  step_stands (Size r base) typed = sizes_give types f st (Stands types f rest) (number_stands types ordered f rest st stands) r base
+  step_stands (Same r a b equal) typed = sames_give types f st (Stands types f rest) (number_stands types ordered f rest st stands) s r a b equal
   step_stands (Changes o change) typed =
       on_spot_next types ordered f st stands.frame o typed.0 (λ spot. changed s types f (operand_parts types f o) spot change st) (Stands types f rest) typed.1.0 typed.1.1
       (λ n i w object place. subst (λ (id : Option TyId). OnNext (changed s types f (parts_if types id) (record { object = n; index = i; word = w }) change st) (Stands types f rest)) (sym typed.1.0) (typed_change typed.0 n i w object place change typed.2))

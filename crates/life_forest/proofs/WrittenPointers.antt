@@ -10,7 +10,7 @@ use Rattle.life_store.specs.Kinds.{Kind, Plain, Owner, Pointing, kind_in}
 use Rattle.life_store.specs.Parts.{parts_at}
 use Rattle.life_forest.specs.Begins.{begins_at}
 use Rattle.life_forest.proofs.Coming.{below_or}
-use Rattle.life_forest.proofs.KeptPointers.{IsBegun, begun_at}
+use Rattle.life_forest.proofs.BegunPointers.{IsBegun, begun_at}
 use Rattle.life_forest.proofs.MemberPointers.{first_puts, sets}
 use Rattle.life_forest.proofs.Puts.{put_in, puts_in}
 
