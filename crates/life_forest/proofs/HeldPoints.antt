@@ -12,6 +12,7 @@ use Rattle.life_core.specs.Tree.{Node, Action, Question}
 use Rattle.life_proper.specs.WellFormed.{is_well_formed_node}
 use Rattle.life_proper.specs.WellFormedPrograms.{is_well_formed_function}
 use Rattle.life_proper.proofs.SortedNodes.{formed_parts}
+use Rattle.life_store.specs.Content.{Content}
 use Rattle.life_store.specs.Doing.{does}
 use Rattle.life_store.specs.Effects.{Setting, Effect, Next, Traps, Faults, Strays}
 use Rattle.life_store.specs.Meaning.{test_at}
@@ -22,6 +23,7 @@ use Rattle.life_forest.specs.HeldPointers.{HoldWell}
 use Rattle.life_forest.specs.Settled.{IsPoised}
 use Rattle.life_forest.specs.Sorted.{AreSorted}
 use Rattle.life_forest.proofs.HeldPointers.{pointers_aim, pointers_fit}
+use Rattle.life_forest.proofs.Holding.{Holds, KeepsWaiting}
 use Rattle.life_forest.proofs.HoldingSteps.{step_holds}
 use Rattle.life_forest.proofs.SettledPoints.{Goes, kinds_fit, locals_stand, point_goes}
 use Rattle.life_forest.proofs.SettledSteps.{IsOneFrame}
@@ -37,18 +39,23 @@ pub record IsSound (types : Types) (f : Function) (rest : ℕ → ℕ) (st : Sta
   pub sorted : AreSorted types f st.cells
   pub held : HoldWell types f st
 
--- .. in the next state, with these locals
-abbrev pub GoesOn : Types → Function → (ℕ → ℕ) → Ready → Effect → Type 0
-GoesOn types f rest bits (Next st) = IsSound types f rest st × (ready_of st ≡ bits)
-GoesOn types f rest bits (Traps kind) = Unit {0}
-GoesOn types f rest bits (Faults kind) = Unit {0}
-GoesOn types f rest bits Strays = ⊥
+-- .. in the next state, with these locals; and what waits keeps its pointers
+pub record IsNext (types : Types) (f : Function) (rest : ℕ → ℕ) (c : Content) (locals : Ready) (st : State) : Type 0 where
+  pub sound : IsSound types f rest st
+  pub bits : ready_of st ≡ locals
+  pub waits : KeepsWaiting types rest c st.world.content
 
-goes_on : (types : Types) (f : Function) (rest : ℕ → ℕ) (bits : Ready) (e : Effect) → Goes types f rest bits e → OnNext e (HoldWell types f) → GoesOn types f rest bits e
-goes_on types f rest bits (Next st) goes held = (record { stands = goes.0; sorted = goes.2; held = held }, goes.1)
-goes_on types f rest bits (Traps kind) goes held = tt
-goes_on types f rest bits (Faults kind) goes held = tt
-goes_on types f rest bits Strays goes held = goes
+abbrev pub GoesOn : Types → Function → (ℕ → ℕ) → Content → Ready → Effect → Type 0
+GoesOn types f rest c bits (Next st) = IsNext types f rest c bits st
+GoesOn types f rest c bits (Traps kind) = Unit {0}
+GoesOn types f rest c bits (Faults kind) = Unit {0}
+GoesOn types f rest c bits Strays = ⊥
+
+goes_on : (types : Types) (f : Function) (rest : ℕ → ℕ) (before : State) (bits : Ready) (e : Effect) → Goes types f rest bits e → OnNext e (Holds types f rest before) → GoesOn types f rest before.world.content bits e
+goes_on types f rest before bits (Next st) goes held = record { sound = record { stands = goes.0; sorted = goes.2; held = held.well }; bits = goes.1; waits = held.waits }
+goes_on types f rest before bits (Traps kind) goes held = tt
+goes_on types f rest before bits (Faults kind) goes held = tt
+goes_on types f rest before bits Strays goes held = goes
 
 module _ (types : Types) (ordered : IsOrdered types) (once : HasEachOnce types) (some : HaveMembers types) (names texts : ℕ) (fs : List Function) (f : Function) (formed : is_well_formed_function types names texts fs f ≡ true) (points : ArePointsFormed types texts fs f)
     (ready : HasReadyWays types f) where
@@ -64,12 +71,12 @@ module _ (types : Types) (ordered : IsOrdered types) (once : HasEachOnce types) 
   }
 
   pub held_goes : (rest : ℕ → ℕ) (s : Setting) (p : ℕ) (st : State) (l : Linked) (i : Step) → Reaches types f p (ready_of st) → numbered (code_of f) p ≡ Some l → l.spot.node ≡ Action i → IsOneFrame i → IsSound types f rest st
-      → GoesOn types f rest (bits_past types f (Action i) (ready_of st)) (does s types f i st)
+      → GoesOn types f rest st.world.content (bits_past types f (Action i) (ready_of st)) (does s types f i st)
   held_goes rest s p st l i way here is one sound =
       let at_point = poised rest st sound in
       let aims = pointers_aim types ordered f st sound.held sound.stands.frame in
       let are = subst (IsNodeReady types f (ready_of st)) is (ready.ready p (ready_of st) l way here) in
-      goes_on types f rest (bits_past types f (Action i) (ready_of st)) (does s types f i st)
+      goes_on types f rest st (bits_past types f (Action i) (ready_of st)) (does s types f i st)
       (point_goes types ordered once some names texts fs f formed points ready rest s p st l i way here is one sound.stands sound.sorted aims at_point.pointers)
       (step_holds types ordered once texts fs f shaped (locals_stand types ordered once some names texts fs f formed points ready) rest s st sound.stands at_point aims sound.held i one
       (subst (λ (n : Node). is_well_formed_node types texts fs f n ≡ true) is (points p l here)) (slot_free types ordered once names texts fs f formed points ready p (ready_of st) way i are) are

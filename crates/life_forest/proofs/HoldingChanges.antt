@@ -195,6 +195,11 @@ module _ (types : Types) (ordered : IsOrdered types) (f : Function) (rest : ℕ 
 
   -- ---- a number is saved
 
+  pub saved_keeps : (part : TyId) → parts_at types part ≡ Single → (z : ℤ) (m i w : ℕ) (object : Object) → IsPlace types st.world.content part m i w object → KeepsHeld types f st (saved z m i w object st)
+  saved_keeps part single z m i w object place =
+      subst (λ d. KeepsHeld types f st (put_content d st)) (ap (λ (x : Option Object). wrote_if x m i w (word_of_number z ∷ []) c) place.there)
+      (held_content types f st _ (keeps_wrote types ordered Loose c m i w (word_of_number z ∷ []) c (place_writes part m i w object place (ap width single) 1 (omega arith)) same_content))
+
   pub saves_keep : (o : Operand) (r : ℕ) (part : TyId) → operand_type types f o ≡ Some part → OperandAims types f st o → parts_at types part ≡ Single
       → OnNext (on_number (cell st r) (λ z. on_found (locate types f o st) (λ n i object. Next (saved z n i (operand_word types f o st) object st)))) (KeepsHeld types f st)
   saves_keep o r part typed aims single =
@@ -202,9 +207,7 @@ module _ (types : Types) (ordered : IsOrdered types) (f : Function) (rest : ℕ 
       (λ z. over z (locate types f o st) (operand_well types ordered f st stands.frame o part typed aims))
     where
       over : (z : ℤ) (found : Found) → FoundWell types st.world.content part (operand_word types f o st) found → OnNext (on_found found (λ n i object. Next (saved z n i (operand_word types f o st) object st))) (KeepsHeld types f st)
-      over z (Here n i object) place =
-          subst (λ d. KeepsHeld types f st (put_content d st)) (ap (λ (x : Option Object). wrote_if x n i (operand_word types f o st) (word_of_number z ∷ []) c) place.there)
-          (held_content types f st _ (keeps_wrote types ordered Loose c n i (operand_word types f o st) (word_of_number z ∷ []) c (place_writes part n i (operand_word types f o st) object place (ap width single) 1 (omega arith)) same_content))
+      over z (Here n i object) place = saved_keeps part single z n i (operand_word types f o st) object place
       over z (Fixed t) place = tt
       over z Outside place = tt
       over z (Wrong kind) place = tt

@@ -30,7 +30,7 @@ use Rattle.life_forest.proofs.FittingBirths.{got_both}
 use Rattle.life_forest.proofs.Following.{IsOwned}
 use Rattle.life_forest.proofs.Frames.{on_got_next}
 use Rattle.life_forest.proofs.FreshPointers.{front_words}
-use Rattle.life_forest.proofs.Holding.{KeepsHeld, KeepsOn, held_content, next_holds}
+use Rattle.life_forest.proofs.Holding.{Holds, KeepsHeld, KeepsOn, held_content}
 use Rattle.life_forest.proofs.HoldingChanges.{place_words}
 use Rattle.life_forest.proofs.HoldingWrites.{ValueWell, first_word, written_holds}
 use Rattle.life_forest.proofs.Keeping.{copied_keeps, ended_keeps, keeps_self}
@@ -219,10 +219,10 @@ module _ (types : Types) (ordered : IsOrdered types) (f : Function) (rest : ℕ 
 
     copied_holds : (x n : ℕ) → cell st x ≡ Some (Named n) → (id part : TyId) → local_type types f x ≡ Some id → (ms : List ℕ) → type_within types (Some id) ms ≡ Some part → (ws : List ℕ) → length ws ≡ width_at types part → ValueWell types st.world.content part ws
         → OnNext (copied_to s (parts_at types part) (record { object = n; index = 0; word = word_within types (Some id) ms }) ws st) (Stands types f rest)
-        → OnNext (copied_to s (parts_at types part) (record { object = n; index = 0; word = word_within types (Some id) ms }) ws st) (HoldWell types f)
+        → OnNext (copied_to s (parts_at types part) (record { object = n; index = 0; word = word_within types (Some id) ms }) ws st) (Holds types f rest st)
     copied_holds x n named id part typed ms path ws wide well after =
         on_got_after (copied s (parts_at types part) ws c) (λ v. Next (put_content (replaced (parts_at types part) (record { object = n; index = 0; word = word_within types (Some id) ms }) v) st)) (λ v. KeepsOn types f st v.1 × IsCopyOf (parts_at types part) ws v)
-        (Stands types f rest) (HoldWell types f)
+        (Stands types f rest) (Holds types f rest st)
         (got_both (copied s (parts_at types part) ws c) (λ v. KeepsOn types f st v.1) (IsCopyOf (parts_at types part) ws)
         (copied_keeps types ordered Loose c s (parts_at types part) ws c (keeps_self types Loose c)) (copied_words s (parts_at types part) ws c wide))
         after
@@ -257,10 +257,10 @@ module _ (types : Types) (ordered : IsOrdered types) (f : Function) (rest : ℕ 
     no_type [] part e = none_some e
     no_type (m ∷ ms) part e = none_some e
 
-    pub named_copies : (to from : Location) (part : TyId) → location_type types f to ≡ Some part → location_type types f from ≡ Some part → OnNext (copies s types f (Name to) (Name from) st) (Stands types f rest) → OnNext (copies s types f (Name to) (Name from) st) (HoldWell types f)
+    pub named_copies : (to from : Location) (part : TyId) → location_type types f to ≡ Some part → location_type types f from ≡ Some part → OnNext (copies s types f (Name to) (Name from) st) (Stands types f rest) → OnNext (copies s types f (Name to) (Name from) st) (Holds types f rest st)
     named_copies to from part typed typed_from after =
-        on_named to (λ n i object. on_place (named_by c (cell st from.local)) (reads n i) (fixed n i)) (λ t. Strays) (Stands types f rest) (HoldWell types f) after
-        (λ n o named h. on_named from (reads n 0) (fixed n 0) (Stands types f rest) (HoldWell types f) h
+        on_named to (λ n i object. on_place (named_by c (cell st from.local)) (reads n i) (fixed n i)) (λ t. Strays) (Stands types f rest) (Holds types f rest st) after
+        (λ n o named h. on_named from (reads n 0) (fixed n 0) (Stands types f rest) (Holds types f rest st) h
         (λ m q named_from k. of n m (local_type types f to.local) (local_type types f from.local) refl refl named named_from typed typed_from k))
       where
         reads : ℕ → ℕ → ℕ → ℕ → Object → Effect
@@ -271,11 +271,11 @@ module _ (types : Types) (ordered : IsOrdered types) (f : Function) (rest : ℕ 
 
         of : (n m : ℕ) (a b : Option TyId) → local_type types f to.local ≡ a → local_type types f from.local ≡ b → cell st to.local ≡ Some (Named n) → cell st from.local ≡ Some (Named m) → type_within types a to.members ≡ Some part → type_within types b from.members ≡ Some part
             → OnNext (copied_to s (parts_if types (type_within types a to.members)) (record { object = n; index = 0; word = word_within types a to.members }) (words_at st.world.content m 0 (word_within types b from.members) (width (parts_if types (type_within types a to.members)))) st) (Stands types f rest)
-            → OnNext (copied_to s (parts_if types (type_within types a to.members)) (record { object = n; index = 0; word = word_within types a to.members }) (words_at st.world.content m 0 (word_within types b from.members) (width (parts_if types (type_within types a to.members)))) st) (HoldWell types f)
+            → OnNext (copied_to s (parts_if types (type_within types a to.members)) (record { object = n; index = 0; word = word_within types a to.members }) (words_at st.world.content m 0 (word_within types b from.members) (width (parts_if types (type_within types a to.members)))) st) (Holds types f rest st)
         of n m None b is is_from named named_from path path_from k = absurd (no_type to.members part path)
         of n m (Some id) None is is_from named named_from path path_from k = absurd (no_type from.members part path_from)
         of n m (Some id) (Some source) is is_from named named_from path path_from k =
-            subst (λ (y : Option TyId). OnNext (copied_to s (parts_if types y) (record { object = n; index = 0; word = word_within types (Some id) to.members }) (words_at c m 0 (word_within types (Some source) from.members) (width (parts_if types y))) st) (HoldWell types f)) (sym path)
+            subst (λ (y : Option TyId). OnNext (copied_to s (parts_if types y) (record { object = n; index = 0; word = word_within types (Some id) to.members }) (words_at c m 0 (word_within types (Some source) from.members) (width (parts_if types y))) st) (Holds types f rest st)) (sym path)
             (copied_holds to.local n named id part is to.members path (words_at c m 0 (word_within types (Some source) from.members) (width_at types part)) (wide_from m source named_from is_from path_from) (value_held from.local m source part from.members named_from is_from path_from)
             (subst (λ (y : Option TyId). OnNext (copied_to s (parts_if types y) (record { object = n; index = 0; word = word_within types (Some id) to.members }) (words_at c m 0 (word_within types (Some source) from.members) (width (parts_if types y))) st) (Stands types f rest)) path k))
           where

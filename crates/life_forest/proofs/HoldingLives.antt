@@ -34,7 +34,7 @@ use Rattle.life_forest.proofs.FittingBirths.{got_both}
 use Rattle.life_forest.proofs.Following.{IsOwned}
 use Rattle.life_forest.proofs.Frames.{on_got_next}
 use Rattle.life_forest.proofs.FreshPointers.{FreshWords, IsNew, NoReference, fresh_pointers}
-use Rattle.life_forest.proofs.Holding.{KeepsHeld, KeepsOn, held_cell, held_content, held_holds, held_self, named_holds, next_holds}
+use Rattle.life_forest.proofs.Holding.{Holds, KeepsHeld, KeepsOn, held_cell, held_content, held_holds, held_self, keeps_waiting, named_holds, next_holds, on_next_holds}
 use Rattle.life_forest.proofs.HoldingWrites.{first_wide, first_written}
 use Rattle.life_forest.proofs.Keeping.{BornKeeps, ended_keeps, fresh_keeps, keeps_birth, keeps_resized, keeps_self, keeps_without, object_keeps}
 use Rattle.life_forest.proofs.BegunPointers.{begun_at}
@@ -92,30 +92,33 @@ module _ (types : Types) (ordered : IsOrdered types) (f : Function) (rest : ℕ 
   Loose n = IsOwned types st.world.content n
 
   -- a cell names an object that holds well
-  object_lives : (x : ℕ) (ty : TyId) (d : Content) (n : ℕ) → local_type types f x ≡ Some ty → KeepsOn types f st d → HoldsWell types d n ty → HoldWell types f (put_cell x (Named n) (put_content d st))
-  object_lives x ty d n typed keeps well y m id named typed_y =
-      ⊎_elim
-      (λ h. subst (λ (k : ℕ). HoldsWell types d k id) (one n m h.1) (subst (HoldsWell types d n) (some_same (sym typed ∙ ap (local_type types f) h.0 ∙ typed_y)) well))
-      (λ h. named_holds types f rest st stands d keeps y m id h.1 typed_y (held y m id h.1 typed_y))
-      (cell_cases st.cells x y (Named n) (Named m) named)
+  object_lives : (x : ℕ) (ty : TyId) (d : Content) (n : ℕ) → local_type types f x ≡ Some ty → KeepsOn types f st d → HoldsWell types d n ty → Holds types f rest st (put_cell x (Named n) (put_content d st))
+  object_lives x ty d n typed keeps well = record { well = λ y m id named typed_y. names y m id named typed_y; waits = keeps_waiting types f rest st stands d keeps }
     where
       one : (a b : ℕ) → Named a ≡ Named b → a ≡ b
       one a b e = cc
 
-  pub owner_holds : (s : Setting) (x : ℕ) (ty : TyId) (how : Form) → local_type types f x ≡ Some ty → NoReference (tree_at types ty) → may_stand (tree_at types ty) ≡ true → OnNext (born_owner s ty (parts_at types ty) how x st) (HoldWell types f)
+      names : (y m : ℕ) (id : TyId) → cell (put_cell x (Named n) (put_content d st)) y ≡ Some (Named m) → local_type types f y ≡ Some id → HoldsWell types d m id
+      names y m id named typed_y =
+          ⊎_elim
+          (λ h. subst (λ (k : ℕ). HoldsWell types d k id) (one n m h.1) (subst (HoldsWell types d n) (some_same (sym typed ∙ ap (local_type types f) h.0 ∙ typed_y)) well))
+          (λ h. named_holds types f rest st stands d keeps y m id h.1 typed_y (held y m id h.1 typed_y))
+          (cell_cases st.cells x y (Named n) (Named m) named)
+
+  pub owner_holds : (s : Setting) (x : ℕ) (ty : TyId) (how : Form) → local_type types f x ≡ Some ty → NoReference (tree_at types ty) → may_stand (tree_at types ty) ≡ true → OnNext (born_owner s ty (parts_at types ty) how x st) (Holds types f rest st)
   owner_holds s x ty how typed member stand =
-      on_got_next (object_with s ty (parts_at types ty) (fresh s how (parts_at types ty)) c) (λ b. Next (put_cell x (Named b.0) (put_content b.1 st))) (λ b. BornKeeps types ordered Loose c b × HoldsWell types b.1 b.0 ty) (HoldWell types f)
+      on_got_next (object_with s ty (parts_at types ty) (fresh s how (parts_at types ty)) c) (λ b. Next (put_cell x (Named b.0) (put_content b.1 st))) (λ b. BornKeeps types ordered Loose c b × HoldsWell types b.1 b.0 ty) (Holds types f rest st)
       (got_both (object_with s ty (parts_at types ty) (fresh s how (parts_at types ty)) c) (BornKeeps types ordered Loose c) (λ b. HoldsWell types b.1 b.0 ty)
       (object_keeps types ordered Loose c s ty (parts_at types ty) (fresh s how (parts_at types ty)) c (keeps_self types Loose c) (λ e h. fresh_keeps types ordered Loose c s how (parts_at types ty) e h))
       (born_holds types ordered (λ k. times (named_in st.cells) k + rest k) c stands.store s ty how member stand))
       (λ b h. object_lives x ty b.1 b.0 typed h.0.1 h.1)
 
   -- a value has no pointers
-  pub value_holds : (s : Setting) (x : ℕ) (ty : TyId) → local_type types f x ≡ Some ty → width_at types ty ≡ 1 → OnNext (born_object s ty x st) (HoldWell types f)
+  pub value_holds : (s : Setting) (x : ℕ) (ty : TyId) → local_type types f x ≡ Some ty → width_at types ty ≡ 1 → OnNext (born_object s ty x st) (Holds types f rest st)
   value_holds s x ty typed wide = if_room (nat_lt s.given.cells (live_words_of c + (2 + 1 * 1))) (object_lives x ty (with_value_object ty c) c.births typed keeps none)
     where
-      if_room : (b : Bool) → HoldWell types f (put_cell x (Named st.world.content.births) (put_content (with_value_object ty st.world.content) st))
-          → OnNext (cond b (Traps trap.Cells) (Next (put_cell x (Named st.world.content.births) (put_content (with_value_object ty st.world.content) st)))) (HoldWell types f)
+      if_room : (b : Bool) → Holds types f rest st (put_cell x (Named st.world.content.births) (put_content (with_value_object ty st.world.content) st))
+          → OnNext (cond b (Traps trap.Cells) (Next (put_cell x (Named st.world.content.births) (put_content (with_value_object ty st.world.content) st)))) (Holds types f rest st)
       if_room true h = tt
       if_room false h = h
 
@@ -134,7 +137,7 @@ module _ (types : Types) (ordered : IsOrdered types) (f : Function) (rest : ℕ 
 
   -- ---- a local comes to life
 
-  pointer_lives : (x : ℕ) (p : Pointer) → HoldWell types f (put_cell x (Points p) st)
+  pointer_lives : (x : ℕ) (p : Pointer) → Holds types f rest st (put_cell x (Points p) st)
   pointer_lives x p = held_holds types f rest st stands (put_cell x (Points p) st) (held_cell types f st st x (Points p) unlike (held_self types f st)) held
     where
       unlike : (n : ℕ) → Points p ≡ Named n → ⊥
@@ -142,25 +145,25 @@ module _ (types : Types) (ordered : IsOrdered types) (f : Function) (rest : ℕ 
 
   -- .. by its type
   module _ (s : Setting) (x : ℕ) (how : Form) (ty : TyId) (local : local_type types f x ≡ Some ty) (member : NoReference (tree_at types ty)) (stand : may_stand (tree_at types ty) ≡ true) where
-    of_parts : (p : Parts) → parts_at types ty ≡ p → OnNext (live_of s ty p how x st) (HoldWell types f)
+    of_parts : (p : Parts) → parts_at types ty ≡ p → OnNext (live_of s ty p how x st) (Holds types f rest st)
     of_parts Single is = tt
     of_parts Raw is = tt
     of_parts Iterates is = pointer_lives x Wild
     of_parts Views is = pointer_lives x empty_view
-    of_parts (Text id) is = subst (λ (p : Parts). OnNext (born_owner s ty p how x st) (HoldWell types f)) is (owner_holds s x ty how local member stand)
-    of_parts (Vector id element) is = subst (λ (p : Parts). OnNext (born_owner s ty p how x st) (HoldWell types f)) is (owner_holds s x ty how local member stand)
-    of_parts (Unique id target) is = subst (λ (p : Parts). OnNext (born_owner s ty p how x st) (HoldWell types f)) is (owner_holds s x ty how local member stand)
-    of_parts (Member first others) is = subst (λ (p : Parts). OnNext (born_owner s ty p how x st) (HoldWell types f)) is (owner_holds s x ty how local member stand)
+    of_parts (Text id) is = subst (λ (p : Parts). OnNext (born_owner s ty p how x st) (Holds types f rest st)) is (owner_holds s x ty how local member stand)
+    of_parts (Vector id element) is = subst (λ (p : Parts). OnNext (born_owner s ty p how x st) (Holds types f rest st)) is (owner_holds s x ty how local member stand)
+    of_parts (Unique id target) is = subst (λ (p : Parts). OnNext (born_owner s ty p how x st) (Holds types f rest st)) is (owner_holds s x ty how local member stand)
+    of_parts (Member first others) is = subst (λ (p : Parts). OnNext (born_owner s ty p how x st) (Holds types f rest st)) is (owner_holds s x ty how local member stand)
     of_parts NoMember is = tt
 
-    of_sort : (sort : Holding) → (sort ≡ AnObject → width_at types ty ≡ 1) → OnNext (live_as s types sort ty how x st) (HoldWell types f)
+    of_sort : (sort : Holding) → (sort ≡ AnObject → width_at types ty ≡ 1) → OnNext (live_as s types sort ty how x st) (Holds types f rest st)
     of_sort Blank wide = of_parts (parts_at types ty) refl
     of_sort AnObject wide = value_holds s x ty local (wide refl)
     of_sort ANumber wide = tt
     of_sort APointer wide = pointer_lives x (born_pointer how)
     of_sort AView wide = pointer_lives x empty_view
 
-    lives_over : (o : Option Cell) → (sort_of types f x ≡ AnObject → width_at types ty ≡ 1) → OnNext (live_over s types o (sort_of types f x) ty how x st) (HoldWell types f)
+    lives_over : (o : Option Cell) → (sort_of types f x ≡ AnObject → width_at types ty ≡ 1) → OnNext (live_over s types o (sort_of types f x) ty how x st) (Holds types f rest st)
     lives_over None wide = tt
     lives_over (Some Empty) wide = of_sort (sort_of types f x) wide
     lives_over (Some (Named n)) wide = tt
@@ -174,16 +177,16 @@ module _ (types : Types) (ordered : IsOrdered types) (f : Function) (rest : ℕ 
     pub member : NoReference (tree_at types l.ty)
     pub stand : may_stand (tree_at types l.ty) ≡ true
 
-  pub lives_hold : (s : Setting) (x : ℕ) (how : Form) → ((l : Local) → slice_get f.locals x ≡ Some l → IsLiving x l) → OnNext (live_local s types f (slice_get f.locals x) how x st) (HoldWell types f)
+  pub lives_hold : (s : Setting) (x : ℕ) (how : Form) → ((l : Local) → slice_get f.locals x ≡ Some l → IsLiving x l) → OnNext (live_local s types f (slice_get f.locals x) how x st) (Holds types f rest st)
   lives_hold s x how typed = go (slice_get f.locals x) (λ l e. typed l e)
     where
-      go : (o : Option Local) → ((l : Local) → o ≡ Some l → IsLiving x l) → OnNext (live_local s types f o how x st) (HoldWell types f)
+      go : (o : Option Local) → ((l : Local) → o ≡ Some l → IsLiving x l) → OnNext (live_local s types f o how x st) (Holds types f rest st)
       go None h = tt
       go (Some l) h = let t = h l refl in lives_over s x how l.ty t.local t.member t.stand (cell st x) t.value
 
   -- ---- what ends
 
-  end_holds : (x : ℕ) → OnNext (end_cell (local_parts types f x) (cell st x) x st) (HoldWell types f)
+  end_holds : (x : ℕ) → OnNext (end_cell (local_parts types f x) (cell st x) x st) (Holds types f rest st)
   end_holds x = next_holds types f rest st stands (end_cell (local_parts types f x) (cell st x) x st) held (over (cell st x))
     where
       unlike : (n : ℕ) → Empty ≡ Named n → ⊥
@@ -203,13 +206,13 @@ module _ (types : Types) (ordered : IsOrdered types) (f : Function) (rest : ℕ 
       over (Some (Named n)) = object n (at c.objects n)
 
 -- one after the other
-pub ends_hold : (types : Types) (ordered : IsOrdered types) (f : Function) (rest : ℕ → ℕ) (xs : List ℕ) (st : State) → Stands types f rest st → HoldWell types f st → OnNext (end_locals types f xs st) (HoldWell types f)
-ends_hold types ordered f rest [] st stands held = held
+pub ends_hold : (types : Types) (ordered : IsOrdered types) (f : Function) (rest : ℕ → ℕ) (xs : List ℕ) (st : State) → Stands types f rest st → HoldWell types f st → OnNext (end_locals types f xs st) (Holds types f rest st)
+ends_hold types ordered f rest [] st stands held = held_holds types f rest st stands st (held_self types f st) held
 ends_hold types ordered f rest (x ∷ xs) st stands held =
     go (end_cell (local_parts types f x) (cell st x) x st) (end_stands types ordered f rest st stands x) (end_holds types ordered f rest st stands held x) (λ after h k. ends_hold types ordered f rest xs after h k)
   where
-    go : (e : Effect) → OnNext e (Stands types f rest) → OnNext e (HoldWell types f) → ((after : State) → Stands types f rest after → HoldWell types f after → OnNext (end_locals types f xs after) (HoldWell types f)) → OnNext (on_next e (end_locals types f xs)) (HoldWell types f)
-    go (Next after) h k more = more after h k
+    go : (e : Effect) → OnNext e (Stands types f rest) → OnNext e (Holds types f rest st) → ((after : State) → Stands types f rest after → HoldWell types f after → OnNext (end_locals types f xs after) (Holds types f rest after)) → OnNext (on_next e (end_locals types f xs)) (Holds types f rest st)
+    go (Next after) h k more = on_next_holds types f rest st after (end_locals types f xs after) k (more after h k.well)
     go (Traps kind) h k more = tt
     go (Faults kind) h k more = tt
     go Strays h k more = tt

@@ -36,7 +36,7 @@ use Rattle.life_store.specs.Edits.{erased}
 use Rattle.life_store.specs.Effects.{Setting, put_cell, put_content}
 use Rattle.life_store.specs.Iterators.{iterator}
 use Rattle.life_store.specs.Parts.{Parts, Text, Vector, held_type_if, operand_parts, operand_type, parts_at, parts_if, width}
-use Rattle.life_store.specs.Places.{location_cell}
+use Rattle.life_store.specs.Places.{location_cell, pointed}
 use Rattle.life_store.specs.State.{Pointer, To, Number, Named, State, ready_of}
 use Rattle.life_store.specs.Kinds.{Owner, kind_in}
 use Rattle.life_store.proofs.CellLemmas.{some_same}
@@ -47,7 +47,7 @@ use Rattle.life_forest.specs.Settled.{IsPoised, KindsFit}
 use Rattle.life_forest.proofs.CopiedTypes.{LocalsStand}
 use Rattle.life_forest.proofs.Following.{IsOwned}
 use Rattle.life_forest.proofs.FreshPointers.{NoReference}
-use Rattle.life_forest.proofs.Holding.{KeepsHeld, KeepsOn, held_cell, held_content, held_holds, held_self, next_holds}
+use Rattle.life_forest.proofs.Holding.{Holds, KeepsHeld, KeepsOn, held_cell, held_content, held_holds, held_self, next_holds, on_next_holds}
 use Rattle.life_forest.proofs.HoldingAims.{advances_hold, aims_hold, cuts_hold, owned_cursors_hold, owned_elements_hold, repoints_hold, seen_cursors_hold, seen_elements_hold}
 use Rattle.life_forest.proofs.HoldingChanges.{IsNoErase, changed_keeps, makes_keep, moves_keep, saves_keep}
 use Rattle.life_forest.proofs.HoldingCopies.{named_copies, plain_copies}
@@ -71,9 +71,9 @@ use Rattle.life_forest.proofs.TypedSteps.{IsSlotFree, PointersAim, operand_same,
 module _ (types : Types) (ordered : IsOrdered types) (once : HasEachOnce types) (texts : ℕ) (fs : List Function) (f : Function) (shaped : IsShaped types f) (stand : LocalsStand types ordered f) (rest : ℕ → ℕ) (s : Setting) (st : State)
     (stands : Stands types f rest st) (at_point : IsPoised types f st) (aims : PointersAim types f st) (held : HoldWell types f st) where
   abbrev Q : State → Type 0
-  Q = HoldWell types f
+  Q = Holds types f rest st
 
-  number_holds : (r : ℕ) (z : ℤ) → HoldWell types f (put_cell r (Number z) st)
+  number_holds : (r : ℕ) (z : ℤ) → Holds types f rest st (put_cell r (Number z) st)
   number_holds r z = held_holds types f rest st stands (put_cell r (Number z) st) (held_cell types f st st r (Number z) unlike (held_self types f st)) held
     where
       unlike : (n : ℕ) → Number z ≡ Named n → ⊥
@@ -122,7 +122,7 @@ module _ (types : Types) (ordered : IsOrdered types) (once : HasEachOnce types) 
 
   -- ---- copies
 
-  copy_holds : (to from : Operand) → is_well_formed_step types texts fs f (Copy to from) ≡ true → OnNext (does s types f (Copy to from) st) (Stands types f rest) → OnNext (does s types f (Copy to from) st) (HoldWell types f)
+  copy_holds : (to from : Operand) → is_well_formed_step types texts fs f (Copy to from) ≡ true → OnNext (does s types f (Copy to from) st) (Stands types f rest) → OnNext (does s types f (Copy to from) st) (Holds types f rest st)
   copy_holds to from e after =
       let alike = (and_parts (same (type_of types f to) (type_of types f from)) _ e).0 in
       let into = operand_with types ordered once texts fs f shaped st aims at_point.sorted to (type_of types f to) refl (same_solid (type_of types f to) (type_of types f from) alike) in
@@ -133,11 +133,11 @@ module _ (types : Types) (ordered : IsOrdered types) (once : HasEachOnce types) 
       plain : (o : Operand) (part : TyId) → operand_type types f o ≡ Some part → tree.is_plain (tree_if types (shapes.operand_type types f o)) ≡ true → HasNoPointer (parts_at types part)
       plain o part typed h = plain_free types ordered part (subst (λ (id : Option TyId). tree.is_plain (tree_if types id) ≡ true) (operand_same types ordered once texts fs f shaped o ∙ typed) h)
 
-      without : (to from : Operand) (part : TyId) → operand_type types f to ≡ Some part → OperandAims types f st to → operand_type types f from ≡ Some part → OperandAims types f st from → HasNoPointer (parts_at types part) → OnNext (does s types f (Copy to from) st) (HoldWell types f)
+      without : (to from : Operand) (part : TyId) → operand_type types f to ≡ Some part → OperandAims types f st to → operand_type types f from ≡ Some part → OperandAims types f st from → HasNoPointer (parts_at types part) → OnNext (does s types f (Copy to from) st) (Holds types f rest st)
       without to from part typed aims_to typed_from aims_from free =
           next_holds types f rest st stands (does s types f (Copy to from) st) held (plain_copies types ordered f rest st stands s part free to from part typed typed_from refl aims_to aims_from)
 
-      by_operands : (to from : Operand) (part : TyId) → operand_type types f to ≡ Some part → OperandAims types f st to → operand_type types f from ≡ Some part → OperandAims types f st from → OnNext (does s types f (Copy to from) st) (Stands types f rest) → OnNext (does s types f (Copy to from) st) (HoldWell types f)
+      by_operands : (to from : Operand) (part : TyId) → operand_type types f to ≡ Some part → OperandAims types f st to → operand_type types f from ≡ Some part → OperandAims types f st from → OnNext (does s types f (Copy to from) st) (Stands types f rest) → OnNext (does s types f (Copy to from) st) (Holds types f rest st)
       by_operands (Name a) (Name b) part typed aims_to typed_from aims_from later = named_copies types ordered f rest st stands held s a b part typed typed_from later
       by_operands (Through p ms) from part typed aims_to typed_from aims_from later = without (Through p ms) from part typed aims_to typed_from aims_from (plain (Through p ms) part typed (through_plain types ordered f stand p ms))
       by_operands (Name a) (Through p ms) part typed aims_to typed_from aims_from later = without (Name a) (Through p ms) part typed aims_to typed_from aims_from (plain (Through p ms) part typed_from (through_plain types ordered f stand p ms))
@@ -145,60 +145,61 @@ module _ (types : Types) (ordered : IsOrdered types) (once : HasEachOnce types) 
   -- ---- changes
 
   module _ (o : Operand) (part : TyId) (n i w : ℕ) (object : Object) (place : IsPlace types st.world.content part n i w object) where
-    other_change : (p : Parts) → parts_at types part ≡ p → width p ≡ 1 → kind_in p 0 ≡ Owner → (change : Change) → IsNoErase types ordered f rest st stands part n i w object place change → OnNext (changed s types f p (record { object = n; index = i; word = w }) change st) (HoldWell types f)
+    other_change : (p : Parts) → parts_at types part ≡ p → width p ≡ 1 → kind_in p 0 ≡ Owner → (change : Change) → IsNoErase types ordered f rest st stands part n i w object place change → OnNext (changed s types f p (record { object = n; index = i; word = w }) change st) (Holds types f rest st)
     other_change p is one owner change plain =
         next_holds types f rest st stands (changed s types f p (record { object = n; index = i; word = w }) change st) held (changed_keeps types ordered f rest st stands part n i w object place s p is one owner change plain)
 
     -- an element is erased, and a location given the iterator behind it
     erase_holds : (id : TyId) → parts_at types part ≡ Vector id (parts_at types id) → (from into : Location) (to : TyId) → TakesPointer types f st into to → Retargets types (Some id) (seen_type types (Some to))
-        → OnNext (changed s types f (Vector id (parts_at types id)) (record { object = n; index = i; word = w }) (Erase from into) st) (HoldWell types f)
+        → OnNext (changed s types f (Vector id (parts_at types id)) (record { object = n; index = i; word = w }) (Erase from into) st) (Holds types f rest st)
     erase_holds id is from into to takes_it targets =
-        on_got_each (iterator st.world.content (location_cell types f from st)) (λ v. erases types f (Vector id (parts_at types id)) (record { object = n; index = i; word = w }) v into st) (HoldWell types f)
-        (λ v. erases_give types ordered f rest st stands part n i w object place id is v into to targets (HoldWell types f)
-        (λ d kept b own k same_d behind well. pointed_holds types ordered f rest (put_content d st) behind
-        (held_holds types f rest st stands (put_content d st) (held_content types f st d (subst (KeepsOn types f st) (sym same_d) (erased_keeps types ordered (IsOwned types st.world.content) st.world.content b own (parts_at types id) k st.world.content (keeps_self types (IsOwned types st.world.content) st.world.content)))) held)
-        into to (pointer_to d b k 0) takes_it.0 takes_it.1 well (λ t h. tt)))
+        on_got_each (iterator st.world.content (location_cell types f from st)) (λ v. erases types f (Vector id (parts_at types id)) (record { object = n; index = i; word = w }) v into st) (Holds types f rest st)
+        (λ v. erases_give types ordered f rest st stands part n i w object place id is v into to targets (Holds types f rest st)
+        (λ d kept b own k same_d behind well.
+        let mid = held_holds types f rest st stands (put_content d st) (held_content types f st d (subst (KeepsOn types f st) (sym same_d) (erased_keeps types ordered (IsOwned types st.world.content) st.world.content b own (parts_at types id) k st.world.content (keeps_self types (IsOwned types st.world.content) st.world.content)))) held in
+        on_next_holds types f rest st (put_content d st) (pointed types f into (pointer_to d b k 0) (put_content d st)) mid
+        (pointed_holds types ordered f rest (put_content d st) behind mid.well into to (pointer_to d b k 0) takes_it.0 takes_it.1 well (λ t h. tt))))
 
-    changed_holds : (change : Change) → IsTypedChange types f st part change → OnNext (changed s types f (parts_at types part) (record { object = n; index = i; word = w }) change st) (HoldWell types f)
+    changed_holds : (change : Change) → IsTypedChange types f st part change → OnNext (changed s types f (parts_at types part) (record { object = n; index = i; word = w }) change st) (Holds types f rest st)
     changed_holds (PushBack x) typed = by_owner typed
       where
-        by_owner : IsTypedChange types f st part (PushBack x) → OnNext (changed s types f (parts_at types part) (record { object = n; index = i; word = w }) (PushBack x) st) (HoldWell types f)
+        by_owner : IsTypedChange types f st part (PushBack x) → OnNext (changed s types f (parts_at types part) (record { object = n; index = i; word = w }) (PushBack x) st) (Holds types f rest st)
         by_owner (inl t) = other_change (parts_at types part) refl (ap width t.1) (ap (λ (p : Parts). kind_in p 0) t.1) (PushBack x) tt
         by_owner (inr t) = other_change (parts_at types part) refl (ap width t.1) (ap (λ (p : Parts). kind_in p 0) t.1) (PushBack x) tt
     changed_holds PopBack typed = by_owner typed
       where
-        by_owner : IsTypedChange types f st part PopBack → OnNext (changed s types f (parts_at types part) (record { object = n; index = i; word = w }) PopBack st) (HoldWell types f)
+        by_owner : IsTypedChange types f st part PopBack → OnNext (changed s types f (parts_at types part) (record { object = n; index = i; word = w }) PopBack st) (Holds types f rest st)
         by_owner (inl t) = other_change (parts_at types part) refl (ap width t.1) (ap (λ (p : Parts). kind_in p 0) t.1) PopBack tt
         by_owner (inr t) = other_change (parts_at types part) refl (ap width t.1) (ap (λ (p : Parts). kind_in p 0) t.1) PopBack tt
     changed_holds Clear typed = by_owner typed
       where
-        by_owner : IsTypedChange types f st part Clear → OnNext (changed s types f (parts_at types part) (record { object = n; index = i; word = w }) Clear st) (HoldWell types f)
+        by_owner : IsTypedChange types f st part Clear → OnNext (changed s types f (parts_at types part) (record { object = n; index = i; word = w }) Clear st) (Holds types f rest st)
         by_owner (inl t) = other_change (parts_at types part) refl (ap width t.1) (ap (λ (p : Parts). kind_in p 0) t.1) Clear tt
         by_owner (inr t) = other_change (parts_at types part) refl (ap width t.1) (ap (λ (p : Parts). kind_in p 0) t.1) Clear tt
     changed_holds (Reserve r) typed = by_owner typed
       where
-        by_owner : IsTypedChange types f st part (Reserve r) → OnNext (changed s types f (parts_at types part) (record { object = n; index = i; word = w }) (Reserve r) st) (HoldWell types f)
+        by_owner : IsTypedChange types f st part (Reserve r) → OnNext (changed s types f (parts_at types part) (record { object = n; index = i; word = w }) (Reserve r) st) (Holds types f rest st)
         by_owner (inl t) = other_change (parts_at types part) refl (ap width t.1) (ap (λ (p : Parts). kind_in p 0) t.1) (Reserve r) tt
         by_owner (inr t) = other_change (parts_at types part) refl (ap width t.1) (ap (λ (p : Parts). kind_in p 0) t.1) (Reserve r) tt
     changed_holds (Set given) typed = by_owner typed
       where
-        by_owner : IsTypedChange types f st part (Set given) → OnNext (changed s types f (parts_at types part) (record { object = n; index = i; word = w }) (Set given) st) (HoldWell types f)
+        by_owner : IsTypedChange types f st part (Set given) → OnNext (changed s types f (parts_at types part) (record { object = n; index = i; word = w }) (Set given) st) (Holds types f rest st)
         by_owner (inl t) = other_change (parts_at types part) refl (ap width t.1) (ap (λ (p : Parts). kind_in p 0) t.1) (Set given) tt
         by_owner (inr t) = other_change (parts_at types part) refl (ap width t.1) (ap (λ (p : Parts). kind_in p 0) t.1) (Set given) tt
     changed_holds (Append given) typed = by_owner typed
       where
-        by_owner : IsTypedChange types f st part (Append given) → OnNext (changed s types f (parts_at types part) (record { object = n; index = i; word = w }) (Append given) st) (HoldWell types f)
+        by_owner : IsTypedChange types f st part (Append given) → OnNext (changed s types f (parts_at types part) (record { object = n; index = i; word = w }) (Append given) st) (Holds types f rest st)
         by_owner (inl t) = other_change (parts_at types part) refl (ap width t.1) (ap (λ (p : Parts). kind_in p 0) t.1) (Append given) tt
         by_owner (inr t) = other_change (parts_at types part) refl (ap width t.1) (ap (λ (p : Parts). kind_in p 0) t.1) (Append given) tt
     changed_holds (Erase from into) (inl t) =
-        subst (λ (p : Parts). OnNext (changed s types f p (record { object = n; index = i; word = w }) (Erase from into) st) (HoldWell types f)) (sym t.1)
-        (on_got_each (iterator st.world.content (location_cell types f from st)) (λ v. erases types f (Text t.0) (record { object = n; index = i; word = w }) v into st) (HoldWell types f) (λ v. tt))
+        subst (λ (p : Parts). OnNext (changed s types f p (record { object = n; index = i; word = w }) (Erase from into) st) (Holds types f rest st)) (sym t.1)
+        (on_got_each (iterator st.world.content (location_cell types f from st)) (λ v. erases types f (Text t.0) (record { object = n; index = i; word = w }) v into st) (Holds types f rest st) (λ v. tt))
     changed_holds (Erase from into) (inr t) =
-        subst (λ (p : Parts). OnNext (changed s types f p (record { object = n; index = i; word = w }) (Erase from into) st) (HoldWell types f)) (sym t.1) (erase_holds t.0 t.1 from into t.2.0 t.2.1 t.2.2)
+        subst (λ (p : Parts). OnNext (changed s types f p (record { object = n; index = i; word = w }) (Erase from into) st) (Holds types f rest st)) (sym t.1) (erase_holds t.0 t.1 from into t.2.0 t.2.1 t.2.2)
 
   -- ---- each instruction
 
-  pub step_holds : (i : Step) → IsOneFrame i → is_well_formed_step types texts fs f i ≡ true → IsSlotFree types f i → AreReady (ready_of st) (touched_by f i) → IsTypedStep types f st i → OnNext (does s types f i st) (HoldWell types f)
+  pub step_holds : (i : Step) → IsOneFrame i → is_well_formed_step types texts fs f i ≡ true → IsSlotFree types f i → AreReady (ready_of st) (touched_by f i) → IsTypedStep types f st i → OnNext (does s types f i st) (Holds types f rest st)
   step_holds (Live x how) one e free ready typed = lives_hold types ordered f rest st stands held s x how (living x how e free typed)
   step_holds (End xs) one e free ready typed = ends_hold types ordered f rest xs st stands held
   step_holds (Eval r operation) one e free ready typed = evaluated_gives types f st Q number_holds r operation

@@ -26,7 +26,7 @@ use Rattle.life_forest.specs.Values.{AllWide}
 use Rattle.life_forest.proofs.Begins.{begins_itself, path_begins, row_cases}
 use Rattle.life_forest.proofs.Coming.{below_or}
 use Rattle.life_forest.proofs.Following.{IsOwned, pointer_stays}
-use Rattle.life_forest.proofs.Holding.{KeepsOn, gone_holds, held_cell, held_holds, held_self, kept_holds, unowned}
+use Rattle.life_forest.proofs.Holding.{Holds, KeepsOn, gone_holds, held_cell, held_holds, held_self, keeps_waiting, kept_holds, named_free, unowned}
 use Rattle.life_forest.proofs.Keeping.{Keeps, keeps_more, keeps_self, keeps_wrote}
 use Rattle.life_forest.proofs.BegunPointers.{IsBegun, begun_at}
 use Rattle.life_forest.proofs.MemberPointers.{first_puts, five_words, part_back, pointer_read, sets, sets_length}
@@ -184,8 +184,8 @@ module _ (types : Types) (ordered : IsOrdered types) (f : Function) (rest : ℕ 
 
     -- ---- all objects
 
-    pub written_holds : HoldWell types f (put_content (wrote n 0 (word_within types (Some id) ms) vs d) st)
-    written_holds y m other named_y typed_y = one_or_apart n m
+    pub written_well : HoldWell types f (put_content (wrote n 0 (word_within types (Some id) ms) vs d) st)
+    written_well y m other named_y typed_y = one_or_apart n m
         (λ same. subst (λ (k : ℕ). HoldsWell types done k other) same (subst (HoldsWell types done n) (one_type same) (itself (at d.objects n) refl)))
         (λ apart. kept_holds types f rest st stands (λ k. IsOwned types c k ⊎ (n ≡ k)) done
         (keeps_wrote types ordered (λ k. IsOwned types c k ⊎ (n ≡ k)) c n 0 w vs d (inl (inl (inr refl))) (keeps_more types (IsOwned types c) (λ k. IsOwned types c k ⊎ (n ≡ k)) c d (λ k h. inl h) keeps))
@@ -200,6 +200,12 @@ module _ (types : Types) (ordered : IsOrdered types) (f : Function) (rest : ℕ 
         itself : (o : Option Object) → at d.objects n ≡ o → HoldsWell types (wrote n 0 (word_within types (Some id) ms) vs d) n id
         itself None gone = gone_holds types done n id (ap (λ (o : Option Object). at (wrote_if o n 0 w vs d).objects n) gone ∙ gone)
         itself (Some od) there = object_holds od there
+
+    pub written_holds : Holds types f rest st (put_content (wrote n 0 (word_within types (Some id) ms) vs d) st)
+    written_holds = record {
+      well = written_well;
+      waits = keeps_wrote types ordered (λ k. rest k ≡ 0) c n 0 w vs d (inl (inl (named_free types f rest st stands x n named))) (keeps_waiting types f rest st stands d keeps);
+    }
 
   -- ---- a location is given a pointer
 
@@ -220,13 +226,13 @@ module _ (types : Types) (ordered : IsOrdered types) (f : Function) (rest : ℕ 
       back u e = ap (λ k. pointer_in (take 5 (drop k (pointer_words v)))) e ∙ pointer_read v
 
   pub pointed_holds : (l : Location) (part : TyId) (v : Pointer) → location_type types f l ≡ Some part → IsPointer (parts_at types part) → PointsWell types st.world.content (seen_type types (Some part)) v
-      → ((t : Ty) → slice_get types.types part.0 ≡ Some t → PointerFits t v) → OnNext (pointed types f l v st) (HoldWell types f)
+      → ((t : Ty) → slice_get types.types part.0 ≡ Some t → PointerFits t v) → OnNext (pointed types f l v st) (Holds types f rest st)
   pointed_holds l part v typed pointer well fits = go l.members typed (cell st l.local) refl (pointed_stands types ordered f rest st stands l part v typed pointer well)
     where
       unlike : (n : ℕ) → Points v ≡ Named n → ⊥
       unlike n e = cc
 
-      go : (ms : List ℕ) → type_within types (local_type types f l.local) ms ≡ Some part → (o : Option Cell) → cell st l.local ≡ o → OnNext (member_pointed types f l.local ms o v st) (Stands types f rest) → OnNext (member_pointed types f l.local ms o v st) (HoldWell types f)
+      go : (ms : List ℕ) → type_within types (local_type types f l.local) ms ≡ Some part → (o : Option Cell) → cell st l.local ≡ o → OnNext (member_pointed types f l.local ms o v st) (Stands types f rest) → OnNext (member_pointed types f l.local ms o v st) (Holds types f rest st)
       go [] e o there after = held_holds types f rest st stands (put_cell l.local (Points v) st) (held_cell types f st st l.local (Points v) unlike (held_self types f st)) held
       go (m ∷ ms) e None there after = tt
       go (m ∷ ms) e (Some Empty) there after = tt
@@ -235,7 +241,7 @@ module _ (types : Types) (ordered : IsOrdered types) (f : Function) (rest : ℕ 
       go (m ∷ ms) e (Some (Named n)) there after = of (local_type types f l.local) refl e after
         where
           of : (id : Option TyId) → local_type types f l.local ≡ id → type_within types id (m ∷ ms) ≡ Some part → Stands types f rest (put_content (wrote n 0 (word_within types id (m ∷ ms)) (pointer_words v) st.world.content) st)
-              → HoldWell types f (put_content (wrote n 0 (word_within types id (m ∷ ms)) (pointer_words v) st.world.content) st)
+              → Holds types f rest st (put_content (wrote n 0 (word_within types id (m ∷ ms)) (pointer_words v) st.world.content) st)
           of None is path later = absurd (none_some path)
           of (Some id) is path later =
               written_holds l.local n there id part is (m ∷ ms) path c (keeps_self types (IsOwned types c) c) (pointer_words v) (five_words v ∙ sym (pointer_width (parts_at types part) pointer)) (pointer_value part v pointer well fits) later

@@ -15,7 +15,7 @@ use Rattle.life_store.specs.Parts.{Parts, Single, Raw, Iterates, Views, Text, Ve
 use Rattle.life_store.proofs.CellLemmas.{none_some, some_same, set_cases, unset_cases}
 use Rattle.life_forest.proofs.Coming.{IfGot, got_then, if_room}
 use Rattle.life_forest.proofs.Puts.{puts_in, wrote_is}
-use Rattle.life_forest.proofs.Staying.{Stays, stays_birth, stays_filled, stays_more, stays_renamed_object, stays_resized, stays_self, stays_without, stays_wrote}
+use Rattle.life_forest.proofs.Staying.{Stays, stays_birth, stays_filled, stays_more, stays_renamed_object, stays_resized, stays_self, stays_then, stays_without, stays_wrote}
 use Rattle.life_forest.proofs.WrittenPointers.{IsNoPointer, SamePointers, apart_pointers, same_if, same_then}
 
 -- what was there is there still with the same pointers, unless it may change
@@ -29,6 +29,15 @@ keeps_self types loose c = record { stays = stays_self loose c; kept = λ n o x 
 -- what may change for some may for more
 pub keeps_more : (types : Types) (loose more : ℕ → Type 0) (c d : Content) → ((n : ℕ) → loose n → more n) → Keeps types loose c d → Keeps types more c d
 keeps_more types loose more c d le keeps = record { stays = stays_more loose more c d le keeps.stays; kept = λ n o x lt fixed was there. keeps.kept n o x lt (λ h. fixed (le n h)) was there }
+
+-- one after the other
+pub keeps_then : (types : Types) (loose : ℕ → Type 0) (c d e : Content) → Keeps types loose c d → Keeps types loose d e → Keeps types loose c e
+keeps_then types loose c d e first second = record {
+  stays = stays_then loose c d e first.stays second.stays;
+  kept = λ n o x lt fixed was there.
+      let b = second.stays.was n x (let l = first.stays.births in omega (arith, l, lt)) there in
+      same_then types o b.object x b.type (first.kept n o b.object lt fixed was b.there) (second.kept n b.object x (let l = first.stays.births in omega (arith, l, lt)) fixed b.there there);
+}
 
 module _ (types : Types) (ordered : IsOrdered types) (loose : ℕ → Type 0) (c : Content) where
   -- an object that may change, or is new

@@ -7,6 +7,7 @@ pub mod Begins
 pub mod BegunPointers
 pub mod Below
 pub mod Beside
+pub mod BodiesGo
 pub mod ByParts
 pub mod Coming
 pub mod Consuming
@@ -15,6 +16,7 @@ pub mod Copying
 pub mod Counting
 pub mod Cuts
 pub mod Ending
+pub mod EnteredFrames
 pub mod Erasing
 pub mod Feet
 pub mod Filling
@@ -34,6 +36,7 @@ pub mod FromTypes
 pub mod Given
 pub mod GivenPointers
 pub mod Growing
+pub mod HandedOver
 pub mod HeldPointers
 pub mod HeldPoints
 pub mod Holding

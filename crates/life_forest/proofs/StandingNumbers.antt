@@ -26,7 +26,7 @@ use Rattle.life_store.specs.Kinds.{Owner, kind_in}
 use Rattle.life_forest.proofs.FittingBirths.{value_owner}
 use Rattle.life_forest.proofs.FrameWords.{save_keeps}
 use Rattle.life_forest.proofs.Following.{IsOwned, follows_content, follows_stands}
-use Rattle.life_forest.proofs.Operands.{FoundWell, OperandAims, operand_well}
+use Rattle.life_forest.proofs.Operands.{FoundWell, IsPlace, OperandAims, operand_well}
 use Rattle.life_forest.proofs.StandingChanges.{on_got_each, on_number_next}
 use Rattle.life_forest.proofs.StandingCopies.{on_character_next}
 use Rattle.life_forest.proofs.StandingPointers.{number_stands}
@@ -93,22 +93,24 @@ module _ (types : Types) (ordered : IsOrdered types) (f : Function) (rest : ℕ 
   c = st.world.content
 
   -- a number is written to a place of its type
+  pub saved_stands : (part : TyId) → parts_at types part ≡ Single → (z : ℤ) (m i w : ℕ) (object : Object) → IsPlace types st.world.content part m i w object → Stands types f rest (saved z m i w object st)
+  saved_stands part single z m i w object place =
+      follows_stands types f rest st stands (saved z m i w object st) (save_keeps types ordered rest st stands.store z m i w part object place.there place.within place.slot plain (ap width single))
+      (follows_content types f st (with_object m (with_word i w (word_of_number z) object) c)
+      (subst (λ d. Stays (IsOwned types c) c d) (ap (λ (x : Option Object). wrote_if x m i w (word_of_number z ∷ []) c) place.there)
+      (stays_wrote (IsOwned types c) c m i w (word_of_number z ∷ []) c (stays_self (IsOwned types c) c))))
+    where
+      plain : (u : ℕ) → kind_in (parts_at types part) u ≡ Owner → ⊥
+      plain u k = value_owner (sym (ap (λ (p : Parts). kind_in p u) single) ∙ k)
+
   pub saves_stand : (o : Operand) (r : ℕ) (part : TyId) → operand_type types f o ≡ Some part → OperandAims types f st o → parts_at types part ≡ Single
       → OnNext (on_number (cell st r) (λ z. on_found (locate types f o st) (λ n i object. Next (saved z n i (operand_word types f o st) object st)))) (Stands types f rest)
   saves_stand o r part typed aims single =
       on_number_next (cell st r) (λ z. on_found (locate types f o st) (λ n i object. Next (saved z n i (operand_word types f o st) object st))) (Stands types f rest)
       (λ z. over z (locate types f o st) (operand_well types ordered f st stands.frame o part typed aims))
     where
-      plain : (u : ℕ) → kind_in (parts_at types part) u ≡ Owner → ⊥
-      plain u k = value_owner (sym (ap (λ (p : Parts). kind_in p u) single) ∙ k)
-
       over : (z : ℤ) (found : Found) → FoundWell types st.world.content part (operand_word types f o st) found → OnNext (on_found found (λ n i object. Next (saved z n i (operand_word types f o st) object st))) (Stands types f rest)
-      over z (Here n i object) place =
-          follows_stands types f rest st stands (saved z n i (operand_word types f o st) object st)
-          (save_keeps types ordered rest st stands.store z n i (operand_word types f o st) part object place.there place.within place.slot plain (ap width single))
-          (follows_content types f st (with_object n (with_word i (operand_word types f o st) (word_of_number z) object) c)
-          (subst (λ d. Stays (IsOwned types c) c d) (ap (λ (x : Option Object). wrote_if x n i (operand_word types f o st) (word_of_number z ∷ []) c) place.there)
-          (stays_wrote (IsOwned types c) c n i (operand_word types f o st) (word_of_number z ∷ []) c (stays_self (IsOwned types c) c))))
+      over z (Here n i object) place = saved_stands part single z n i (operand_word types f o st) object place
       over z (Fixed t) place = tt
       over z Outside place = tt
       over z (Wrong kind) place = tt

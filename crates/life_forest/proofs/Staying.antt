@@ -34,6 +34,16 @@ stays_more loose more c d le s = record {
   was = λ n x lt there. let w = s.was n x lt there in record { object = w.object; there = w.there; type = w.type; size = λ fixed. w.size (λ h. fixed (le n h)) };
 }
 
+-- one after the other
+pub stays_then : (loose : ℕ → Type 0) (c d e : Content) → Stays loose c d → Stays loose d e → Stays loose c e
+stays_then loose c d e first second = record {
+  births = let a = first.births in let b = second.births in omega (arith, a, b);
+  was = λ n x lt there.
+      let b = second.was n x (let l = first.births in omega (arith, l, lt)) there in
+      let a = first.was n b.object lt b.there in
+      record { object = a.object; there = a.there; type = a.type ∙ b.type; size = λ fixed. a.size fixed ∙ b.size fixed };
+}
+
 module _ (loose : ℕ → Type 0) (c : Content) where
   -- ---- the changes of which all others are made
 
