@@ -17,6 +17,7 @@ pub mod Counting
 pub mod Cuts
 pub mod Ending
 pub mod EnteredFrames
+pub mod EntryFrames
 pub mod Erasing
 pub mod Feet
 pub mod Filling
@@ -35,6 +36,7 @@ pub mod FreshPointers
 pub mod FromTypes
 pub mod Given
 pub mod GivenPointers
+pub mod GivenResults
 pub mod Growing
 pub mod HandedOver
 pub mod HeldPointers
