@@ -86,7 +86,7 @@ put_same [] x v u e = absurd (none_some e)
 put_same (y ∷ xs) zero v u e = refl
 put_same (y ∷ xs) (suc x) v u e = put_same xs x v u e
 
-value_class : (t : Ty) → is_value t ≡ true → class (Some t) ≡ class_of.Value
+pub value_class : (t : Ty) → is_value t ≡ true → class (Some t) ≡ class_of.Value
 value_class ty.Bool e = refl
 value_class ty.Char e = refl
 value_class ty.Int e = refl

@@ -105,6 +105,7 @@ pub mod StayingEdits
 pub mod Steps
 pub mod Stores
 pub mod Taking
+pub mod TargetsGo
 pub mod TypedPoints
 pub mod TypedSteps
 pub mod Vectors
