@@ -58,8 +58,7 @@ module _ (types : Types) (f : Function) (rest : ℕ → ℕ) (before : Content) 
   CallsAreSound s call = (b : ℕ) (place : Place) (target : Option Location) (g : FnId) (xs : List Argument) (x : Exits) → numbered (code_of f) b ≡ Some (record { spot = spot_at place (Action (Call target g xs)); leads = goes x.next })
       → (n : ℕ) (st : State) → IsSoundAt types f rest before b st → SoundAnswer x (act s types f call place (Call target g xs) n st)
 
-module _ (types : Types) (ordered : IsOrdered types) (once : HasEachOnce types) (some : HaveMembers types) (names texts : ℕ) (fs : List Function) (f : Function) (formed : is_well_formed_function types names texts fs f ≡ true) (points : ArePointsFormed types texts fs f)
-    (ready : HasReadyWays types f) (rest : ℕ → ℕ) (before : Content) (s : Setting) (call : Callee) (calls : CallsAreSound types f rest before s call) where
+module _ (types : Types) (f : Function) (ready : HasReadyWays types f) (rest : ℕ → ℕ) (before : Content) where
   -- a state with the locals behind an instruction is sound at the point to which it leads
   pub leads : (b : ℕ) (place : Place) (i : Step) (to : Option ℕ) (bits : Ready) → numbered (code_of f) b ≡ Some (record { spot = spot_at place (Action i); leads = goes to }) → Reaches types f b bits
       → (st : State) → ready_of st ≡ bits_past types f (Action i) bits → IsSound types f rest st → KeepsWaiting types rest before st.world.content → InvAt (IsSoundAt types f rest before) to st
@@ -68,9 +67,11 @@ module _ (types : Types) (ordered : IsOrdered types) (once : HasEachOnce types) 
       let l : Linked = record { spot = spot_at place (Action i); leads = goes (Some q) } in
       record { reached = subst (Reaches types f q) (sym is) (goes_on {l = l} way here (0, omega arith, refl) refl); sound = sound; waits = waits }
 
+module _ (types : Types) (ordered : IsOrdered types) (once : HasEachOnce types) (some : HaveMembers types) (names texts : ℕ) (fs : List Function) (f : Function) (formed : is_well_formed_function types names texts fs f ≡ true) (points : ArePointsFormed types texts fs f)
+    (ready : HasReadyWays types f) (rest : ℕ → ℕ) (before : Content) (s : Setting) (call : Callee) (calls : CallsAreSound types f rest before s call) where
   effect_good : (b : ℕ) (place : Place) (i : Step) (to : Option ℕ) (bits : Ready) (c : Content) → KeepsWaiting types rest before c → numbered (code_of f) b ≡ Some (record { spot = spot_at place (Action i); leads = goes to }) → Reaches types f b bits
       → (e : Effect) → GoesOn types f rest c (bits_past types f (Action i) bits) e → GoodEffect (IsSoundAt types f rest before) IsNoStray place to e
-  effect_good b place i to bits c waits here way (Next st) g = leads b place i to bits here way st g.bits g.sound (keeps_then types (λ n. rest n ≡ 0) before c st.world.content waits g.waits)
+  effect_good b place i to bits c waits here way (Next st) g = leads types f ready rest before b place i to bits here way st g.bits g.sound (keeps_then types (λ n. rest n ≡ 0) before c st.world.content waits g.waits)
   effect_good b place i to bits c waits here way (Traps kind) g = tt
   effect_good b place i to bits c waits here way (Faults kind) g = tt
   effect_good b place i to bits c waits here way Strays g = g

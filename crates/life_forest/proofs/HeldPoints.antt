@@ -62,7 +62,7 @@ module _ (types : Types) (ordered : IsOrdered types) (once : HasEachOnce types) 
   shaped : IsShaped types f
   shaped = locals_shaped types ordered names f (formed_parts types names texts fs f formed).locals
 
-  poised : (rest : ℕ → ℕ) (st : State) → IsSound types f rest st → IsPoised types f st
+  pub poised : (rest : ℕ → ℕ) (st : State) → IsSound types f rest st → IsPoised types f st
   poised rest st sound = record {
     kinds = kinds_fit types ordered once some names texts fs f formed points ready;
     frame = sound.stands.frame;

@@ -9,6 +9,8 @@ pub mod Below
 pub mod Beside
 pub mod BodiesGo
 pub mod ByParts
+pub mod CallersGo
+pub mod CallsGo
 pub mod Coming
 pub mod Consuming
 pub mod CopiedTypes

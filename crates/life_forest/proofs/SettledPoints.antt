@@ -52,7 +52,7 @@ module _ (types : Types) (ordered : IsOrdered types) (once : HasEachOnce types) 
     (ready : HasReadyWays types f) where
   -- ---- locals
 
-  formed_at : (x : ℕ) (l : Local) → slice_get f.locals x ≡ Some l → is_well_formed_local types names f.parameters x l ≡ true
+  pub formed_at : (x : ℕ) (l : Local) → slice_get f.locals x ≡ Some l → is_well_formed_local types names f.parameters x l ≡ true
   formed_at x l there = local_formed types ordered names f.parameters f.locals x l (formed_parts types names texts fs f formed).locals there
 
   pub kinds_fit : KindsFit types f

@@ -48,7 +48,7 @@ use Rattle.life_forest.proofs.Holding.{Holds, held_cell, held_holds, held_self}
 use Rattle.life_forest.proofs.HoldingWrites.{pointed_holds}
 use Rattle.life_forest.proofs.Keeping.{keeps_self}
 use Rattle.life_forest.proofs.OneNumber.{also_solid, number_of_type, type_there}
-use Rattle.life_forest.proofs.ReadyCells.{pointer_no_object, value_points}
+use Rattle.life_forest.proofs.ReadyCells.{member_is_object, object_cell, pointer_no_object, value_points}
 use Rattle.life_forest.proofs.SeenTypes.{alike_seen, pointer_solid}
 use Rattle.life_forest.proofs.Settling.{number_settles, pointed_settles}
 use Rattle.life_forest.proofs.SettlingPointers.{alike_fits, alike_points}
@@ -223,8 +223,8 @@ module _ (types : Types) (ordered : IsOrdered types) (once : HasEachOnce types) 
   -- a target that is an object isn't there, and one of a member's pointer is
   pub record IsTargetReady (target : Option Location) : Type 0 where
     pub births : AreBits false (ready_of st) (target_births f target)
-    pub object : (l : Location) → target ≡ Some l → (m : ℕ) (ms : List ℕ) → l.members ≡ m ∷ ms → (n : ℕ) × (cell st l.local ≡ Some (Named n))
-    pub slots : (x : ℕ) → IsBit (ready_of st) x false → slot_at types f x ≡ false
+    pub object : (l : Location) → target ≡ Some l → (m : ℕ) (ms : List ℕ) → l.members ≡ m ∷ ms → IsThere (ready_of st) l.local
+    pub slots : (l : Location) → target ≡ Some l → l.members ≡ [] → object_at types f l.local ≡ true → slot_at types f l.local ≡ false
 
   -- it has a local
   has_local : (x : ℕ) (t : Ty) → ty_if types (shapes.local_type types f x) ≡ t → is_void t ≡ false → (lo : Local) × (slice_get f.locals x ≡ Some lo)
@@ -256,7 +256,7 @@ module _ (types : Types) (ordered : IsOrdered types) (once : HasEachOnce types) 
       by_object true e =
           let births : AreBits false (ready_of st) (if true then l.local ∷ [] else []) = subst (λ (b : Bool). AreBits false (ready_of st) (if b then l.local ∷ [] else [])) e (subst (λ (ms : List ℕ). AreBits false (ready_of st) (by_members ms (if_object f l.local) [])) whole ready.births) in
           as_whole (slice_set (ready_of st) l.local true) (ap (λ (b : Bool). set_bits true ((if b then l.local ∷ [] else []) ++ (if b then [] else l.local ∷ [])) (ready_of st)) e)
-          (object_gives l.local id alike_at lo.0 lo.1 v sound suits e (ready.slots l.local births.0) (empty_cell_is st.cells l.local births.0))
+          (object_gives l.local id alike_at lo.0 lo.1 v sound suits e (ready.slots l refl whole e) (empty_cell_is st.cells l.local births.0))
       by_object false e =
           as_whole (slice_set (ready_of st) l.local true) (ap (λ (b : Bool). set_bits true ((if b then l.local ∷ [] else []) ++ (if b then [] else l.local ∷ [])) (ready_of st)) e)
           (number_into l.local id alike_at lo.0 lo.1 v sound suits (subst (λ (b : Bool). (b || is_number types f l.local) ≡ true) e kept))
@@ -290,11 +290,17 @@ module _ (types : Types) (ordered : IsOrdered types) (once : HasEachOnce types) 
           sym (ap (λ (b : Bool). set_bits true ((if b then l.local ∷ [] else []) ++ (if b then [] else l.local ∷ [])) (ready_of st))
           (pointer_no_object types f kinds l.local (subst (λ (ms : List ℕ). is_pointer (ty_if types (members_type types (shapes.local_type types f l.local) ms)) ≡ true) k points)))
 
+      named : IsSound types f rest st → (m : ℕ) (ms : List ℕ) → l.members ≡ m ∷ ms → (n : ℕ) × (cell st l.local ≡ Some (Named n))
+      named sound' m ms j =
+          object_cell types f st (record { kinds = kinds; frame = sound'.stands.frame; sorted = sound'.sorted; pointers = fit }) l.local
+          (member_is_object types f kinds l.local m ms (pointer_solid (ty_if types (members_type types (shapes.local_type types f l.local) (m ∷ ms))) (subst (λ (ns : List ℕ). is_pointer (ty_if types (members_type types (shapes.local_type types f l.local) ns)) ≡ true) j points)))
+          (ready.object l refl m ms j)
+
       by_members_of : (ms : List ℕ) → l.members ≡ ms → IsSound types f rest st → (p : Pointer) → IsHandedTo types st.world.content id (Points p) → GivesOn types f rest st.world.content (set_bits true (by_members l.members (l.local ∷ []) []) (ready_of st)) (result_given s types f l l.members (Points p) st)
       by_members_of [] k sound' p suits' =
           let lo = has_local l.local (type_at types f l.local) refl (pointer_solid (type_at types f l.local) (subst (λ (ms : List ℕ). is_pointer (ty_if types (members_type types (shapes.local_type types f l.local) ms)) ≡ true) k points)) in
-          result_points sound' fit l id e p suits' (λ m ms j. ready.object l refl m ms j) lo.0 lo.1
-      by_members_of (m ∷ ms) k sound' p suits' = member_points sound' fit l id e p suits' (λ n ns j. ready.object l refl n ns j) m ms k
+          result_points sound' fit l id e p suits' (λ m ms j. named sound' m ms j) lo.0 lo.1
+      by_members_of (m ∷ ms) k sound' p suits' = member_points sound' fit l id e p suits' (λ n ns j. named sound' n ns j) m ms k
 
   -- ---- what comes of the values that are given back
 

@@ -1,0 +1,207 @@
+-- A caller goes on behind a call without slots: its frame stands as it did, and its target has the result.
+use Rattle.std.proofs.Common.{◌≡◌, inl, inr, ⊎_elim, ℕ, zero, suc, ◌+◌, ◌≤◌, ◌<◌, Bool, true, false, ◌&&◌, ◌||◌, if◌then◌else◌, List, [], ◌∷◌, ◌++◌, Option, Some, None, refl, sym, ap, subst, ◌∙◌, arith}
+use Rattle.std.proofs.lemmas.Bool.{and_parts, false≢true}
+use Rattle.std.specs.Prelude.{drop, flat_map, length, slice_get, slice_set, ◌-◌}
+use Rattle.life_types.specs.Pointees.{ty_of}
+use Rattle.life_types.specs.Trees.{IsOrdered}
+use Rattle.life_types.specs.Types.{HasEachOnce, Types, is_slot_at}
+use Rattle.life_types.specs.declared.place.Place.{Place}
+use Rattle.life_types.specs.declared.ty.TyId.{TyId}
+use Rattle.life_core.specs.Function.{Function}
+use Rattle.life_core.specs.Linked.{Linked, code_of, goes, numbered, spot_at}
+use Rattle.life_core.specs.Operands.{Argument, GivenOver, Location, PointerOf, Slot, Value}
+use Rattle.life_core.specs.Proper.{HasReadyWays, IsNodeReady, Reaches, bits_past}
+use Rattle.life_core.specs.Ready.{AreBits, IsBit, IsThere, Ready, set_bits}
+use Rattle.life_core.specs.Step.{Call}
+use Rattle.life_core.specs.Touched.{argument_leaves, argument_uses, by_members, if_object, target_births, target_uses, target_writes}
+use Rattle.life_core.specs.Tree.{Action, Node}
+use Rattle.life_core.specs.declared.exits.Exits.{Exits}
+use Rattle.life_core.specs.declared.program.FnId.{FnId}
+use Rattle.life_core.proofs.ReadyLemmas.{bits_left}
+use Rattle.life_proper.specs.Placed.{object_at, slot_at, type_at}
+use Rattle.life_proper.specs.WellFormed.{are_arguments_for, goes_to, have_own_slots, is_argument_for, is_call, is_well_formed_node, types_taken}
+use Rattle.life_proper.specs.WellFormedPrograms.{is_well_formed_function}
+use Rattle.life_proper.proofs.SortedNodes.{formed_parts}
+use Rattle.life_store.specs.Calls.{all_handed, lent, slot_count, slots_returned, target_given}
+use Rattle.life_store.specs.Content.{Content}
+use Rattle.life_store.specs.Doing.{Setting, Effect, Next, Traps, Faults, Strays, cell, on_next}
+use Rattle.life_store.specs.Meaning.{Back, Barred, Callee, Called, Quit, act, call_with, came_back, paid}
+use Rattle.life_store.specs.State.{Cell, Empty, Named, Number, Points, State, World, is_there, ready_of}
+use Rattle.life_store.proofs.CellLemmas.{cell_cases, some_same}
+use Rattle.life_store.proofs.Going.{GoodEffect, InvAt, paid_good}
+use Rattle.life_forest.specs.FrameTypes.{IsFrame, IsVariable}
+use Rattle.life_forest.specs.Frames.{named_in}
+use Rattle.life_forest.specs.Owned.{times}
+use Rattle.life_forest.specs.Settled.{IsPoised}
+use Rattle.life_forest.specs.Sorted.{AreSorted, Fits, sort_at}
+use Rattle.life_forest.specs.Typed.{IsStore}
+use Rattle.life_forest.proofs.BodiesGo.{CallsAreSound, IsLeft, IsNoStray, IsSoundAt, SoundAnswer, leads}
+use Rattle.life_forest.proofs.EnteredFrames.{GivesOn}
+use Rattle.life_forest.proofs.Following.{in_hand, waiting_stays}
+use Rattle.life_forest.proofs.Frames.{less_in_hand}
+use Rattle.life_forest.proofs.GivenResults.{IsResult}
+use Rattle.life_forest.proofs.HandedOver.{AreHanded, AreHandedTo, AreNoSlots, IsLent, hands_all, leaves_are, lent_less}
+use Rattle.life_forest.proofs.HeldPoints.{IsSound, poised}
+use Rattle.life_forest.proofs.HeldPointers.{pointers_aim, pointers_fit}
+use Rattle.life_forest.proofs.Holding.{KeepsWaiting, variable_holds}
+use Rattle.life_forest.proofs.Keeping.{keeps_more, keeps_then}
+use Rattle.life_forest.proofs.SettledPoints.{kinds_fit}
+use Rattle.life_forest.proofs.SettlingLives.{HaveMembers}
+use Rattle.life_forest.proofs.Shaped.{IsShaped, locals_shaped}
+use Rattle.life_forest.proofs.Slots.{ArePointsFormed, slots_stay}
+use Rattle.life_forest.proofs.TargetsGo.{IsTargetReady, target_gives}
+
+-- ---- what a call gives back
+
+-- the store has what is given back in the hand, beside what waits, which has its pointers still
+abbrev pub GoodCalled : Types → Function → (ℕ → ℕ) → Content → Called → Type 0
+GoodCalled types g rest c (Back n w values) = IsStore types (λ k. times (named_in values) k + rest k) w.content × KeepsWaiting types rest c w.content × IsResult types w.content g.result values
+GoodCalled types g rest c (Barred kind) = Unit {0}
+GoodCalled types g rest c (Quit stop w) = IsNoStray stop
+
+-- .. where it is handed what its parameters take
+abbrev pub GoodCallee : Types → List Function → Callee → Type 0
+GoodCallee types fs call = (k : ℕ) (g : Function) (rest : ℕ → ℕ) (xs : List Cell) (n : ℕ) (w : World) → slice_get fs k ≡ Some g → AreHandedTo types w.content (types_taken g) xs → IsStore types (λ k. times (named_in xs) k + rest k) w.content
+    → GoodCalled types g rest w.content (call k xs n w)
+
+-- the object of which a member is given the result isn't given over by the call
+abbrev pub KeepsTargets : Types → Function → Type 0
+KeepsTargets types f =
+    (b : ℕ) (bits : Ready) (place : Place) (l : Location) (g : FnId) (xs : List Argument) (to : Option ℕ) → Reaches types f b bits → numbered (code_of f) b ≡ Some (record { spot = spot_at place (Action (Call (Some l) g xs)); leads = goes to })
+    → (m : ℕ) (ms : List ℕ) → l.members ≡ m ∷ ms → IsThere (set_bits false (flat_map (argument_leaves f) xs) bits) l.local
+
+-- ---- no slot is given back
+
+none_returned : (types : Types) (texts : ℕ) (fs : List Function) (f : Function) (ids : List TyId) (xs : List Argument) (vs : List Cell) (st : State) → AreNoSlots types ids → are_arguments_for types texts fs f ids xs ≡ true → slots_returned types f xs vs st ≡ Next st
+none_returned types texts fs f ids [] vs st free e = refl
+none_returned types texts fs f [] (x ∷ xs) vs st free e = absurd (false≢true e)
+none_returned types texts fs f (id ∷ ids) (Value r ∷ xs) vs st free e = none_returned types texts fs f ids xs vs st free.1 (and_parts (is_argument_for types texts fs f id (Value r)) _ e).1
+none_returned types texts fs f (id ∷ ids) (GivenOver x ∷ xs) vs st free e = none_returned types texts fs f ids xs vs st free.1 (and_parts (is_argument_for types texts fs f id (GivenOver x)) _ e).1
+none_returned types texts fs f (id ∷ ids) (PointerOf l ∷ xs) vs st free e = none_returned types texts fs f ids xs vs st free.1 (and_parts (is_argument_for types texts fs f id (PointerOf l)) _ e).1
+none_returned types texts fs f (id ∷ ids) (Slot l ∷ xs) vs st free e = absurd (false≢true (sym free.0 ∙ (and_parts (is_slot_at types id) _ (and_parts (is_argument_for types texts fs f id (Slot l)) _ e).0).0))
+
+still_false : (bits : Ready) (ys : List ℕ) (x : ℕ) → IsBit bits x false → IsBit (set_bits false ys bits) x false
+still_false bits [] x e = e
+still_false bits (y ∷ ys) x e = still_false (slice_set bits y false) ys x (once bits y x e)
+  where
+    once : (bs : Ready) (y x : ℕ) → slice_get bs x ≡ Some false → slice_get (slice_set bs y false) x ≡ Some false
+    once [] y x e = e
+    once (b ∷ bs) zero zero e = refl
+    once (b ∷ bs) zero (suc x) e = e
+    once (b ∷ bs) (suc y) zero e = e
+    once (b ∷ bs) (suc y) (suc x) e = once bs y x e
+
+still_all : (bits : Ready) (ys xs : List ℕ) → AreBits false bits xs → AreBits false (set_bits false ys bits) xs
+still_all bits ys [] e = tt
+still_all bits ys (x ∷ xs) e = (still_false bits ys x e.0, still_all bits ys xs e.1)
+
+-- ---- the caller's frame behind the call
+
+module _ (types : Types) (f : Function) (rest : ℕ → ℕ) (st : State) (sound : IsSound types f rest st) (cells : List Cell) (less : (x : ℕ) (v : Cell) → is_there v ≡ true → slice_get cells x ≡ Some v → cell st x ≡ Some v) (w : World) (vs : List Cell)
+    (store : IsStore types (λ k. times (named_in vs) k + (times (named_in cells) k + rest k)) w.content) (keeps : KeepsWaiting types (λ k. times (named_in cells) k + rest k) st.world.content w.content) where
+  abbrev Loose : ℕ → Type 0
+  Loose k = times (named_in cells) k + rest k ≡ 0
+
+  fixed : (x n : ℕ) → slice_get cells x ≡ Some (Named n) → times (named_in cells) n + rest n ≡ 0 → ⊥
+  fixed x n e z = let i = in_hand cells x n e in omega (arith, i, z)
+
+  frame_less : IsFrame types f st.world.content cells
+  frame_less = record { objects = λ x n e. sound.stands.frame.objects x n (less x (Named n) refl e); pointers = λ x p e. sound.stands.frame.pointers x p (less x (Points p) refl e) }
+
+  pub behind_sound : IsSound types f (λ k. times (named_in vs) k + rest k) (record { world = w; cells = cells })
+  behind_sound = record {
+    stands = record {
+      store = less_in_hand types (λ k. times (named_in vs) k + (times (named_in cells) k + rest k)) (λ k. times (named_in cells) k + (times (named_in vs) k + rest k)) w.content (λ k. omega arith) store;
+      frame = waiting_stays types Loose st.world.content w.content keeps.stays f cells (λ k. times (named_in st.cells) k + rest k) (λ k. times (named_in vs) k + (times (named_in cells) k + rest k)) sound.stands.store store fixed (λ k. omega arith) frame_less;
+    };
+    sorted = λ x v e. sorted_less x v e;
+    held = λ x n id e typed.
+        let v = frame_less.objects x n e in
+        variable_holds types Loose st.world.content w.content keeps n id (subst (λ (y : Option TyId). IsVariable st.world.content y n) typed v) (sound.stands.store.forest.births n v.object v.there) (fixed x n e) (sound.held x n id (less x (Named n) refl e) typed);
+  }
+    where
+      sorted_less : (x : ℕ) (v : Cell) → slice_get cells x ≡ Some v → Fits (sort_at types f x) (type_at types f x) v
+      sorted_less x Empty e = tt
+      sorted_less x (Named n) e = sound.sorted x (Named n) (less x (Named n) refl e)
+      sorted_less x (Number z) e = sound.sorted x (Number z) (less x (Number z) refl e)
+      sorted_less x (Points p) e = sound.sorted x (Points p) (less x (Points p) refl e)
+
+module _ (types : Types) (ordered : IsOrdered types) (once : HasEachOnce types) (some : HaveMembers types) (names texts : ℕ) (fs : List Function) (f : Function) (formed : is_well_formed_function types names texts fs f ≡ true) (points : ArePointsFormed types texts fs f)
+    (ready : HasReadyWays types f) (rest : ℕ → ℕ) (before : Content) (s : Setting) (call : Callee) (callees : GoodCallee types fs call) (free : (k : ℕ) (g : Function) → slice_get fs k ≡ Some g → AreNoSlots types (types_taken g)) (kept : KeepsTargets types f) where
+  shaped : IsShaped types f
+  shaped = locals_shaped types ordered names f (formed_parts types names texts fs f formed).locals
+
+  -- a result that is given takes the caller to where its point leads
+  gives_good : (b : ℕ) (place : Place) (target : Option Location) (g : FnId) (xs : List Argument) (to : Option ℕ) (bits : Ready) (c : Content) → numbered (code_of f) b ≡ Some (record { spot = spot_at place (Action (Call target g xs)); leads = goes to }) → Reaches types f b bits → KeepsWaiting types rest before c
+      → (e : Effect) → GivesOn types f rest c (bits_past types f (Action (Call target g xs)) bits) e → GoodEffect (IsSoundAt types f rest before) IsNoStray place to e
+  gives_good b place target g xs to bits c here way waits (Next st) h =
+      leads types f ready rest before b place (Call target g xs) to bits here way st h.bits h.sound (keeps_then types (λ n. rest n ≡ 0) before c st.world.content waits h.waits)
+  gives_good b place target g xs to bits c here way waits (Traps kind) h = tt
+  gives_good b place target g xs to bits c here way waits (Faults kind) h = tt
+  gives_good b place target g xs to bits c here way waits Strays h = h
+
+  module _ (b : ℕ) (place : Place) (target : Option Location) (g : FnId) (xs : List Argument) (x : Exits) (here : numbered (code_of f) b ≡ Some (record { spot = spot_at place (Action (Call target g xs)); leads = goes x.next })) (n : ℕ) (st : State) (inv : IsSoundAt types f rest before b st) where
+    are : IsNodeReady types f (ready_of st) (Action (Call target g xs))
+    are = ready.ready b (ready_of st) (record { spot = spot_at place (Action (Call target g xs)); leads = goes x.next }) inv.reached here
+
+    -- the function that is called is there
+    module _ (gf : Function) (is : slice_get fs g.0 ≡ Some gf) (args : are_arguments_for types texts fs f (types_taken gf) xs ≡ true) (into : goes_to types texts fs f (ty_of types gf.result) target ≡ true) where
+      handed : AreHanded types ordered once texts fs f shaped rest st inv.sound.stands (poised types ordered once some names texts fs f formed points ready rest st inv.sound) (pointers_aim types ordered f st inv.sound.held inv.sound.stands.frame) inv.sound.held (types_taken gf) xs
+      handed = hands_all types ordered once texts fs f shaped rest st inv.sound.stands (poised types ordered once some names texts fs f formed points ready rest st inv.sound) (pointers_aim types ordered f st inv.sound.held inv.sound.stands.frame) inv.sound.held (types_taken gf) xs (free g.0 gf is) args
+          (bits_left true (ready_of st) (flat_map (argument_uses f) xs) (target_uses target) are.uses) (leaves_are (ready_of st) (flat_map (argument_leaves f) xs) are.leaves)
+
+      loan : IsLent types texts fs f st xs handed.values st
+      loan = lent_less types texts fs f st xs handed.values (types_taken gf) st (free g.0 gf is) args handed.each (record { world = refl; cells = λ y v there e. e }) are.leaves
+
+      abbrev left : List Cell
+      left = (lent types f xs st).cells
+
+      abbrev waiting : ℕ → ℕ
+      waiting k = times (named_in left) k + rest k
+
+      target_ready : (w : World) → IsTargetReady types ordered once texts fs f shaped (kinds_fit types ordered once some names texts fs f formed points ready) rest s (record { world = w; cells = left }) target
+      target_ready w = record {
+        births = subst (λ (bits : Ready). AreBits false bits (target_births f target)) (sym loan.bits) (still_all (ready_of st) (flat_map (argument_leaves f) xs) (target_births f target) are.births);
+        object = λ l at_l m ms k. subst (λ (bits : Ready). IsThere bits l.local) (sym loan.bits)
+            (kept b (ready_of st) place l g xs x.next inv.reached (subst (λ (t : Option Location). numbered (code_of f) b ≡ Some (record { spot = spot_at place (Action (Call t g xs)); leads = goes x.next })) at_l here) m ms k);
+        slots = λ l at_l whole object. not_there l at_l whole object (slot_at types f l.local) refl;
+      }
+        where
+          not_there : (l : Location) → target ≡ Some l → l.members ≡ [] → object_at types f l.local ≡ true → (slot : Bool) → slot_at types f l.local ≡ slot → slot_at types f l.local ≡ false
+          not_there l at_l whole object false e = e
+          not_there l at_l whole object true e =
+              let births : AreBits false (ready_of st) (target_births f (Some l)) = subst (λ (t : Option Location). AreBits false (ready_of st) (target_births f t)) at_l are.births in
+              let of_whole : AreBits false (ready_of st) (if_object f l.local) = subst (λ (ms : List ℕ). AreBits false (ready_of st) (by_members ms (if_object f l.local) [])) whole births in
+              let one : AreBits false (ready_of st) (l.local ∷ []) = subst (λ (b : Bool). AreBits false (ready_of st) (if b then l.local ∷ [] else [])) object of_whole in
+              absurd (false≢true (some_same (sym one.0 ∙ slots_stay types ordered texts fs f names formed points b (ready_of st) inv.reached l.local e)))
+
+      returned : (r : Called) → GoodCalled types gf (λ k. times (named_in (lent types f xs st).cells) k + rest k) st.world.content r → SoundAnswer types f rest before x (came_back s types f place target xs st r)
+      returned (Barred kind) h = tt
+      returned (Quit stop w) h = h
+      returned (Back m w vs) h =
+          let st2 : State = record { world = w; cells = left } in
+          let sound = behind_sound types f rest st inv.sound left (λ y v there e. loan.less.cells y v there e) w vs h.0 h.1 in
+          let waits = keeps_then types (λ k. rest k ≡ 0) before st.world.content w.content inv.waits (keeps_more types (λ k. waiting k ≡ 0) (λ k. rest k ≡ 0) st.world.content w.content (λ k z. omega (arith, z)) h.1) in
+          subst (λ (e : Effect). SoundAnswer types f rest before x (paid place w e m)) (sym (ap (λ (e : Effect). on_next e (target_given s types f target vs)) (none_returned types texts fs f (types_taken gf) xs (drop (length vs - slot_count xs) vs) st2 (free g.0 gf is) args)))
+          (paid_good (IsSoundAt types f rest before) (IsLeft types f rest before) IsNoStray tt place w x (target_given s types f target vs st2) m
+          (gives_good b place target g xs x.next (ready_of st) w.content here inv.reached waits (target_given s types f target vs st2)
+          (subst (λ (bits : Ready). GivesOn types f rest w.content (set_bits true (target_births f target ++ target_writes f target) bits) (target_given s types f target vs st2)) loan.bits
+          (target_gives types ordered once texts fs f shaped (kinds_fit types ordered once some names texts fs f formed points ready) rest s st2 target gf.result vs (pointers_fit types ordered f st2 sound.held once texts fs shaped sound.sorted) into sound h.2 (target_ready w)))))
+
+      called : SoundAnswer types f rest before x (act s types f call place (Call target g xs) n st)
+      called =
+          subst (λ (o : Option (List Cell)). SoundAnswer types f rest before x (came_back s types f place target xs st (call_with call g.0 o n (lent types f xs st).world))) (sym handed.are)
+          (subst (λ (w : World). SoundAnswer types f rest before x (came_back s types f place target xs st (call g.0 handed.values n w))) (sym loan.less.world)
+          (returned (call g.0 handed.values n st.world)
+          (callees g.0 gf waiting handed.values n st.world is handed.suit
+          (less_in_hand types (λ k. times (named_in st.cells) k + rest k) (λ k. times (named_in handed.values) k + waiting k) st.world.content (λ k. let a = loan.hand k in omega (arith, a)) inv.sound.stands.store))))
+
+    by_function : (o : Option Function) → slice_get fs g.0 ≡ o → is_call types texts fs f o target xs ≡ true → SoundAnswer types f rest before x (act s types f call place (Call target g xs) n st)
+    by_function None is e = absurd (false≢true e)
+    by_function (Some gf) is e =
+        let outer = and_parts (are_arguments_for types texts fs f (types_taken gf) xs) _ e in
+        called gf is outer.0 (and_parts (have_own_slots types texts fs f xs) (goes_to types texts fs f (ty_of types gf.result) target) outer.1).1
+
+  pub calls_sound : CallsAreSound types f rest before s call
+  calls_sound b place target g xs x here n st inv =
+      by_function b place target g xs x here n st inv (slice_get fs g.0) refl (points b (record { spot = spot_at place (Action (Call target g xs)); leads = goes x.next }) here)
