@@ -61,6 +61,7 @@ pub mod Lying
 pub mod Maps
 pub mod MemberPointers
 pub mod Members
+pub mod NeverStrays
 pub mod Objects
 pub mod OneNumber
 pub mod Operands
