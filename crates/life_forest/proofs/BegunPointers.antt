@@ -1,29 +1,17 @@
 -- A pointer that begins in the words of a type has five of them.
-use Rattle.std.proofs.Common.{◌≡◌, ◌⊎◌, inl, inr, ⊎_elim, ℕ, zero, suc, ◌+◌, ◌≤◌, ◌<◌, Bool, true, false, cond, List, [], ◌∷◌, Option, Some, None, refl, sym, ap, subst, ◌∙◌, arith}
-use Rattle.std.proofs.lemmas.Bool.{false≢true}
-use Rattle.std.specs.Prelude.{◌||◌, drop, option_map, slice_get, take}
+use Rattle.std.proofs.Common.{◌≡◌, ⊎_elim, ℕ, zero, suc, ◌+◌, ◌≤◌, ◌<◌, List, [], ◌∷◌, Option, Some, None, refl, sym, ap, subst, ◌∙◌, arith}
+use Rattle.std.specs.Prelude.{slice_get}
 use Rattle.life_types.specs.Trees.{AllBelow, IsOrdered, members_at}
 use Rattle.life_types.specs.Types.{Types}
 use Rattle.life_types.specs.declared.ty.Ty.{Ty}
 use Rattle.life_types.specs.declared.ty.Ty.TheVariants as ty
 use Rattle.life_types.specs.declared.ty.TyId.{TyId}
-use Rattle.life_store.specs.Cells.{at}
-use Rattle.life_store.specs.Content.{Slot, Object, Content}
-use Rattle.life_store.specs.Held.{slots_if, words_at, words_if}
-use Rattle.life_store.specs.Kinds.{Kind, Pointing, is_value, kind_in}
+use Rattle.life_store.specs.Kinds.{Pointing, kind_in}
 use Rattle.life_store.specs.Parts.{Parts, Raw, Iterates, Views, parts_at, parts_of, struct_of, width, width_at}
-use Rattle.life_store.proofs.CellLemmas.{none_some, some_same}
+use Rattle.life_store.proofs.CellLemmas.{none_some}
 use Rattle.life_forest.specs.Begins.{begins_at, begins_of, first_begins, struct_begins}
-use Rattle.life_forest.specs.Forest.{Beneath, Foot, IsForest, Touches, part, under, whole}
-use Rattle.life_forest.specs.HeldPointers.{HoldsWell}
-use Rattle.life_forest.specs.Kinds.{Kinds, kinds_of}
-use Rattle.life_forest.specs.Owned.{blanked, blanked_slots, every, holders, owns_at, owns_if, spared}
 use Rattle.life_forest.proofs.Begins.{begins_made, behind, in_front, row_cases}
-use Rattle.life_forest.proofs.Following.{IsOwned}
-use Rattle.life_forest.proofs.HeldPointers.{holds_stay}
 use Rattle.life_forest.proofs.Laying.{parts_made}
-use Rattle.life_forest.proofs.Staying.{Stays}
-use Rattle.life_forest.proofs.Steps.{alive_le, own_all, owned_held}
 
 -- ---- the five words of a pointer that begins
 

@@ -1,5 +1,5 @@
 -- The body of a proper function goes only where its points lead, of whatever kinds its instructions are, if each call in it does.
-use Rattle.std.proofs.Common.{◌≡◌, ℕ, zero, suc, List, Option, Some, None, refl, sym, ap, subst, ◌∙◌, true, false, arith}
+use Rattle.std.proofs.Common.{◌≡◌, ℕ, List, Option, Some, None, refl, sym, subst, true, false, arith}
 use Rattle.std.specs.Prelude.{IsSome, Contains}
 use Rattle.std.proofs.lemmas.Bool.{false≢true}
 use Rattle.life_types.specs.Trees.{IsOrdered}
@@ -10,15 +10,15 @@ use Rattle.life_core.specs.Operands.{Argument, Location}
 use Rattle.life_core.specs.Linked.{Lead, Linked, code_of, enter, goes, no_exits, numbered, parts, spot_at}
 use Rattle.life_core.specs.Proper.{HasReadyWays, IsNodeReady, Reaches, bits_past, goes_on, starts}
 use Rattle.life_core.specs.Ready.{Ready, entry_ready}
-use Rattle.life_core.specs.Step.{Step, Live, End, Eval, Load, Save, Copy, Move, Aim, Repoint, Element, Cursor, Advance, Cut, Size, Same, Changes, Make, Call, Ports, Test}
-use Rattle.life_core.specs.Tree.{Action, Question, Return, Stop as StopHere}
+use Rattle.life_core.specs.Step.{Step, Call, Test}
+use Rattle.life_core.specs.Tree.{Action, Question, Return}
 use Rattle.life_core.specs.declared.exits.Exits.{Exits}
 use Rattle.life_core.specs.declared.program.FnId.{FnId}
 use Rattle.life_proper.specs.WellFormedPrograms.{is_well_formed_function}
 use Rattle.life_store.specs.Content.{Content}
 use Rattle.life_store.specs.Doing.{Setting, Effect, Next, Traps, Faults, Strays, does}
 use Rattle.life_store.specs.Meaning.{Answer, Stop, Trapped, Faulted, Stray, Exhausted, Callee, Holds, Fails, Cut as CutShort, Verdict, act, exec, paid, test_at}
-use Rattle.life_store.specs.State.{World, State, ready_of}
+use Rattle.life_store.specs.State.{State, ready_of}
 use Rattle.life_store.proofs.Bodies.{body_good}
 use Rattle.life_store.proofs.Going.{GoodAnswer, GoodEffect, GoodVerdict, InvAt, Keeps, paid_good}
 use Rattle.life_forest.proofs.Holding.{KeepsWaiting}

@@ -1,5 +1,5 @@
 -- A caller goes on behind a call without slots: its frame stands as it did, and its target has the result.
-use Rattle.std.proofs.Common.{◌≡◌, inl, inr, ⊎_elim, ℕ, zero, suc, ◌+◌, ◌≤◌, ◌<◌, Bool, true, false, ◌&&◌, ◌||◌, if◌then◌else◌, List, [], ◌∷◌, ◌++◌, Option, Some, None, refl, sym, ap, subst, ◌∙◌, arith}
+use Rattle.std.proofs.Common.{◌≡◌, ℕ, zero, suc, ◌+◌, Bool, true, false, if◌then◌else◌, List, [], ◌∷◌, ◌++◌, Option, Some, None, refl, sym, ap, subst, ◌∙◌, arith}
 use Rattle.std.proofs.lemmas.Bool.{and_parts, false≢true}
 use Rattle.std.specs.Prelude.{drop, flat_map, length, slice_get, slice_set, ◌-◌}
 use Rattle.life_types.specs.Pointees.{ty_of}
@@ -8,32 +8,31 @@ use Rattle.life_types.specs.Types.{HasEachOnce, Types, is_slot_at}
 use Rattle.life_types.specs.declared.place.Place.{Place}
 use Rattle.life_types.specs.declared.ty.TyId.{TyId}
 use Rattle.life_core.specs.Function.{Function}
-use Rattle.life_core.specs.Linked.{Linked, code_of, goes, numbered, spot_at}
+use Rattle.life_core.specs.Linked.{code_of, goes, numbered, spot_at}
 use Rattle.life_core.specs.Operands.{Argument, GivenOver, Location, PointerOf, Slot, Value}
 use Rattle.life_core.specs.Proper.{HasReadyWays, IsNodeReady, Reaches, bits_past}
 use Rattle.life_core.specs.Ready.{AreBits, IsBit, IsThere, Ready, set_bits}
 use Rattle.life_core.specs.Step.{Call}
 use Rattle.life_core.specs.Touched.{argument_leaves, argument_uses, by_members, if_object, target_births, target_uses, target_writes}
-use Rattle.life_core.specs.Tree.{Action, Node}
+use Rattle.life_core.specs.Tree.{Action}
 use Rattle.life_core.specs.declared.exits.Exits.{Exits}
 use Rattle.life_core.specs.declared.program.FnId.{FnId}
 use Rattle.life_core.proofs.ReadyLemmas.{bits_left}
 use Rattle.life_proper.specs.Placed.{object_at, slot_at, type_at}
-use Rattle.life_proper.specs.WellFormed.{are_arguments_for, goes_to, have_own_slots, is_argument_for, is_call, is_well_formed_node, types_taken}
+use Rattle.life_proper.specs.WellFormed.{are_arguments_for, goes_to, have_own_slots, is_argument_for, is_call, types_taken}
 use Rattle.life_proper.specs.WellFormedPrograms.{is_well_formed_function}
 use Rattle.life_proper.proofs.SortedNodes.{formed_parts}
-use Rattle.life_store.specs.Calls.{all_handed, lent, slot_count, slots_returned, target_given}
+use Rattle.life_store.specs.Calls.{lent, slot_count, slots_returned, target_given}
 use Rattle.life_store.specs.Content.{Content}
 use Rattle.life_store.specs.Doing.{Setting, Effect, Next, Traps, Faults, Strays, cell, on_next}
 use Rattle.life_store.specs.Meaning.{Back, Barred, Callee, Called, Quit, act, call_with, came_back, paid}
 use Rattle.life_store.specs.State.{Cell, Empty, Named, Number, Points, State, World, is_there, ready_of}
-use Rattle.life_store.proofs.CellLemmas.{cell_cases, some_same}
-use Rattle.life_store.proofs.Going.{GoodEffect, InvAt, paid_good}
+use Rattle.life_store.proofs.CellLemmas.{some_same}
+use Rattle.life_store.proofs.Going.{GoodEffect, paid_good}
 use Rattle.life_forest.specs.FrameTypes.{IsFrame, IsVariable}
 use Rattle.life_forest.specs.Frames.{named_in}
 use Rattle.life_forest.specs.Owned.{times}
-use Rattle.life_forest.specs.Settled.{IsPoised}
-use Rattle.life_forest.specs.Sorted.{AreSorted, Fits, sort_at}
+use Rattle.life_forest.specs.Sorted.{Fits, sort_at}
 use Rattle.life_forest.specs.Typed.{IsStore}
 use Rattle.life_forest.proofs.BodiesGo.{CallsAreSound, IsLeft, IsNoStray, IsSoundAt, SoundAnswer, leads}
 use Rattle.life_forest.proofs.EnteredFrames.{GivesOn}

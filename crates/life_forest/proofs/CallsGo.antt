@@ -1,10 +1,8 @@
 -- Each call of a program without slots is sound, however deep calls may stand; so no run of such a program strays, whatever the kinds of its instructions.
-use Rattle.std.proofs.Common.{◌≡◌, ℕ, zero, suc, ◌+◌, ◌≤◌, ◌<◌, true, false, ◌&&◌, List, [], ◌∷◌, length, Option, Some, None, refl, sym, ap, subst, ◌∙◌, arith}
-use Rattle.std.proofs.lemmas.Bool.{and_parts, false≢true}
-use Rattle.std.specs.Prelude.{map, nat_le, slice_get, take}
+use Rattle.std.proofs.Common.{◌≡◌, ℕ, zero, suc, ◌+◌, ◌<◌, true, false, List, [], ◌∷◌, Option, Some, sym, subst, arith}
+use Rattle.std.specs.Prelude.{map, slice_get, take}
 use Rattle.life_types.specs.Trees.{IsOrdered}
 use Rattle.life_types.specs.Types.{HasEachOnce, Types, is_slot_at}
-use Rattle.life_types.specs.declared.ty.TyId.{TyId}
 use Rattle.life_core.specs.declared.program.Local.{Local}
 use Rattle.life_core.specs.Function.{Function, Program}
 use Rattle.life_core.specs.Linked.{no_exits}
@@ -14,11 +12,11 @@ use Rattle.life_proper.specs.WellFormed.{types_taken}
 use Rattle.life_proper.specs.WellFormed as formed
 use Rattle.life_proper.specs.WellFormedPrograms.{is_well_formed_function}
 use Rattle.life_proper.proofs.SortedNodes.{formed_parts}
-use Rattle.life_store.specs.Calls.{parameters_given, results, slots_back}
+use Rattle.life_store.specs.Calls.{parameters_given}
 use Rattle.life_store.specs.Content.{Content}
 use Rattle.life_store.specs.Doing.{Setting, Effect, Next, Traps, Faults, Strays}
 use Rattle.life_store.specs.Meaning.{Answer, Normal, Broke, Continued, Returned, Stopped, Callee, Called, begun, calls, entered, exec, finish, frame}
-use Rattle.life_store.specs.State.{Cell, State, World, ready_of}
+use Rattle.life_store.specs.State.{Cell, State, World}
 use Rattle.life_store.proofs.CellLemmas.{none_some, some_same}
 use Rattle.life_forest.specs.Frames.{named_in}
 use Rattle.life_forest.specs.Owned.{times}

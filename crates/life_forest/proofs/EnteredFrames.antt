@@ -1,5 +1,5 @@
 -- The frame of a callee without slots: each parameter is given what was handed to it, and the frame is sound.
-use Rattle.std.proofs.Common.{◌≡◌, ⊎_elim, ℕ, zero, suc, ◌+◌, ◌*◌, ◌≤◌, ◌<◌, Bool, true, false, cond, List, [], ◌∷◌, length, map, Option, Some, None, refl, sym, ap, subst, ◌∙◌, arith}
+use Rattle.std.proofs.Common.{◌≡◌, ⊎_elim, ℕ, zero, suc, ◌+◌, ◌*◌, ◌≤◌, ◌<◌, Bool, true, false, cond, List, [], ◌∷◌, length, Option, Some, refl, sym, ap, subst, ◌∙◌, arith}
 use Rattle.std.proofs.lemmas.Bool.{false≢true}
 use Rattle.std.specs.Prelude.{ℤ, nat_lt, slice_get, slice_set}
 use Rattle.life_types.specs.Pointees.{ty_of}
@@ -17,26 +17,23 @@ use Rattle.life_core.specs.declared.program.LocalKind.TheVariants as kind
 use Rattle.life_core.specs.Function.{Function}
 use Rattle.life_core.specs.Holdings.{AnObject, Holding, held_by, held_if, sort_of}
 use Rattle.life_core.specs.Kinds.{has_kind, is_object}
-use Rattle.life_core.specs.Ready.{IsBit, Ready, entry_ready, given_ready}
+use Rattle.life_core.specs.Ready.{IsBit, Ready, given_ready}
 use Rattle.life_pset.specs.Shapes.{ty_if}
 use Rattle.life_proper.specs.OperandTypes.{is_composed}
 use Rattle.life_proper.specs.Placed.{object_at, type_at}
-use Rattle.life_store.specs.Births.{born_object, with_value_object}
+use Rattle.life_store.specs.Births.{with_value_object}
 use Rattle.life_store.specs.Calls.{born_with, given, given_if, given_to, number_given, parameters_given, slot_born}
-use Rattle.life_store.specs.Cells.{at}
 use Rattle.life_store.specs.Content.{Content, Object, Slot, live_words_of}
 use Rattle.life_store.specs.Doing.{saved}
 use Rattle.life_store.specs.Effects.{Setting, Effect, Next, Traps, Faults, Strays, cell, on_next, put_cell, put_content}
-use Rattle.life_store.specs.Meaning.{empty_cell, frame}
 use Rattle.life_store.specs.Parts.{Single, held_type_if, local_type, parts_at, width, width_at}
 use Rattle.life_store.specs.Places.{found_at, found_in, here_if, on_found}
-use Rattle.life_store.specs.State.{Pointer, Cell, Empty, Named, Number, Points, State, World, is_there, ready_of}
+use Rattle.life_store.specs.State.{Pointer, Cell, Empty, Named, Number, Points, State, ready_of}
 use Rattle.life_store.specs.declared.run.TrapKind.TheVariants as trap
 use Rattle.life_store.proofs.CellLemmas.{cell_cases, empty_cell_is, none_some, ready_set, some_same}
-use Rattle.life_forest.specs.FrameTypes.{IsFrame, IsVariable, PointsWell, Stands, seen_type}
-use Rattle.life_forest.specs.Frames.{HasStore, OnNext, named_in}
-use Rattle.life_forest.specs.HeldPointers.{HoldWell, HoldsWell}
-use Rattle.life_forest.specs.Kinds.{kinds_of}
+use Rattle.life_forest.specs.FrameTypes.{IsVariable, PointsWell, Stands, seen_type}
+use Rattle.life_forest.specs.Frames.{OnNext, named_in}
+use Rattle.life_forest.specs.HeldPointers.{HoldsWell}
 use Rattle.life_forest.specs.Owned.{alive, times}
 use Rattle.life_forest.specs.Settled.{KindsFit}
 use Rattle.life_forest.specs.Sorted.{AreSorted, PointerFits, sort_if}

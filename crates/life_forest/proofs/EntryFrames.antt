@@ -1,11 +1,11 @@
 -- The first frame of a call without slots is sound when its parameters have what was handed over.
-use Rattle.std.proofs.Common.{◌≡◌, ℕ, zero, suc, ◌+◌, ◌≤◌, ◌<◌, Bool, true, false, ◌&&◌, ◌||◌, not, List, [], ◌∷◌, length, map, take, Option, Some, None, refl, sym, ap, subst, ◌∙◌, arith}
+use Rattle.std.proofs.Common.{◌≡◌, ℕ, zero, suc, ◌+◌, ◌≤◌, ◌<◌, Bool, true, false, ◌||◌, not, List, [], ◌∷◌, length, map, take, Option, Some, None, refl, sym, ap, subst, ◌∙◌, arith}
 use Rattle.std.proofs.lemmas.Bool.{and_parts, false≢true}
 use Rattle.std.proofs.lemmas.Bool.Decides.{nat_tests}
 use Rattle.std.specs.Prelude.{is_some, nat_lt, slice_get}
 use Rattle.life_types.specs.Pointees.{ty_of}
 use Rattle.life_types.specs.Trees.{IsOrdered, tree_at}
-use Rattle.life_types.specs.TypeTests.{is_pointer, is_value, is_void}
+use Rattle.life_types.specs.TypeTests.{is_value, is_void}
 use Rattle.life_types.specs.Types.{Types, is_slot_at}
 use Rattle.life_types.specs.declared.ty.NameId.{NameId}
 use Rattle.life_types.specs.declared.ty.Ty.{Ty}
@@ -14,7 +14,6 @@ use Rattle.life_core.specs.declared.program.Local.{Local}
 use Rattle.life_core.specs.declared.program.LocalKind.{LocalKind}
 use Rattle.life_core.specs.declared.program.LocalKind.TheVariants as kind
 use Rattle.life_core.specs.Function.{Function}
-use Rattle.life_core.specs.Kinds.{is_register}
 use Rattle.life_core.specs.Ready.{Ready, entry_ready, given_ready}
 use Rattle.life_pset.specs.Shapes.{shape, shape_of, ty_if}
 use Rattle.life_proper.specs.Placed.{type_at}
@@ -27,9 +26,7 @@ use Rattle.life_store.specs.Effects.{Setting}
 use Rattle.life_store.specs.Meaning.{empty_cell, frame}
 use Rattle.life_store.specs.Parts.{held_type_if}
 use Rattle.life_store.specs.State.{Cell, Empty, Named, Pointer, Points, World, is_there}
-use Rattle.life_store.proofs.CellLemmas.{none_some, some_same}
 use Rattle.life_store.proofs.Entering.{empty_cells}
-use Rattle.life_forest.specs.FrameTypes.{IsVariable, PointsWell, seen_type}
 use Rattle.life_forest.specs.Frames.{named_in}
 use Rattle.life_forest.specs.Owned.{times}
 use Rattle.life_forest.specs.Settled.{KindsFit}

@@ -1,14 +1,12 @@
 -- What a function without slots gives back where it is left: nothing, or what its result's type takes.
 use Rattle.std.proofs.Common.{◌≡◌, ◌⊎◌, inl, inr, ⊎_elim, ℕ, zero, suc, ◌+◌, ◌≤◌, ◌<◌, Bool, true, false, ◌&&◌, ◌||◌, cond, List, [], ◌∷◌, ◌++◌, Option, Some, None, refl, sym, ap, subst, ◌∙◌, arith}
 use Rattle.std.proofs.lemmas.Bool.{and_parts, false≢true}
-use Rattle.std.proofs.lemmas.Bool.Decides.{eqb_tells, nat_tests}
+use Rattle.std.proofs.lemmas.Bool.Decides.{nat_tests}
 use Rattle.std.specs.Prelude.{ℤ, pos, is_none, nat_eq, nat_lt, slice_get}
 use Rattle.life_types.specs.Pointees.{or_void, ty_of}
 use Rattle.life_types.specs.Trees.{IsOrdered}
 use Rattle.life_types.specs.TypeTests.{is_pointer, is_value, is_void}
 use Rattle.life_types.specs.Types.{Types, class, class_at, is_slot_at}
-use Rattle.life_types.specs.declared.ty.Class.{Class}
-use Rattle.life_types.specs.declared.ty.Class.TheVariants as class_of
 use Rattle.life_types.specs.declared.ty.Ty.{Ty}
 use Rattle.life_types.specs.declared.ty.Ty.TheVariants as ty
 use Rattle.life_types.specs.declared.ty.TyId.{TyId}
@@ -18,10 +16,8 @@ use Rattle.life_core.specs.declared.program.LocalKind.TheVariants as kind
 use Rattle.life_core.specs.Function.{Function}
 use Rattle.life_core.specs.Holdings.{held_by, held_if, result_if, result_sort, sort_of}
 use Rattle.life_core.specs.Kinds.{is_register}
-use Rattle.life_core.specs.Proper.{IsNodeReady}
-use Rattle.life_core.specs.Ready.{AreBits, IsThere}
+use Rattle.life_core.specs.Ready.{AreBits}
 use Rattle.life_core.specs.Touched.{result_uses}
-use Rattle.life_core.specs.Tree.{Return}
 use Rattle.life_pset.specs.Shapes.{shape_if, shape_of, ty_if}
 use Rattle.life_proper.specs.OperandTypes.{is_composed}
 use Rattle.life_proper.specs.Placed.{type_at}
@@ -31,7 +27,6 @@ use Rattle.life_store.specs.Content.{Content}
 use Rattle.life_store.specs.Effects.{cell}
 use Rattle.life_store.specs.Parts.{local_type}
 use Rattle.life_store.specs.State.{Cell, Empty, Named, Number, Pointer, Points, State, ready_of}
-use Rattle.life_store.proofs.CellLemmas.{none_some, some_same}
 use Rattle.life_store.proofs.MapLemmas.{one_or_apart}
 use Rattle.life_forest.specs.FrameTypes.{IsVariable, PointsWell, seen_type}
 use Rattle.life_forest.specs.Frames.{named_in}
@@ -39,7 +34,7 @@ use Rattle.life_forest.specs.Owned.{times}
 use Rattle.life_forest.specs.Settled.{IsPoised}
 use Rattle.life_forest.specs.Sorted.{PointerFits}
 use Rattle.life_forest.specs.Typed.{IsStore}
-use Rattle.life_forest.proofs.Counting.{one_apart, one_there}
+use Rattle.life_forest.proofs.Counting.{one_apart}
 use Rattle.life_forest.proofs.Following.{in_hand}
 use Rattle.life_forest.proofs.Frames.{less_in_hand}
 use Rattle.life_forest.proofs.HandedOver.{IsHandedTo}
@@ -206,8 +201,7 @@ module _ (types : Types) (ordered : IsOrdered types) (f : Function) (shaped : Is
     pointer_given pointer =
         let p = pointer_cell types f st at_point f.parameters (ap is_pointer own ∙ pointer) (subst (AreBits true (ready_of st)) (pointer_uses t f.parameters pointer) uses).0 in
         one_given (Points p.0)
-        (are (Points p.0 ∷ []) (ap (given_back (Some t) (result_if (Some t) (held_if (class (Some t)) l.kind (Some t)))) p.1 ∙ pointer_back_is t l.kind p.0 pointer))
-        (
+        (are (Points p.0 ∷ []) (ap (given_back (Some t) (result_if (Some t) (held_if (class (Some t)) l.kind (Some t)))) p.1 ∙ pointer_back_is t l.kind p.0 pointer)) (
           ap is_pointer result_type ∙ pointer,
           subst (λ (id : Option TyId). PointsWell types st.world.content (seen_type types id) p.0) typed (sound.stands.frame.pointers f.parameters p.0 p.1),
           subst (λ (u : Ty). PointerFits u p.0) (own ∙ sym result_type) (sound.sorted f.parameters (Points p.0) p.1).1,
@@ -218,8 +212,7 @@ module _ (types : Types) (ordered : IsOrdered types) (f : Function) (shaped : Is
     object_given composed =
         let n = object_cell types f st at_point f.parameters (composed_is_object types f at_point.kinds f.parameters (ap is_composed own ∙ composed)) (subst (AreBits true (ready_of st)) (object_uses t f.parameters composed) uses).0 in
         one_given (Named n.0)
-        (are (Named n.0 ∷ []) (ap (given_back (Some t) (result_if (Some t) (held_if (class (Some t)) l.kind (Some t)))) n.1 ∙ object_back_is t l.kind n.0 composed))
-        (
+        (are (Named n.0 ∷ []) (ap (given_back (Some t) (result_if (Some t) (held_if (class (Some t)) l.kind (Some t)))) n.1 ∙ object_back_is t l.kind n.0 composed)) (
           subst (λ (id : Option TyId). IsVariable st.world.content id n.0) typed (sound.stands.frame.objects f.parameters n.0 n.1),
           sound.held f.parameters n.0 f.result n.1 typed,
           ap is_composed result_type ∙ composed,

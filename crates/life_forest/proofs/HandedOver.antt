@@ -1,28 +1,27 @@
 -- What a call without slots hands over: each argument is as its parameter's type takes it, and the caller has in the hand what is left.
-use Rattle.std.proofs.Common.{◌≡◌, ⊎_elim, ℕ, zero, suc, ◌+◌, Bool, true, false, ◌&&◌, not, if◌then◌else◌, List, [], ◌∷◌, ◌++◌, Option, Some, None, refl, sym, ap, subst, ◌∙◌, arith}
+use Rattle.std.proofs.Common.{◌≡◌, ⊎_elim, ℕ, ◌+◌, Bool, true, false, not, if◌then◌else◌, List, [], ◌∷◌, ◌++◌, Option, Some, None, refl, sym, ap, subst, ◌∙◌, arith}
 use Rattle.std.proofs.lemmas.Bool.{and_parts, false≢true}
 use Rattle.std.proofs.lemmas.Option.{slice_get-map}
-use Rattle.std.specs.Prelude.{ℤ, flat_map, option_map, slice_get, slice_set}
+use Rattle.std.specs.Prelude.{flat_map, option_map, slice_set}
 use Rattle.life_types.specs.Pointees.{ty_of}
 use Rattle.life_types.specs.Trees.{IsOrdered}
 use Rattle.life_types.specs.TypeTests.{is_constant, is_pointer, is_value}
 use Rattle.life_types.specs.Types.{HasEachOnce, Types, is_slot_at}
-use Rattle.life_types.specs.declared.ty.Ty.{Ty}
 use Rattle.life_types.specs.declared.ty.TyId.{TyId}
 use Rattle.life_core.specs.Function.{Function}
 use Rattle.life_core.specs.Operands.{Argument, GivenOver, Location, PointerOf, Slot, Value}
-use Rattle.life_core.specs.Ready.{AreBits, CanLeave, IsBit, IsThere, Ready, set_bits}
+use Rattle.life_core.specs.Ready.{AreBits, CanLeave, IsThere, Ready, set_bits}
 use Rattle.life_core.specs.Touched.{argument_leaves, argument_uses}
 use Rattle.life_core.proofs.ReadyLemmas.{bits_left, bits_right}
 use Rattle.life_proper.specs.OperandTypes.{are_alike, is_composed, keeps_const, same, takes}
-use Rattle.life_proper.specs.Placed.{is_given, is_number_of, object_at, register_at, result_at, slot_at, type_at, type_in}
+use Rattle.life_proper.specs.Placed.{object_at, register_at, result_at, slot_at, type_at, type_in}
 use Rattle.life_proper.specs.WellFormed.{are_arguments_for, is_argument_for}
 use Rattle.life_store.specs.Calls.{all_handed, handed, lent, number_handed, object_handed, pointer_handed, with_handed}
 use Rattle.life_store.specs.Content.{Content}
 use Rattle.life_store.specs.Effects.{cell, put_cell}
 use Rattle.life_store.specs.Parts.{local_type, location_type}
 use Rattle.life_store.specs.Places.{location_cell}
-use Rattle.life_store.specs.State.{Pointer, Cell, Empty, Named, Number, Points, State, is_there, ready_of}
+use Rattle.life_store.specs.State.{Cell, Empty, Named, Number, Points, State, is_there, ready_of}
 use Rattle.life_store.proofs.CellLemmas.{cell_cases, none_some, ready_set, some_same}
 use Rattle.life_forest.specs.FrameTypes.{IsVariable, PointsWell, Stands, seen_in, seen_type}
 use Rattle.life_forest.specs.Frames.{named_in}

@@ -1,9 +1,7 @@
 -- A step that writes no pointer of an object that its frame names keeps what these hold.
-use Rattle.std.proofs.Common.{◌≡◌, ⊎_elim, ℕ, zero, suc, ◌+◌, ◌≤◌, ◌<◌, List, [], ◌∷◌, Option, Some, None, refl, sym, ap, subst, ◌∙◌, arith}
+use Rattle.std.proofs.Common.{◌≡◌, ⊎_elim, ℕ, zero, suc, ◌<◌, [], Option, Some, None, refl, sym, ap, subst, ◌∙◌, arith}
 use Rattle.std.specs.Prelude.{drop, slice_get, take}
-use Rattle.life_types.specs.Trees.{IsOrdered}
 use Rattle.life_types.specs.Types.{Types}
-use Rattle.life_types.specs.declared.ty.Ty.{Ty}
 use Rattle.life_types.specs.declared.ty.TyId.{TyId}
 use Rattle.life_core.specs.Function.{Function}
 use Rattle.life_store.specs.Cells.{at}
@@ -11,20 +9,18 @@ use Rattle.life_store.specs.Content.{Object, Content}
 use Rattle.life_store.specs.Effects.{Effect, Next, Traps, Faults, Strays, cell, put_cell, put_content}
 use Rattle.life_store.specs.Held.{pointer_in, slots_if, words_at, words_if}
 use Rattle.life_store.specs.Parts.{local_type}
-use Rattle.life_store.specs.State.{Pointer, Wild, Cell, Named, State}
+use Rattle.life_store.specs.State.{Wild, Cell, Named, State}
 use Rattle.life_store.proofs.CellLemmas.{cell_cases, some_same}
 use Rattle.life_forest.specs.Begins.{begins_at}
 use Rattle.life_forest.specs.FrameTypes.{IsVariable, PointsWell, Stands, seen_type}
-use Rattle.life_forest.specs.Frames.{OnNext, named_in}
+use Rattle.life_forest.specs.Frames.{OnNext}
 use Rattle.life_forest.specs.HeldPointers.{HoldWell, HoldsWell}
 use Rattle.life_forest.specs.Kinds.{kinds_of}
-use Rattle.life_forest.specs.Owned.{times}
 use Rattle.life_forest.specs.Sorted.{PointerFits}
 use Rattle.life_forest.proofs.Following.{IsOwned, in_hand}
 use Rattle.life_forest.proofs.HeldPointers.{holds_stay}
 use Rattle.life_forest.proofs.Keeping.{Keeps, keeps_more, keeps_self, keeps_then}
 use Rattle.life_forest.proofs.Steps.{alive_le}
-use Rattle.life_forest.proofs.WrittenPointers.{pointer_at}
 
 -- what isn't there holds wild pointers alone
 pub gone_holds : (types : Types) (d : Content) (n : ℕ) (id : TyId) → at d.objects n ≡ None → HoldsWell types d n id

@@ -1,12 +1,11 @@
 -- Behind each instruction that makes a pointer the objects of the frame hold well: what it gives points well, and is as its location's type takes it.
-use Rattle.std.proofs.Common.{◌≡◌, ℕ, true, false, List, ◌∷◌, ◌++◌, Option, Some, None, refl, sym, ap, subst, ◌∙◌}
-use Rattle.std.proofs.lemmas.Bool.{and_parts, false≢true}
+use Rattle.std.proofs.Common.{◌≡◌, ℕ, true, false, List, ◌++◌, Option, Some, refl, sym, ap, subst, ◌∙◌}
+use Rattle.std.proofs.lemmas.Bool.{and_parts}
 use Rattle.std.specs.Prelude.{slice_get}
 use Rattle.life_types.specs.Trees.{IsOrdered}
 use Rattle.life_types.specs.TypeTests.{is_constant, is_iterator, is_pointer, is_raw, is_view}
 use Rattle.life_types.specs.Types.{HasEachOnce, Types}
 use Rattle.life_types.specs.declared.ty.Ty.{Ty}
-use Rattle.life_types.specs.declared.ty.Ty.TheVariants as ty
 use Rattle.life_types.specs.declared.ty.TyId.{TyId}
 use Rattle.life_core.specs.declared.instr.Direction.{Direction}
 use Rattle.life_core.specs.declared.operand.RangeEnd.{RangeEnd}
@@ -17,16 +16,15 @@ use Rattle.life_core.specs.Operands as source
 use Rattle.life_core.specs.Ready.{AreBits, IsThere}
 use Rattle.life_core.specs.Touched.{part_uses, place_uses, source_uses}
 use Rattle.life_core.proofs.ReadyLemmas.{bits_left}
-use Rattle.life_proper.specs.OperandTypes.{aims_at, are_alike, gets, is_range, keeps_const, owned_target, seen_element, spans, takes, walks}
+use Rattle.life_proper.specs.OperandTypes.{aims_at, are_alike, is_range, keeps_const, owned_target, seen_element, spans, takes, walks}
 use Rattle.life_proper.specs.Placed.{is_const_place, type_in, type_of, type_of_element}
 use Rattle.life_proper.specs.WellFormed.{is_source_of}
 use Rattle.life_store.specs.Doing.{advanced, aimed, cursor, cut, element}
 use Rattle.life_store.specs.Effects.{Setting, Attempt, Got, GotTrap, GotFault, GotLost, on_pointer}
 use Rattle.life_store.specs.Iterators.{at_index, iterator}
-use Rattle.life_store.specs.Owners.{empty_view}
-use Rattle.life_store.specs.Places.{Found, Fixed, locate, location_cell, pointed}
-use Rattle.life_store.specs.State.{Characters, Pointer, Null, To, State, ready_of}
-use Rattle.life_store.specs.Views.{part_of, used, viewed}
+use Rattle.life_store.specs.Places.{location_cell, pointed}
+use Rattle.life_store.specs.State.{Pointer, State, ready_of}
+use Rattle.life_store.specs.Views.{part_of, used}
 use Rattle.life_store.proofs.CellLemmas.{some_same}
 use Rattle.life_forest.specs.FrameTypes.{PointsWell, Stands, seen_type}
 use Rattle.life_forest.specs.Frames.{OnNext}

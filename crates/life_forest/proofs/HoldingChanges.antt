@@ -1,5 +1,5 @@
 -- Saves, moves, changes and what a unique_ptr is made to own keep the pointers that objects of the frame hold.
-use Rattle.std.proofs.Common.{◌≡◌, ⊎_elim, inr, ℕ, zero, suc, ◌+◌, ◌≤◌, ◌<◌, List, [], ◌∷◌, ◌++◌, length, length-append, Option, Some, None, refl, sym, ap, subst, ◌∙◌, arith}
+use Rattle.std.proofs.Common.{◌≡◌, ⊎_elim, inr, ℕ, zero, suc, ◌+◌, ◌≤◌, ◌<◌, List, [], ◌∷◌, length, length-append, Option, Some, None, refl, sym, ap, subst, ◌∙◌, arith}
 use Rattle.std.specs.Prelude.{ℤ, drop, slice_index, take}
 use Rattle.std.specs.Int.{cast_unsigned, w64}
 use Rattle.life_types.specs.Trees.{IsOrdered}
@@ -16,7 +16,7 @@ use Rattle.life_store.specs.Cells.{at}
 use Rattle.life_store.specs.Content.{Object, Content}
 use Rattle.life_store.specs.Doing.{changed, edits, giving, made_fresh, made_of, makes, moved_to, moves, moves_from, on_given, pushes, remade, replaced, saved}
 use Rattle.life_store.specs.Edits.{Edit, Push, Pop, Clear as ClearAll, Reserve as Room, Put, Add, edited, owned_at}
-use Rattle.life_store.specs.Effects.{Setting, Attempt, Got, Effect, Next, Traps, Faults, Strays, cell, on_got, on_next, on_number, put_cell, put_content, word_of_number}
+use Rattle.life_store.specs.Effects.{Setting, Got, Effect, Next, Traps, Faults, Strays, cell, on_got, on_next, on_number, put_cell, put_content, word_of_number}
 use Rattle.life_store.specs.Held.{owned_in, owner_word, slot_words, wrote_if}
 use Rattle.life_store.specs.Kinds.{Owner, kind_in}
 use Rattle.life_store.specs.Owners.{Words, consumed, fresh, object_with, renamed, renamed_if, taken}
@@ -34,7 +34,7 @@ use Rattle.life_forest.proofs.FrameChanges.{on_buffer}
 use Rattle.life_forest.proofs.Frames.{on_got_next}
 use Rattle.life_forest.proofs.Following.{IsOwned}
 use Rattle.life_forest.proofs.Holding.{KeepsHeld, KeepsOn, held_cell, held_content}
-use Rattle.life_forest.proofs.Keeping.{BornKeeps, Keeps, MayWrite, consumed_keeps, fresh_keeps, keeps_self, keeps_wrote, object_keeps, taken_keeps}
+use Rattle.life_forest.proofs.Keeping.{BornKeeps, MayWrite, consumed_keeps, fresh_keeps, keeps_self, keeps_wrote, object_keeps, taken_keeps}
 use Rattle.life_forest.proofs.KeepingEdits.{edited_keeps, moved_keeps, replaced_keeps}
 use Rattle.life_forest.proofs.Lists.{length_back, length_front}
 use Rattle.life_forest.proofs.Members.{within_self}

@@ -1,23 +1,22 @@
 -- Where a value is copied, the objects of the frame hold well: the pointers of what is copied point well, and stay as they are.
-use Rattle.std.proofs.Common.{◌≡◌, ◌⊎◌, inl, inr, ⊎_elim, ℕ, zero, suc, ◌+◌, ◌≤◌, ◌<◌, Bool, true, false, List, [], ◌∷◌, ◌++◌, length, length-append, Option, Some, None, refl, sym, ap, subst, ◌∙◌, arith}
-use Rattle.std.specs.Prelude.{ℤ, drop, nat_lt, slice_get, slice_index, take}
+use Rattle.std.proofs.Common.{◌≡◌, ⊎_elim, ℕ, suc, ◌+◌, ◌≤◌, ◌<◌, Bool, true, false, List, [], ◌∷◌, ◌++◌, length, length-append, Option, Some, None, refl, sym, ap, subst, ◌∙◌, arith}
+use Rattle.std.specs.Prelude.{drop, nat_lt, slice_index, take}
 use Rattle.life_types.specs.Trees.{IsOrdered}
 use Rattle.life_types.specs.Types.{Types}
-use Rattle.life_types.specs.declared.ty.Ty.{Ty}
 use Rattle.life_types.specs.declared.ty.TyId.{TyId}
 use Rattle.life_core.specs.Function.{Function}
-use Rattle.life_core.specs.Operands.{Location, Operand, Name, Through}
+use Rattle.life_core.specs.Operands.{Location, Operand, Name}
 use Rattle.life_store.specs.Cells.{at}
 use Rattle.life_store.specs.Content.{Object, Content}
 use Rattle.life_store.specs.Doing.{copied_to, copies, on_character, replaced, word_of_number}
 use Rattle.life_store.specs.Effects.{Setting, Attempt, Got, GotTrap, GotFault, GotLost, Effect, Next, Strays, cell, on_got, put_content, then_get}
 use Rattle.life_store.specs.Held.{owned_in, pointer_in, slot_words, slots_at, words_at}
-use Rattle.life_store.specs.Kinds.{Pointing, kind_in}
+use Rattle.life_store.specs.Kinds.{kind_in}
 use Rattle.life_store.specs.Owners.{Words, copied, copied_buffer, copied_slots, ended, sized_birth}
 use Rattle.life_store.specs.Parts.{Parts, Single, Raw, Iterates, Views, Text, Vector, Unique, Member, NoMember, local_type, location_type, operand_parts, operand_type, parts_at, parts_if, type_within, width, width_at, word_within}
-use Rattle.life_store.specs.Places.{Found, Here, Fixed, Outside, Wrong, Astray, Spot, found_in, here_if, locate, named_by, on_found, on_place, operand_word, spot_words}
+use Rattle.life_store.specs.Places.{Found, Here, Fixed, Outside, Wrong, Astray, found_in, here_if, locate, named_by, on_place, operand_word, spot_words}
 use Rattle.life_store.specs.State.{Characters, Cell, Empty, Named, Number, Points, State}
-use Rattle.life_store.proofs.CellLemmas.{none_some, some_same}
+use Rattle.life_store.proofs.CellLemmas.{none_some}
 use Rattle.life_forest.specs.Begins.{begins_at}
 use Rattle.life_forest.specs.FrameTypes.{PointsWell, Stands, seen_type}
 use Rattle.life_forest.specs.Frames.{OnNext, named_in}
@@ -40,7 +39,7 @@ use Rattle.life_forest.proofs.Lists.{drop_front, length_back, length_front}
 use Rattle.life_forest.proofs.MemberPointers.{drop_further, inside}
 use Rattle.life_forest.proofs.Operands.{FoundWell, IsPlace, OperandAims, on_spot_next, operand_well, place_named}
 use Rattle.life_forest.proofs.Placed.{place_copied}
-use Rattle.life_forest.proofs.PlainTypes.{HasNoPointer, single_free}
+use Rattle.life_forest.proofs.PlainTypes.{HasNoPointer}
 use Rattle.life_forest.proofs.StandingCopies.{on_character_next}
 use Rattle.life_forest.proofs.WrittenPointers.{gap}
 

@@ -1,8 +1,8 @@
 -- Each step of one frame keeps that its objects hold well.
-use Rattle.std.proofs.Common.{◌≡◌, inl, inr, ℕ, Bool, true, false, not, ◌||◌, ◌&&◌, List, [], ◌∷◌, ◌++◌, Option, Some, None, refl, sym, ap, subst, ◌∙◌}
+use Rattle.std.proofs.Common.{◌≡◌, inl, inr, ℕ, Bool, true, false, not, ◌||◌, ◌&&◌, List, [], ◌∷◌, Option, Some, None, refl, sym, ap, subst, ◌∙◌}
 use Rattle.std.proofs.lemmas.Bool.{and_parts, false≢true}
 use Rattle.std.specs.Prelude.{ℤ, slice_get}
-use Rattle.life_types.specs.Pointees.{or_void, ty_of}
+use Rattle.life_types.specs.Pointees.{or_void}
 use Rattle.life_types.specs.Trees.{IsOrdered, members_at, tree_at, tree_of}
 use Rattle.life_types.specs.Trees as tree
 use Rattle.life_types.specs.TypeTests.{is_constant, is_iterator, is_pointer, is_reference}
@@ -27,23 +27,21 @@ use Rattle.life_pset.specs.Shapes as shapes
 use Rattle.life_proper.specs.OperandTypes.{aims_at, is_range, keeps_const, same, takes, walks}
 use Rattle.life_proper.specs.Placed.{is_const_base, is_const_place, is_slot_local, object_at, register_at, slot_at, type_at, type_in, type_of, type_of_element}
 use Rattle.life_proper.specs.Placed as placed
-use Rattle.life_proper.specs.WellFormed.{is_change_of, is_well_formed_step}
+use Rattle.life_proper.specs.WellFormed.{is_well_formed_step}
 use Rattle.life_proper.specs.WellFormedPrograms.{fits_kind, may_stand}
 use Rattle.life_proper.proofs.HeldSorts.{same_is}
-use Rattle.life_store.specs.Content.{Object, Content}
+use Rattle.life_store.specs.Content.{Object}
 use Rattle.life_store.specs.Doing.{changed, does, erases, pointer_to, with_output}
-use Rattle.life_store.specs.Edits.{erased}
 use Rattle.life_store.specs.Effects.{Setting, put_cell, put_content}
 use Rattle.life_store.specs.Iterators.{iterator}
 use Rattle.life_store.specs.Parts.{Parts, Text, Vector, held_type_if, operand_parts, operand_type, parts_at, parts_if, width}
 use Rattle.life_store.specs.Places.{location_cell, pointed}
-use Rattle.life_store.specs.State.{Pointer, To, Number, Named, State, ready_of}
+use Rattle.life_store.specs.State.{Number, Named, State, ready_of}
 use Rattle.life_store.specs.Kinds.{Owner, kind_in}
-use Rattle.life_store.proofs.CellLemmas.{some_same}
 use Rattle.life_forest.specs.FrameTypes.{Stands, seen_type}
 use Rattle.life_forest.specs.Frames.{OnNext}
 use Rattle.life_forest.specs.HeldPointers.{HoldWell}
-use Rattle.life_forest.specs.Settled.{IsPoised, KindsFit}
+use Rattle.life_forest.specs.Settled.{IsPoised}
 use Rattle.life_forest.proofs.CopiedTypes.{LocalsStand}
 use Rattle.life_forest.proofs.Following.{IsOwned}
 use Rattle.life_forest.proofs.FreshPointers.{NoReference}

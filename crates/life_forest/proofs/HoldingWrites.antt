@@ -1,5 +1,5 @@
 -- Where a value whose pointers point well is written to a local's object, or to a member of one, objects hold well behind it.
-use Rattle.std.proofs.Common.{◌≡◌, ◌≢◌, ◌⊎◌, inl, inr, ⊎_elim, ℕ, zero, suc, ◌+◌, ◌≤◌, ◌<◌, List, [], ◌∷◌, length, Option, Some, None, refl, sym, ap, subst, ◌∙◌, arith}
+use Rattle.std.proofs.Common.{◌≡◌, ◌⊎◌, inl, inr, ⊎_elim, ℕ, zero, suc, ◌+◌, ◌≤◌, ◌<◌, List, [], ◌∷◌, length, Option, Some, None, refl, sym, ap, subst, ◌∙◌, arith}
 use Rattle.std.specs.Prelude.{drop, slice_get, take}
 use Rattle.life_types.specs.Trees.{IsOrdered}
 use Rattle.life_types.specs.Types.{Types}
@@ -7,7 +7,7 @@ use Rattle.life_types.specs.declared.ty.Ty.{Ty}
 use Rattle.life_types.specs.declared.ty.TyId.{TyId}
 use Rattle.life_core.specs.Function.{Function}
 use Rattle.life_core.specs.Operands.{Location}
-use Rattle.life_store.specs.Cells.{at, at-set_same, set}
+use Rattle.life_store.specs.Cells.{at, at-set_same}
 use Rattle.life_store.specs.Content.{Slot, Object, Content}
 use Rattle.life_store.specs.Effects.{cell, put_cell, put_content}
 use Rattle.life_store.specs.Held.{pointer_in, pointer_words, slots_if, words_at, words_if, wrote, wrote_if}
@@ -27,8 +27,8 @@ use Rattle.life_forest.proofs.Begins.{begins_itself, path_begins, row_cases}
 use Rattle.life_forest.proofs.Coming.{below_or}
 use Rattle.life_forest.proofs.Following.{IsOwned, pointer_stays}
 use Rattle.life_forest.proofs.Holding.{Holds, KeepsOn, gone_holds, held_cell, held_holds, held_self, keeps_waiting, kept_holds, named_free, unowned}
-use Rattle.life_forest.proofs.Keeping.{Keeps, keeps_more, keeps_self, keeps_wrote}
-use Rattle.life_forest.proofs.BegunPointers.{IsBegun, begun_at}
+use Rattle.life_forest.proofs.Keeping.{keeps_more, keeps_self, keeps_wrote}
+use Rattle.life_forest.proofs.BegunPointers.{begun_at}
 use Rattle.life_forest.proofs.MemberPointers.{first_puts, five_words, part_back, pointer_read, sets, sets_length}
 use Rattle.life_forest.proofs.Members.{path_within}
 use Rattle.life_forest.proofs.Puts.{puts_in, wrote_is}

@@ -1,20 +1,12 @@
 -- An object holds what it should behind a pointer that is written to one of its members.
-use Rattle.std.proofs.Common.{◌≡◌, ◌≢◌, ⊎_elim, ℕ, zero, suc, ◌+◌, ◌≤◌, ◌<◌, Bool, true, false, List, [], ◌∷◌, length, Option, Some, None, refl, sym, ap, subst, ◌∙◌, arith}
-use Rattle.std.proofs.lemmas.Bool.Decides.{eqb_tells, nat_tests}
+use Rattle.std.proofs.Common.{◌≡◌, ℕ, zero, suc, ◌+◌, ◌≤◌, List, [], ◌∷◌, length, Option, Some, None, refl, sym, ap, ◌∙◌, arith}
 use Rattle.std.proofs.lemmas.List.{length-set}
-use Rattle.std.specs.Prelude.{◌&&◌, ◌||◌, drop, nat_eq, nat_le, nat_lt, slice_get, slice_set, take}
-use Rattle.life_types.specs.Trees.{IsOrdered}
-use Rattle.life_types.specs.Types.{Types}
-use Rattle.life_types.specs.declared.ty.Ty.{Ty}
-use Rattle.life_types.specs.declared.ty.TyId.{TyId}
-use Rattle.life_store.specs.Cells.{at, at-set_same, set}
+use Rattle.std.specs.Prelude.{drop, slice_get, slice_set, take}
+use Rattle.life_store.specs.Cells.{at, at-set_same}
 use Rattle.life_store.specs.Content.{Slot, Object, Content}
-use Rattle.life_store.specs.Held.{owned_in, owner_word, pointer_in, pointer_words, slots_if, words_at, words_if, wrote}
-use Rattle.life_store.specs.Kinds.{Kind, is_value, kind_in}
-use Rattle.life_store.specs.Parts.{parts_at, width, width_at}
+use Rattle.life_store.specs.Held.{pointer_in, pointer_words, slots_if, words_at, words_if, wrote}
 use Rattle.life_store.specs.State.{Pointer, Null, Wild, To, Static}
-use Rattle.life_store.proofs.CellLemmas.{some_same}
-use Rattle.life_forest.proofs.Puts.{put_in, puts_in, wrote_is}
+use Rattle.life_forest.proofs.Puts.{puts_in, wrote_is}
 
 -- ---- what is written is read back
 

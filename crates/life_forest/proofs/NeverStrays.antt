@@ -1,5 +1,5 @@
 -- No run of a proper program strays, whatever the kinds of its instructions, where no call hands over a slot.
-use Rattle.std.proofs.Common.{◌≡◌, ℕ, zero, suc, ◌+◌, ◌≤◌, ◌<◌, Bool, true, false, ◌&&◌, List, [], ◌∷◌, length, Option, Some, None, refl, sym, ap, subst, ◌∙◌, arith}
+use Rattle.std.proofs.Common.{◌≡◌, ℕ, zero, suc, ◌+◌, ◌≤◌, ◌<◌, Bool, true, false, List, [], ◌∷◌, length, Option, Some, None, refl, sym, subst, ◌∙◌, arith}
 use Rattle.std.proofs.lemmas.Bool.{and_parts, false≢true}
 use Rattle.std.specs.Prelude.{ℤ, map, nat_eq, nat_lt, not, slice_get, take}
 use Rattle.std.specs.List.{list_all}
@@ -13,13 +13,12 @@ use Rattle.life_types.specs.declared.ty.Ty.TheVariants as ty
 use Rattle.life_types.specs.declared.ty.TyId.{TyId}
 use Rattle.life_core.specs.declared.program.Local.{Local}
 use Rattle.life_core.specs.declared.program.LocalKind.{LocalKind}
-use Rattle.life_core.specs.declared.program.LocalKind.TheVariants as kind
 use Rattle.life_core.specs.Function.{Function, Program}
 use Rattle.life_core.specs.Holdings.{APointer, AView, AnObject, Blank, held_if, sort_of_local}
 use Rattle.life_core.specs.Proper.{HasReadyWays, HaveReadyWays, IsReadyProgram}
 use Rattle.life_proper.specs.WellFormed.{is_well_formed_spot, types_taken}
 use Rattle.life_proper.specs.WellFormed as formed
-use Rattle.life_proper.specs.WellFormedPrograms.{IsWellFormedProgram, have_names, is_name, is_well_formed_function, is_well_formed_local}
+use Rattle.life_proper.specs.WellFormedPrograms.{IsWellFormedProgram, have_names, is_name, is_well_formed_function}
 use Rattle.life_proper.proofs.PointsAsked.{formed_spots}
 use Rattle.life_proper.proofs.SortedNodes.{formed_parts}
 use Rattle.life_proper.proofs.SpotTests.{all_at, point_tested}
@@ -27,7 +26,7 @@ use Rattle.life_store.specs.Calls.{entry_arguments}
 use Rattle.life_store.specs.Content.{Content, empty_content}
 use Rattle.life_store.specs.Effects.{Given}
 use Rattle.life_store.specs.Meaning.{AreObjects, Back, Barred, Called, Exhausted, Faulted, IsAdmitted, IsFound, Quit, Stray, Trapped, first_called, first_world, run_from, run_of, setting_of}
-use Rattle.life_store.specs.State.{Cell, World}
+use Rattle.life_store.specs.State.{World}
 use Rattle.life_store.proofs.CellLemmas.{none_some, some_same}
 use Rattle.life_forest.specs.Frames.{named_in}
 use Rattle.life_forest.specs.Owned.{times}

@@ -1,5 +1,5 @@
 -- Behind a call without slots its target is given the result: the frame goes on as the point says.
-use Rattle.std.proofs.Common.{◌≡◌, ◌⊎◌, inl, inr, ⊎_elim, ℕ, zero, suc, ◌+◌, ◌≤◌, ◌<◌, Bool, true, false, ◌&&◌, ◌||◌, not, if◌then◌else◌, List, [], ◌∷◌, ◌++◌, Option, Some, None, refl, sym, ap, subst, ◌∙◌, arith}
+use Rattle.std.proofs.Common.{◌≡◌, inl, inr, ℕ, ◌+◌, Bool, true, false, ◌&&◌, ◌||◌, not, if◌then◌else◌, List, [], ◌∷◌, ◌++◌, Option, Some, None, refl, sym, ap, subst, ◌∙◌, arith}
 use Rattle.std.proofs.lemmas.Bool.{and_parts, false≢true}
 use Rattle.std.specs.Prelude.{ℤ, cond, slice_get, slice_set}
 use Rattle.life_types.specs.Pointees.{or_void, ty_of}
@@ -16,9 +16,9 @@ use Rattle.life_core.specs.declared.program.LocalKind.{LocalKind}
 use Rattle.life_core.specs.declared.program.LocalKind.TheVariants as kind
 use Rattle.life_core.specs.Function.{Function}
 use Rattle.life_core.specs.Holdings.{ANumber, Holding, held_by, held_if, sort_of}
-use Rattle.life_core.specs.Kinds.{has_kind, is_object, is_object_at, is_register}
+use Rattle.life_core.specs.Kinds.{has_kind, is_object, is_register}
 use Rattle.life_core.specs.Operands.{Location}
-use Rattle.life_core.specs.Ready.{AreBits, IsBit, IsThere, Ready, set_bits}
+use Rattle.life_core.specs.Ready.{AreBits, IsThere, Ready, set_bits}
 use Rattle.life_core.specs.Touched.{by_members, if_object, target_births, target_writes, unless_object, written}
 use Rattle.life_pset.specs.Shapes.{members_type, ty_if}
 use Rattle.life_pset.specs.Shapes as shapes
@@ -26,23 +26,22 @@ use Rattle.life_proper.specs.OperandTypes.{are_alike, is_composed, keeps_const, 
 use Rattle.life_proper.specs.Placed.{is_number, is_slot_local, object_at, register_at, slot_at, type_at, type_in}
 use Rattle.life_proper.specs.WellFormed.{goes_to, is_whole}
 use Rattle.life_proper.proofs.HeldSorts.{same_is}
-use Rattle.life_store.specs.Calls.{first_given, given, given_if, given_to, number_given, result_given, target_given}
-use Rattle.life_store.specs.Content.{Content}
+use Rattle.life_store.specs.Calls.{given, given_if, given_to, number_given, result_given, target_given}
 use Rattle.life_store.specs.Effects.{Setting, Effect, Next, Traps, Faults, Strays, cell, put_cell}
 use Rattle.life_store.specs.Parts.{held_type_if, local_type, variable_type}
 use Rattle.life_store.specs.Places.{member_pointed, pointed}
 use Rattle.life_store.specs.declared.run.FaultKind.{FaultKind}
 use Rattle.life_store.specs.State.{Pointer, Cell, Empty, Named, Number, Points, State, ready_of}
-use Rattle.life_store.proofs.CellLemmas.{empty_cell_is, none_some, ready_set, some_same}
+use Rattle.life_store.proofs.CellLemmas.{empty_cell_is, some_same}
 use Rattle.life_forest.specs.FrameTypes.{PointsWell, Stands, seen_in, seen_type}
 use Rattle.life_forest.specs.Frames.{OnNext, named_in}
 use Rattle.life_forest.specs.Owned.{times}
-use Rattle.life_forest.specs.Settled.{IsPoised, KindsFit, PointersFit, Settles}
-use Rattle.life_forest.specs.Sorted.{AreSorted, PointerFits, sort_if}
-use Rattle.life_forest.proofs.EnteredFrames.{GivesOn, IsTaking, less_sound, local_gives, value_class}
+use Rattle.life_forest.specs.Settled.{KindsFit, PointersFit, Settles}
+use Rattle.life_forest.specs.Sorted.{PointerFits}
+use Rattle.life_forest.proofs.EnteredFrames.{GivesOn, less_sound, local_gives, value_class}
 use Rattle.life_forest.proofs.GivenResults.{IsResult}
 use Rattle.life_forest.proofs.HandedOver.{IsHandedTo}
-use Rattle.life_forest.proofs.HeldPoints.{IsNext, IsSound}
+use Rattle.life_forest.proofs.HeldPoints.{IsSound}
 use Rattle.life_forest.proofs.HeldPointers.{pointers_aim}
 use Rattle.life_forest.proofs.Holding.{Holds, held_cell, held_holds, held_self}
 use Rattle.life_forest.proofs.HoldingWrites.{pointed_holds}
