@@ -1,6 +1,7 @@
 pub mod Along
 pub mod Arguing
 pub mod Calling
+pub mod CallsAt
 pub mod Carrying
 pub mod Deriving
 pub mod Diagnosing

@@ -7,7 +7,9 @@ ghost use Rattle.life_core.specs.Operands.{argument_of};
 ghost use Rattle.life_core.specs.Step.{step_of};
 ghost use Rattle.life_pset.specs.Inputs.{input_seen};
 ghost use Rattle.life_contract.specs.Breaking.{breaks_at, of_pairs};
-ghost use Rattle.life_rules.specs.Arguing.{argument_diags, argument_diags_of_two, broken_at, broken_by, broken_by_two, known_name, moved_argument, moved_at, moved_behind, overlapping_at, told_break};
+ghost use Rattle.life_rules.specs.Arguing.{argument_diags, argument_diags_of_two, broken_by, broken_by_two, known_name, moved_argument, moved_behind, told_break};
+ghost use Rattle.life_rules.specs.CallsAt.{broken_in, moved_in, overlapping_in};
+ghost use Rattle.life_rules.specs.Telling.{told_of};
 
 use crate::diag::{Diag, DiagKind, Why};
 use crate::telling::push_told_of;
@@ -19,6 +21,40 @@ use life_core::{Argument, CoreFn, Instr};
 use life_pset::{Element, Fact, InputPointer, is_variable_place};
 use life_types::{NameId, NoMemory, Place, TypeTable};
 use std::alloc::Global;
+
+/// A call at a point of a function, by the signature of what is called.
+#[derive(Drop)]
+pub struct CallAt<'a> {
+    types: &'a TypeTable,
+    function: u32,
+    place: Place,
+    callee: u32,
+    sig: &'a Signature,
+    arguments: &'a [Argument],
+}
+
+// Adds that something is wrong with what is given for an input.
+fn push_told_of_call(
+    call: &CallAt<'_>,
+    kind: DiagKind,
+    input: InputPointer,
+    why: Why,
+    out: &mut Vec<Diag>,
+) -> Result<(), NoMemory>
+    ensures { OnOk result
+        (out.new.items
+        ≡ out.old.items ++ told_of call.now.function call.now.place call.now.callee kind (input_seen input).pointer why) }
+{
+    push_told_of(
+        call.function,
+        call.place,
+        call.callee,
+        kind,
+        input.pointer,
+        why,
+        out,
+    )
+}
 
 // ---- one fact
 
@@ -76,104 +112,68 @@ fn push_broken_by(
         None => Ok(()),
         Some(sig) => {
             let inputs = inputs_of(alloc, sig, types)?;
-            push_broken_at_all(
-                types, function, place, callee, sig, arguments, fact, &inputs, out,
-            )
+            let call = CallAt {
+                types,
+                function,
+                place,
+                callee,
+                sig,
+                arguments,
+            };
+            push_broken_at_all(&call, fact, &inputs, out)
         }
     }
 }
 
 fn push_broken_at_all(
-    types: &TypeTable,
-    function: u32,
-    place: Place,
-    callee: u32,
-    sig: &Signature,
-    arguments: &[Argument],
+    call: &CallAt<'_>,
     fact: &Fact,
     inputs: &[InputPointer],
     out: &mut Vec<Diag>,
 ) -> Result<(), NoMemory>
     ensures { OnOk result
-        (out.new.items
-        ≡ out.old.items ++ flat_map (broken_at types.now function place callee sig.now (map argument_of arguments.now) fact.now) (map input_seen inputs.now)) }
+        (out.new.items ≡ out.old.items ++ flat_map (broken_in call.now fact.now) (map input_seen inputs.now)) }
 {
     for input in inputs {
-        push_broken_at(
-            types, function, place, callee, sig, arguments, fact, *input, out,
-        )?;
+        push_broken_at(call, fact, *input, out)?;
     }
     Ok(())
 }
 
 fn push_broken_at(
-    types: &TypeTable,
-    function: u32,
-    place: Place,
-    callee: u32,
-    sig: &Signature,
-    arguments: &[Argument],
+    call: &CallAt<'_>,
     fact: &Fact,
     input: InputPointer,
     out: &mut Vec<Diag>,
 ) -> Result<(), NoMemory>
     ensures { OnOk result
-        (out.new.items
-        ≡ out.old.items ++ broken_at types.now function place callee sig.now (map argument_of arguments.now) fact.now (input_seen input)) }
+        (out.new.items ≡ out.old.items ++ broken_in call.now fact.now (input_seen input)) }
 {
-    if is_argument_of(arguments, input, &fact.location) {
-        push_breaks(
-            types,
-            function,
-            place,
-            callee,
-            sig,
-            input,
-            fact.element,
-            out,
-        )?;
+    if is_argument_of(call.arguments, input, &fact.location) {
+        push_breaks(call, input, fact.element, out)?;
     }
     Ok(())
 }
 
 fn push_breaks(
-    types: &TypeTable,
-    function: u32,
-    place: Place,
-    callee: u32,
-    sig: &Signature,
+    call: &CallAt<'_>,
     input: InputPointer,
     element: Element,
     out: &mut Vec<Diag>,
 ) -> Result<(), NoMemory>
     ensures { OnOk result
         (out.new.items
-        ≡ out.old.items ++ flat_map (told_break function place callee (input_seen input)) (breaks_at types.now sig.now (input_seen input) element)) }
+        ≡ out.old.items ++ flat_map (told_break call.now.function call.now.place call.now.callee (input_seen input)) (breaks_at call.now.types.now call.now.sig.now (input_seen input) element)) }
 {
-    let name = input.pointer;
     match element {
         Element::Null => {
-            if !admits_null(sig, types, input) {
-                push_told_of(
-                    function,
-                    place,
-                    callee,
-                    DiagKind::ArgNull,
-                    name,
-                    Why::Null,
-                    out,
-                )?;
+            if !admits_null(call.sig, call.types, input) {
+                push_told_of_call(call, DiagKind::ArgNull, input, Why::Null, out)?;
             }
         }
-        Element::Invalid(cause) => push_told_of(
-            function,
-            place,
-            callee,
-            DiagKind::ArgDangling,
-            name,
-            Why::Cause(cause),
-            out,
-        )?,
+        Element::Invalid(cause) => {
+            push_told_of_call(call, DiagKind::ArgDangling, input, Why::Cause(cause), out)?
+        }
         _ => {}
     }
     Ok(())
@@ -242,22 +242,23 @@ fn push_broken_by_two(
         None => Ok(()),
         Some(sig) => {
             let inputs = inputs_of(alloc, sig, types)?;
-            push_broken_at_two(
-                types, function, f, place, callee, sig, arguments, first, second, &inputs, out,
-            )
+            let call = CallAt {
+                types,
+                function,
+                place,
+                callee,
+                sig,
+                arguments,
+            };
+            push_broken_at_two(&call, f, first, second, &inputs, out)
         }
     }
 }
 
 #[tactic(auto, using(std::proofs::Common::append_assoc))]
 fn push_broken_at_two(
-    types: &TypeTable,
-    function: u32,
+    call: &CallAt<'_>,
     f: &CoreFn,
-    place: Place,
-    callee: u32,
-    sig: &Signature,
-    arguments: &[Argument],
     first: &Fact,
     second: &Fact,
     inputs: &[InputPointer],
@@ -265,25 +266,17 @@ fn push_broken_at_two(
 ) -> Result<(), NoMemory>
     ensures { OnOk result
         (out.new.items
-        ≡ out.old.items ++ (flat_map (moved_at types.now function (function_of f.now) place callee (map argument_of arguments.now) first.now second.now) (map input_seen inputs.now) ++ of_pairs (overlapping_at types.now function place callee sig.now (map argument_of arguments.now) first.now second.now) (map input_seen inputs.now))) }
+        ≡ out.old.items ++ (flat_map (moved_in call.now (function_of f.now) first.now second.now) (map input_seen inputs.now) ++ of_pairs (overlapping_in call.now first.now second.now) (map input_seen inputs.now))) }
 {
-    push_moved_at_all(
-        types, function, f, place, callee, arguments, first, second, inputs, out,
-    )?;
-    push_overlapping(
-        types, function, place, callee, sig, arguments, first, second, inputs, out,
-    )
+    push_moved_at_all(call, f, first, second, inputs, out)?;
+    push_overlapping(call, first, second, inputs, out)
 }
 
 // ---- an owner that is moved from
 
 fn push_moved_at_all(
-    types: &TypeTable,
-    function: u32,
+    call: &CallAt<'_>,
     f: &CoreFn,
-    place: Place,
-    callee: u32,
-    arguments: &[Argument],
     argument: &Fact,
     owner: &Fact,
     inputs: &[InputPointer],
@@ -291,23 +284,17 @@ fn push_moved_at_all(
 ) -> Result<(), NoMemory>
     ensures { OnOk result
         (out.new.items
-        ≡ out.old.items ++ flat_map (moved_at types.now function (function_of f.now) place callee (map argument_of arguments.now) argument.now owner.now) (map input_seen inputs.now)) }
+        ≡ out.old.items ++ flat_map (moved_in call.now (function_of f.now) argument.now owner.now) (map input_seen inputs.now)) }
 {
     for input in inputs {
-        push_moved_at(
-            types, function, f, place, callee, arguments, argument, owner, *input, out,
-        )?;
+        push_moved_at(call, f, argument, owner, *input, out)?;
     }
     Ok(())
 }
 
 fn push_moved_at(
-    types: &TypeTable,
-    function: u32,
+    call: &CallAt<'_>,
     f: &CoreFn,
-    place: Place,
-    callee: u32,
-    arguments: &[Argument],
     argument: &Fact,
     owner: &Fact,
     input: InputPointer,
@@ -315,30 +302,17 @@ fn push_moved_at(
 ) -> Result<(), NoMemory>
     ensures { OnOk result
         (out.new.items
-        ≡ out.old.items ++ moved_at types.now function (function_of f.now) place callee (map argument_of arguments.now) argument.now owner.now (input_seen input)) }
+        ≡ out.old.items ++ moved_in call.now (function_of f.now) argument.now owner.now (input_seen input)) }
 {
-    if is_argument_of(arguments, input, &argument.location) {
-        push_moved_behind(
-            types,
-            function,
-            f,
-            place,
-            callee,
-            input,
-            argument.element,
-            owner,
-            out,
-        )?;
+    if is_argument_of(call.arguments, input, &argument.location) {
+        push_moved_behind(call, f, input, argument.element, owner, out)?;
     }
     Ok(())
 }
 
 fn push_moved_behind(
-    types: &TypeTable,
-    function: u32,
+    call: &CallAt<'_>,
     f: &CoreFn,
-    place: Place,
-    callee: u32,
     input: InputPointer,
     argument: Element,
     owner: &Fact,
@@ -346,12 +320,12 @@ fn push_moved_behind(
 ) -> Result<(), NoMemory>
     ensures { OnOk result
         (out.new.items
-        ≡ out.old.items ++ moved_behind types.now function (function_of f.now) place callee (input_seen input) argument owner.now) }
+        ≡ out.old.items ++ moved_behind call.now.types.now call.now.function (function_of f.now) call.now.place call.now.callee (input_seen input) argument owner.now) }
 {
     match argument {
         Element::At(target) => {
-            if owner.location == target && is_variable_place(types, f, &owner.location) {
-                push_moved_argument(function, place, callee, input, owner.element, out)?;
+            if owner.location == target && is_variable_place(call.types, f, &owner.location) {
+                push_moved_argument(call, input, owner.element, out)?;
             }
         }
         _ => {}
@@ -360,26 +334,19 @@ fn push_moved_behind(
 }
 
 fn push_moved_argument(
-    function: u32,
-    place: Place,
-    callee: u32,
+    call: &CallAt<'_>,
     input: InputPointer,
     element: Element,
     out: &mut Vec<Diag>,
 ) -> Result<(), NoMemory>
     ensures { OnOk result
-        (out.new.items ≡ out.old.items ++ moved_argument function place callee (input_seen input) element) }
+        (out.new.items
+        ≡ out.old.items ++ moved_argument call.now.function call.now.place call.now.callee (input_seen input) element) }
 {
     match element {
-        Element::Moved(cause) => push_told_of(
-            function,
-            place,
-            callee,
-            DiagKind::ArgDangling,
-            input.pointer,
-            Why::Cause(cause),
-            out,
-        )?,
+        Element::Moved(cause) => {
+            push_told_of_call(call, DiagKind::ArgDangling, input, Why::Cause(cause), out)?
+        }
         _ => {}
     }
     Ok(())
@@ -389,46 +356,23 @@ fn push_moved_argument(
 
 // Adds what is wrong for each input and each behind it.
 fn push_overlapping(
-    types: &TypeTable,
-    function: u32,
-    place: Place,
-    callee: u32,
-    sig: &Signature,
-    arguments: &[Argument],
+    call: &CallAt<'_>,
     first: &Fact,
     second: &Fact,
     inputs: &[InputPointer],
     out: &mut Vec<Diag>,
 ) -> Result<(), NoMemory>
     ensures { OnOk result
-        (out.new.items
-        ≡ out.old.items ++ of_pairs (overlapping_at types.now function place callee sig.now (map argument_of arguments.now) first.now second.now) (map input_seen inputs.now)) }
+        (out.new.items ≡ out.old.items ++ of_pairs (overlapping_in call.now first.now second.now) (map input_seen inputs.now)) }
 {
     for (number, input) in inputs.iter().enumerate() {
-        push_overlapping_with(
-            types,
-            function,
-            place,
-            callee,
-            sig,
-            arguments,
-            first,
-            second,
-            *input,
-            &inputs[number + 1..],
-            out,
-        )?;
+        push_overlapping_with(call, first, second, *input, &inputs[number + 1..], out)?;
     }
     Ok(())
 }
 
 fn push_overlapping_with(
-    types: &TypeTable,
-    function: u32,
-    place: Place,
-    callee: u32,
-    sig: &Signature,
-    arguments: &[Argument],
+    call: &CallAt<'_>,
     first: &Fact,
     second: &Fact,
     input: InputPointer,
@@ -437,23 +381,16 @@ fn push_overlapping_with(
 ) -> Result<(), NoMemory>
     ensures { OnOk result
         (out.new.items
-        ≡ out.old.items ++ flat_map (overlapping_at types.now function place callee sig.now (map argument_of arguments.now) first.now second.now (input_seen input)) (map input_seen others.now)) }
+        ≡ out.old.items ++ flat_map (overlapping_in call.now first.now second.now (input_seen input)) (map input_seen others.now)) }
 {
     for other in others {
-        push_overlapping_at(
-            types, function, place, callee, sig, arguments, first, second, input, *other, out,
-        )?;
+        push_overlapping_at(call, first, second, input, *other, out)?;
     }
     Ok(())
 }
 
 fn push_overlapping_at(
-    types: &TypeTable,
-    function: u32,
-    place: Place,
-    callee: u32,
-    sig: &Signature,
-    arguments: &[Argument],
+    call: &CallAt<'_>,
     first: &Fact,
     second: &Fact,
     input: InputPointer,
@@ -462,22 +399,15 @@ fn push_overlapping_at(
 ) -> Result<(), NoMemory>
     ensures { OnOk result
         (out.new.items
-        ≡ out.old.items ++ overlapping_at types.now function place callee sig.now (map argument_of arguments.now) first.now second.now (input_seen input) (input_seen other)) }
+        ≡ out.old.items ++ overlapping_in call.now first.now second.now (input_seen input) (input_seen other)) }
 {
-    if is_argument_of(arguments, input, &first.location)
-        && is_argument_of(arguments, other, &second.location)
-        && breaks_apart(sig, types, input, other, first.element, second.element)
+    let sig = call.sig;
+    if is_argument_of(call.arguments, input, &first.location)
+        && is_argument_of(call.arguments, other, &second.location)
+        && breaks_apart(sig, call.types, input, other, first.element, second.element)
     {
         let name = known_name(sig.name, input_parameter(sig, other));
-        push_told_of(
-            function,
-            place,
-            callee,
-            DiagKind::ArgOverlap,
-            input.pointer,
-            Why::Overlap(name),
-            out,
-        )?;
+        push_told_of_call(call, DiagKind::ArgOverlap, input, Why::Overlap(name), out)?;
     }
     Ok(())
 }
