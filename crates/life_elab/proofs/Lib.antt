@@ -5,4 +5,9 @@ pub mod OpenBranches
 pub mod Parameters
 pub mod SeenStatements
 pub mod SimpleSteps
+pub mod WorkedLoops
+pub mod WorkedOwners
 pub mod WorkedRows
+pub mod WorkedTexts
+pub mod WorkedTrees
+pub mod WorkedVectors

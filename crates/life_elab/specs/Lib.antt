@@ -1,10 +1,16 @@
 pub mod Bounds
+pub mod DeclarationForms
 pub mod Declarations
 pub mod Elaborated
 pub mod Functions
 pub mod LastTokens
+pub mod LimitForms
 pub mod OpenedViews
 pub mod Over
+pub mod ProgramForms
 pub mod Programs
+pub mod RangeForms
+pub mod SimpleForms
 pub mod Simples
+pub mod StatementForms
 pub mod Statements

@@ -1,6 +1,8 @@
 pub mod Decided
 pub mod Following
+pub mod FormsKeep
 pub mod Giving
+pub mod GivingKeep
 pub mod Handing
 pub mod Made
 pub mod NothingEnds
@@ -8,5 +10,7 @@ pub mod Opened
 pub mod Seen
 pub mod Turns
 pub mod TypeNumbers
+pub mod UsesKeep
+pub mod UsingKeep
 pub mod Weights
 pub mod WorkedTemporaries
