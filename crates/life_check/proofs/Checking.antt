@@ -4,7 +4,7 @@ use Rattle.life_built.specs.Built.{is_built}
 use Rattle.life_core.specs.Function.{Program}
 use Rattle.life_elab.specs.Elaborated.{Elaborates}
 use Rattle.life_elab.specs.Over.{over}
-use Rattle.life_elab.specs.Programs.{core_program}
+use Rattle.life_elab.specs.ProgramForms.{translated}
 use Rattle.life_elab.specs.declared.fault.ElabFault.{ElabFault}
 use Rattle.life_elab.specs.declared.fault.ElabFault.TheVariants as elab
 use Rattle.life_names.specs.declared.fault.IllFault.{IllFault}
@@ -41,11 +41,11 @@ module _ (typed : ProgramForm) where
   unbuilt_finds not = subst (λ b. BuiltComesTo b typed (Faulty unsupported)) (sym not) refl
 
   module _ (built : is_built typed ≡ true) where
-    of_limits : (limit : Option LimitFault) → over typed (core_program typed) ≡ limit → (f : Finding) → LimitedComesTo limit (core_program typed) f → TypedComesTo typed f
+    of_limits : (limit : Option LimitFault) → over typed (translated typed) ≡ limit → (f : Finding) → LimitedComesTo limit (translated typed) f → TypedComesTo typed f
     of_limits limit passed f is =
-        subst (λ b. BuiltComesTo b typed f) (sym built) (subst (λ o. LimitedComesTo o (core_program typed) f) (sym passed) is)
+        subst (λ b. BuiltComesTo b typed f) (sym built) (subst (λ o. LimitedComesTo o (translated typed) f) (sym passed) is)
 
-    pub core_finds : (core : Program) (result : Result Checked CheckFault) → core ≡ core_program typed → over typed (core_program typed) ≡ None
+    pub core_finds : (core : Program) (result : Result Checked CheckFault) → core ≡ translated typed → over typed (translated typed) ≡ None
         → Finds (IsListed core) result → Finds (TypedComesTo typed) result
     core_finds core result is none found =
         finds_as (IsListed core) (TypedComesTo typed) result (λ f listed. of_limits None none f (subst (λ c. IsListed c f) is listed)) found

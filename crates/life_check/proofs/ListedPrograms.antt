@@ -3,7 +3,7 @@ use Rattle.std.proofs.Common.{◌≡◌, ℕ, Bool, true, false, List, Option, N
 use Rattle.life_built.specs.Built.{is_built}
 use Rattle.life_core.specs.Function.{Program}
 use Rattle.life_elab.specs.Over.{over}
-use Rattle.life_elab.specs.Programs.{core_program}
+use Rattle.life_elab.specs.ProgramForms.{translated}
 use Rattle.life_names.specs.Checked.{Ill as Broken}
 use Rattle.life_parse.specs.Ends.{Ends as Parses}
 use Rattle.life_parse.specs.declared.fault.ParseFault.{ParseFault}
@@ -29,8 +29,8 @@ of_limits : (passed : Option LimitFault) (core p : Program) (ds : List Diag) →
 of_limits None core p ds is = the_program p core ds is.diagnostics is.is
 of_limits (Some fault) core p ds is = no_fault p ds _ is
 
-of_built : (built : Bool) (typed : ProgramForm) (p : Program) (ds : List Diag) → BuiltComesTo built typed (Listed p ds) → p ≡ core_program typed
-of_built true typed p ds is = of_limits (over typed (core_program typed)) (core_program typed) p ds is
+of_built : (built : Bool) (typed : ProgramForm) (p : Program) (ds : List Diag) → BuiltComesTo built typed (Listed p ds) → p ≡ translated typed
+of_built true typed p ds is = of_limits (over typed (translated typed)) (translated typed) p ds is
 of_built false typed p ds is = no_fault p ds _ is
 
 of_resolved : (bytes : List ℕ) (tree : Parsed) → Parses bytes (Ok tree) → (r : Result ProgramForm Broken) → resolved tree ≡ r → (p : Program) (ds : List Diag) → ResolvedComesTo r (Listed p ds) → IsProgramOf bytes p

@@ -3,7 +3,7 @@ use Rattle.std.proofs.Common.{◌≡◌, ℕ, Bool, true, false, List, Option, N
 use Rattle.life_built.specs.Built.{is_built}
 use Rattle.life_core.specs.Function.{Program}
 use Rattle.life_elab.specs.Over.{over}
-use Rattle.life_elab.specs.Programs.{core_program}
+use Rattle.life_elab.specs.ProgramForms.{translated}
 use Rattle.life_keys.specs.Keys.{file_tables}
 use Rattle.life_lex.specs.Readings.{whole}
 use Rattle.life_names.specs.Checked.{Ill as Broken}
@@ -31,7 +31,7 @@ one_of_limits None core a b p q = one_program core a b p q
 one_of_limits (Some fault) core a b p q = p ∙ sym q
 
 one_built : (built : Bool) (typed : ProgramForm) (a b : Finding) → BuiltComesTo built typed a → BuiltComesTo built typed b → a ≡ b
-one_built true typed a b p q = one_of_limits (over typed (core_program typed)) (core_program typed) a b p q
+one_built true typed a b p q = one_of_limits (over typed (translated typed)) (translated typed) a b p q
 one_built false typed a b p q = p ∙ sym q
 
 one_resolved : (r : Result ProgramForm Broken) (a b : Finding) → ResolvedComesTo r a → ResolvedComesTo r b → a ≡ b

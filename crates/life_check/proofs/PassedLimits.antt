@@ -12,10 +12,11 @@ use Rattle.life_tree.specs.declared.limit.LimitName.TheVariants.{Functions, Loca
 use Rattle.life_core.specs.Function.{Function, Program}
 use Rattle.life_core.specs.Linked.{points_of}
 use Rattle.life_elab.specs.Bounds.{HaveNumberedLocals, HaveShortPlaces}
-use Rattle.life_elab.specs.Functions.{function_from, written}
+use Rattle.life_elab.specs.Functions.{function_from}
 use Rattle.life_elab.specs.Over as over
 use Rattle.life_elab.specs.Over.{first_of, over_function, over_functions, passes}
-use Rattle.life_elab.specs.Programs.{Functions as Written, around, core_program, functions, with_function}
+use Rattle.life_elab.specs.ProgramForms.{functions, translated, written}
+use Rattle.life_elab.specs.Programs.{Functions as Written, around, with_function}
 use Rattle.life_typed.specs.Programs.{FunctionForm, ProgramForm}
 use Rattle.life_proper.specs.ProperPrograms.{IsProperProgram}
 use Rattle.life_pset.specs.Limits.{IsProgramWithinLimits}
@@ -76,18 +77,18 @@ none_mapped : {A B : Type 0} (g : A → B) (o : Option A) → option_map g o ≡
 none_mapped g None h = refl
 none_mapped g (Some x) h = absurd (none-some (g x) (sym h))
 
-module _ (p : ProgramForm) (core : Program) (is : core ≡ core_program p) (none : over.over p (core_program p) ≡ None) (numbered : HaveNumberedLocals core.functions) (short : HaveShortPlaces (core_program p).types (core_program p).functions) where
-  its_limits : IsProgramWithinLimits (core_program p)
+module _ (p : ProgramForm) (core : Program) (is : core ≡ translated p) (none : over.over p (translated p) ≡ None) (numbered : HaveNumberedLocals core.functions) (short : HaveShortPlaces (translated p).types (translated p).functions) where
+  its_limits : IsProgramWithinLimits (translated p)
   its_limits =
-      let both = first_none (over.too_many p) (over_functions (core_program p).types (core_program p).functions) none in
+      let both = first_none (over.too_many p) (over_functions (translated p).types (translated p).functions) none in
       let past = none_past p.functions 1024 (none_mapped (λ (f : FunctionForm). over.limit Functions f.first_place) (slice_get p.functions 1024) both.0) in
       record {
         few = omega (arith, count_functions p p.functions (record { types = p.types; functions = [] }), past);
-        each = each_within (core_program p).types (core_program p).functions both.1 (subst (λ (c : Program). HaveNumberedLocals c.functions) is numbered) short;
+        each = each_within (translated p).types (translated p).functions both.1 (subst (λ (c : Program). HaveNumberedLocals c.functions) is numbered) short;
       }
 
   -- so it is proper where it is proper within them
-  pub translated_proper : (IsProgramWithinLimits (core_program p) → IsProperProgram (core_program p)) → IsProperProgram core
+  pub translated_proper : (IsProgramWithinLimits (translated p) → IsProperProgram (translated p)) → IsProperProgram core
   translated_proper proper = subst IsProperProgram (sym is) (proper its_limits)
 
 -- a proper program is within them

@@ -3,7 +3,7 @@ use Rattle.std.specs.Prelude.{◌≡◌, ◌≢◌, ℕ, Bool, true, false, List
 use Rattle.life_built.specs.Built.{is_built}
 use Rattle.life_core.specs.Function.{Program}
 use Rattle.life_elab.specs.Over.{over}
-use Rattle.life_elab.specs.Programs.{core_program}
+use Rattle.life_elab.specs.ProgramForms.{translated}
 use Rattle.life_names.specs.Checked.{Ill as Broken}
 use Rattle.life_parse.specs.Ends.{IsOnlyFault, Ends as Parses}
 use Rattle.life_parse.specs.declared.fault.ParseFault.{ParseFault}
@@ -36,7 +36,7 @@ LimitedComesTo (Some fault) core finding = finding ≡ Faulty (Limit fault)
 
 -- the core program of a typed one that is built
 abbrev pub BuiltComesTo : Bool → ProgramForm → Finding → Type 0
-BuiltComesTo true typed finding = LimitedComesTo (over typed (core_program typed)) (core_program typed) finding
+BuiltComesTo true typed finding = LimitedComesTo (over typed (translated typed)) (translated typed) finding
 BuiltComesTo false typed finding = finding ≡ Faulty unsupported
 
 abbrev pub TypedComesTo : ProgramForm → Finding → Type 0
@@ -80,4 +80,4 @@ pub record IsProgramOf (bytes : List ℕ) (p : Program) : Type 0 where
   pub typed : ProgramForm
   pub parsed : Parses bytes (Ok tree)
   pub has_types : resolved tree ≡ Ok typed
-  pub is : p ≡ core_program typed
+  pub is : p ≡ translated typed

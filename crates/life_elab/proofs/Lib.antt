@@ -4,6 +4,7 @@ pub mod NumberedLocals
 pub mod OpenBranches
 pub mod Parameters
 pub mod SeenStatements
+pub mod SimpleChoices
 pub mod SimpleSteps
 pub mod WorkedLoops
 pub mod WorkedOwners

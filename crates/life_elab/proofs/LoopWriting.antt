@@ -11,12 +11,14 @@ use Rattle.life_writer.specs.Answers.{Answers}
 use Rattle.life_writer.specs.Writing.{State, Gives, gives, ◌>>◌, apart, write}
 use Rattle.life_writer.specs.Around.{Around}
 use Rattle.life_writer.specs.Behind.{ending}
-use Rattle.life_writer.specs.Expressions.{condition}
+use Rattle.life_writer.specs.ExpressionForms.{uses}
+use Rattle.life_writer.specs.Using.{condition}
 use Rattle.life_writer.specs.declared.behind.Behind.{Behind}
 use Rattle.life_writer.specs.Variables.{end_since}
 use Rattle.life_elab.specs.LastTokens.{last_token}
-use Rattle.life_elab.specs.Simples.{simple_if}
-use Rattle.life_elab.specs.Statements.{body_of_loop, condition_or_true, looped, started, statement}
+use Rattle.life_elab.specs.SimpleForms.{simple_if}
+use Rattle.life_elab.specs.StatementForms.{condition_or_true, started, statement}
+use Rattle.life_elab.specs.Statements.{body_of_loop, looped}
 
 pub looped_gives : (test : State → Gives Tree) (body step : State → State) (s : State) (t : Tree) (tested : State) (b : Tree) (repeated : State) (n : Tree) (stepped after : State)
     → test s ≡ gives t tested → apart (body_of_loop body) tested ≡ gives b repeated → apart step repeated ≡ gives n stepped → after ≡ write (Turns t b n) stepped
@@ -29,16 +31,16 @@ looped_gives test body step s t tested b repeated n stepped after first second t
 
 -- a condition, or none
 pub tested_if : (a : Around) (keyword : Place) (v : Option Typed) (e : Typed) (token : Place) (b : Behind) (s now : State) (r : Result Condition NoMemory) → v ≡ Some e → b ≡ ending token
-    → Answers condition_tree r (condition a (whole e) b s) now → Answers condition_tree r (condition_or_true a keyword v token s) now
+    → Answers condition_tree r (condition (uses a (whole e)) b s) now → Answers condition_tree r (condition_or_true a keyword v token s) now
 tested_if a keyword v e token b s now r is here given =
-    answers_as condition_tree r _ _ now (ap (λ (o : Option Typed). condition_or_true a keyword o token s) is ∙ ap (λ (c : Behind). condition a (whole e) c s) (sym here)) given
+    answers_as condition_tree r _ _ now (ap (λ (o : Option Typed). condition_or_true a keyword o token s) is ∙ ap (λ (c : Behind). condition (uses a (whole e)) c s) (sym here)) given
 
 -- a loop without a step
 pub while_gives : (a : Around) (f : StmtForm) (keyword : Place) (decides : Typed) (closing : Place) (body : StmtForm) (s : State) (t : Tree) (tested : State) (b : Tree) (repeated : State) (n : Tree) (after : State) (b0 : Behind)
-    → f ≡ while_loop keyword decides closing body → b0 ≡ ending closing → condition a (whole decides) b0 s ≡ gives t tested → apart (body_of_loop (statement a body)) tested ≡ gives b repeated → n ≡ Skip
+    → f ≡ while_loop keyword decides closing body → b0 ≡ ending closing → condition (uses a (whole decides)) b0 s ≡ gives t tested → apart (body_of_loop (statement a body)) tested ≡ gives b repeated → n ≡ Skip
     → after ≡ write (Turns t b n) repeated → after ≡ statement a f s
 while_gives a f keyword decides closing body s t tested b repeated n after b0 is here first second none last =
-    looped_gives (condition a (whole decides) (ending closing)) (statement a body) (λ s. s) s t tested b repeated n repeated after (ap (λ (c : Behind). condition a (whole decides) c s) (sym here) ∙ first) second
+    looped_gives (condition (uses a (whole decides)) (ending closing)) (statement a body) (λ s. s) s t tested b repeated n repeated after (ap (λ (c : Behind). condition (uses a (whole decides)) c s) (sym here) ∙ first) second
     (ap (λ (m : Tree). gives m repeated) (sym none)) last
     ∙ ap (λ (g : StmtForm). statement a g s) (sym is)
 

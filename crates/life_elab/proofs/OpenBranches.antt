@@ -7,17 +7,19 @@ use Rattle.life_typed.specs.declared.typed_stmt.TypedBranch.{TypedBranch, fold_o
 use Rattle.life_typed.specs.declared.typed_stmt.TypedStmt.{TypedStmt}
 use Rattle.life_writer.specs.Around.{Around}
 use Rattle.life_writer.specs.Behind.{ending}
-use Rattle.life_writer.specs.Expressions.{condition}
+use Rattle.life_writer.specs.ExpressionForms.{uses}
+use Rattle.life_writer.specs.Using.{condition}
 use Rattle.life_writer.specs.Writing.{State, Gives, gives, mapped}
 use Rattle.life_elab.specs.OpenedViews.{opened_of}
-use Rattle.life_elab.specs.Statements.{Opened, branches_of, closed, closed_one, opened, opened_all, statement}
+use Rattle.life_elab.specs.StatementForms.{branches_of, opened_all, statement}
+use Rattle.life_elab.specs.Statements.{Opened, closed, closed_one, opened}
 use Rattle.life_elab.specs.declared.branches.Opened.{Opened as Writing}
 
 -- opened, and closed behind what is done where no condition holds
 pub all_opened : (a : Around) (branches : StmtForm) (last : State → State) (s : State)
     → closed (opened_all a branches s).given (last (opened_all a branches s).state) ≡ branches_of a branches last s
 all_opened a (chain (branch keyword decides closing body) others) last s =
-    let w = opened (condition a (whole decides) (ending closing)) (statement a body) s in
+    let w = opened (condition (uses a (whole decides)) (ending closing)) (statement a body) s in
     ap (closed_one w.given) (all_opened a others last w.state)
 all_opened a _ last s = refl
 
@@ -42,7 +44,7 @@ seen : (b : TypedBranch) (x : TypedStmt) → (out-TypedBranch b).body.value ≡ 
 seen b x is = rw fold_out-TypedBranch (ap (λ (y : TypedStmt). branch (out-TypedBranch b).keyword (typed_view (out-TypedBranch b).condition) (out-TypedBranch b).closing (stmt_view y)) is)
 
 opening_more : (a : Around) (so_far : List Opened) (b : TypedBranch) (bs : List TypedBranch) (x : TypedStmt) (s : State) (o : Opened) (after : State) (total : Gives (List Opened))
-    → (out-TypedBranch b).body.value ≡ x → opened (condition a (whole (typed_view (out-TypedBranch b).condition)) (ending (out-TypedBranch b).closing)) (statement a (stmt_view x)) s ≡ gives o after
+    → (out-TypedBranch b).body.value ≡ x → opened (condition (uses a (whole (typed_view (out-TypedBranch b).condition))) (ending (out-TypedBranch b).closing)) (statement a (stmt_view x)) s ≡ gives o after
     → Opening a so_far (b ∷ bs) s total → Opening a (so_far ++ o ∷ []) bs after total
 opening_more a so_far b bs x s o after total is given all =
     let rest = opened_all a (stmt_forms (map branch_view bs)) after in
@@ -55,7 +57,7 @@ opening_more a so_far b bs x s o after total is given all =
 
 pub opening_turn : (a : Around) (so_far : List Opened) (branches : List TypedBranch) (i : ℕ) (b : TypedBranch) (x : TypedStmt) (s : State) (o : Opened) (after : State) (total : Gives (List Opened))
     → i < length branches → b ≡ get_or branches i b → (out-TypedBranch b).body.value ≡ x
-    → opened (condition a (whole (typed_view (out-TypedBranch b).condition)) (ending (out-TypedBranch b).closing)) (statement a (stmt_view x)) s ≡ gives o after
+    → opened (condition (uses a (whole (typed_view (out-TypedBranch b).condition))) (ending (out-TypedBranch b).closing)) (statement a (stmt_view x)) s ≡ gives o after
     → Opening a so_far (drop i branches) s total → Opening a (so_far ++ o ∷ []) (drop (i + 1) branches) after total
 opening_turn a so_far branches i b x s o after total more is body given all =
     let first : drop i branches ≡ b ∷ drop (i + 1) branches = drop_more branches i b more ∙ ap (λ y. y ∷ drop (i + 1) branches) (sym is) in

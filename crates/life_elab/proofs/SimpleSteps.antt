@@ -2,6 +2,9 @@
 use Rattle.std.proofs.Common.{◌≡◌, ℕ, None, Some, length, sym, ap, ◌∙◌}
 use Rattle.std.specs.Prelude.{pos}
 use Rattle.life_types.specs.declared.place.Place.{Place}
+use Rattle.life_types.specs.Types.{class}
+use Rattle.life_types.specs.declared.ty.Class.{Class}
+use Rattle.life_types.specs.declared.ty.Class.TheVariants as classes
 use Rattle.life_types.specs.declared.ty.Ty.{Ty}
 use Rattle.life_tree.specs.declared.operator.StepOperator.{StepOperator}
 use Rattle.life_typed.specs.Operators.{promoted}
@@ -12,18 +15,21 @@ use Rattle.life_core.specs.declared.operation.Operation.TheVariants as operation
 use Rattle.life_core.specs.declared.operation.Operator.{Operator}
 use Rattle.life_writer.proofs.Seen.{type_seen}
 use Rattle.life_writer.specs.Around.{Around, own_type, result_local, type_of}
-use Rattle.life_writer.specs.Expressions.{operand, value}
+use Rattle.life_writer.specs.ExpressionForms.{uses}
 use Rattle.life_writer.specs.Registers.{computed, constant}
+use Rattle.life_writer.specs.Uses.{Uses, own}
+use Rattle.life_writer.specs.Using.{operand, value}
 use Rattle.life_writer.specs.Variables.{end_pending, full}
 use Rattle.life_writer.specs.Writing.{State, Gives, gives, ◌>>◌}
-use Rattle.life_elab.specs.Simples.{held, put_back, step_operator, stepped, type_in}
-use Rattle.life_elab.specs.Statements.{given_back}
+use Rattle.life_elab.specs.SimpleForms.{stepped}
+use Rattle.life_elab.specs.Simples.{held, put_back, step_operator, type_in}
+use Rattle.life_elab.specs.StatementForms.{given_back, result_by}
 
 pub followed : {y z : State} (x : State) → y ≡ z → x ≡ y → x ≡ z
 followed x e is = is ∙ e
 
 pub stepped_gives : (a : Around) (target : Typed) (operator : StepOperator) (place : Place) (t common : Ty) (s reached took made after : State) (at from : Operand) (l r : ℕ) (by : Operator)
-    → common ≡ t → operand a (whole target) s ≡ gives at reached → from ≡ at → held target from common reached ≡ gives l took → computed None common place (constant (pos 1)) took ≡ gives r made
+    → common ≡ t → operand (uses a (whole target)) s ≡ gives at reached → from ≡ at → held target from common reached ≡ gives l took → computed None common place (constant (pos 1)) took ≡ gives r made
     → by ≡ step_operator operator → after ≡ put_back target at common place (operation.Binary by l r) made → after ≡ stepped a target operator place t s
 stepped_gives a target operator place t common s reached took made after at from l r by types first copy second third operates last =
     let same : held target at common reached ≡ gives l took = ap (λ (o : Operand). held target o common reached) (sym copy) ∙ second in
@@ -38,12 +44,17 @@ pub same_common : (x : TypedExpr) (own common : Ty) → own ≡ own_type (out-Ty
 same_common x own common is promotes =
     promotes ∙ ap (λ (t : Ty). promoted t t) (is ∙ ap own_type (sym (type_seen x)))
 
-pub given_result : (a : Around) (e : Typed) (behind : Place) (t : Ty) (into r : ℕ) (s after : State) → t ≡ type_of a a.function.result → into ≡ result_local a
-    → value a (whole e) behind t (Some into) s ≡ gives r after → after ≡ given_back a e behind s
-given_result a e behind t into r s after as_type goes given =
-    sym (ap (λ (u : Ty). (value a (whole e) behind u (Some (result_local a)) s).state) (sym as_type)
-    ∙ ap (λ (n : ℕ). (value a (whole e) behind t (Some n) s).state) (sym goes)
-    ∙ ap (λ (w : Gives ℕ). w.state) given)
+pub given_result : (a : Around) (e : Uses) (behind : Place) (t : Ty) (into r : ℕ) (s after : State) → into ≡ result_local a
+    → value e behind t (Some into) s ≡ gives r after → after ≡ (value e behind t (Some (result_local a)) s).state
+given_result a e behind t into r s after goes given =
+    sym (ap (λ (n : ℕ). (value e behind t (Some n) s).state) (sym goes) ∙ ap (λ (w : Gives ℕ). w.state) given)
+
+-- .. by the class of the result
+pub value_result : (a : Around) (e : Typed) (keyword behind : Place) (t : Ty) (k : Class) (s : State) → t ≡ type_of a a.function.result → k ≡ class (Some t) → k ≡ classes.Value
+    → (value (uses a (whole e)) behind t (Some (result_local a)) s).state ≡ given_back a e keyword behind s
+value_result a e keyword behind t k s as_type of is =
+    ap (λ (x : Class). result_by a x (uses a (whole e)) t keyword behind s) (sym is ∙ of)
+    ∙ ap (λ (u : Ty). result_by a (class (Some u)) (uses a (whole e)) u keyword behind s) as_type
 
 -- a full expression: what was made for it ends behind it
 pub full_gives : (expression : State → State) (behind : Place) (s written after : State) (pending : ℕ) → pending ≡ length s.pending → written ≡ expression s → after ≡ end_pending pending behind written → after ≡ full behind expression s

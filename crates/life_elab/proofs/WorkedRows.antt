@@ -25,7 +25,7 @@ use Rattle.life_core.specs.declared.operation.Operator.TheVariants.{Add, Less}
 use Rattle.life_core.specs.declared.program.Local.{Local}
 use Rattle.life_elab.specs.Over.{over}
 use Rattle.life_types.specs.Trees.{tree_at}
-use Rattle.life_elab.specs.Programs.{core_program}
+use Rattle.life_elab.specs.ProgramForms.{translated}
 use Rattle.life_typed.specs.Programs.{FunctionForm, ProgramForm, default}
 
 -- a place on the one line
@@ -102,14 +102,14 @@ core =
     (Then (Acts (at 38) (End (3 ∷ 2 ∷ [])))
     (Then (Returns (at 38)) Skip))))))
 
-worked : bodies (core_program program) ≡ core ∷ []
+worked : bodies (translated program) ≡ core ∷ []
 worked = refl
 
 -- the result stands where the function's name does, and the register where the 4 is written to it
-located : places (core_program program) ≡ (at 5 ∷ at 22 ∷ at 18 ∷ at 30 ∷ []) ∷ []
+located : places (translated program) ≡ (at 5 ∷ at 22 ∷ at 18 ∷ at 30 ∷ []) ∷ []
 located = refl
 
-within : over program (core_program program) ≡ None
+within : over program (translated program) ≡ None
 unfolding tree_at
 within = refl
 
@@ -186,9 +186,9 @@ loop_core = trees (
     ∷ Returns (at 66)
     ∷ [])
 
-looped : bodies (core_program loop_program) ≡ loop_core ∷ []
+looped : bodies (translated loop_program) ≡ loop_core ∷ []
 looped = refl
 
 -- the variables stand where they are declared, and each register where its instruction does
-loop_located : places (core_program loop_program) ≡ (at 13 ∷ at 31 ∷ at 27 ∷ at 34 ∷ at 38 ∷ at 36 ∷ at 50 ∷ at 56 ∷ at 43 ∷ at 41 ∷ at 41 ∷ []) ∷ []
+loop_located : places (translated loop_program) ≡ (at 13 ∷ at 31 ∷ at 27 ∷ at 34 ∷ at 38 ∷ at 36 ∷ at 50 ∷ at 56 ∷ at 43 ∷ at 41 ∷ at 41 ∷ []) ∷ []
 loop_located = refl

@@ -10,19 +10,21 @@ use Rattle.life_core.specs.Operands.{Empty}
 use Rattle.life_writer.specs.Around.{Around, type_of}
 use Rattle.life_writer.specs.Building.{Destination, Fill, built, live}
 use Rattle.life_writer.specs.ExpressionForms.{all_uses, uses}
-use Rattle.life_writer.specs.Giving.{initial}
+use Rattle.life_writer.specs.Initialising.{initialised}
 use Rattle.life_writer.specs.Lists.{listed}
 use Rattle.life_writer.specs.Pointers.{aimed, pointed}
-use Rattle.life_writer.specs.Temporaries.{scoped}
 use Rattle.life_writer.specs.Uses.{Uses}
 use Rattle.life_writer.specs.Variables.{full}
 use Rattle.life_writer.specs.Writing.{State, Gives, ◌>>◌}
 use Rattle.life_elab.specs.Declarations.{variable}
 
 -- a view or a span without an initialiser is empty, and anything else comes to life by itself
+abbrev pub empty : Destination → State → Gives ℕ
+empty d s = built (Fill d.place (pointed (aimed Empty))) d s
+
 abbrev pub default_to : Ty → Destination → State → Gives ℕ
-default_to ty.View d s = built (Fill d.place (pointed (aimed Empty))) d s
-default_to (ty.Span target constant) d s = built (Fill d.place (pointed (aimed Empty))) d s
+default_to ty.View d s = empty d s
+default_to (ty.Span target constant) d s = empty d s
 default_to t d s = live d s
 
 module _ (a : Around) where
@@ -36,11 +38,9 @@ module _ (a : Around) where
   initial_uses t (one e) = uses a (whole e)
   initial_uses t (several l) = listed a (built_type t) l.opening (all_uses a (forms l.elements)) l.delimiters
 
-  -- what a reference is bound to lives as long as the reference
   abbrev pub given_initial : TypedLocal → Option InitialForm → (behind : Place) → State → State
   given_initial v None behind s = (default_to (type_of a v.ty) (variable a v) s).state
-  given_initial v (Some i) behind s =
-      (initial a scoped (initial_uses (type_of a v.ty) i) (type_of a v.ty) behind s >> λ rest s. rest (variable a v) s).state
+  given_initial v (Some i) behind s = (initialised a (initial_uses (type_of a v.ty) i) (type_of a v.ty) behind (variable a v) s).state
 
   abbrev pub declared_as : Option TypedLocal → Option InitialForm → (behind : Place) → State → State
   declared_as None value behind s = s

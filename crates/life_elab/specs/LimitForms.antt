@@ -1,6 +1,6 @@
 -- The first limit that a program of any form passes: first the functions, then each struct's, and then each function's own, in their order. None is asked by a list
 -- that may be long before the limit on paths has been.
-use Rattle.std.specs.Prelude.{ℕ, ◌+◌, max, List, [], ◌∷◌, Option, Some, None, length}
+use Rattle.std.specs.Prelude.{ℕ, ◌+◌, max, List, [], ◌∷◌, Option, None, length}
 use Rattle.life_types.specs.Trees.{TypeTree, Text, Vector, Unique, Raw, Reference, Iterator, Span, Member, members_at, struct_of, tree_at}
 use Rattle.life_types.specs.Types.{Types}
 use Rattle.life_tree.specs.declared.limit.LimitFault.{LimitFault}

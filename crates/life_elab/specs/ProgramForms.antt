@@ -51,5 +51,8 @@ abbrev pub functions : ProgramForm → List FunctionForm → Functions → Funct
 functions p [] w = w
 functions p (f ∷ fs) w = functions p fs (with_function f (written (around p f) w.types) w)
 
+abbrev pub all_functions : ProgramForm → Functions
+all_functions p = functions p p.functions (record { types = p.types; functions = [] })
+
 abbrev pub translated : ProgramForm → Program
-translated p = program_from p (functions p p.functions (record { types = p.types; functions = [] }))
+translated p = program_from p (all_functions p)

@@ -4,7 +4,7 @@ use Rattle.life_types.specs.Types.{Types}
 use Rattle.life_types.specs.declared.ty.NameId.{NameId}
 use Rattle.life_core.specs.Function.{Function, Program}
 use Rattle.life_writer.specs.Around.{Around}
-use Rattle.life_elab.specs.Functions.{function_from, written}
+use Rattle.life_elab.specs.Functions.{function_from}
 use Rattle.life_typed.specs.Programs.{FunctionForm, ProgramForm, StructForm}
 use Rattle.life_writer.specs.Writing.{State}
 
@@ -18,14 +18,6 @@ with_function f s w = record { types = s.types; functions = w.functions ++ funct
 
 abbrev pub around : ProgramForm → FunctionForm → Around
 around p f = record { program = p; function = f }
-
--- the functions in their order; the table of types grows from one to the next
-abbrev pub functions : ProgramForm → List FunctionForm → Functions → Functions
-functions p [] w = w
-functions p (f ∷ fs) w = functions p fs (with_function f (written (around p f) w.types) w)
-
-abbrev pub all_functions : ProgramForm → Functions
-all_functions p = functions p p.functions (record { types = p.types; functions = [] })
 
 -- what endl writes stands behind the texts of the file
 abbrev pub texts_of : ProgramForm → List (List ℕ)
@@ -42,6 +34,3 @@ program_from p w = record {
   texts = texts_of p;
   functions = w.functions;
 }
-
-abbrev pub core_program : ProgramForm → Program
-core_program p = program_from p (all_functions p)

@@ -57,12 +57,12 @@ abbrev pub advanced : Uses → StepOperator → Place → State → State
 advanced e operator place s =
     pointer e (own e) s >> λ l s. computed None ty.Int place (constant (pos 1)) s >> λ r s. emit place (Advance l l r (direction operator)) s
 
+-- ---- assignments: the right side, and then the place
+
+abbrev pub target_of : Uses → Target
+target_of e = record { operand = operand e; location = pointer e (own e) }
+
 module _ (a : Around) where
-  -- ---- assignments: the right side, and then the place
-
-  abbrev pub target_of : Uses → Target
-  target_of e = record { operand = operand e; location = pointer e (own e) }
-
   abbrev pub assigned : (target : Typed) → (equals : Place) → InitialForm → (behind : Place) → State → State
   assigned target equals i behind s =
       assigning.assigned (initial_uses a (type_in target) i) (type_in target) (target_of (uses a (whole target))) equals behind s

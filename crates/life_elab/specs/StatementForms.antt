@@ -29,12 +29,12 @@ use Rattle.life_writer.specs.Temporaries.{temporary}
 use Rattle.life_writer.specs.Uses.{Remaining, Uses, lived, own}
 use Rattle.life_writer.specs.Using.{condition, value}
 use Rattle.life_writer.specs.Variables.{end_since, full, variable}
-use Rattle.life_writer.specs.Writing.{State, Gives, gives, ◌>>◌, emit}
+use Rattle.life_writer.specs.Writing.{State, Gives, gives, ◌>>◌, emit, mapped}
 use Rattle.life_elab.specs.DeclarationForms.{declared}
 use Rattle.life_elab.specs.LastTokens.{last_token}
 use Rattle.life_elab.specs.RangeForms.{ranged}
 use Rattle.life_elab.specs.SimpleForms.{simple, simple_if}
-use Rattle.life_elab.specs.Statements.{asserted, branched, left, line, looped}
+use Rattle.life_elab.specs.Statements.{Opened, asserted, branched, left, line, looped, opened}
 
 -- ---- what a function returns
 
@@ -57,6 +57,14 @@ abbrev pub moved_out : Class → Option ℕ → (other : State → Gives Remaini
 moved_out classes.Owner (Some x) other s = gives (lived Plain (moved x)) s
 moved_out _ _ other s = other s
 
+-- ---- what is printed
+
+-- a value, or characters that are seen
+abbrev pub written : Uses → (behind : Place) → State → State
+written e behind s =
+    if is_value (own e) then (value e behind (own e) None s >> λ r s. emit e.place (Ports (Writes r)) s)
+    else (seen e s >> λ x s. viewed x s >> λ l s. emit e.place (Ports (WritesView l)) s)
+
 module _ (a : Around) where
   -- what is built there comes to life at the keyword
   abbrev pub result : (keyword : Place) → Destination
@@ -77,12 +85,6 @@ module _ (a : Around) where
   result_given (Some e) keyword behind s = full behind (given_back e keyword behind) s
 
   -- ---- output
-
-  -- a value, or characters that are seen
-  abbrev pub written : Uses → (behind : Place) → State → State
-  written e behind s =
-      if is_value (own e) then (value e behind (own e) None s >> λ r s. emit e.place (Ports (Writes r)) s)
-      else (seen e s >> λ x s. viewed x s >> λ l s. emit e.place (Ports (WritesView l)) s)
 
   abbrev pub item : ItemForm → (behind : Place) → State → State
   item (printed e) behind s = written (uses a (form.whole e)) behind s
@@ -140,3 +142,9 @@ module _ (a : Around) where
     branches_of (chain (branch keyword decides closing body) others) last s =
         branched (decided decides closing) (statement body) (branches_of others last) s
     branches_of _ last s = last s
+
+  -- the branches of an `if`, up to what is done where no condition holds
+  abbrev pub opened_all : StmtForm → State → Gives (List Opened)
+  opened_all (chain (branch keyword decides closing body) others) s =
+      opened (decided decides closing) (statement body) s >> λ o s. mapped (λ os. o ∷ os) (opened_all others s)
+  opened_all _ s = gives [] s

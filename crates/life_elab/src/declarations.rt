@@ -1,18 +1,41 @@
 // Declarations of variables (ISO/IEC 14882:2017 [dcl.init], [stmt.dcl]).
 ghost use Rattle.std.specs.Prelude.{◌≡◌, OnOk, slice_get};
 ghost use Rattle.life_typed.specs.TypedStatement.{declaration_view, initial_view, optional_view};
-ghost use Rattle.life_elab.specs.Declarations as spec;
+ghost use Rattle.life_writer.specs.Around.{type_of};
+ghost use Rattle.life_writer.specs.Answers.{Answers};
+ghost use Rattle.life_elab.specs.DeclarationForms as spec;
+ghost use Rattle.life_elab.specs.Declarations as declarations;
 ghost use Rattle.life_writer.specs.Views.{around_of, destination_of, state_of};
 
+use life_core::Source;
 use life_typed::{TypedDeclaration, TypedInitial, TypedLocal};
-use life_types::{NoMemory, Place};
-use life_writer::{Around, Destination, Writer, variable_local};
+use life_types::{NoMemory, Place, Ty};
+use life_writer::{Around, Destination, Last, Pointing, Writer, variable_local};
 
 // Where a variable comes to life: it isn't visible in what it is given.
 fn home(a: &Around, variable: &TypedLocal) -> Destination
-    ensures { destination_of result ≡ spec.variable (around_of a.now) variable.now }
+    ensures { destination_of result ≡ declarations.variable (around_of a.now) variable.now }
 {
     Destination::Variable(variable_local(a, variable), variable.place)
+}
+
+// A view or a span without an initialiser is empty.
+fn empty(writer: &mut Writer, a: &Around, variable: &TypedLocal) -> Result<u32, NoMemory>
+    ensures { Answers (λ x. x) result (spec.empty (declarations.variable (around_of a.now) variable.now) (state_of writer.old)) (state_of writer.new) }
+{
+    let last = Last::Point(variable.place, Pointing::At(Source::Empty));
+    writer.built(last, home(a, variable))
+}
+
+// .. and anything else comes to life by itself.
+fn default(writer: &mut Writer, a: &Around, variable: &TypedLocal) -> Result<u32, NoMemory>
+    ensures { Answers (λ x. x) result (spec.default_to (type_of (around_of a.now) variable.now.ty) (declarations.variable (around_of a.now) variable.now) (state_of writer.old)) (state_of writer.new) }
+{
+    match a.type_of(variable.ty) {
+        Ty::View => empty(writer, a, variable),
+        Ty::Span { .. } => empty(writer, a, variable),
+        _ => writer.live(home(a, variable)),
+    }
 }
 
 fn given_initial(
@@ -26,7 +49,7 @@ fn given_initial(
 {
     match value {
         None => {
-            writer.live(home(a, variable))?;
+            default(writer, a, variable)?;
             Ok(())
         }
         Some(TypedInitial::Expr(value)) => {
@@ -34,7 +57,7 @@ fn given_initial(
             writer.initialised(a, ty, value, behind, home(a, variable))?;
             Ok(())
         }
-        Some(TypedInitial::List(_)) => Ok(()),
+        Some(TypedInitial::List(_)) => Err(NoMemory),
     }
 }
 

@@ -1,23 +1,26 @@
 // The core of a function.
-ghost use Rattle.std.specs.Prelude.{◌≡◌, ◌<◌, ◌^◌, IfOk, OnOk, length};
+ghost use Rattle.std.specs.Prelude.{◌≡◌, ◌<◌, ◌^◌, IfOk, OnOk, Some, length};
 ghost use Rattle.life_core.specs.Function.{function_of, promise_of};
 ghost use Rattle.life_typed.specs.TypedStatement.{block_view};
+ghost use Rattle.life_types.specs.Types as types;
 ghost use Rattle.life_writer.specs.Around.{type_of};
-ghost use Rattle.life_elab.specs.Functions as spec;
+ghost use Rattle.life_writer.specs.Temporaries.{nameless_of};
+ghost use Rattle.life_elab.specs.Functions as shared;
+ghost use Rattle.life_elab.specs.ProgramForms as spec;
 ghost use Rattle.life_typed.specs.Programs.{function_view, promise_view};
 ghost use Rattle.life_writer.specs.Views.{around_of, state_of};
 
 use crate::ends::block_ends;
 use crate::statements::{leave, write_block_items};
-use life_core::{CoreFn, Local, Promise, Stmt};
+use life_core::{CoreFn, Local, LocalKind, Promise, Stmt};
 use life_typed::{ParameterPromise, ResultPromise, TypedBlock, TypedFunction, TypedLocal};
-use life_types::{NoMemory, Ty, TypeTable};
-use life_writer::{Around, Writer, nameless, number, variable_local};
+use life_types::{Class, NoMemory, Ty, TypeTable};
+use life_writer::{Around, Writer, class, nameless, number, variable_local};
 use std::alloc::Global;
 
 // A parameter: a variable that lives from the start, with what its attributes say.
 fn parameter_local(a: &Around, promise: &ParameterPromise, variable: &TypedLocal) -> Local
-    ensures { result ≡ spec.parameter_local (around_of a.now) promise.now variable.now }
+    ensures { result ≡ shared.parameter_local (around_of a.now) promise.now variable.now }
 {
     let local = variable_local(a, variable);
     Local {
@@ -28,7 +31,7 @@ fn parameter_local(a: &Around, promise: &ParameterPromise, variable: &TypedLocal
 }
 
 fn add_parameters(writer: &mut Writer, a: &Around) -> Result<(), NoMemory>
-    ensures { OnOk result (state_of writer.new ≡ spec.with_parameters (around_of a.now) (around_of a.now).function.parameters (around_of a.now).function.locals (state_of writer.old)) }
+    ensures { OnOk result (state_of writer.new ≡ shared.with_parameters (around_of a.now) (around_of a.now).function.parameters (around_of a.now).function.locals (state_of writer.old)) }
 {
     'parameters: for (number, promise) in a.function.parameters.iter().enumerate() {
         match a.function.locals.get(number) {
@@ -41,6 +44,29 @@ fn add_parameters(writer: &mut Writer, a: &Around) -> Result<(), NoMemory>
     Ok(())
 }
 
+// A value or a pointer is given back in a register, and an owner or a struct as an object.
+fn result_kind(class: Class) -> LocalKind
+    ensures { result ≡ spec.result_kind class }
+{
+    match class {
+        Class::Value => LocalKind::Register,
+        Class::Pointer => LocalKind::Register,
+        Class::Owner => LocalKind::Object,
+        Class::Aggregate => LocalKind::Object,
+    }
+}
+
+// The local of a result of a type.
+fn result_local(a: &Around, ty: Ty) -> Local
+    ensures { result ≡ nameless_of (spec.result_kind (types.class (Some ty))) (around_of a.now).function.place (around_of a.now).function.result }
+{
+    let local = nameless(a.function.place, a.function.result);
+    Local {
+        kind: result_kind(class(ty)),
+        ..local
+    }
+}
+
 // The result is a local where it isn't void, which stands where the function's name does.
 #[tactic(auto, unfolding(life_writer::specs::Views::state_of))]
 fn add_result(writer: &mut Writer, a: &Around) -> Result<(), NoMemory>
@@ -48,8 +74,8 @@ fn add_result(writer: &mut Writer, a: &Around) -> Result<(), NoMemory>
 {
     match a.type_of(a.function.result) {
         Ty::Void => Ok(()),
-        _ => {
-            writer.add_local(nameless(a.function.place, a.function.result))?;
+        ty => {
+            writer.add_local(result_local(a, ty))?;
             Ok(())
         }
     }
@@ -69,7 +95,7 @@ fn write_body(writer: &mut Writer, a: &Around, body: &TypedBlock) -> Result<(), 
 
 // What is promised of the pointers in the result.
 fn promise(promise: &ResultPromise) -> Result<Promise, NoMemory>
-    ensures { IfOk result (λ p. promise_of p ≡ spec.promise_of (promise_view promise.now)) }
+    ensures { IfOk result (λ p. promise_of p ≡ shared.promise_of (promise_view promise.now)) }
 {
     match promise {
         ResultPromise::Default => Ok(Promise::Default),
@@ -88,7 +114,7 @@ fn promise(promise: &ResultPromise) -> Result<Promise, NoMemory>
 // The function of what has been written, and the table. Its locals have numbers of 32 bits.
 #[tactic(auto, unfolding(life_writer::specs::Views::state_of))]
 fn function_from(function: &TypedFunction, writer: Writer) -> Result<(CoreFn, TypeTable), NoMemory>
-    ensures function { IfOk result (λ r. function_of r.0 ≡ spec.function_from (function_view function.now) (state_of writer)) }
+    ensures function { IfOk result (λ r. function_of r.0 ≡ shared.function_from (function_view function.now) (state_of writer)) }
     ensures numbered { IfOk result (λ r. length (function_of r.0).locals < 2 ^ 32) }
     ensures types { IfOk result (λ r. r.1 ≡ (state_of writer).types) }
 {
@@ -122,7 +148,7 @@ pub(crate) fn function(
     a: &Around,
     types: TypeTable,
 ) -> Result<(CoreFn, TypeTable), NoMemory>
-    ensures function { IfOk result (λ r. function_of r.0 ≡ spec.function_from (around_of a.now).function (spec.written (around_of a.now) types)) }
+    ensures function { IfOk result (λ r. function_of r.0 ≡ shared.function_from (around_of a.now).function (spec.written (around_of a.now) types)) }
     ensures numbered { IfOk result (λ r. length (function_of r.0).locals < 2 ^ 32) }
     ensures types { IfOk result (λ r. r.1 ≡ (spec.written (around_of a.now) types).types) }
 {

@@ -4,6 +4,7 @@ ghost use Rattle.life_core.specs.Function.{function_of, member_names, name_bytes
 ghost use Rattle.life_elab.specs.Bounds.{HaveNumberedLocals};
 ghost use Rattle.life_elab.specs.Elaborated.{Elaborates};
 ghost use Rattle.life_built.specs.Built.{is_built};
+ghost use Rattle.life_elab.specs.ProgramForms.{all_functions};
 ghost use Rattle.life_elab.specs.Programs as spec;
 ghost use Rattle.life_typed.specs.Programs.{program_view, struct_view, text_view};
 
@@ -66,9 +67,9 @@ fn members_of(alloc: Global, structs: &[TypedStruct]) -> Result<Vec<Vec<NameId>>
 
 // The functions in their order; the table of types grows from one to the next.
 fn functions(alloc: Global, typed: &Typed) -> Result<(Vec<CoreFn>, TypeTable), NoMemory>
-    ensures functions { IfOk result (λ r. map function_of r.0.items ≡ (spec.all_functions (program_view typed.now)).functions) }
+    ensures functions { IfOk result (λ r. map function_of r.0.items ≡ (all_functions (program_view typed.now)).functions) }
     ensures numbered { IfOk result (λ r. HaveNumberedLocals (map function_of r.0.items)) }
-    ensures types { IfOk result (λ r. r.1 ≡ (spec.all_functions (program_view typed.now)).types) }
+    ensures types { IfOk result (λ r. r.1 ≡ (all_functions (program_view typed.now)).types) }
 {
     let mut types = typed.types.copied(alloc)?;
     let mut written = Vec::new(alloc);

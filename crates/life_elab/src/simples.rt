@@ -1,18 +1,24 @@
 // Assignments, steps and calls.
-ghost use Rattle.std.specs.Prelude.{◌≡◌, OnOk};
+ghost use Rattle.std.specs.Prelude.{◌≡◌, OnOk, Some};
 ghost use Rattle.life_core.specs.Operands.{operand_of};
 ghost use Rattle.life_typed.specs.Operators.{promoted};
 ghost use Rattle.life_typed.specs.TypedForm.{typed_view};
 ghost use Rattle.life_typed.specs.TypedStatement.{initial_view, optional_view, simple_view};
+ghost use Rattle.life_types.specs.Types.{class};
+ghost use Rattle.life_types.specs.declared.ty.Class.TheVariants.{Pointer, Value};
 ghost use Rattle.life_writer.specs.Answers.{Answers};
-ghost use Rattle.life_elab.specs.Simples as spec;
-ghost use Rattle.life_writer.specs.Views.{around_of, called_of, state_of};
+ghost use Rattle.life_writer.specs.Assigning.{assigned, assigned_by};
+ghost use Rattle.life_writer.specs.PartUses.{expression_uses};
+ghost use Rattle.life_writer.specs.Uses.{own};
+ghost use Rattle.life_writer.specs.Views.{around_of, state_of};
+ghost use Rattle.life_elab.specs.SimpleForms as spec;
+ghost use Rattle.life_elab.specs.Simples as shared;
 
-use life_core::{FnId, Instr, Operand, Operation, Operator};
+use life_core::{Instr, Operand, Operation, Operator};
 use life_tree::{CompoundOperator, StepOperator};
-use life_typed::{TypedExpr, TypedInitial, TypedSimple, promoted};
-use life_types::{NoMemory, Place, Ty, is_raw};
-use life_writer::{Around, Called, Writer, call_of, copied_operand, own_type};
+use life_typed::{Category, TypedExpr, TypedInitial, TypedSimple, promoted};
+use life_types::{Class, NoMemory, Place, Ty, is_iterator, is_text, is_void};
+use life_writer::{Around, Writer, class, copied_operand, own_type};
 
 // The right side, and then the place (ISO/IEC 14882:2017 [expr.ass]/1).
 fn value_assigned(
@@ -23,7 +29,7 @@ fn value_assigned(
     value: &TypedExpr,
     behind: Place,
 ) -> Result<(), NoMemory>
-    ensures { OnOk result (state_of writer.new ≡ spec.value_assigned (around_of a.now) (typed_view target.now) equals (typed_view value.now) behind (state_of writer.old)) }
+    ensures { OnOk result (state_of writer.new ≡ assigned_by Value (expression_uses (around_of a.now) value.now) (shared.type_in (typed_view target.now)) (spec.target_of (expression_uses (around_of a.now) target.now)) equals behind (state_of writer.old)) }
 {
     let from = writer.value(a, value, behind, own_type(target.ty), None)?;
     let to = writer.operand(a, target)?;
@@ -34,13 +40,34 @@ fn pointer_assigned(
     writer: &mut Writer,
     a: &Around,
     target: &TypedExpr,
+    equals: Place,
     value: &TypedExpr,
+    behind: Place,
 ) -> Result<(), NoMemory>
-    ensures { OnOk result (state_of writer.new ≡ spec.pointer_assigned (around_of a.now) (typed_view target.now) (typed_view value.now) (state_of writer.old)) }
+    ensures { OnOk result (state_of writer.new ≡ assigned_by Pointer (expression_uses (around_of a.now) value.now) (shared.type_in (typed_view target.now)) (spec.target_of (expression_uses (around_of a.now) target.now)) equals behind (state_of writer.old)) }
 {
     let pointing = writer.pointing(a, value)?;
-    let pointer = writer.pointer(a, target)?;
+    let pointer = writer.pointer(a, target, own_type(target.ty))?;
     writer.point(value.place, pointer, pointing)
+}
+
+// .. by the class of the target.
+fn expression_assigned(
+    writer: &mut Writer,
+    a: &Around,
+    target: &TypedExpr,
+    equals: Place,
+    value: &TypedExpr,
+    behind: Place,
+) -> Result<(), NoMemory>
+    ensures { OnOk result (state_of writer.new ≡ assigned (expression_uses (around_of a.now) value.now) (shared.type_in (typed_view target.now)) (spec.target_of (expression_uses (around_of a.now) target.now)) equals behind (state_of writer.old)) }
+{
+    match class(own_type(target.ty)) {
+        Class::Value => value_assigned(writer, a, target, equals, value, behind),
+        Class::Pointer => pointer_assigned(writer, a, target, equals, value, behind),
+        Class::Owner => Err(NoMemory),
+        Class::Aggregate => Err(NoMemory),
+    }
 }
 
 fn assigned(
@@ -54,17 +81,14 @@ fn assigned(
     ensures { OnOk result (state_of writer.new ≡ spec.assigned (around_of a.now) (typed_view target.now) equals (initial_view value.now) behind (state_of writer.old)) }
 {
     match value {
-        TypedInitial::Expr(value) if is_raw(own_type(target.ty)) => {
-            pointer_assigned(writer, a, target, value)
-        }
-        TypedInitial::Expr(value) => value_assigned(writer, a, target, equals, value, behind),
-        TypedInitial::List(_) => Ok(()),
+        TypedInitial::Expr(value) => expression_assigned(writer, a, target, equals, value, behind),
+        TypedInitial::List(_) => Err(NoMemory),
     }
 }
 
 // What a place holds, as a value of a type.
 fn held(writer: &mut Writer, target: &TypedExpr, from: Operand, ty: Ty) -> Result<u32, NoMemory>
-    ensures { Answers (λ x. x) result (spec.held (typed_view target.now) (operand_of from) ty (state_of writer.old)) (state_of writer.new) }
+    ensures { Answers (λ x. x) result (shared.held (typed_view target.now) (operand_of from) ty (state_of writer.old)) (state_of writer.new) }
 {
     let own = own_type(target.ty);
     let register = writer.load(None, own, target.place, from)?;
@@ -80,7 +104,7 @@ fn put_back(
     place: Place,
     operation: Operation,
 ) -> Result<(), NoMemory>
-    ensures { OnOk result (state_of writer.new ≡ spec.put_back (typed_view target.now) (operand_of to) ty place operation (state_of writer.old)) }
+    ensures { OnOk result (state_of writer.new ≡ shared.put_back (typed_view target.now) (operand_of to) ty place operation (state_of writer.old)) }
 {
     let answer = writer.eval(None, ty, place, operation)?;
     let from = writer.converted(ty, own_type(target.ty), place, answer)?;
@@ -97,7 +121,7 @@ fn combined(
     value: &TypedExpr,
     behind: Place,
 ) -> Result<(), NoMemory>
-    ensures { OnOk result (state_of writer.new ≡ spec.combined (around_of a.now) (typed_view target.now) operator place (typed_view value.now) behind (promoted (spec.type_in (typed_view target.now)) (spec.type_in (typed_view value.now))) (state_of writer.old)) }
+    ensures { OnOk result (state_of writer.new ≡ spec.combined (around_of a.now) (typed_view target.now) operator place (typed_view value.now) behind (promoted (shared.type_in (typed_view target.now)) (shared.type_in (typed_view value.now))) (state_of writer.old)) }
 {
     let common = promoted(own_type(target.ty), own_type(value.ty));
     let right = writer.value(a, value, behind, common, None)?;
@@ -120,7 +144,7 @@ fn stepped(
     operator: StepOperator,
     place: Place,
 ) -> Result<(), NoMemory>
-    ensures { OnOk result (state_of writer.new ≡ spec.stepped (around_of a.now) (typed_view target.now) operator place (promoted (spec.type_in (typed_view target.now)) (spec.type_in (typed_view target.now))) (state_of writer.old)) }
+    ensures { OnOk result (state_of writer.new ≡ spec.stepped (around_of a.now) (typed_view target.now) operator place (promoted (shared.type_in (typed_view target.now)) (shared.type_in (typed_view target.now))) (state_of writer.old)) }
 {
     let own = own_type(target.ty);
     let common = promoted(own, own);
@@ -136,43 +160,81 @@ fn stepped(
     put_back(writer, target, to, common, place, operation)
 }
 
-// A call of a function without a result.
-fn called_for_nothing(
+// .. but a string gains characters, and an iterator is moved.
+fn compounded(
     writer: &mut Writer,
     a: &Around,
+    target: &TypedExpr,
+    operator: CompoundOperator,
     place: Place,
-    called: Called<'_>,
+    value: &TypedExpr,
+    behind: Place,
 ) -> Result<(), NoMemory>
-    ensures { OnOk result (state_of writer.new ≡ spec.called_for_nothing (around_of a.now) place (called_of called.entry) (state_of writer.old)) }
+    ensures { OnOk result (state_of writer.new ≡ spec.compounded (around_of a.now) (typed_view target.now) operator place (typed_view value.now) behind (state_of writer.old)) }
 {
-    let parameters = a.parameters(called.function);
-    let arguments = writer.handed_over(a, called.arguments, called.delimiters, parameters)?;
-    writer.emit(
-        place,
-        Instr::Call {
-            target: None,
-            function: FnId(called.function),
-            arguments,
-        },
-    )
+    if is_text(own_type(target.ty)) {
+        Err(NoMemory)
+    } else {
+        combined(writer, a, target, operator, place, value, behind)
+    }
 }
 
-// A call whose answer is thrown away ([stmt.expr]).
-fn discarded(
+fn moved_on(
+    writer: &mut Writer,
+    a: &Around,
+    target: &TypedExpr,
+    operator: StepOperator,
+    place: Place,
+) -> Result<(), NoMemory>
+    ensures { OnOk result (state_of writer.new ≡ spec.moved_on (around_of a.now) (typed_view target.now) operator place (state_of writer.old)) }
+{
+    if is_iterator(own_type(target.ty)) {
+        Err(NoMemory)
+    } else {
+        stepped(writer, a, target, operator, place)
+    }
+}
+
+// A value or a pointer that is thrown away goes to a register.
+fn thrown_by(
     writer: &mut Writer,
     a: &Around,
     expression: &TypedExpr,
     behind: Place,
 ) -> Result<(), NoMemory>
-    ensures { OnOk result (state_of writer.new ≡ spec.discarded (around_of a.now) (typed_view expression.now) behind (state_of writer.old)) }
+    ensures { OnOk result (state_of writer.new ≡ spec.thrown_by (class (Some (own (expression_uses (around_of a.now) expression.now)))) (expression_uses (around_of a.now) expression.now) behind (state_of writer.old)) }
 {
     let ty = own_type(expression.ty);
-    match call_of(expression) {
-        Some(called) if ty == Ty::Void => called_for_nothing(writer, a, expression.place, called),
-        _ => {
+    match class(ty) {
+        Class::Value => {
             writer.value(a, expression, behind, ty, None)?;
             Ok(())
         }
+        Class::Pointer => {
+            writer.pointer(a, expression, ty)?;
+            Ok(())
+        }
+        Class::Owner => Err(NoMemory),
+        Class::Aggregate => Err(NoMemory),
+    }
+}
+
+// What is done alone ([stmt.expr]): a place isn't read, and a call may have no result.
+fn thrown(
+    writer: &mut Writer,
+    a: &Around,
+    expression: &TypedExpr,
+    behind: Place,
+) -> Result<(), NoMemory>
+    ensures { OnOk result (state_of writer.new ≡ spec.thrown (expression_uses (around_of a.now) expression.now).category (expression_uses (around_of a.now) expression.now) behind (state_of writer.old)) }
+{
+    match expression.category {
+        Category::Place { .. } => {
+            writer.operand(a, expression)?;
+            Ok(())
+        }
+        Category::Value if is_void(own_type(expression.ty)) => writer.alone(a, expression),
+        Category::Value => thrown_by(writer, a, expression, behind),
     }
 }
 
@@ -196,13 +258,13 @@ fn done(
             operator,
             place,
             value,
-        } => combined(writer, a, target, *operator, *place, value, behind),
+        } => compounded(writer, a, target, *operator, *place, value, behind),
         TypedSimple::Step {
             target,
             operator,
             place,
-        } => stepped(writer, a, target, *operator, *place),
-        TypedSimple::Call(expression) => discarded(writer, a, expression, behind),
+        } => moved_on(writer, a, target, *operator, *place),
+        TypedSimple::Call(expression) => thrown(writer, a, expression, behind),
     }
 }
 
@@ -236,7 +298,7 @@ pub(crate) fn write_simple_if(
 }
 
 fn compound_operator(operator: CompoundOperator) -> Operator
-    ensures { result ≡ spec.compound_operator operator }
+    ensures { result ≡ shared.compound_operator operator }
 {
     match operator {
         CompoundOperator::Add => Operator::Add,
@@ -248,7 +310,7 @@ fn compound_operator(operator: CompoundOperator) -> Operator
 }
 
 fn step_operator(operator: StepOperator) -> Operator
-    ensures { result ≡ spec.step_operator operator }
+    ensures { result ≡ shared.step_operator operator }
 {
     match operator {
         StepOperator::Increment => Operator::Add,

@@ -1,13 +1,16 @@
 // Statements (ISO/IEC 14882:2017 [stmt.stmt]).
-ghost use Rattle.std.specs.Prelude.{◌≡◌, OnOk, map};
+ghost use Rattle.std.specs.Prelude.{◌≡◌, OnOk, Some, map};
 ghost use Rattle.life_core.specs.Tree.{Turns, condition_tree, tree_of};
-ghost use Rattle.life_typed.specs.TypedForm.{typed_view, whole};
+ghost use Rattle.life_typed.specs.TypedForm.{typed_view};
 ghost use Rattle.life_typed.specs.TypedStatement.{block_item_view, block_view, branch_view, for_of, for_start_view, item_view, optional_view, simple_view, stmt_forms, stmt_view};
 ghost use Rattle.life_writer.specs.Answers.{Answers};
-ghost use Rattle.life_writer.specs.Expressions as expressions;
+ghost use Rattle.life_writer.specs.Around.{result_local};
+ghost use Rattle.life_writer.specs.PartUses.{expression_uses};
+ghost use Rattle.life_writer.specs.Using as using;
 ghost use Rattle.life_elab.specs.OpenedViews.{opened_of};
-ghost use Rattle.life_elab.specs.Simples.{simple_if};
-ghost use Rattle.life_elab.specs.Statements as spec;
+ghost use Rattle.life_elab.specs.SimpleForms.{simple_if};
+ghost use Rattle.life_elab.specs.StatementForms as spec;
+ghost use Rattle.life_elab.specs.Statements as shared;
 ghost use Rattle.life_writer.specs.Views.{around_of, state_of};
 ghost use Rattle.life_built.specs.Last.{last_view};
 ghost use Rattle.life_writer.specs.Writing.{apart, write};
@@ -21,8 +24,8 @@ use life_typed::{
     TypedBlock, TypedBlockItem, TypedBranch, TypedExpr, TypedForHead, TypedForStart, TypedItem,
     TypedSimple, TypedStmt,
 };
-use life_types::{NoMemory, Place, Ty};
-use life_writer::{Around, Behind, Destination, Last, Pointing, Writer, number, own_type};
+use life_types::{Class, NoMemory, Place, Ty, is_value};
+use life_writer::{Around, Behind, Destination, Last, Pointing, Writer, class, number, own_type};
 
 // A loop: while the condition holds, the body and then the step.
 fn write_loop(
@@ -99,7 +102,7 @@ pub(crate) fn leave(
     keyword: Place,
     leaves: Stmt,
 ) -> Result<(), NoMemory>
-    ensures { OnOk result (state_of writer.new ≡ spec.left outside keyword (tree_of leaves) (state_of writer.old)) }
+    ensures { OnOk result (state_of writer.new ≡ shared.left outside keyword (tree_of leaves) (state_of writer.old)) }
 {
     writer.end_past(outside, keyword)?;
     writer.write(leaves)
@@ -107,25 +110,42 @@ pub(crate) fn leave(
 
 // What is declared in the innermost loop ends, and control leaves the loop or goes on with it.
 fn leave_loop(writer: &mut Writer, keyword: Place, leaves: Stmt) -> Result<(), NoMemory>
-    ensures { OnOk result (state_of writer.new ≡ spec.left (state_of writer.old).outside keyword (tree_of leaves) (state_of writer.old)) }
+    ensures { OnOk result (state_of writer.new ≡ shared.left (state_of writer.old).outside keyword (tree_of leaves) (state_of writer.old)) }
 {
     let outside = writer.stays();
     leave(writer, outside, keyword, leaves)
 }
 
 // The value of a `return` goes to the local of the result.
+fn value_given_back(
+    writer: &mut Writer,
+    a: &Around,
+    value: &TypedExpr,
+    ty: Ty,
+    behind: Place,
+) -> Result<(), NoMemory>
+    ensures { OnOk result (state_of writer.new ≡ (using.value (expression_uses (around_of a.now) value.now) behind ty (Some (result_local (around_of a.now))) (state_of writer.old)).state) }
+{
+    let into = a.result_local()?;
+    writer.value(a, value, behind, ty, Some(into))?;
+    Ok(())
+}
+
+// .. by the class of the result.
 fn given_back(
     writer: &mut Writer,
     a: &Around,
     value: &TypedExpr,
+    keyword: Place,
     behind: Place,
 ) -> Result<(), NoMemory>
-    ensures { OnOk result (state_of writer.new ≡ spec.given_back (around_of a.now) (typed_view value.now) behind (state_of writer.old)) }
+    ensures { OnOk result (state_of writer.new ≡ spec.given_back (around_of a.now) (typed_view value.now) keyword behind (state_of writer.old)) }
 {
     let ty = a.type_of(a.function.result);
-    let into = a.result_local()?;
-    writer.value(a, value, behind, ty, Some(into))?;
-    Ok(())
+    match class(ty) {
+        Class::Value => value_given_back(writer, a, value, ty, behind),
+        _ => Err(NoMemory),
+    }
 }
 
 // .. which is a full expression up to the token behind it.
@@ -133,17 +153,36 @@ fn result_given(
     writer: &mut Writer,
     a: &Around,
     value: &Option<TypedExpr>,
+    keyword: Place,
     behind: Place,
 ) -> Result<(), NoMemory>
-    ensures { OnOk result (state_of writer.new ≡ spec.result_given (around_of a.now) (optional_view typed_view value.now) behind (state_of writer.old)) }
+    ensures { OnOk result (state_of writer.new ≡ spec.result_given (around_of a.now) (optional_view typed_view value.now) keyword behind (state_of writer.old)) }
 {
     match value {
         Some(value) => {
             let pending = writer.pending_count();
-            given_back(writer, a, value, behind)?;
+            given_back(writer, a, value, keyword, behind)?;
             writer.end_pending(pending, behind)
         }
         None => Ok(()),
+    }
+}
+
+// A number, a character or a truth goes out of a register, and characters are seen.
+fn write_value(
+    writer: &mut Writer,
+    a: &Around,
+    value: &TypedExpr,
+    behind: Place,
+) -> Result<(), NoMemory>
+    ensures { OnOk result (state_of writer.new ≡ spec.written (expression_uses (around_of a.now) value.now) behind (state_of writer.old)) }
+{
+    let own = own_type(value.ty);
+    if is_value(own) {
+        let register = writer.value(a, value, behind, own, None)?;
+        writer.emit(value.place, Instr::Port(Port::Value(register)))
+    } else {
+        Err(NoMemory)
     }
 }
 
@@ -158,16 +197,13 @@ fn write_item(
     ensures { OnOk result (state_of writer.new ≡ spec.item (around_of a.now) (item_view item.now) behind (state_of writer.old)) }
 {
     match item {
-        TypedItem::Value(value) => {
-            let register = writer.value(a, value, behind, own_type(value.ty), None)?;
-            writer.emit(value.place, Instr::Port(Port::Value(register)))
-        }
+        TypedItem::Value(value) => write_value(writer, a, value, behind),
         TypedItem::EndLine(place) => end_line(writer, a, *place),
     }
 }
 
 fn end_line(writer: &mut Writer, a: &Around, place: Place) -> Result<(), NoMemory>
-    ensures { OnOk result (state_of writer.new ≡ spec.line (around_of a.now) place (state_of writer.old)) }
+    ensures { OnOk result (state_of writer.new ≡ shared.line (around_of a.now) place (state_of writer.old)) }
 {
     let source = Source::Text(number(a.program.texts.len())?);
     let last = Last::Point(place, Pointing::At(source));
@@ -212,7 +248,7 @@ fn asserted(
     condition: &TypedExpr,
     behind: Behind,
 ) -> Result<(), NoMemory>
-    ensures { OnOk result (state_of writer.new ≡ spec.asserted (expressions.condition (around_of a.now) (whole (typed_view condition.now)) behind) keyword (state_of writer.old)) }
+    ensures { OnOk result (state_of writer.new ≡ shared.asserted (using.condition (expression_uses (around_of a.now) condition.now) behind) keyword (state_of writer.old)) }
 {
     let condition = writer.condition(a, condition, behind)?;
     write_branch(
@@ -258,7 +294,7 @@ pub(crate) fn write_statement(
             closing,
             body,
         } => write_for(writer, a, *keyword, head, *closing, body),
-        TypedStmt::RangeFor { .. } => Ok(()),
+        TypedStmt::RangeFor { .. } => Err(NoMemory),
         TypedStmt::Break { keyword, .. } => leave_loop(writer, *keyword, Stmt::Break),
         TypedStmt::Continue { keyword, .. } => leave_loop(writer, *keyword, Stmt::Continue),
         TypedStmt::Return {
@@ -266,7 +302,7 @@ pub(crate) fn write_statement(
             value,
             semicolon,
         } => {
-            result_given(writer, a, value, *semicolon)?;
+            result_given(writer, a, value, *keyword, *semicolon)?;
             leave(writer, 0, *keyword, Stmt::Return(*keyword))
         }
         TypedStmt::Print { items, semicolon } => write_output(writer, a, items, *semicolon),
@@ -351,7 +387,7 @@ fn write_apart(writer: &mut Writer, a: &Around, statement: &TypedStmt) -> Result
 // What a loop repeats, in a list of its own. What is declared in it is left with the loop.
 #[cycle(statements)]
 fn write_body_of_loop(writer: &mut Writer, a: &Around, body: &TypedStmt) -> Result<Stmt, NoMemory>
-    ensures { Answers tree_of result (apart (spec.body_of_loop (spec.statement (around_of a.now) (stmt_view body.now))) (state_of writer.old)) (state_of writer.new) }
+    ensures { Answers tree_of result (apart (shared.body_of_loop (spec.statement (around_of a.now) (stmt_view body.now))) (state_of writer.old)) (state_of writer.new) }
 {
     let outside = writer.begin_loop();
     let body = write_apart(writer, a, body)?;
@@ -368,7 +404,7 @@ fn open_branch(
     condition: &TypedExpr,
     behind: Behind,
 ) -> Result<Opened, NoMemory>
-    ensures { Answers opened_of result (spec.opened (expressions.condition (around_of a.now) (whole (typed_view condition.now)) behind) (spec.statement (around_of a.now) (stmt_view body.now)) (state_of writer.old)) (state_of writer.new) }
+    ensures { Answers opened_of result (shared.opened (using.condition (expression_uses (around_of a.now) condition.now) behind) (spec.statement (around_of a.now) (stmt_view body.now)) (state_of writer.old)) (state_of writer.new) }
 {
     let condition = writer.condition(a, condition, behind)?;
     let first = write_apart(writer, a, body)?;

@@ -20,8 +20,9 @@ use Rattle.life_well_typed.specs.Visible.{Visible, with_next, with_parameters}
 use Rattle.life_writer.specs.Around.{Around}
 use Rattle.life_writer.specs.Registers.{nameless}
 use Rattle.life_writer.specs.Writing.{State, nothing_written}
-use Rattle.life_elab.specs.Functions.{first_state, parameter_local, with_result}
+use Rattle.life_elab.specs.Functions.{parameter_local}
 use Rattle.life_elab.specs.Functions as elab
+use Rattle.life_elab.specs.ProgramForms.{first_state, with_result}
 use Rattle.life_elab_laws.proofs.Among.{Among, among_left, among_right, contains_among}
 use Rattle.life_elab_laws.proofs.Declaring.{follows_new, with_new}
 use Rattle.life_elab_laws.proofs.Exits.{Knows}
@@ -144,9 +145,8 @@ module _ (a : Around) where
   one_register types t s v at =
       register_pushed types s.types s.locals (nameless a.function.place a.function.result) (record { nameless = refl; kind = refl; ty = t; typed = at; fits = value_fits types t v })
 
-  pub result_grows : (t : Ty) (s : State) → Grows s (with_result a t s)
-  result_grows ty.Void s = grows_none s
-  result_grows _ s = record {
+  one_register_grows : (s : State) → Grows s (record s { locals = s.locals ++ nameless a.function.place a.function.result ∷ [] })
+  one_register_grows s = record {
     locals = front_append s.locals (nameless a.function.place a.function.result ∷ []);
     types = front_itself s.types.types;
     count = omega (arith, length-append s.locals (nameless a.function.place a.function.result ∷ []));
@@ -156,6 +156,15 @@ module _ (a : Around) where
     outside = refl;
     shaped = λ types h. shaped_more types s.locals (nameless a.function.place a.function.result) h (λ is. absurd (false≢true (sym is)));
   }
+
+  pub result_grows : (t : Ty) (s : State) → (is_void t || is_value t) ≡ true → Grows s (with_result a t s)
+  result_grows ty.Void s b = grows_none s
+  result_grows ty.Bool s b = one_register_grows s
+  result_grows ty.Char s b = one_register_grows s
+  result_grows ty.Int s b = one_register_grows s
+  result_grows ty.Long s b = one_register_grows s
+  result_grows ty.Size s b = one_register_grows s
+  result_grows _ s b = absurd (false≢true b)
 
   -- .. a register
   result_registers : (types : Types) (t : Ty) (s : State) → (is_void t || is_value t) ≡ true → slice_get s.types.types a.function.result.0 ≡ Some t → AddsRegisters types s (with_result a t s)
@@ -198,9 +207,9 @@ module _ (a : Around) where
     pub first_types : (first_state a T).types ≡ T
     first_types = result_types (type_at a.program.types a.function.result) given ∙ types_same a.function.parameters a.function.locals (nothing_written T)
 
-    pub first_shaped : are_built_variables a.program.types a.function.locals ≡ true → AreShaped a.program.types (first_state a T).locals
-    first_shaped b =
-        (result_grows (type_at a.program.types a.function.result) given).shaped a.program.types
+    pub first_shaped : are_built_variables a.program.types a.function.locals ≡ true → is_built_result a.program.types a.function.result ≡ true → AreShaped a.program.types (first_state a T).locals
+    first_shaped b result =
+        (result_grows (type_at a.program.types a.function.result) given result).shaped a.program.types
         (shaped_same a.function.parameters a.function.locals (nothing_written T) b tt)
 
     -- the parameters, and the register of the result
@@ -209,16 +218,16 @@ module _ (a : Around) where
         let found : type_at a.program.types a.function.result ≡ t = ap (λ (o : Option Ty). unwrap_or o ty.Void) at in
         let there : slice_get given.types.types a.function.result.0 ≡ Some t =
         ap (λ (x : Types). slice_get x.types a.function.result.0) (types_same a.function.parameters a.function.locals (nothing_written T)) ∙ table a.function.result.0 t at in
-        locals_added types a given (first_state a T) (result_grows (type_at a.program.types a.function.result) given).types
+        locals_added types a given (first_state a T) (result_grows (type_at a.program.types a.function.result) given b).types
         (result_registers types (type_at a.program.types a.function.result) given b (there ∙ ap Some (sym found)))
         (own_parameters types a.function.parameters [] a.function.locals (nothing_written T) refl (λ y l none. absurd (none-some l none)))
 
     pub result_first : is_value (type_at a.program.types a.function.result) ≡ true → slice_get (first_state a T).locals (length a.function.parameters) ≡ Some (nameless a.function.place a.function.result)
     result_first worth = ap (slice_get (first_state a T).locals) (sym given_count) ∙ result_there (type_at a.program.types a.function.result) given worth
 
-    pub parameters_front : IsFront (parameter_locals a.function.parameters a.function.locals) (first_state a T).locals
-    parameters_front y l at =
-        (result_grows (type_at a.program.types a.function.result) given).locals y l
+    pub parameters_front : is_built_result a.program.types a.function.result ≡ true → IsFront (parameter_locals a.function.parameters a.function.locals) (first_state a T).locals
+    parameters_front result y l at =
+        (result_grows (type_at a.program.types a.function.result) given result).locals y l
         (subst (λ (ls : List Local). slice_get ls y ≡ Some l) (sym (locals_written a.function.parameters a.function.locals (nothing_written T))) at)
 
     pub register_there : (t : Ty) → slice_get a.program.types.types a.function.result.0 ≡ Some t → HasRegister a (first_state a T)
@@ -261,19 +270,19 @@ module _ (a : Around) where
           subst (λ (v : Visible). Follows types f a v given) (all_visible a.function.parameters)
           (each_follows a.function.parameters [] a.function.locals (with_parameters 0) (nothing_written T) refl refl fits nothing_follows)
 
-      pub first_follows : Follows types f a (with_parameters (length a.function.parameters)) (first_state a T)
-      first_follows = follows_grown types f a (with_parameters (length a.function.parameters)) given (first_state a T) (result_grows (type_at a.program.types a.function.result) given) given_follows
+      pub first_follows : is_built_result a.program.types a.function.result ≡ true → Follows types f a (with_parameters (length a.function.parameters)) (first_state a T)
+      first_follows result = follows_grown types f a (with_parameters (length a.function.parameters)) given (first_state a T) (result_grows (type_at a.program.types a.function.result) given result) given_follows
 
       -- the parameters are known, and all else that has a name is blank
-      pub entry_knows : f.parameters ≡ length a.function.parameters → IsFront (first_state a T).locals f.locals → Knows f (first_state a T).living (entry_known f)
-      entry_knows count locals = record {
+      pub entry_knows : is_built_result a.program.types a.function.result ≡ true → f.parameters ≡ length a.function.parameters → IsFront (first_state a T).locals f.locals → Knows f (first_state a T).living (entry_known f)
+      entry_knows result count locals = record {
         sized = map_length (given_ready f.parameters f.locals) ∙ given_length f.parameters f.locals;
         alive = λ y m. alive y (subst (Among y) same m);
         blank = λ y l name there named none. blank y l there (λ m. none (subst (Among y) (sym same) m));
       }
         where
           grows : Grows given (first_state a T)
-          grows = result_grows (type_at a.program.types a.function.result) given
+          grows = result_grows (type_at a.program.types a.function.result) given result
 
           same : (first_state a T).living ≡ given.living
           same = grows.living

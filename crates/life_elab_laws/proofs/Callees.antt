@@ -22,7 +22,8 @@ use Rattle.life_well_typed.specs.Expressions.{parameter_types, type_of}
 use Rattle.life_well_typed.specs.Functions.{IsWellTypedFunction}
 use Rattle.life_writer.specs.Around.{Around}
 use Rattle.life_writer.specs.Variables.{kind}
-use Rattle.life_elab.specs.Functions.{first_state, parameter_local}
+use Rattle.life_elab.specs.Functions.{parameter_local}
+use Rattle.life_elab.specs.ProgramForms.{first_state}
 use Rattle.life_elab.specs.Programs.{around}
 use Rattle.life_elab_laws.proofs.Beginning.{parameter_locals, parameters_front, register_there}
 use Rattle.life_elab_laws.proofs.Calls.{IsCallee, objects}
@@ -130,7 +131,7 @@ module _ (p : ProgramForm) (of : FunctionForm) (T types : Types) (core : Functio
   cut : (rest : List Local) × (core.locals ≡ parameter_locals (around p of) of.parameters of.locals ++ rest)
   cut =
       front_cut (parameter_locals (around p of) of.parameters of.locals) core.locals
-      (front_then (parameter_locals (around p of) of.parameters of.locals) (first_state (around p of) T).locals core.locals (parameters_front (around p of) T is.typed.parameters begun.table) begun.locals)
+      (front_then (parameter_locals (around p of) of.parameters of.locals) (first_state (around p of) T).locals core.locals (parameters_front (around p of) T is.typed.parameters begun.table is.built.result) begun.locals)
 
   takes_objects : parameter_sorts types core ≡ objects (parameter_types (Some of))
   takes_objects =
@@ -147,7 +148,7 @@ module _ (p : ProgramForm) (of : FunctionForm) (T types : Types) (core : Functio
   pub takes_values : (y : ℕ) (l : Local) → slice_get core.locals y ≡ Some l → y < core.parameters → is_value (type_at types l.ty) ≡ true
   takes_values y l at lt =
       let taken = value_taken (around p of) of.parameters of.locals y is.typed.parameters is.built.parameters (omega (arith, lt, begun.count)) in
-      let there : slice_get core.locals y ≡ Some taken.0 = begun.locals y taken.0 (parameters_front (around p of) T is.typed.parameters begun.table y taken.0 taken.1) in
+      let there : slice_get core.locals y ≡ Some taken.0 = begun.locals y taken.0 (parameters_front (around p of) T is.typed.parameters begun.table is.built.result y taken.0 taken.1) in
       value_later p.types types front l.ty (subst (λ (u : Local). is_value (type_at p.types u.ty) ≡ true) (same_Some taken.0 l (sym there ∙ at)) taken.2)
 
   result_type : slice_get types.types core.result.0 ≡ Some is.ty

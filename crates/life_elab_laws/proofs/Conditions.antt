@@ -1,5 +1,5 @@
 -- Conditions, and values that are decided by them.
-use Rattle.std.proofs.Common.{◌≡◌, ◌<◌, ℕ, Bool, true, false, cond, List, [], ◌∷◌, ◌++◌, length, slice_set, Option, Some, None, refl, sym, ap, ◌∙◌, subst, arith}
+use Rattle.std.proofs.Common.{◌≡◌, ◌<◌, ℕ, Bool, true, false, ◌||◌, cond, List, [], ◌∷◌, ◌++◌, length, slice_set, Option, Some, None, refl, sym, ap, ◌∙◌, subst, arith}
 use Rattle.std.proofs.lemmas.Bool.{or_left}
 use Rattle.std.proofs.lemmas.Option.{slice_get_within}
 use Rattle.std.specs.Prelude.{pos, ℤ}
@@ -19,8 +19,9 @@ use Rattle.life_proper.specs.WellFormed.{is_well_formed_test}
 use Rattle.life_proper.specs.declared.known.Known.{Known}
 use Rattle.life_proper.specs.declared.known.Known.TheVariants as known
 use Rattle.life_proper.proofs.ReadyTests.{uses_ready}
-use Rattle.life_writer.specs.Conditions.{answer, behind_code, branched, by_branch, condition_from, joined, joined_by, negation, non_zero, not_null, tested}
+use Rattle.life_writer.specs.Conditions.{answer, behind_code, branched, by_branch, joined, joined_by, negation, non_zero, not_null, tested}
 use Rattle.life_writer.specs.Registers.{constant, target}
+use Rattle.life_writer.specs.Using.{condition_by}
 use Rattle.life_writer.specs.Writing.{Gives, State, mapped, taken, with_code}
 use Rattle.life_writer.specs.declared.rows.Join.{Join}
 use Rattle.life_writer.specs.declared.rows.Join.TheVariants as join
@@ -264,14 +265,15 @@ module _ (types : Types) (texts : ℕ) (fs : List Function) (f : Function) where
 
   -- ---- any condition
 
-  pub condition_part : (decision : Option (State → Gives Tree)) (t : Ty) (place : Place) (ends : Option Place) (pointer : State → Gives Location) (value : State → Gives ℕ) (s : State)
+  pub condition_part : (decision : Option (State → Gives Tree)) (t : Ty) (place : Place) (ends : Option Place) (pointer : State → Gives Location) (value : State → Gives ℕ) (s : State) → is_unique t ≡ false
       → ((w : State → Gives Tree) → decision ≡ Some w → Tests s (w s))
       → (decision ≡ None → is_raw t ≡ true → Makes types texts fs f None (with_code [] s) (pointer (with_code [] s)) (a_pointer types texts fs f t))
       → (decision ≡ None → is_raw t ≡ false → Makes types texts fs f None (with_code [] s) (value (with_code [] s)) (a_number types texts fs f t))
-      → Tests s (condition_from decision t place ends pointer value s)
-  condition_part (Some w) t place ends pointer value s decided pointed valued = decided w refl
-  condition_part None t place ends pointer value s decided pointed valued = go (is_raw t) refl
+      → Tests s (condition_by decision t place ends pointer value s)
+  condition_part (Some w) t place ends pointer value s plain decided pointed valued = decided w refl
+  condition_part None t place ends pointer value s plain decided pointed valued =
+      subst (λ (b : Bool). Tests s (cond (is_raw t || b) (not_null place ends pointer s) (non_zero place ends value s))) (sym plain) (go (is_raw t) refl)
     where
-      go : (b : Bool) → is_raw t ≡ b → Tests s (cond b (not_null place ends pointer s) (non_zero place ends value s))
+      go : (b : Bool) → is_raw t ≡ b → Tests s (cond (b || false) (not_null place ends pointer s) (non_zero place ends value s))
       go true e = not_null_part place ends t pointer s e (pointed refl e)
       go false e = non_zero_part place ends t value s (valued refl e)

@@ -1,5 +1,5 @@
 -- What is written for a declaration is ready and well formed: the variable lives, and is given what typing lets it be given.
-use Rattle.std.proofs.Common.{◌≡◌, ◌<◌, ℕ, Bool, true, false, ◌||◌, cond, List, [], ◌∷◌, ◌++◌, length, slice_get, slice_set, Option, Some, None, refl, sym, ap, ◌∙◌, subst, unwrap_or, arith, append_assoc}
+use Rattle.std.proofs.Common.{◌≡◌, ◌<◌, ℕ, Bool, true, false, ◌||◌, ◌&&◌, cond, not, List, [], ◌∷◌, ◌++◌, length, slice_get, slice_set, Option, Some, None, refl, sym, ap, ◌∙◌, subst, unwrap_or, arith, append_assoc}
 use Rattle.std.proofs.lemmas.Bool.{and_parts, false≢true}
 use Rattle.life_types.specs.Pointees.{ty_of}
 use Rattle.life_types.specs.TypeTests.{is_value}
@@ -11,6 +11,7 @@ use Rattle.life_types.specs.declared.ty.Ty.TheVariants as ty
 use Rattle.life_types.specs.declared.ty.TyId.{TyId}
 use Rattle.life_built.specs.Built.{is_built_declaration, is_built_declared, is_built_expression, is_built_initial, is_built_variable, is_pointing, needs_no_temporary}
 use Rattle.life_typed.specs.BaseTypes.{type_at}
+use Rattle.life_typed.specs.Conversions.{is_place}
 use Rattle.life_typed.specs.Programs.{FunctionForm}
 use Rattle.life_typed.specs.TypedForm.{Typed, whole as whole_form}
 use Rattle.life_typed.specs.TypedStatement.{DeclarationForm, InitialForm, one, several}
@@ -35,15 +36,20 @@ use Rattle.life_well_typed.specs.Statements.{IsDeclaration, IsInitialised}
 use Rattle.life_well_typed.specs.Visible.{Visible, with_next}
 use Rattle.life_writer.specs.Around.{Around, own_type, type_of}
 use Rattle.life_writer.specs.Around as around
-use Rattle.life_writer.specs.Calls.{Called, call_of, called}
-use Rattle.life_writer.specs.Expressions.{handed_over, operand, pointing, value}
-use Rattle.life_writer.specs.Initialising.{Plan, ByCall, ByValue, begun, initialised, plan_for}
+use Rattle.life_writer.specs.Calls.{Called, call_for, called, form_call}
+use Rattle.life_writer.specs.ExpressionForms.{all_uses, uses}
+use Rattle.life_writer.specs.Giving.{aimed_at, call_to, initial, value_by}
+use Rattle.life_writer.specs.Giving as giving
 use Rattle.life_writer.specs.Building.{live}
-use Rattle.life_writer.specs.Building as building
 use Rattle.life_writer.specs.Pointers.{aimed, pointed}
+use Rattle.life_writer.specs.Temporaries.{scoped}
+use Rattle.life_writer.specs.Using.{pointing, value}
 use Rattle.life_writer.specs.Variables.{end_pending, variable_local}
-use Rattle.life_writer.specs.Writing.{State, Gives, ◌>>◌, emit, gives, with_code}
-use Rattle.life_elab.specs.Declarations.{declared, declared_as, given_initial, variable as home}
+use Rattle.life_writer.specs.Uses.{Remaining}
+use Rattle.life_writer.specs.Writing.{State, Gives, ◌>>◌, emit, gives, mapped, with_code}
+use Rattle.life_elab.specs.DeclarationForms.{declared, declared_as, default_to, given_initial}
+use Rattle.life_elab.specs.Declarations.{variable as home}
+use Rattle.life_writer.proofs.Called.{call_for_seen, calling}
 use Rattle.life_elab_laws.proofs.Aiming.{pointed_fills, pointed_fine}
 use Rattle.life_elab_laws.proofs.CallParts.{called_fine}
 use Rattle.life_elab_laws.proofs.Calls.{born_fills}
@@ -51,7 +57,7 @@ use Rattle.life_elab_laws.proofs.Declaring.{declared_does, its_local, new_below,
 use Rattle.life_elab_laws.proofs.Doing.{Does}
 use Rattle.life_elab_laws.proofs.ExpressionKinds.{variable_built}
 use Rattle.life_elab_laws.proofs.ExpressionForms.{IsWhole}
-use Rattle.life_elab_laws.proofs.Expressions.{expression, result_later, whole_expression}
+use Rattle.life_elab_laws.proofs.Expressions.{expression, points_whole, result_later, whole_expression}
 use Rattle.life_elab_laws.proofs.GivenKinds.{given_number, given_pointer}
 use Rattle.life_elab_laws.proofs.Falling.{Falls, Fills, falls_acts, falls_append, falls_filling}
 use Rattle.life_elab_laws.proofs.Following.{Follows, follows_grown, is_variable_sort}
@@ -185,60 +191,64 @@ module _ (a : Around) (types : Types) (texts : ℕ) (fs : List Function) (f : Fu
       whole_is : IsWhole a v.visible types texts fs f setting (whole_form e)
       whole_is = whole_expression a v.visible types texts fs f setting (whole_form e) b he
 
-      -- where it is of a type, by a plan
-      abbrev Given : Plan → Ty → State
-      Given plan t = (begun a plan t e behind s >> λ last s. building.built last (home a u) s).state
-
       abbrev GivenOne : Ty → State
-      GivenOne t = (initialised a t e behind (home a u) s).state
+      GivenOne t = (initial a scoped (uses a (whole_form e)) t behind s >> λ rest s. rest (home a u) s).state
 
       module _ (t : Ty) (is : slice_get a.program.types.types u.ty.0 ≡ Some t) (worth : is_value t ≡ true) (n : is_number e.ty ≡ true) where
-        by_value_does : Born (Given ByValue t)
-        by_value_does = valued_does t is worth (value a (whole_form e) behind t None s) (whole_is.valued n behind t worth None s tt h.stands)
+        -- with the call that it is
+        abbrev By : Option Called → State
+        By o = (value_by (calling a o) e.place (value (uses a (whole_form e)) behind t None) s >> λ rest s. rest (home a u) s).state
 
-        by_call_does : (c : Called) → call_of e.form ≡ Some c → compared.eq (own_type e.ty) t ≡ true → Born (Given (ByCall c) t)
+        by_value_does : Born (By None)
+        by_value_does = valued_does t is worth (value (uses a (whole_form e)) behind t None s) (whole_is.valued n behind t worth None s tt h.stands)
+
+        by_call_does : (c : Called) → form_call e.form ≡ Some c → compared.eq (own_type e.ty) t ≡ true → Born (By (Some c))
         by_call_does c found same =
             let k = (expression a v.visible types texts fs f setting e.form e b he).calls c found in
             called_does t is worth c.function k.of e.place k.there
             (result_later a v.visible types texts fs f setting c.function k.of k.there ∙ sym (ap own_type k.own) ∙ same_types (own_type e.ty) t same ∙ sym (type_is t is))
-            (handed_over a c.arguments c.delimiters (around.parameter_types a c.function) s) (k.hands s h.stands)
+            (giving.arguments a (all_uses a c.arguments) c.delimiters (around.parameter_types a c.function) s) (k.hands s h.stands)
 
         -- a call is one where it needs no conversion
-        abbrev chosen : Option Called → Plan
-        chosen None = ByValue
-        chosen (Some c) = cond (compared.eq (own_type e.ty) t) (ByCall c) ByValue
-
-        chosen_does : (o : Option Called) → call_of e.form ≡ o → Born (Given (chosen o) t)
-        chosen_does None found = by_value_does
-        chosen_does (Some c) found = go (compared.eq (own_type e.ty) t) refl
+        chosen_does : Born (By (call_for e t))
+        chosen_does = go (compared.eq (own_type e.ty) t) refl (not (is_place e.category))
           where
-            go : (b : Bool) → compared.eq (own_type e.ty) t ≡ b → Born (Given (cond b (ByCall c) ByValue) t)
-            go true same = by_call_does c found same
-            go false same = by_value_does
+            found : (o : Option Called) → form_call e.form ≡ o → compared.eq (own_type e.ty) t ≡ true → Born (By o)
+            found None at same = by_value_does
+            found (Some c) at same = by_call_does c at same
 
-        planned : (o : Option Called) → plan_for t (own_type e.ty) o ≡ chosen o
-        planned None = by_values (λ x. plan_for x (own_type e.ty) None ≡ ByValue) refl refl refl refl refl t worth
-        planned (Some c) = by_values (λ x. plan_for x (own_type e.ty) (Some c) ≡ cond (compared.eq (own_type e.ty) x) (ByCall c) ByValue) refl refl refl refl refl t worth
+            go : (b : Bool) → compared.eq (own_type e.ty) t ≡ b → (c : Bool) → Born (By (cond (b && c) (form_call e.form) None))
+            go true same true = found (form_call e.form) refl same
+            go true same false = by_value_does
+            go false same c = by_value_does
 
         object_does : Born (GivenOne t)
-        object_does = subst (λ (plan : Plan). Born (Given plan t)) (sym (planned (call_of e.form))) (chosen_does (call_of e.form) refl)
+        object_does =
+            subst Born (sym (by_values (λ x. (initial a scoped (uses a (whole_form e)) x behind s >> λ rest s. rest (home a u) s).state ≡ (value_by (call_to (uses a (whole_form e)) x) e.place (value (uses a (whole_form e)) behind x None) s >> λ rest s. rest (home a u) s).state) refl refl refl refl refl t worth))
+            (subst (λ (o : Option (State → Gives (Location → Step))). Born (value_by o e.place (value (uses a (whole_form e)) behind t None) s >> λ rest s. rest (home a u) s).state) (sym (call_for_seen a e t)) chosen_does)
 
       raw_does : (target : TyId) (constant : Bool) → slice_get a.program.types.types u.ty.0 ≡ Some (ty.Raw target constant) → is_given a.program.types (ty.Raw target constant) e ≡ true → Born (GivenOne (ty.Raw target constant))
       raw_does target constant is given =
           let r = ty.Raw target constant in
-          let w = pointing a (whole_form e) s in
+          let w = pointing (uses a (whole_form e)) s in
           let worth : is_value (type_at a.program.types target) ≡ true = subst (λ (t : Ty). (is_value t || is_pointing a.program.types t) ≡ true) (type_is r is) built in
-          filled_does e.place w (a_pointing types texts fs f e.ty) (λ p l. pointed p l) (whole_is.points (given_pointer a.program.types r e refl given) s h.stands)
+          filled_does e.place w (a_pointing types texts fs f e.ty) (λ p l. pointed p l) (points_whole a v.visible types texts fs f setting (whole_form e) whole_is (given_pointer a.program.types r e refl given) s h.stands)
           (λ b q.
           pointed_fine types texts fs f (whole (length w.state.locals)) r e.ty w.given refl (raw_declared a types texts fs f setting.front u w.state b target constant is)
           (given_raw a.program.types types setting.front target constant worth e given) q)
           (λ b k q blank. pointed_fills f (length w.state.locals) (length w.state.locals) w.given k q)
 
+      -- what would be built where it isn't a place of the type
+      abbrev kept_object : TyId → Gives Remaining
+      kept_object target =
+          giving.given (uses a (whole_form e)) (type_of a target) behind s >> λ rest s. rest (scoped e.place (type_of a target)) s >> λ x s. gives (aimed_at e.place (object_named x)) s
+
       reference_does : (target : TyId) (constant : Bool) → slice_get a.program.types.types u.ty.0 ≡ Some (ty.Reference target constant) → is_value (type_at a.program.types target) ≡ true → IsBoundTo target constant e.category
           → Born (GivenOne (ty.Reference target constant))
       reference_does target constant is worth bound =
-          let w = operand a (whole_form e) s in
-          filled_does e.place w (a_place types texts fs f (type_at a.program.types target) bound.held) (λ o l. pointed (aimed (Aimed o)) l) (whole_is.names target bound.held bound.place worth s h.stands)
+          let w = (uses a (whole_form e)).at s in
+          subst (λ (c : Bool). Born ((cond c (mapped (aimed_at e.place) w) (kept_object target) >> λ rest s. rest (home a u) s).state)) (sym bound.here)
+          (filled_does e.place w (a_place types texts fs f (type_at a.program.types target) bound.held) (λ o l. pointed (aimed (Aimed o)) l) (whole_is.names target bound.held bound.place worth s h.stands)
           (λ b q. record {
             plain = refl;
             formed =
@@ -246,7 +256,7 @@ module _ (a : Around) (types : Types) (texts : ℕ) (fs : List Function) (f : Fu
                 ∙ bound_given a types texts fs f setting.front target constant bound.held w.given worth bound.kept q;
             served = q.served;
           })
-          (λ b k q blank. filling_fills f (λ p. Aim p (Aimed w.given)) (length w.state.locals) k (aimed_filling f w.given (length w.state.locals) k q) (length w.state.locals))
+          (λ b k q blank. filling_fills f (λ p. Aim p (Aimed w.given)) (length w.state.locals) k (aimed_filling f w.given (length w.state.locals) k q) (length w.state.locals)))
 
       one_does : needs_no_temporary (type_of a u.ty) e ≡ true → is_given a.program.types (type_of a u.ty) e ≡ true → Born (GivenOne (type_of a u.ty))
       one_does temporary given = go (variable_type a.program.types u.ty built)
@@ -268,8 +278,15 @@ module _ (a : Around) (types : Types) (texts : ℕ) (fs : List Function) (f : Fu
 
     -- ---- any variable
 
+    -- no view and no span is built yet
+    plain_default : IsVariableType a.program.types u.ty → default_to (type_of a u.ty) (home a u) s ≡ live (home a u) s
+    plain_default (a_value t is w) =
+        ap (λ (x : Ty). default_to x (home a u) s) (type_is t is) ∙ by_values (λ x. default_to x (home a u) s ≡ live (home a u) s) refl refl refl refl refl t w
+    plain_default (a_raw target constant is) = ap (λ (x : Ty). default_to x (home a u) s) (type_is (ty.Raw target constant) is)
+    plain_default (a_reference target constant is w) = ap (λ (x : Ty). default_to x (home a u) s) (type_is (ty.Reference target constant) is)
+
     initial_does : (initial : Option InitialForm) (behind : Place) → is_built_initial (type_of a u.ty) initial ≡ true → IsInitialised a.program a.function.locals a.function.result v.visible (Some u) initial → Born (given_initial a u initial behind s)
-    initial_does None behind b i = live_does i
+    initial_does None behind b i = subst (λ (w : Gives ℕ). Born w.state) (sym (plain_default (variable_type a.program.types u.ty built))) (live_does i)
     initial_does (Some (one e)) behind b i =
         let parts = and_parts (is_built_expression e) (needs_no_temporary (type_of a u.ty) e) b in one_does e parts.0 i.1 behind parts.1 i.0
     initial_does (Some (several list)) behind b i = absurd (false≢true b)

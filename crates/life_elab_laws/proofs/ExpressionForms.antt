@@ -1,5 +1,6 @@
 -- What all laws ask of an expression and of what it is made by, and the ways to make a form: as a value, by tests, as a pointer, as a place, in parentheses.
-use Rattle.std.proofs.Common.{◌≡◌, ◌⊎◌, ℕ, Bool, true, false, cond, List, [], slice_get, Option, Some, None, refl, sym, ap, ◌∙◌, subst}
+use Rattle.std.proofs.Common.{◌≡◌, ◌⊎◌, inl, inr, ℕ, Bool, true, false, cond, List, [], slice_get, Option, Some, None, refl, sym, ap, ◌∙◌, subst}
+use Rattle.std.proofs.lemmas.Bool.{false≢true}
 use Rattle.life_types.specs.TypeTests.{is_raw, is_value}
 use Rattle.life_types.specs.Types.{Types}
 use Rattle.life_types.specs.contracts.ty.TyPartialEq.TheImpl.{ghosts as compared}
@@ -14,7 +15,7 @@ use Rattle.life_typed.specs.TypedForm.{Form, Typed, paren, typed}
 use Rattle.life_typed.specs.declared.typed_expr.Category.{Category}
 use Rattle.life_typed.specs.declared.typed_expr.Category.TheVariants as category
 use Rattle.life_typed.specs.declared.typed_expr.ExprType.{ExprType}
-use Rattle.life_typed.specs.declared.typed_expr.ExprType.TheVariants.{Of}
+use Rattle.life_typed.specs.declared.typed_expr.ExprType.TheVariants.{NullPointer, Of}
 use Rattle.life_type_expr.specs.Operands.{value as value_typed}
 use Rattle.life_core.specs.Function.{Function}
 use Rattle.life_core.specs.Operands.{Argument, Location, Operand}
@@ -24,15 +25,18 @@ use Rattle.life_well_typed.specs.Given.{is_number, is_pointer}
 use Rattle.life_writer.specs.Around.{Around, own_type}
 use Rattle.life_writer.specs.Around as around
 use Rattle.life_writer.specs.Behind.{closed_by, lasting}
-use Rattle.life_writer.specs.Calls.{Called, call_of}
-use Rattle.life_writer.specs.Expressions.{condition, decision, handed_over, made, operand, pointer, pointing, value}
+use Rattle.life_writer.specs.Calls.{Called, expression_call, form_call}
+use Rattle.life_writer.specs.ExpressionForms.{all_uses, form_uses, uses}
+use Rattle.life_writer.specs.Giving as giving
 use Rattle.life_writer.specs.Pointers.{Pointing, located}
 use Rattle.life_writer.specs.Registers.{as_type, computed, conversion}
+use Rattle.life_writer.specs.Uses.{Uses, own}
+use Rattle.life_writer.specs.Using.{condition, nullable, own_value as value_itself, pointer, pointing, pointing_by, read_or_made, register_type, tested_type, value}
 use Rattle.life_writer.specs.Values as values
-use Rattle.life_writer.specs.Writing.{Gives, State, with_code}
+use Rattle.life_writer.specs.Writing.{Gives, State, ◌>>◌, with_code}
 use Rattle.life_writer.specs.declared.behind.Behind.{Behind}
 use Rattle.life_elab_laws.proofs.Conditions.{Tests, by_branch_part, condition_part}
-use Rattle.life_elab_laws.proofs.ExpressionTypes.{condition_number, number_no_pointer, own_value, pointer_fits, raw_is}
+use Rattle.life_elab_laws.proofs.ExpressionTypes.{condition_number, number_no_pointer, own_no_unique, own_value, pointer_fits, pointer_type, raw_is}
 use Rattle.life_elab_laws.proofs.Fronts.{front_length, front_then}
 use Rattle.life_elab_laws.proofs.Gifts.{a_number, a_place, a_pointer, a_pointing, arguments}
 use Rattle.life_elab_laws.proofs.Gifts as gifts
@@ -68,41 +72,45 @@ module _ (a : Around) (visible : List ℕ) (types : Types) (texts : ℕ) (fs : L
   -- ---- what is asked
 
   -- of the call that an expression is, also in parentheses
-  pub record IsCall (c : Called) (t : ExprType) : Type 0 where
+  pub record IsCall (c : Called) (t : ExprType) (k : Category) : Type 0 where
     pub of : FunctionForm
     pub there : slice_get a.program.functions c.function ≡ Some of
     pub kind : (t ≡ Of ty.Void) ⊎ (is_number t ≡ true)
     pub own : t ≡ Of (type_at a.program.types of.result)
-    pub hands : (s : State) → Standing s → Hands of s (handed_over a c.arguments c.delimiters (around.parameter_types a c.function) s)
+    pub held : k ≡ category.Value
+    pub hands : (s : State) → Standing s → Hands of s (giving.arguments a (all_uses a c.arguments) c.delimiters (around.parameter_types a c.function) s)
 
-  -- of what an expression is made by
+  -- of what an expression is made by, wherever it stands
   pub record IsForm (form : Form) (e : Typed) : Type 0 where
     pub kind : IsKind a.program.types e
     -- a number that is neither a place nor decided by tests is computed
-    pub computes : e.category ≡ category.Value → is_number e.ty ≡ true → (place : Place) (b : Behind) → decision a form place b ≡ None → (into : Option ℕ) (s : State) → IsIntoOf (own_type e.ty) s into → Standing s
-        → Valued (own_type e.ty) into s (made a form place b.token (own_type e.ty) into s)
+    pub computes : e.category ≡ category.Value → is_number e.ty ≡ true → (place : Place) (b : Behind) → (form_uses a form place e.ty e.category).decision b ≡ None → (into : Option ℕ) (s : State) → IsIntoOf (own_type e.ty) s into → Standing s
+        → Valued (own_type e.ty) into s ((form_uses a form place e.ty e.category).made b.token into s)
     -- .. in the register that is wanted
-    pub lands : e.category ≡ category.Value → is_number e.ty ≡ true → (place : Place) (b : Behind) → decision a form place b ≡ None → (r : ℕ) (s : State) → (made a form place b.token (own_type e.ty) (Some r) s).given ≡ r
+    pub lands : e.category ≡ category.Value → is_number e.ty ≡ true → (place : Place) (b : Behind) → (form_uses a form place e.ty e.category).decision b ≡ None → (r : ℕ) (s : State)
+        → ((form_uses a form place e.ty e.category).made b.token (Some r) s).given ≡ r
     -- a place with a value is named
-    pub names : (id : TyId) (constant : Bool) → e.category ≡ category.Place id constant → is_value (type_at a.program.types id) ≡ true → (s : State) → Standing s → Placed (type_at a.program.types id) constant s (operand a form s)
+    pub names : (id : TyId) (constant : Bool) → e.category ≡ category.Place id constant → is_value (type_at a.program.types id) ≡ true → (place : Place) (s : State) → Standing s
+        → Placed (type_at a.program.types id) constant s ((form_uses a form place e.ty e.category).at s)
     -- a pointer points
-    pub points : is_pointer e.ty ≡ true → (s : State) → Standing s → Points e.ty s (pointing a form s)
+    pub points : is_pointer e.ty ≡ true → (place : Place) (s : State) → Standing s → Points e.ty s ((form_uses a form place e.ty e.category).pointing s)
     -- what is made of conditions decides
-    pub decides : (place : Place) (b : Behind) (w : State → Gives Tree) → decision a form place b ≡ Some w → (s : State) → Standing s → Decided s (w s)
+    pub decides : (place : Place) (b : Behind) (w : State → Gives Tree) → (form_uses a form place e.ty e.category).decision b ≡ Some w → (s : State) → Standing s → Decided s (w s)
     -- what is a call is one of a function that is there
-    pub calls : (c : Called) → call_of form ≡ Some c → IsCall c e.ty
+    pub calls : (c : Called) → form_call form ≡ Some c → IsCall c e.ty e.category
 
   -- of a whole expression
   pub record IsWhole (form : Form) : Type 0 where
     pub kind : IsKind a.program.types (typed_in form)
-    pub valued : is_number (typed_in form).ty ≡ true → (behind : Place) (to : Ty) → is_value to ≡ true → (into : Option ℕ) (s : State) → IsIntoOf to s into → Standing s → Valued to into s (value a form behind to into s)
-    pub lands : is_number (typed_in form).ty ≡ true → (behind : Place) (to : Ty) (r : ℕ) (s : State) → (value a form behind to (Some r) s).given ≡ r
-    pub names : (id : TyId) (constant : Bool) → (typed_in form).category ≡ category.Place id constant → is_value (type_at a.program.types id) ≡ true → (s : State) → Standing s → Placed (type_at a.program.types id) constant s (operand a form s)
-    pub points : is_pointer (typed_in form).ty ≡ true → (s : State) → Standing s → Points (typed_in form).ty s (pointing a form s)
-    pub pointers : (u : Ty) → (typed_in form).ty ≡ Of u → is_raw u ≡ true → (s : State) → Standing s → Pointed u s (pointer a form s)
-    pub conditions : is_condition (typed_in form).ty ≡ true → (b : Behind) (s : State) → Standing s → Decided s (condition a form b s)
-    pub decides : (place : Place) (b : Behind) (w : State → Gives Tree) → decision a form place b ≡ Some w → (s : State) → Standing s → Decided s (w s)
-    pub calls : (c : Called) → call_of form ≡ Some c → IsCall c (typed_in form).ty
+    pub valued : is_number (typed_in form).ty ≡ true → (behind : Place) (to : Ty) → is_value to ≡ true → (into : Option ℕ) (s : State) → IsIntoOf to s into → Standing s → Valued to into s (value (uses a form) behind to into s)
+    pub lands : is_number (typed_in form).ty ≡ true → (behind : Place) (to : Ty) (r : ℕ) (s : State) → (value (uses a form) behind to (Some r) s).given ≡ r
+    pub names : (id : TyId) (constant : Bool) → (typed_in form).category ≡ category.Place id constant → is_value (type_at a.program.types id) ≡ true → (s : State) → Standing s
+        → Placed (type_at a.program.types id) constant s ((uses a form).at s)
+    pub points : is_pointer (typed_in form).ty ≡ true → (s : State) → Standing s → Points (typed_in form).ty s ((uses a form).pointing s)
+    pub pointers : (u : Ty) → (typed_in form).ty ≡ Of u → is_raw u ≡ true → (s : State) → Standing s → Pointed u s (located (uses a form).place (own (uses a form)) ((uses a form).pointing s).given ((uses a form).pointing s).state)
+    pub conditions : is_condition (typed_in form).ty ≡ true → (b : Behind) (s : State) → Standing s → Decided s (condition (uses a form) b s)
+    pub decides : (b : Behind) (w : State → Gives Tree) → (uses a form).decision b ≡ Some w → (s : State) → Standing s → Decided s (w s)
+    pub calls : (c : Called) → expression_call form ≡ Some c → IsCall c (typed_in form).ty (typed_in form).category
 
   -- ---- a whole expression, of what it is made by
 
@@ -142,46 +150,85 @@ module _ (a : Around) (visible : List ℕ) (types : Types) (texts : ℕ) (fs : L
           (located_part types texts fs f (w s).given u place (w s).state raw (fits_later a.program.types types setting.front u fits)
           (fits_below a.program.types (w s).state.types (front_length a.program.types.types (w s).state.types.types (front_then a.program.types.types s.types.types (w s).state.types.types stands.table first.grown.types)) u fits))
 
+  -- a raw pointer is tested, and is located, as what it is
+  raw_itself : (e : Uses) (t : Ty) (s : State) → is_raw t ≡ true → pointing_by t e s ≡ e.pointing s
+  raw_itself e (ty.Raw target constant) s raw = refl
+  raw_itself e _ s raw = absurd (false≢true raw)
+
+  raw_tested : (t : Ty) → is_raw t ≡ true → tested_type t ≡ t
+  raw_tested (ty.Raw target constant) raw = refl
+  raw_tested _ raw = absurd (false≢true raw)
+
+  raw_register : (wanted t : Ty) → is_raw t ≡ true → register_type wanted t ≡ t
+  raw_register wanted (ty.Raw target constant) raw = refl
+  raw_register wanted _ raw = absurd (false≢true raw)
+
+  pub nullable_raw : (e : Uses) (t : Ty) (s : State) → own e ≡ t → is_raw t ≡ true → nullable e s ≡ located e.place t (e.pointing s).given (e.pointing s).state
+  nullable_raw e t s own_is raw =
+      ap (λ (x : Ty). pointing_by x e s >> λ p s. located e.place (tested_type x) p s) own_is
+      ∙ ap (λ (w : Gives Pointing). located e.place (tested_type t) w.given w.state) (raw_itself e t s raw)
+      ∙ ap (λ (x : Ty). located e.place x (e.pointing s).given (e.pointing s).state) (raw_tested t raw)
+
+  pub pointer_raw : (e : Uses) (wanted t : Ty) (s : State) → own e ≡ t → is_raw t ≡ true → pointer e wanted s ≡ located e.place t (e.pointing s).given (e.pointing s).state
+  pointer_raw e wanted t s own_is raw =
+      ap (λ (x : Ty). pointing_by x e s >> λ p s. located e.place (register_type wanted x) p s) own_is
+      ∙ ap (λ (w : Gives Pointing). located e.place (register_type wanted t) w.given w.state) (raw_itself e t s raw)
+      ∙ ap (λ (x : Ty). located e.place x (e.pointing s).given (e.pointing s).state) (raw_register wanted t raw)
+
+  -- what is a pointer itself gives what it points to
+  pub pointing_itself : (e : Uses) (s : State) → is_pointer e.ty ≡ true → pointing e s ≡ e.pointing s
+  pointing_itself e s p = go (pointer_type e.ty p)
+    where
+      go : ((u : Ty) × (e.ty ≡ Of u) × (is_raw u ≡ true)) ⊎ (e.ty ≡ NullPointer) → pointing e s ≡ e.pointing s
+      go (inl x) = ap (λ (t : ExprType). pointing_by (own_type t) e s) x.1 ∙ raw_itself e x.0 s x.2
+      go (inr null) = ap (λ (t : ExprType). pointing_by (own_type t) e s) null
+
   pub whole_of : (place : Place) (t : ExprType) (c : Category) (form : Form) → IsForm form (record { place = place; ty = t; category = c; form = form }) → IsWhole (typed place t c form)
   whole_of place t c form is = record {
     kind = is.kind;
     valued = λ n behind to v into s wanted stands.
-        as_type_part types texts fs f (gifts.nothing types texts fs f) tt (own_type t) to place (values.value_from (own_type t) place c (decision a form place (lasting behind)) (operand a form) (made a form place behind (own_type t))) into s v wanted stands.opened
+        as_type_part types texts fs f (gifts.nothing types texts fs f) tt (own_type t) to place (value_itself u behind) into s v wanted stands.opened
         (λ i wanted. own_value_part behind n i s wanted stands);
     lands = λ n behind to r s.
-        lands_as (own_type t) to place (values.value_from (own_type t) place c (decision a form place (lasting behind)) (operand a form) (made a form place behind (own_type t))) r s
-        (lands_from (own_type t) place (decision a form place (lasting behind)) c (operand a form) (made a form place behind (own_type t)) r s (λ none at. is.lands at n place (lasting behind) none r s));
-    names = is.names;
-    points = is.points;
-    pointers = λ u at raw s stands. pointer_part (pointing a form) t u place s at raw (fits u at raw) stands (is.points (ap is_pointer at ∙ raw) s stands);
+        lands_as (own_type t) to place (value_itself u behind) r s
+        (lands_from (own_type t) place (u.decision (lasting behind)) c u.at (u.made behind) r s (λ none at. is.lands at n place (lasting behind) none r s));
+    names = λ id constant at v s stands. is.names id constant at v place s stands;
+    points = λ p s stands. is.points p place s stands;
+    pointers = λ x at raw s stands. pointer_part u.pointing t x place s at raw (fits x at raw) stands (is.points (ap is_pointer at ∙ raw) place s stands);
     conditions = λ h b s stands.
-        condition_part types texts fs f (decision a form place b) (own_type t) place b.ends (pointer a (typed place t c form)) (values.read_or_made (own_type t) place c (operand a form) (made a form place b.token (own_type t)) None) s
+        condition_part types texts fs f (u.decision b) (own_type t) place b.ends (nullable u) (read_or_made u b.token None) s (own_no_unique a.program.types e is.kind.kind)
         (λ w at. is.decides place b w at s stands)
-        (λ none raw. let at = raw_is t raw in pointer_part (pointing a form) t (own_type t) place (with_code [] s) at raw (fits (own_type t) at raw) stands (is.points (ap is_pointer at ∙ raw) (with_code [] s) stands))
+        (λ none raw. let at = raw_is t raw in
+        subst (λ (w : Gives Location). Makes types texts fs f None (with_code [] s) w (a_pointer types texts fs f (own_type t))) (sym (nullable_raw u (own_type t) (with_code [] s) refl raw))
+        (pointer_part u.pointing t (own_type t) place (with_code [] s) at raw (fits (own_type t) at raw) stands (is.points (ap is_pointer at ∙ raw) place (with_code [] s) stands)))
         (λ none raw.
         let n = condition_number a.program.types e is.kind.kind h raw in
-        value_from None (own_type t) place c (operand a form) (made a form place b.token (own_type t)) None (with_code [] s) (own_value t n) tt stands (λ w at. absurd (none_some at))
+        value_from None (own_type t) place c u.at (u.made b.token) None (with_code [] s) (own_value t n) tt stands (λ w at. absurd (none_some at))
         (λ un at. is.computes at n place b none None (with_code [] s) tt stands)
         (λ id constant at. named n id constant at (with_code [] s) stands));
-    decides = λ at b w eq s stands. is.decides place b w eq s stands;
+    decides = λ b w eq s stands. is.decides place b w eq s stands;
     calls = is.calls;
   }
     where
       e : Typed
       e = record { place = place; ty = t; category = c; form = form }
 
-      fits : (u : Ty) → t ≡ Of u → is_raw u ≡ true → fits_register a.program.types u ≡ true
-      fits u at raw = subst (λ (x : ExprType). fits_register a.program.types (own_type x) ≡ true) at (pointer_fits a.program.types e is.kind.kind (ap (λ (x : ExprType). is_raw (own_type x)) at ∙ raw))
+      u : Uses
+      u = uses a (typed place t c form)
 
-      named : is_number t ≡ true → (id : TyId) (constant : Bool) → c ≡ category.Place id constant → (s : State) → Standing s → Placed (own_type t) constant s (operand a form s)
+      fits : (x : Ty) → t ≡ Of x → is_raw x ≡ true → fits_register a.program.types x ≡ true
+      fits x at raw = subst (λ (y : ExprType). fits_register a.program.types (own_type y) ≡ true) at (pointer_fits a.program.types e is.kind.kind (ap (λ (y : ExprType). is_raw (own_type y)) at ∙ raw))
+
+      named : is_number t ≡ true → (id : TyId) (constant : Bool) → c ≡ category.Place id constant → (s : State) → Standing s → Placed (own_type t) constant s ((uses a (typed place t c form)).at s)
       named n id constant at s stands =
-          let own = is.kind.place id constant at in
-          subst (λ (u : Ty). Placed u constant s (operand a form s)) (sym (ap own_type own)) (is.names id constant at (sym (ap is_number own) ∙ n) s stands)
+          let own_is = is.kind.place id constant at in
+          subst (λ (x : Ty). Placed x constant s ((uses a (typed place t c form)).at s)) (sym (ap own_type own_is)) (is.names id constant at (sym (ap is_number own_is) ∙ n) place s stands)
 
       own_value_part : (behind : Place) → is_number t ≡ true → (into : Option ℕ) (s : State) → IsIntoOf (own_type t) s into → Standing s
-          → Valued (own_type t) into s (values.value_from (own_type t) place c (decision a form place (lasting behind)) (operand a form) (made a form place behind (own_type t)) into s)
+          → Valued (own_type t) into s (value_itself (uses a (typed place t c form)) behind into s)
       own_value_part behind n into s wanted stands =
-          value_from (decision a form place (lasting behind)) (own_type t) place c (operand a form) (made a form place behind (own_type t)) into s (own_value t n) wanted stands
+          let v = uses a (typed place t c form) in
+          value_from (v.decision (lasting behind)) (own_type t) place c v.at (v.made behind) into s (own_value t n) wanted stands
           (λ w at. is.decides place (lasting behind) w at s stands)
           (λ none at. is.computes at n place (lasting behind) none into s wanted stands)
           (λ id constant at. named n id constant at s stands)
@@ -189,44 +236,52 @@ module _ (a : Around) (visible : List ℕ) (types : Types) (texts : ℕ) (fs : L
   -- ---- the ways to make a form
 
   -- what is no place
-  pub no_place : (form : Form) (e : Typed) → e.category ≡ category.Value → (id : TyId) (constant : Bool) → e.category ≡ category.Place id constant → is_value (type_at a.program.types id) ≡ true → (s : State) → Standing s
-      → Placed (type_at a.program.types id) constant s (operand a form s)
-  no_place form e is id constant at v s stands = absurd (value_place (sym is ∙ at))
+  pub no_place : (form : Form) (e : Typed) → e.category ≡ category.Value → (id : TyId) (constant : Bool) → e.category ≡ category.Place id constant → is_value (type_at a.program.types id) ≡ true → (place : Place) (s : State) → Standing s
+      → Placed (type_at a.program.types id) constant s ((form_uses a form place e.ty e.category).at s)
+  no_place form e is id constant at v place s stands = absurd (value_place (sym is ∙ at))
 
   pub of_number : (t : ExprType) (u : Ty) → t ≡ Of u → is_value u ≡ true → is_number t ≡ true
   of_number t u is v = ap is_number is ∙ v
 
-  -- a value of a type, by tests or not
-  pub decided_form : (form : Form) (e : Typed) (t : Ty) → e.ty ≡ Of t → e.category ≡ category.Value → is_value t ≡ true → call_of form ≡ None
-      → ((place : Place) (b : Behind) → decision a form place b ≡ None → (into : Option ℕ) (s : State) → IsIntoOf t s into → Standing s → Valued t into s (made a form place b.token t into s))
-      → ((place : Place) (b : Behind) → decision a form place b ≡ None → (r : ℕ) (s : State) → (made a form place b.token t (Some r) s).given ≡ r)
-      → ((place : Place) (b : Behind) (w : State → Gives Tree) → decision a form place b ≡ Some w → (s : State) → Standing s → Decided s (w s)) → IsForm form e
+  -- a value of a type: what it is written by
+  abbrev pub ValueUses : Form → Ty → Place → Uses
+  ValueUses form t place = form_uses a form place (Of t) category.Value
+
+  as_told : (e : Typed) (t : Ty) (form : Form) (place : Place) → e.ty ≡ Of t → e.category ≡ category.Value → ValueUses form t place ≡ form_uses a form place e.ty e.category
+  as_told e t form place is c = sym (ap (λ (x : ExprType). form_uses a form place x e.category) is ∙ ap (λ (k : Category). form_uses a form place (Of t) k) c)
+
+  -- .. by tests or not
+  pub decided_form : (form : Form) (e : Typed) (t : Ty) → e.ty ≡ Of t → e.category ≡ category.Value → is_value t ≡ true → form_call form ≡ None
+      → ((place : Place) (b : Behind) → (ValueUses form t place).decision b ≡ None → (into : Option ℕ) (s : State) → IsIntoOf t s into → Standing s → Valued t into s ((ValueUses form t place).made b.token into s))
+      → ((place : Place) (b : Behind) → (ValueUses form t place).decision b ≡ None → (r : ℕ) (s : State) → ((ValueUses form t place).made b.token (Some r) s).given ≡ r)
+      → ((place : Place) (b : Behind) (w : State → Gives Tree) → (ValueUses form t place).decision b ≡ Some w → (s : State) → Standing s → Decided s (w s)) → IsForm form e
   decided_form form e t is c v none makes lands decides = record {
     kind = record { kind = is_number_kind t is v; place = λ id constant at. absurd (value_place (sym c ∙ at)) };
     computes = λ at n place b un into s wanted stands.
-        subst (λ (u : Ty). IsIntoOf u s into → Valued u into s (made a form place b.token u into s)) (sym (ap own_type is)) (λ w. makes place b un into s w stands) wanted;
-    lands = λ at n place b un r s. subst (λ (u : Ty). (made a form place b.token u (Some r) s).given ≡ r) (sym (ap own_type is)) (lands place b un r s);
+        subst (λ (u : Uses). u.decision b ≡ None → Valued (own_type e.ty) into s (u.made b.token into s)) (as_told e t form place is c)
+        (λ un. subst (λ (x : Ty). IsIntoOf x s into → Valued x into s ((ValueUses form t place).made b.token into s)) (sym (ap own_type is)) (λ w. makes place b un into s w stands) wanted) un;
+    lands = λ at n place b un r s. subst (λ (u : Uses). u.decision b ≡ None → (u.made b.token (Some r) s).given ≡ r) (as_told e t form place is c) (λ un. lands place b un r s) un;
     names = no_place form e c;
     points = λ p. absurd (number_no_pointer e.ty (of_number e.ty t is v) p);
-    decides = decides;
+    decides = λ place b w at s stands. subst (λ (u : Uses). u.decision b ≡ Some w → Decided s (w s)) (as_told e t form place is c) (λ at. decides place b w at s stands) at;
     calls = λ d at. absurd (none_some (sym none ∙ at));
   }
 
-  pub value_form : (form : Form) (e : Typed) (t : Ty) → e.ty ≡ Of t → e.category ≡ category.Value → is_value t ≡ true → call_of form ≡ None → ((place : Place) (b : Behind) → decision a form place b ≡ None)
-      → ((place behind : Place) (into : Option ℕ) (s : State) → IsIntoOf t s into → Standing s → Valued t into s (made a form place behind t into s))
-      → ((place behind : Place) (r : ℕ) (s : State) → (made a form place behind t (Some r) s).given ≡ r) → IsForm form e
+  pub value_form : (form : Form) (e : Typed) (t : Ty) → e.ty ≡ Of t → e.category ≡ category.Value → is_value t ≡ true → form_call form ≡ None → ((place : Place) (b : Behind) → (ValueUses form t place).decision b ≡ None)
+      → ((place behind : Place) (into : Option ℕ) (s : State) → IsIntoOf t s into → Standing s → Valued t into s ((ValueUses form t place).made behind into s))
+      → ((place behind : Place) (r : ℕ) (s : State) → ((ValueUses form t place).made behind (Some r) s).given ≡ r) → IsForm form e
   value_form form e t is c v none plain makes lands =
       decided_form form e t is c v none (λ place b un. makes place b.token) (λ place b un. lands place b.token) (λ place b w at. absurd (none_some (sym (plain place b) ∙ at)))
 
   -- a value that is given by its type alone
-  pub literal : (form : Form) (e : Typed) (t : Ty) → e ≡ value_typed e.place t e.form → is_value t ≡ true → call_of form ≡ None → ((place : Place) (b : Behind) → decision a form place b ≡ None)
-      → ((place behind : Place) (into : Option ℕ) (s : State) → IsIntoOf t s into → Standing s → Valued t into s (made a form place behind t into s))
-      → ((place behind : Place) (r : ℕ) (s : State) → (made a form place behind t (Some r) s).given ≡ r) → IsForm form e
+  pub literal : (form : Form) (e : Typed) (t : Ty) → e ≡ value_typed e.place t e.form → is_value t ≡ true → form_call form ≡ None → ((place : Place) (b : Behind) → (ValueUses form t place).decision b ≡ None)
+      → ((place behind : Place) (into : Option ℕ) (s : State) → IsIntoOf t s into → Standing s → Valued t into s ((ValueUses form t place).made behind into s))
+      → ((place behind : Place) (r : ℕ) (s : State) → ((ValueUses form t place).made behind (Some r) s).given ≡ r) → IsForm form e
   literal form e t is v none plain makes lands = value_form form e t (ap (λ (y : Typed). y.ty) is) (ap (λ (y : Typed). y.category) is) v none plain makes lands
 
   -- a pointer that is no place
-  pub pointer_form : (form : Form) (e : Typed) → IsKind a.program.types e → e.category ≡ category.Value → (is_number e.ty ≡ true → ⊥) → call_of form ≡ None → ((place : Place) (b : Behind) → decision a form place b ≡ None)
-      → (is_pointer e.ty ≡ true → (s : State) → Standing s → Points e.ty s (pointing a form s)) → IsForm form e
+  pub pointer_form : (form : Form) (e : Typed) → IsKind a.program.types e → e.category ≡ category.Value → (is_number e.ty ≡ true → ⊥) → form_call form ≡ None → ((place : Place) (b : Behind) → (form_uses a form place e.ty e.category).decision b ≡ None)
+      → (is_pointer e.ty ≡ true → (place : Place) (s : State) → Standing s → Points e.ty s ((form_uses a form place e.ty e.category).pointing s)) → IsForm form e
   pointer_form form e kind c never none plain points = record {
     kind = kind;
     computes = λ at n. absurd (never n);
@@ -238,9 +293,9 @@ module _ (a : Around) (visible : List ℕ) (types : Types) (texts : ℕ) (fs : L
   }
 
   -- a place
-  pub place_form : (form : Form) (e : Typed) → IsKind a.program.types e → (e.category ≡ category.Value → ⊥) → call_of form ≡ None → ((place : Place) (b : Behind) → decision a form place b ≡ None)
-      → ((id : TyId) (constant : Bool) → e.category ≡ category.Place id constant → is_value (type_at a.program.types id) ≡ true → (s : State) → Standing s → Placed (type_at a.program.types id) constant s (operand a form s))
-      → (is_pointer e.ty ≡ true → (s : State) → Standing s → Points e.ty s (pointing a form s)) → IsForm form e
+  pub place_form : (form : Form) (e : Typed) → IsKind a.program.types e → (e.category ≡ category.Value → ⊥) → form_call form ≡ None → ((place : Place) (b : Behind) → (form_uses a form place e.ty e.category).decision b ≡ None)
+      → ((id : TyId) (constant : Bool) → e.category ≡ category.Place id constant → is_value (type_at a.program.types id) ≡ true → (place : Place) (s : State) → Standing s → Placed (type_at a.program.types id) constant s ((form_uses a form place e.ty e.category).at s))
+      → (is_pointer e.ty ≡ true → (place : Place) (s : State) → Standing s → Points e.ty s ((form_uses a form place e.ty e.category).pointing s)) → IsForm form e
   place_form form e kind c none plain names points = record {
     kind = kind;
     computes = λ at. absurd (c at);
@@ -257,8 +312,8 @@ module _ (a : Around) (visible : List ℕ) (types : Types) (texts : ℕ) (fs : L
     kind = kind_same a.program.types (typed_in inner) e (sym t) (sym c) is.kind;
     computes = λ at n place b none into s wanted stands. is.valued (ap is_number t ∙ n) closing (own_type e.ty) (own_value e.ty n) into s wanted stands;
     lands = λ at n place b none r s. is.lands (ap is_number t ∙ n) closing (own_type e.ty) r s;
-    names = λ id constant at. is.names id constant (c ∙ at);
-    points = λ p s stands. subst (λ (x : ExprType). Points x s (pointing a inner s)) t (is.points (ap is_pointer t ∙ p) s stands);
-    decides = λ place b. is.decides place (closed_by closing b);
-    calls = λ d at. subst (IsCall d) t (is.calls d at);
+    names = λ id constant at v place s stands. is.names id constant (c ∙ at) v s stands;
+    points = λ p place s stands. subst (λ (x : ExprType). Points x s ((uses a inner).pointing s)) t (is.points (ap is_pointer t ∙ p) s stands);
+    decides = λ place b. is.decides (closed_by closing b);
+    calls = λ d at. subst (λ (x : ExprType). IsCall d x e.category) t (subst (IsCall d (typed_in inner).ty) c (is.calls d at));
   }

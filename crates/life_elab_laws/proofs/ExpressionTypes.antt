@@ -1,7 +1,7 @@
 -- The types of expressions that are built.
 use Rattle.std.proofs.Common.{◌≡◌, ◌⊎◌, inl, inr, true, false, ◌||◌, refl, sym, ap, ◌∙◌, subst, true≢false, Ok}
 use Rattle.std.proofs.lemmas.Bool.{false≢true}
-use Rattle.life_types.specs.TypeTests.{is_raw, is_value, is_void}
+use Rattle.life_types.specs.TypeTests.{is_raw, is_unique, is_value, is_void}
 use Rattle.life_types.specs.Types.{Types}
 use Rattle.life_types.specs.declared.ty.Ty.{Ty}
 use Rattle.life_types.specs.declared.ty.Ty.TheVariants as ty
@@ -15,7 +15,7 @@ use Rattle.life_proper.specs.OperandTypes.{is_promoted}
 use Rattle.life_well_typed.specs.Given.{is_number, is_pointer}
 use Rattle.life_writer.specs.Around.{own_type}
 use Rattle.life_elab_laws.proofs.RowTypes.{promoted_is}
-use Rattle.life_elab_laws.proofs.TypedKinds.{HasKind, IsKind, a_null, a_number, a_pointer, err_ok, no_value, ok_same}
+use Rattle.life_elab_laws.proofs.TypedKinds.{HasKind, IsKind, a_null, a_number, a_pointer, err_ok, no_value, ok_same, value_simple}
 use Rattle.life_elab_laws.proofs.Values.{by_results, by_values}
 use Rattle.life_elab_laws.proofs.WrittenLocals.{fits_register, value_fits}
 
@@ -32,6 +32,13 @@ condition_number types e (a_number t is v) c r = ap is_number is ∙ v
 condition_number types e (a_pointer target constant is v) c r = absurd (true≢false (sym (ap (λ (x : ExprType). is_raw (own_type x)) is) ∙ r))
 condition_number types e (no_value is v) c r = absurd (false≢true (sym (ap is_condition is) ∙ c))
 condition_number types e (a_null is v) c r = absurd (false≢true (sym (ap is_condition is) ∙ c))
+
+-- nothing that is built is a unique_ptr
+pub own_no_unique : (types : Types) (e : Typed) → HasKind types e → is_unique (own_type e.ty) ≡ false
+own_no_unique types e (a_number t is v) = ap (λ (x : ExprType). is_unique (own_type x)) is ∙ (value_simple t v).unique
+own_no_unique types e (a_pointer target constant is v) = ap (λ (x : ExprType). is_unique (own_type x)) is
+own_no_unique types e (no_value is v) = ap (λ (x : ExprType). is_unique (own_type x)) is
+own_no_unique types e (a_null is v) = ap (λ (x : ExprType). is_unique (own_type x)) is
 
 -- a pointer is one to a value
 pub pointer_fits : (types : Types) (e : Typed) → HasKind types e → is_raw (own_type e.ty) ≡ true → fits_register types (own_type e.ty) ≡ true

@@ -61,6 +61,7 @@ pub record IsBoundTo (target : TyId) (constant : Bool) (c : Category) : Type 0 w
   pub held : Bool
   pub place : c ≡ category.Place target held
   pub kept : keeps_const constant held ≡ true
+  pub here : is_place_of c target ≡ true
 
 bound_kept : (types : Types) (target : TyId) (constant held : Bool) (t : ExprType) → fits_at_all (fits types (ty.Reference target constant) t (category.Place target held)) ≡ true → id.eq target target ≡ true → keeps_const constant held ≡ true
 bound_kept types target true held t e is = refl
@@ -77,6 +78,7 @@ bound_place types target constant t (category.Place found held) is e =
     record {
       held = held;
       place = ap (λ (i : TyId). category.Place i held) one;
+      here = is;
       kept = bound_kept types target constant held t (subst (λ (i : TyId). fits_at_all (fits types (ty.Reference target constant) t (category.Place i held)) ≡ true) one e)
           (subst (λ (i : TyId). id.eq i target ≡ true) one is);
     }

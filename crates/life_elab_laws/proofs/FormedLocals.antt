@@ -27,7 +27,8 @@ use Rattle.life_well_typed.specs.Names.{is_function_named, is_local_named}
 use Rattle.life_writer.specs.Registers.{nameless}
 use Rattle.life_writer.specs.Around.{Around}
 use Rattle.life_writer.specs.Variables.{kind}
-use Rattle.life_elab.specs.Functions.{first_state, function_from, parameter_local, promise_of, written}
+use Rattle.life_elab.specs.Functions.{function_from, parameter_local, promise_of}
+use Rattle.life_elab.specs.ProgramForms.{first_state, written}
 use Rattle.life_elab.specs.Programs.{around}
 use Rattle.life_elab_laws.proofs.Beginning.{given, given_count, parameter_locals, parameters_front, result_first, result_grows}
 use Rattle.life_elab_laws.proofs.Callees.{IsFunctionOf, type_found}
@@ -198,7 +199,7 @@ module _ (p : ProgramForm) (of : FunctionForm) (T types : Types) (names : ℕ) (
       go false is = refl
       go true is =
           let found = parameter_named (around p of) of.parameters of.locals x made.typed.parameters (lt_of x core.parameters is) in
-          let there : slice_get core.locals x ≡ Some found.0 = grown x found.0 (parameters_front (around p of) T made.typed.parameters table x found.0 found.1) in
+          let there : slice_get core.locals x ≡ Some found.0 = grown x found.0 (parameters_front (around p of) T made.typed.parameters table made.built.result x found.0 found.1) in
           ap (λ (l : Local). is_some l.name) (same_Some l found.0 (sym at ∙ there)) ∙ found.2
 
   intermediate_formed : (x : ℕ) (l : Local) → slice_get core.locals x ≡ Some l → IsIntermediate p.types (written (around p of) T).types l → is_well_formed_local types names core.parameters x l ≡ true
@@ -252,7 +253,7 @@ module _ (p : ProgramForm) (of : FunctionForm) (T types : Types) (names : ℕ) (
 
   enough : core.parameters ≤ length core.locals
   enough =
-      let fewer = (result_grows (around p of) (type_at p.types of.result) (given (around p of) T made.typed.parameters table)).count in
+      let fewer = (result_grows (around p of) (type_at p.types of.result) (given (around p of) T made.typed.parameters table) made.built.result).count in
       let more = front_length (first_state (around p of) T).locals core.locals grown in
       omega (arith, given_count (around p of) T made.typed.parameters table, fewer, more)
 

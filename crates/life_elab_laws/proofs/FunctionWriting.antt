@@ -18,9 +18,11 @@ use Rattle.life_writer.specs.Around.{Around}
 use Rattle.life_writer.specs.Variables.{end_past}
 use Rattle.life_writer.specs.Writing.{State}
 use Rattle.life_typed.specs.Ends.{ends}
-use Rattle.life_elab.specs.Functions.{body, first_state, returned_at_end, written}
+use Rattle.life_elab.specs.Functions.{returned_at_end}
+use Rattle.life_elab.specs.ProgramForms.{body, first_state, written}
 use Rattle.life_elab.specs.Programs.{around, texts_of}
-use Rattle.life_elab.specs.Statements.{end_line, left, statement}
+use Rattle.life_elab.specs.StatementForms.{statement}
+use Rattle.life_elab.specs.Statements.{end_line, left}
 use Rattle.life_elab_laws.proofs.Beginning.{entry_knows, first_code, first_follows, register_there}
 use Rattle.life_elab_laws.proofs.Callees.{IsBegun, IsFunctionOf}
 use Rattle.life_elab_laws.proofs.Doing.{Acting, Does, does_then}
@@ -83,7 +85,7 @@ module _ (p : ProgramForm) (form : FunctionForm) (T types : Types) (fs : List Fu
     pub function_finished : IsFinished (first_state (around p form) T) (written (around p form) T)
     function_finished =
         finished form.body (first_state (around p form) T) refl is.typed.body is.built.body
-        (first_follows (around p form) T is.typed.parameters table types f setting.front is.built.variables) (register_there (around p form) T is.typed.parameters table is.ty is.result)
+        (first_follows (around p form) T is.typed.parameters table types f setting.front is.built.variables is.built.result) (register_there (around p form) T is.typed.parameters table is.ty is.result)
 
     -- ---- in the finished function
 
@@ -101,7 +103,7 @@ module _ (p : ProgramForm) (form : FunctionForm) (T types : Types) (fs : List Fu
       ways = flow types f (trees function_finished.does.code) (Some (entry_known f))
 
       leaves : Leaves f false (written (around p form) T).living (take (first_state (around p form) T).outside (first_state (around p form) T).living) ways
-      leaves = acting.ways (Some (entry_known f)) (entry_knows (around p form) T is.typed.parameters table types f setting.front is.built.variables begun.count begun.locals)
+      leaves = acting.ways (Some (entry_known f)) (entry_knows (around p form) T is.typed.parameters table types f setting.front is.built.variables is.built.result begun.count begun.locals)
 
       ended : ways.next ≡ None
       ended = stops_next types f (trees function_finished.does.code) acting.stated.statement (ap (λ (c : List Tree). stops (trees c)) (sym code_is) ∙ function_finished.stopped) (Some (entry_known f))
@@ -130,5 +132,5 @@ module _ (p : ProgramForm) (form : FunctionForm) (T types : Types) (fs : List Fu
         returns = λ gives.
             subst (λ (r : ℕ). ReturnsKnown types f r f.body (Some (entry_known f))) (sym begun.count)
             (subst (λ (t : Tree). ReturnsKnown types f (length form.parameters) t (Some (entry_known f))) (sym body_is)
-            (function_finished.does.returns begins gives (Some (entry_known f)) (entry_knows (around p form) T is.typed.parameters table types f setting.front is.built.variables begun.count begun.locals)));
+            (function_finished.does.returns begins gives (Some (entry_known f)) (entry_knows (around p form) T is.typed.parameters table types f setting.front is.built.variables is.built.result begun.count begun.locals)));
       }

@@ -1,5 +1,5 @@
 -- Output: a number, or the end of a line, which is the last text.
-use Rattle.std.proofs.Common.{◌≡◌, ℕ, true, List, [], ◌∷◌, length, nat_lt, None, refl, ap, ◌∙◌}
+use Rattle.std.proofs.Common.{◌≡◌, ℕ, Bool, true, cond, List, [], ◌∷◌, length, nat_lt, None, refl, sym, ap, ◌∙◌, subst}
 use Rattle.std.proofs.lemmas.Bool.{and_from}
 use Rattle.life_types.specs.TypeTests.{is_view}
 use Rattle.life_types.specs.Types.{Types}
@@ -18,10 +18,13 @@ use Rattle.life_well_typed.specs.Given.{is_number}
 use Rattle.life_well_typed.specs.Statements.{IsItem}
 use Rattle.life_proper.proofs.ReadyTests.{uses_ready}
 use Rattle.life_writer.specs.Around.{Around, own_type}
-use Rattle.life_writer.specs.Expressions.{value}
+use Rattle.life_writer.specs.Characters.{seen, viewed}
+use Rattle.life_writer.specs.ExpressionForms.{uses}
 use Rattle.life_writer.specs.Registers.{new_register}
-use Rattle.life_writer.specs.Writing.{State, emit, gives}
-use Rattle.life_elab.specs.Statements.{end_line, item}
+use Rattle.life_writer.specs.Using.{value}
+use Rattle.life_writer.specs.Writing.{State, ◌>>◌, emit, gives}
+use Rattle.life_elab.specs.StatementForms.{item}
+use Rattle.life_elab.specs.Statements.{end_line}
 use Rattle.life_elab_laws.proofs.Emitting.{new_targeted}
 use Rattle.life_elab_laws.proofs.ExpressionTypes.{own_value}
 use Rattle.life_elab_laws.proofs.ExpressionForms.{IsWhole}
@@ -79,11 +82,13 @@ module _ (a : Around) (visible : List ℕ) (types : Types) (texts : ℕ) (fs : L
 
   printed_part : (e : Typed) (behind : Place) (s : State) → IsWhole a visible types texts fs f setting (whole_form e) → is_number e.ty ≡ true → Stands a visible s → Acts a visible types texts fs f setting s (item a (printed e) behind s)
   printed_part e behind s is n stands =
+      let u = uses a (whole_form e) in
       let t = own_type e.ty in
-      let w = value a (whole_form e) behind t None s in
-      then_part types texts fs f (nothing types texts fs f) tt None s w _ (a_number types texts fs f t) (nothing types texts fs f) stands.opened (is.valued n behind t (own_value e.ty n) None s tt stands)
+      let w = value u behind t None s in
+      subst (λ (b : Bool). Acts a visible types texts fs f setting s (cond b (w >> λ r s. emit e.place (Ports (Writes r)) s) (seen u s >> λ x s. viewed x s >> λ l s. emit e.place (Ports (WritesView l)) s))) (sym (own_value e.ty n))
+      (then_part types texts fs f (nothing types texts fs f) tt None s w _ (a_number types texts fs f t) (nothing types texts fs f) stands.opened (is.valued n behind t (own_value e.ty n) None s tt stands)
       (acted_part types texts fs f (a_number types texts fs f t) w.given e.place (Ports (Writes w.given)) w.state (λ h. record { plain = refl; formed = number_any types f t w.given h; served = refl })
-      (λ n k p. uses_ready k (w.given ∷ []) [] (one_there k w.given p.1)) (λ n m k p. keeps_all f m None k))
+      (λ n k p. uses_ready k (w.given ∷ []) [] (one_there k w.given p.1)) (λ n m k p. keeps_all f m None k)))
 
   pub item_part : nat_lt (end_line a) texts ≡ true → (i : ItemForm) (behind : Place) (s : State) → is_built_item i ≡ true → IsItem a.program a.function.locals a.function.result visible i → Stands a visible s → Acts a visible types texts fs f setting s (item a i behind s)
   item_part lines (printed e) behind s b h stands = let is = whole_expression a visible types texts fs f setting (whole_form e) b h.1 in printed_part e behind s is (printed_number a.program.types e is.kind.kind h.0) stands

@@ -16,8 +16,9 @@ use Rattle.life_proper.specs.Plain.{are_plain, is_plain, is_plain_tree}
 use Rattle.life_pset.specs.Elements.{AreShort, elements_of}
 use Rattle.life_well_typed.specs.Functions.{AreWellTyped, IsWellTyped, IsWellTypedFunction}
 use Rattle.life_elab.specs.Bounds.{HaveShortPlaces}
-use Rattle.life_elab.specs.Functions.{first_state, function_from, written}
-use Rattle.life_elab.specs.Programs.{Functions, all_functions, around, core_program, functions, texts_of, with_function}
+use Rattle.life_elab.specs.Functions.{function_from}
+use Rattle.life_elab.specs.ProgramForms.{all_functions, first_state, functions, translated, written}
+use Rattle.life_elab.specs.Programs.{Functions, around, texts_of, with_function}
 use Rattle.life_well_typed.specs.Names.{HasNames, is_function_named}
 use Rattle.life_well_typed.specs.Results.{HasResults, HaveResults}
 use Rattle.life_elab_laws.proofs.Beginning.{first_locals, first_shaped, first_types}
@@ -131,7 +132,7 @@ module _ (p : ProgramForm) (typed : IsWellTyped p) (built : are_built_functions 
   begun_setting : (n : ℕ) (f : FunctionForm) → slice_get p.functions n ≡ Some f → Setting (around p f) p.types (map begun p.functions) (begun f)
   begun_setting n f at =
       let is = of_program n f at in
-      setting_of p.types p.types (map begun p.functions) f (begun f) n at (begun_so f) begun_callee (first_shaped (around p f) p.types is.typed.parameters (front_itself p.types.types) is.built.variables)
+      setting_of p.types p.types (map begun p.functions) f (begun f) n at (begun_so f) begun_callee (first_shaped (around p f) p.types is.typed.parameters (front_itself p.types.types) is.built.variables is.built.result)
 
   pub grows : (n : ℕ) (f : FunctionForm) → slice_get p.functions n ≡ Some f → (T : Types) → IsFront p.types.types T.types → FunctionGrows p f T
   grows n f at T table =
@@ -141,7 +142,7 @@ module _ (p : ProgramForm) (typed : IsWellTyped p) (built : are_built_functions 
       record {
         locals = done.does.adds.locals;
         table = subst (λ (x : Types). IsFront x.types (written (around p f) T).types.types) first done.does.adds.table;
-        shaped = done.does.adds.shaped (first_shaped (around p f) T is.typed.parameters table is.built.variables);
+        shaped = done.does.adds.shaped (first_shaped (around p f) T is.typed.parameters table is.built.variables is.built.result);
         own = done.does.locals (first_locals (around p f) T is.typed.parameters table p.types is.ty is.result is.built.result);
         order = subst (λ (x : Types). KeepsOrder x (written (around p f) T).types) first done.does.order;
       }
@@ -234,13 +235,13 @@ module _ (p : ProgramForm) (typed : IsWellTyped p) (built : are_built_functions 
   passed_by_all test all none more each =
       of_all (λ core. test core ≡ true) (λ cores. all cores ≡ true) none (λ core cores one others. more core cores ∙ and_from (test core) (all cores) one others) each
 
-  pub program_checked : checked (core_program p) ≡ true
+  pub program_checked : checked (translated p) ≡ true
   program_checked = passed_by_all (is_checked whole.types) (list_all (is_checked whole.types)) refl (λ core cores. refl) (λ n f at core w. (one_body n f at core w).checked)
 
-  pub program_plain : is_plain (core_program p) ≡ true
+  pub program_plain : is_plain (translated p) ≡ true
   program_plain = passed_by_all (λ core. is_plain_tree whole.types whole.functions core core.body) (are_plain whole.types whole.functions) refl (λ core cores. refl) (λ n f at core w. (one_body n f at core w).stated.plain)
 
-  pub program_breaks : have_own_breaks (core_program p) ≡ true
+  pub program_breaks : have_own_breaks (translated p) ≡ true
   program_breaks = passed_by_all has_own_breaks (list_all has_own_breaks) refl (λ core cores. refl) (λ n f at core w. (one_body n f at core w).stated.breaks)
 
   pub program_short : HaveShortPlaces whole.types whole.functions
@@ -251,5 +252,5 @@ module _ (p : ProgramForm) (typed : IsWellTyped p) (built : are_built_functions 
 pub functions_built : (p : ProgramForm) → is_built p ≡ true → are_built_functions p.types p.functions ≡ true
 functions_built p b = (and_parts (has_no_structs p.structs) (are_built_functions p.types p.functions) (and_parts (has_built_types p.types) _ b).1).1
 
-pub translation_short : (p : ProgramForm) → IsWellTyped p → HasResults p → is_built p ≡ true → HaveShortPlaces (core_program p).types (core_program p).functions
+pub translation_short : (p : ProgramForm) → IsWellTyped p → HasResults p → is_built p ≡ true → HaveShortPlaces (translated p).types (translated p).functions
 translation_short p typed results b = program_short p typed (functions_built p b) results

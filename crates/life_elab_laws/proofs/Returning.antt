@@ -1,11 +1,12 @@
 -- break, continue and return.
-use Rattle.std.proofs.Common.{◌≡◌, Bool, true, false, ◌||◌, ℕ, List, [], ◌∷◌, ◌++◌, drop, reverse, take, Option, Some, None, refl, sym, ap, ◌∙◌, subst, append_assoc}
+use Rattle.std.proofs.Common.{◌≡◌, Bool, true, false, ◌||◌, ℕ, List, [], ◌∷◌, ◌++◌, drop, length, reverse, take, Option, Some, None, refl, sym, ap, ◌∙◌, subst, append_assoc}
 use Rattle.std.proofs.lemmas.Bool.{and_from, false≢true}
 use Rattle.std.proofs.lemmas.Option.{none-some, same_Some}
 use Rattle.life_types.specs.TypeTests.{is_value, is_void}
-use Rattle.life_types.specs.Types.{Types}
+use Rattle.life_types.specs.Types.{Types, class}
 use Rattle.life_types.specs.declared.place.Place.{Place}
 use Rattle.life_types.specs.declared.ty.Class.{Class}
+use Rattle.life_types.specs.declared.ty.Class.TheVariants as classes
 use Rattle.life_types.specs.declared.ty.NameId.{NameId}
 use Rattle.life_types.specs.declared.ty.Ty.{Ty}
 use Rattle.life_types.specs.declared.ty.Ty.TheVariants as ty
@@ -24,9 +25,12 @@ use Rattle.life_proper.specs.ResultsKnown.{IsKnownReady}
 use Rattle.life_well_typed.specs.Statements.{IsReturned}
 use Rattle.life_well_typed.specs.Visible.{Visible}
 use Rattle.life_writer.specs.Around.{Around, result_local}
-use Rattle.life_writer.specs.Expressions.{value}
+use Rattle.life_writer.specs.ExpressionForms.{uses}
+use Rattle.life_writer.specs.Using.{value}
+use Rattle.life_writer.specs.Variables.{end_pending}
 use Rattle.life_writer.specs.Writing.{State, Gives, with_code, write}
-use Rattle.life_elab.specs.Statements.{left, result_given}
+use Rattle.life_elab.specs.StatementForms.{given_back, result_by, result_given}
+use Rattle.life_elab.specs.Statements.{left}
 use Rattle.life_elab_laws.proofs.Among.{Among, among_drop, reverse_among}
 use Rattle.life_elab_laws.proofs.Doing.{Acting, Does, DoesLevel, acts_then, made_acts, made_knows}
 use Rattle.life_elab_laws.proofs.Ending.{blank_beside, end_ready}
@@ -43,7 +47,7 @@ use Rattle.life_elab_laws.proofs.Nowhere.{nowhere_flows}
 use Rattle.life_elab_laws.proofs.Parts.{Makes}
 use Rattle.life_elab_laws.proofs.Pending.{same_pending}
 use Rattle.life_elab_laws.proofs.Setting.{Setting}
-use Rattle.life_elab_laws.proofs.Values.{by_results}
+use Rattle.life_elab_laws.proofs.Values.{by_results, by_values}
 use Rattle.life_elab_laws.proofs.WrittenLocals.{locals_added}
 
 pub not_void : (t : Ty) → (is_void t || is_value t) ≡ true → is_void t ≡ false → is_value t ≡ true
@@ -109,7 +113,7 @@ module _ (a : Around) (types : Types) (texts : ℕ) (fs : List Function) (f : Fu
       t = type_at a.program.types a.function.result
 
       abbrev w : Gives ℕ
-      w = value a (whole_form e) token t (Some (result_local a)) s
+      w = value (uses a (whole_form e)) token t (Some (result_local a)) s
 
       worth : is_value t ≡ true
       worth = not_void t setting.result r.0
@@ -191,14 +195,19 @@ module _ (a : Around) (types : Types) (texts : ℕ) (fs : List Function) (f : Fu
           }
 
       -- it makes no temporaries
-      pub result_returned : DoesLevel types texts fs f a v in_loop s (left 0 keyword (Returns keyword) (result_given a (Some e) token s))
-      result_returned = subst (λ (x : State). DoesLevel types texts fs f a v in_loop s (left 0 keyword (Returns keyword) x)) (sym (same_pending s w.state token made.grown.pending)) value_returned
+      pub result_returned : DoesLevel types texts fs f a v in_loop s (left 0 keyword (Returns keyword) (result_given a (Some e) keyword token s))
+      result_returned =
+          subst (λ (x : State). DoesLevel types texts fs f a v in_loop s (left 0 keyword (Returns keyword) (end_pending (length s.pending) token x))) (sym by_value)
+          (subst (λ (x : State). DoesLevel types texts fs f a v in_loop s (left 0 keyword (Returns keyword) x)) (sym (same_pending s w.state token made.grown.pending)) value_returned)
+        where
+          by_value : given_back a e keyword token s ≡ w.state
+          by_value = ap (λ (k : Class). result_by a k (uses a (whole_form e)) t keyword token s) (by_values (λ x. class (Some x) ≡ classes.Value) refl refl refl refl refl t worth)
 
     no_value : (x : Ty) → is_void x ≡ true → is_value x ≡ false
     no_value ty.Void e = refl
     no_value _ e = absurd (false≢true e)
 
     pub returned_does : HasRegister a s → (keyword : Place) (given : Option Typed) (token : Place) → is_built_if_any given ≡ true → IsReturned a.program a.function.locals a.function.result v.visible given
-        → DoesLevel types texts fs f a v in_loop s (left 0 keyword (Returns keyword) (result_given a given token s))
+        → DoesLevel types texts fs f a v in_loop s (left 0 keyword (Returns keyword) (result_given a given keyword token s))
     returned_does register keyword None token b r = return_does (λ gives. false≢true (sym (no_value (type_at a.program.types a.function.result) r) ∙ gives.0)) keyword
     returned_does register keyword (Some e) token b r = result_returned register e keyword token b r

@@ -1,6 +1,6 @@
 -- What typing lets stand beside each row of an operator: one lemma for the whole table.
 use Rattle.std.proofs.Common.{◌≡◌, Bool, true, false, ◌&&◌, cond, Some, refl, sym, ◌∙◌, subst}
-use Rattle.std.proofs.lemmas.Bool.{false≢true}
+use Rattle.std.proofs.lemmas.Bool.{and_from, false≢true}
 use Rattle.life_types.specs.TypeTests.{is_iterator, is_raw, is_text, is_value}
 use Rattle.life_types.specs.declared.ty.Ty.{Ty}
 use Rattle.life_types.specs.declared.ty.Ty.TheVariants as ty
@@ -10,14 +10,16 @@ use Rattle.life_typed.specs.declared.typed_expr.BinaryOperator.{BinaryOperator}
 use Rattle.life_typed.specs.declared.typed_expr.BinaryOperator.TheVariants as operator
 use Rattle.life_typed.specs.declared.typed_expr.ExprType.{ExprType}
 use Rattle.life_typed.specs.declared.typed_expr.ExprType.TheVariants.{Of, NullPointer, TextLiteral}
+use Rattle.life_core.specs.declared.instr.Direction.TheVariants.{Backward, Forward}
 use Rattle.life_core.specs.declared.operation.Operator.{Operator}
+use Rattle.life_core.specs.declared.operation.Operator.TheVariants as core
 use Rattle.life_well_typed.specs.Expressions.{typed_in}
 use Rattle.life_well_typed.specs.Given.{is_number}
 use Rattle.life_writer.specs.Around.{operand_type}
 use Rattle.life_writer.specs.Conditions.{on}
-use Rattle.life_writer.specs.Rows.{row_between, row_of}
+use Rattle.life_writer.specs.Rows.{added, compared, row_between, row_of, subtracted}
 use Rattle.life_writer.specs.declared.rows.Row.{Row}
-use Rattle.life_writer.specs.declared.rows.Row.TheVariants.{Computed, Joined, IsNull, NotNull}
+use Rattle.life_writer.specs.declared.rows.Row.TheVariants.{Advanced, Compared, Computed, Concatenated, IsNull, Joined, NotNull}
 use Rattle.life_proper.specs.OperandTypes.{is_promoted}
 use Rattle.life_proper.specs.WellFormed.{answer_of}
 use Rattle.life_elab_laws.proofs.TypedKinds.{AreEquated, AreNumbers, IsOperand, as_numbers, computed_numbers, equated_kinds, given_true, joined_kinds, null_left, null_right, promoted_value}
@@ -49,6 +51,7 @@ Fits (Computed by common) left right t = IsComputed by common left right t
 Fits (Joined by) left right t = IsJoined left right
 Fits (IsNull side) left right t = IsTested (on side left right)
 Fits (NotNull side) left right t = IsTested (on side left right)
+Fits _ left right t = ⊥
 
 -- ---- numbers
 
@@ -83,17 +86,28 @@ module _ (a b t : Ty) (v : is_value a ≡ true) (w : is_value b ≡ true) where
   counted : (by : Operator) → answer_of by (promoted a b) ≡ promoted a b → arithmetic a b ≡ Some t → IsComputed by (promoted a b) (Of a) (Of b) t
   counted by same e = computed_as by (same ∙ (given_true (is_value a && is_value b) (promoted a b) t e).1)
 
+  compared_fit : (by : Operator) (equal : Bool) → IsComputed by (promoted a b) (Of a) (Of b) t → Fits (compared by equal (Of a) (Of b)) (Of a) (Of b) t
+  compared_fit by equal is = subst (λ (c : Bool). Fits (cond c (Computed by (promoted a b)) (Compared equal)) (Of a) (Of b) t) (sym v) is
+
+  added_fit : IsComputed core.Add (promoted a b) (Of a) (Of b) t → Fits (added (Of a) (Of b)) (Of a) (Of b) t
+  added_fit is =
+      subst (λ (c : Bool). Fits (cond c (Advanced Forward) (cond (is_value a && is_value b) (Computed core.Add (promoted a b)) Concatenated)) (Of a) (Of b) t) (sym (no_iterator a v))
+      (subst (λ (c : Bool). Fits (cond c (Computed core.Add (promoted a b)) Concatenated) (Of a) (Of b) t) (sym (and_from (is_value a) (is_value b) v w)) is)
+
+  subtracted_fit : IsComputed core.Subtract (promoted a b) (Of a) (Of b) t → Fits (subtracted (Of a) (Of b)) (Of a) (Of b) t
+  subtracted_fit is = subst (λ (c : Bool). Fits (cond c (Advanced Backward) (Computed core.Subtract (promoted a b))) (Of a) (Of b) t) (sym (no_iterator a v)) is
+
   numbers_fit : (o : BinaryOperator) → answer o (Of a) (Of b) ≡ Some t → Fits (row_of o (Of a) (Of b)) (Of a) (Of b) t
   numbers_fit operator.Or e = let h = joined_kinds (Of a) (Of b) t e in record { left = h.0; right = h.1 }
   numbers_fit operator.And e = let h = joined_kinds (Of a) (Of b) t e in record { left = h.0; right = h.1 }
-  numbers_fit operator.Equal e = computed_as _ (given_true (are_equated a b) ty.Bool t e).1
-  numbers_fit operator.NotEqual e = computed_as _ (given_true (are_equated a b) ty.Bool t e).1
+  numbers_fit operator.Equal e = compared_fit core.Equal true (computed_as _ (given_true (are_equated a b) ty.Bool t e).1)
+  numbers_fit operator.NotEqual e = compared_fit core.NotEqual false (computed_as _ (given_true (are_equated a b) ty.Bool t e).1)
   numbers_fit operator.Less e = computed_as _ (given_true (is_value a && is_value b) ty.Bool t e).1
   numbers_fit operator.LessEqual e = computed_as _ (given_true (is_value a && is_value b) ty.Bool t e).1
   numbers_fit operator.Greater e = computed_as _ (given_true (is_value a && is_value b) ty.Bool t e).1
   numbers_fit operator.GreaterEqual e = computed_as _ (given_true (is_value a && is_value b) ty.Bool t e).1
-  numbers_fit operator.Add e = counted _ refl (sum_plain a b t v w e)
-  numbers_fit operator.Subtract e = counted _ refl (difference_plain a b t v e)
+  numbers_fit operator.Add e = added_fit (counted _ refl (sum_plain a b t v w e))
+  numbers_fit operator.Subtract e = subtracted_fit (counted _ refl (difference_plain a b t v e))
   numbers_fit operator.Multiply e = counted _ refl e
   numbers_fit operator.Divide e = counted _ refl e
   numbers_fit operator.Remainder e = counted _ refl e

@@ -10,8 +10,9 @@ use Rattle.life_well_typed.specs.Statements.{AreItems, IsSimple}
 use Rattle.life_well_typed.specs.Visible.{Visible}
 use Rattle.life_writer.specs.Around.{Around}
 use Rattle.life_writer.specs.Writing.{State, gives}
-use Rattle.life_elab.specs.Simples.{simple}
-use Rattle.life_elab.specs.Statements.{end_line, item, items, output}
+use Rattle.life_elab.specs.SimpleForms.{simple}
+use Rattle.life_elab.specs.StatementForms.{item, items, output}
+use Rattle.life_elab.specs.Statements.{end_line}
 use Rattle.life_elab_laws.proofs.Doing.{DoesLevel, does_made}
 use Rattle.life_elab_laws.proofs.Following.{Follows}
 use Rattle.life_elab_laws.proofs.Gifts.{nothing}

@@ -1,10 +1,12 @@
 -- Assignments, steps, and calls that stand alone.
-use Rattle.std.proofs.Common.{◌≡◌, ◌⊎◌, inl, inr, ℕ, Bool, true, false, List, [], ◌∷◌, Contains, cond, not, Option, Some, None, refl, sym, ap, ◌∙◌, subst, arith}
+use Rattle.std.proofs.Common.{◌≡◌, ◌⊎◌, inl, inr, ℕ, Bool, true, false, List, [], ◌∷◌, Contains, cond, not, Some, None, refl, sym, ap, ◌∙◌, subst, arith}
 use Rattle.std.proofs.lemmas.Bool.{and_from, and_parts, false≢true}
 use Rattle.std.specs.Prelude.{pos}
-use Rattle.life_types.specs.TypeTests.{is_raw, is_value}
-use Rattle.life_types.specs.Types.{Types}
+use Rattle.life_types.specs.TypeTests.{is_value, is_void}
+use Rattle.life_types.specs.Types.{Types, class}
 use Rattle.life_types.specs.declared.place.Place.{Place}
+use Rattle.life_types.specs.declared.ty.Class.{Class}
+use Rattle.life_types.specs.declared.ty.Class.TheVariants as classes
 use Rattle.life_types.specs.declared.ty.Ty.{Ty}
 use Rattle.life_types.specs.declared.ty.Ty.TheVariants as ty
 use Rattle.life_types.specs.declared.ty.TyId.{TyId}
@@ -14,8 +16,10 @@ use Rattle.life_built.specs.Built.{is_built_expression, is_built_simple, is_call
 use Rattle.life_typed.specs.BaseTypes.{type_at}
 use Rattle.life_typed.specs.Operators.{promoted}
 use Rattle.life_typed.specs.Statements.{can_step, compounded}
-use Rattle.life_typed.specs.TypedForm.{Form, Typed, call, whole as whole_form}
+use Rattle.life_typed.specs.TypedForm.{Form, Typed, call, typed, whole as whole_form}
 use Rattle.life_typed.specs.TypedStatement.{SimpleForm, assign, compound, discarded, one, several, step}
+use Rattle.life_typed.specs.declared.typed_expr.Category.{Category}
+use Rattle.life_typed.specs.declared.typed_expr.Category.TheVariants as category
 use Rattle.life_typed.specs.declared.typed_expr.ExprType.{ExprType}
 use Rattle.life_typed.specs.declared.typed_expr.ExprType.TheVariants.{Of}
 use Rattle.life_type_expr.specs.Lists.{fits_at_all}
@@ -37,20 +41,25 @@ use Rattle.life_well_typed.specs.Statements.{IsSimple}
 use Rattle.life_proper.proofs.ReadyTests.{uses_ready}
 use Rattle.life_writer.specs.Around.{Around, own_type}
 use Rattle.life_writer.specs.Around as around
-use Rattle.life_writer.specs.Calls.{Called, call_of, called_alone}
-use Rattle.life_writer.specs.Expressions.{handed_over, operand, pointer, pointing, value}
+use Rattle.life_writer.specs.Assigning.{assigned_by}
+use Rattle.life_writer.specs.Calls.{Called, called_alone, form_call}
+use Rattle.life_writer.specs.ExpressionForms.{all_uses, uses}
+use Rattle.life_writer.specs.Giving as giving
 use Rattle.life_writer.specs.Pointers.{pointed}
 use Rattle.life_writer.specs.Registers.{computed, constant as constant_step, converted}
+use Rattle.life_writer.specs.Uses.{Uses, own}
+use Rattle.life_writer.specs.Using.{operand, pointer, pointing, value}
 use Rattle.life_writer.specs.Values.{read}
 use Rattle.life_writer.specs.Values as values
-use Rattle.life_writer.specs.Writing.{State, emit, gives}
-use Rattle.life_elab.specs.Simples.{assigned, called_for_nothing, combined, compound_operator, discarded as written_alone, discarded_as, done, held, pointer_assigned, put_back, simple, step_operator, stepped, value_assigned}
+use Rattle.life_writer.specs.Writing.{State, Gives, ◌>>◌, emit, gives}
+use Rattle.life_elab.specs.SimpleForms.{advanced, appended, assigned, combined, done, simple, stepped, target_of, thrown, thrown_by}
+use Rattle.life_elab.specs.Simples.{compound_operator, held, put_back, step_operator}
 use Rattle.life_elab_laws.proofs.Aiming.{pointed_fine, pointed_keeps, pointed_ready}
 use Rattle.life_elab_laws.proofs.CallParts.{alone_fine}
 use Rattle.life_elab_laws.proofs.Calls.{alone_after, alone_ready}
-use Rattle.life_elab_laws.proofs.ExpressionTypes.{own_value, value_no_raw}
-use Rattle.life_elab_laws.proofs.ExpressionForms.{IsCall, IsForm, IsWhole}
-use Rattle.life_elab_laws.proofs.Expressions.{expression, result_later, whole_expression}
+use Rattle.life_elab_laws.proofs.ExpressionTypes.{own_value}
+use Rattle.life_elab_laws.proofs.ExpressionForms.{IsCall, IsWhole}
+use Rattle.life_elab_laws.proofs.Expressions.{expression, placed_operand, pointer_whole, points_whole, result_later, whole_expression}
 use Rattle.life_elab_laws.proofs.FormedFits.{given_raw}
 use Rattle.life_elab_laws.proofs.Gifts.{Gift, IsPlaceOf, a_number, a_place, a_pointer, a_pointing, arguments, both, nothing}
 use Rattle.life_elab_laws.proofs.GivenKinds.{given_number, given_pointer}
@@ -63,9 +72,12 @@ use Rattle.life_elab_laws.proofs.Pending.{same_pending}
 use Rattle.life_elab_laws.proofs.RowTypes.{promoted_is}
 use Rattle.life_elab_laws.proofs.Setting.{Setting}
 use Rattle.life_elab_laws.proofs.SimpleTypes.{IsFree, compound_answer, compounded_numbers, free_place, own_counts, own_plain, own_same, step_answer, step_value}
-use Rattle.life_elab_laws.proofs.TypedKinds.{HasKind, a_null, a_number as of_number, a_pointer as of_pointer, no_value, none_some, operand_kind, promoted_value, value_place}
+use Rattle.life_elab_laws.proofs.TypedKinds.{HasKind, a_null, a_number as of_number, a_pointer as of_pointer, no_value, operand_kind, promoted_value, value_place}
 use Rattle.life_elab_laws.proofs.Values.{by_values}
 use Rattle.life_elab_laws.proofs.VariablePlaces.{Stands, stands_later}
+
+value_class : (t : Ty) → is_value t ≡ true → class (Some t) ≡ classes.Value
+value_class = by_values (λ t. class (Some t) ≡ classes.Value) refl refl refl refl refl
 
 module _ (a : Around) (visible : List ℕ) (types : Types) (texts : ℕ) (fs : List Function) (f : Function) (setting : Setting a types fs f) where
   abbrev Whole : Typed → Type 0
@@ -115,35 +127,36 @@ module _ (a : Around) (visible : List ℕ) (types : Types) (texts : ℕ) (fs : L
 
   -- what is written is a place of its own type that isn't const
   free_target : (target : Typed) (at : IsFree a.program.types target) → IsWhole a visible types texts fs f setting (whole_form target) → is_value (own_type target.ty) ≡ true → (s : State) → Standing s
-      → Makes types texts fs f None s (operand a (whole_form target) s) (a_target (own_type target.ty))
+      → Makes types texts fs f None s (operand (uses a (whole_form target)) s) (a_target (own_type target.ty))
   free_target target at is v s stands =
-      subst (λ (t : Ty). Makes types texts fs f None s (operand a (whole_form target) s) (a_target t)) (sym at.own) (is.names at.id false at.place (ap is_value (sym at.own) ∙ v) s stands)
+      subst (λ (w : Gives Operand). Makes types texts fs f None s w (a_target (own_type target.ty))) (sym (placed_operand a visible types texts fs f setting (whole_form target) at.id false s at.place))
+      (subst (λ (t : Ty). Makes types texts fs f None s ((uses a (whole_form target)).at s) (a_target t)) (sym at.own) (is.names at.id false at.place (ap is_value (sym at.own) ∙ v) s stands))
 
   -- ---- assignments: the right side, the place, and what gives it that
 
   value_assigned_part : (target e : Typed) (equals behind : Place) (s : State) → IsWhole a visible types texts fs f setting (whole_form target) → IsWhole a visible types texts fs f setting (whole_form e) → IsFree a.program.types target → is_number target.ty ≡ true
-      → is_given a.program.types (own_type target.ty) e ≡ true → Standing s → Acts s (value_assigned a target equals e behind s)
+      → is_given a.program.types (own_type target.ty) e ≡ true → Standing s → Acts s (assigned_by classes.Value (uses a (whole_form e)) (own_type target.ty) (target_of (uses a (whole_form target))) equals behind s)
   value_assigned_part target e equals behind s to from at n given stands =
       let t = own_type target.ty in
       let v = own_value target.ty n in
-      let w = value a (whole_form e) behind t None s in
-      let u = operand a (whole_form target) w.state in
+      let w = value (uses a (whole_form e)) behind t None s in
+      let u = operand (uses a (whole_form target)) w.state in
       let first = from.valued (given_number a.program.types t e v given) behind t v None s tt stands in
       let second = free_target target at to v w.state (stands_later a visible s w.state first.grown stands) in
       then_part types texts fs f no_gift tt None s (gives (w.given, u.given) u.state) _ (both_of (a_value t) (a_target t)) no_gift stands.opened
       (and_part types texts fs f no_gift tt s w u (a_value t) (a_target t) stands.opened first second)
       (saved_part (both_of (a_value t) (a_target t)) (w.given, u.given) t w.given u.given equals u.state (λ h. h.0) (λ h. h.1) (λ n k p. p))
 
-  pointer_assigned_part : (target e : Typed) (s : State) (to : TyId) (constant : Bool) → IsWhole a visible types texts fs f setting (whole_form target) → IsWhole a visible types texts fs f setting (whole_form e) → target.ty ≡ Of (ty.Raw to constant)
-      → is_value (type_at a.program.types to) ≡ true → is_given a.program.types (ty.Raw to constant) e ≡ true → Standing s → Acts s (pointer_assigned a target e s)
-  pointer_assigned_part target e s to constant at from is worth given stands =
+  pointer_assigned_part : (target e : Typed) (equals behind : Place) (s : State) (to : TyId) (constant : Bool) → IsWhole a visible types texts fs f setting (whole_form target) → IsWhole a visible types texts fs f setting (whole_form e) → target.ty ≡ Of (ty.Raw to constant)
+      → is_value (type_at a.program.types to) ≡ true → is_given a.program.types (ty.Raw to constant) e ≡ true → Standing s → Acts s (assigned_by classes.Pointer (uses a (whole_form e)) (own_type target.ty) (target_of (uses a (whole_form target))) equals behind s)
+  pointer_assigned_part target e equals behind s to constant at from is worth given stands =
       let u = ty.Raw to constant in
-      let w = pointing a (whole_form e) s in
-      let l = pointer a (whole_form target) w.state in
+      let w = pointing (uses a (whole_form e)) s in
+      let l = pointer (uses a (whole_form target)) (own (uses a (whole_form target))) w.state in
       let P = a_pointing types texts fs f e.ty in
       let Q = a_pointer types texts fs f u in
-      let first = from.points (given_pointer a.program.types u e refl given) s stands in
-      let second = at.pointers u is refl w.state (stands_later a visible s w.state first.grown stands) in
+      let first = points_whole a visible types texts fs f setting (whole_form e) from (given_pointer a.program.types u e refl given) s stands in
+      let second = pointer_whole a visible types texts fs f setting (whole_form target) at u is refl (own (uses a (whole_form target))) w.state (stands_later a visible s w.state first.grown stands) in
       then_part types texts fs f no_gift tt None s (gives (w.given, l.given) l.state) _ (both_of P Q) no_gift stands.opened
       (and_part types texts fs f no_gift tt s w l P Q stands.opened first second)
       (acted_part types texts fs f (both_of P Q) (w.given, l.given) e.place (pointed w.given l.given) l.state
@@ -164,14 +177,15 @@ module _ (a : Around) (visible : List ℕ) (types : Types) (texts : ℕ) (fs : L
       given : is_given a.program.types (own_type target.ty) e ≡ true
       given = subst (λ (t : Ty). is_given a.program.types t e ≡ true) (own_same target.ty) h.1.0
 
-      chosen : (b : Bool) → is_raw (own_type target.ty) ≡ b → Acts s (cond b (pointer_assigned a target e s) (value_assigned a target equals e behind s)) → Acts s (assigned a target equals (one e) behind s)
-      chosen b is part = subst (λ (c : Bool). Acts s (cond c (pointer_assigned a target e s) (value_assigned a target equals e behind s))) (sym is) part
+      chosen : (k : Class) → class (Some (own_type target.ty)) ≡ k → Acts s (assigned_by k (uses a (whole_form e)) (own_type target.ty) (target_of (uses a (whole_form target))) equals behind s) → Acts s (assigned a target equals (one e) behind s)
+      chosen k is part = subst (λ (x : Class). Acts s (assigned_by x (uses a (whole_form e)) (own_type target.ty) (target_of (uses a (whole_form target))) equals behind s)) (sym is) part
 
       go : HasKind a.program.types target → Acts s (assigned a target equals (one e) behind s)
-      go (of_number t own v) = chosen false (ap (λ (x : ExprType). is_raw (own_type x)) own ∙ value_no_raw t v) (value_assigned_part target e equals behind s is (whole e be h.1.1) at (ap is_number own ∙ v) given stands)
-      go (of_pointer to constant own v) =
-          chosen true (ap (λ (x : ExprType). is_raw (own_type x)) own)
-          (pointer_assigned_part target e s to constant is (whole e be h.1.1) own v (subst (λ (x : ExprType). is_given a.program.types (own_type x) e ≡ true) own given) stands)
+      go (of_number t own_is v) =
+          chosen classes.Value (ap (λ (x : ExprType). class (Some (own_type x))) own_is ∙ value_class t v) (value_assigned_part target e equals behind s is (whole e be h.1.1) at (ap is_number own_is ∙ v) given stands)
+      go (of_pointer to constant own_is v) =
+          chosen classes.Pointer (ap (λ (x : ExprType). class (Some (own_type x))) own_is)
+          (pointer_assigned_part target e equals behind s to constant is (whole e be h.1.1) own_is v (subst (λ (x : ExprType). is_given a.program.types (own_type x) e ≡ true) own_is given) stands)
       go (no_value own v) = absurd (value_place (sym v ∙ at.place))
       go (a_null own v) = absurd (value_place (sym v ∙ at.place))
 
@@ -206,8 +220,8 @@ module _ (a : Around) (visible : List ℕ) (types : Types) (texts : ℕ) (fs : L
   combined_part target e o place behind t s to from at n m w p stands =
       let u = own_type target.ty in
       let v = own_value target.ty n in
-      let r = value a (whole_form e) behind t None s in
-      let l = operand a (whole_form target) r.state in
+      let r = value (uses a (whole_form e)) behind t None s in
+      let l = operand (uses a (whole_form target)) r.state in
       let h = held target l.given t l.state in
       let first = from.valued m behind t w None s tt stands in
       let second = free_target target at to v r.state (stands_later a visible s r.state first.grown stands) in
@@ -228,7 +242,7 @@ module _ (a : Around) (visible : List ℕ) (types : Types) (texts : ℕ) (fs : L
   stepped_part target o place t s to at n w p stands =
       let u = own_type target.ty in
       let v = own_value target.ty n in
-      let l = operand a (whole_form target) s in
+      let l = operand (uses a (whole_form target)) s in
       let h = held target l.given t l.state in
       let r = computed None t place (constant_step (pos 1)) h.state in
       let first = free_target target at to v s stands in
@@ -247,13 +261,14 @@ module _ (a : Around) (visible : List ℕ) (types : Types) (texts : ℕ) (fs : L
   -- ---- calls whose answer is thrown away
 
   -- a value that nothing is done with
-  kept_part : (e : Typed) (behind : Place) (s : State) → IsWhole a visible types texts fs f setting (whole_form e) → is_number e.ty ≡ true → Standing s → Acts s (value a (whole_form e) behind (own_type e.ty) None s).state
+  kept_part : (e : Typed) (behind : Place) (s : State) → IsWhole a visible types texts fs f setting (whole_form e) → is_number e.ty ≡ true → Standing s → Acts s (value (uses a (whole_form e)) behind (own_type e.ty) None s).state
   kept_part e behind s is n stands =
-      seen_part types texts fs f no_gift tt None s (value a (whole_form e) behind (own_type e.ty) None s) (a_value (own_type e.ty)) (λ (r : ℕ). tt) no_gift (is.valued n behind (own_type e.ty) (own_value e.ty n) None s tt stands) (λ b h. tt) (λ n k h. tt)
+      seen_part types texts fs f no_gift tt None s (value (uses a (whole_form e)) behind (own_type e.ty) None s) (a_value (own_type e.ty)) (λ (r : ℕ). tt) no_gift (is.valued n behind (own_type e.ty) (own_value e.ty n) None s tt stands) (λ b h. tt) (λ n k h. tt)
 
-  alone_part : (e : Typed) (c : Called) (s : State) → IsCall a visible types texts fs f setting c e.ty → e.ty ≡ Of ty.Void → Standing s → Acts s (called_for_nothing a e.place c s)
+  alone_part : (e : Typed) (c : Called) (s : State) → IsCall a visible types texts fs f setting c e.ty e.category → e.ty ≡ Of ty.Void → Standing s
+      → Acts s (giving.arguments a (all_uses a c.arguments) c.delimiters (around.parameter_types a c.function) s >> λ given s. emit e.place (called_alone c.function given) s)
   alone_part e c s is void stands =
-      let w = handed_over a c.arguments c.delimiters (around.parameter_types a c.function) s in
+      let w = giving.arguments a (all_uses a c.arguments) c.delimiters (around.parameter_types a c.function) s in
       let P = arguments types texts fs f (parameter_types (Some is.of)) in
       let callee = setting.callees c.function is.of is.there in
       then_part types texts fs f no_gift tt None s w _ P no_gift stands.opened (is.hands s stands)
@@ -262,33 +277,32 @@ module _ (a : Around) (visible : List ℕ) (types : Types) (texts : ℕ) (fs : L
       (λ n k p. alone_ready f c.function (parameter_types (Some is.of)) w.given n k p)
       (λ n m k p. subst (Keeps f m None k) (sym (alone_after f c.function (parameter_types (Some is.of)) w.given n k p)) (keeps_all f m None k)))
 
-  not_void : (e : Typed) (c : Called) (behind : Place) (t : Ty) (s : State) → is_value t ≡ true → discarded_as a e (Some c) behind t s ≡ (value a (whole_form e) behind t None s).state
-  not_void e c behind t s = by_values (λ t. discarded_as a e (Some c) behind t s ≡ (value a (whole_form e) behind t None s).state) refl refl refl refl refl t
+  -- what is thrown away has a value
+  value_thrown : (e : Uses) (behind : Place) (t : Ty) (s : State) → own e ≡ t → is_value t ≡ true → thrown category.Value e behind s ≡ (value e behind (own e) None s).state
+  value_thrown e behind t s own_is v =
+      ap (λ (x : Ty). cond (is_void x) (e.alone s) (thrown_by (class (Some x)) e behind s)) own_is
+      ∙ by_values (λ x. cond (is_void x) (e.alone s) (thrown_by (class (Some x)) e behind s) ≡ (value e behind (own e) None s).state) refl refl refl refl refl t v
 
-  -- it is the call that it is
-  no_other : (form : Form) → is_call form ≡ true → call_of form ≡ None → ⊥
-  no_other (call f arguments delimiters) is none = none_some (sym none)
-  no_other _ is none = false≢true is
-
-  discarded_part : (e : Typed) (behind : Place) (s : State) → is_built_expression e ≡ true → Whole e → is_call e.form ≡ true → Standing s → Acts s (written_alone a e behind s)
-  discarded_part e behind s b h calls stands = go (call_of e.form) refl
+  discarded_part : (form : Form) (e : Typed) (behind : Place) (s : State) → e.form ≡ form → is_built_expression e ≡ true → Whole e → is_call form ≡ true → Standing s → Acts s (thrown e.category (uses a (whole_form e)) behind s)
+  discarded_part (call g given d) e behind s same b h calls stands = kind is.kind
     where
-      form : IsForm a visible types texts fs f setting e.form e
-      form = expression a visible types texts fs f setting e.form e b h
+      is : IsCall a visible types texts fs f setting (record { function = g; arguments = given; delimiters = d }) e.ty e.category
+      is = (expression a visible types texts fs f setting e.form e b h).calls (record { function = g; arguments = given; delimiters = d }) (ap form_call same)
 
-      kept : is_number e.ty ≡ true → Acts s (value a (whole_form e) behind (own_type e.ty) None s).state
-      kept n = kept_part e behind s (whole e b h) n stands
+      alone_is : (uses a (whole_form e)).alone s ≡ (giving.arguments a (all_uses a given) d (around.parameter_types a g) s >> λ given s. emit e.place (called_alone g given) s)
+      alone_is = ap (λ (f : Form). (uses a (typed e.place e.ty e.category f)).alone s) same
 
-      go : (o : Option Called) → call_of e.form ≡ o → Acts s (discarded_as a e o behind (own_type e.ty) s)
-      go None none_is = absurd (no_other e.form calls none_is)
-      go (Some c) at = kind is.kind
-        where
-          is : IsCall a visible types texts fs f setting c e.ty
-          is = form.calls c at
-
-          kind : (e.ty ≡ Of ty.Void) ⊎ (is_number e.ty ≡ true) → Acts s (discarded_as a e (Some c) behind (own_type e.ty) s)
-          kind (inl void) = subst (λ (t : ExprType). Acts s (discarded_as a e (Some c) behind (own_type t) s)) (sym void) (alone_part e c s is void stands)
-          kind (inr n) = subst (Acts s) (sym (not_void e c behind (own_type e.ty) s (own_value e.ty n))) (kept n)
+      kind : (e.ty ≡ Of ty.Void) ⊎ (is_number e.ty ≡ true) → Acts s (thrown e.category (uses a (whole_form e)) behind s)
+      kind (inl void) =
+          subst (Acts s)
+          (sym (ap (λ (k : Category). thrown k (uses a (whole_form e)) behind s) is.held
+          ∙ ap (λ (x : ExprType). cond (is_void (own_type x)) ((uses a (whole_form e)).alone s) (thrown_by (class (Some (own_type x))) (uses a (whole_form e)) behind s)) void
+          ∙ alone_is))
+          (alone_part e (record { function = g; arguments = given; delimiters = d }) s is void stands)
+      kind (inr n) =
+          subst (Acts s) (sym (ap (λ (k : Category). thrown k (uses a (whole_form e)) behind s) is.held ∙ value_thrown (uses a (whole_form e)) behind (own_type e.ty) s refl (own_value e.ty n)))
+          (kept_part e behind s (whole e b h) n stands)
+  discarded_part _ e behind s same b h calls stands = absurd (false≢true calls)
 
   -- ---- any of these
 
@@ -301,15 +315,17 @@ module _ (a : Around) (visible : List ℕ) (types : Types) (texts : ℕ) (fs : L
       let is = whole target parts.0 h.1.1 in
       let plain = own_plain target.ty (operand_kind a.program.types target is.kind) in
       let n = compounded_numbers o (own_type target.ty) e.ty plain.text (subst (λ (t : Ty). fits_at_all (compounded o t e.ty) ≡ true) (own_same target.ty) h.0) in
-      combined_part target e o place behind (promoted (own_type target.ty) (own_type e.ty)) s is (whole e parts.1 h.2) (free_place a.program.types target is.kind h.1.0) (own_counts target.ty n.0) n.1
-      (promoted_value (own_type target.ty) (own_type e.ty)) (promoted_is (own_type target.ty) (own_type e.ty)) stands
+      subst (λ (b : Bool). Acts s (cond b (appended a target place e s) (combined a target o place e behind (promoted (own_type target.ty) (own_type e.ty)) s))) (sym plain.text)
+      (combined_part target e o place behind (promoted (own_type target.ty) (own_type e.ty)) s is (whole e parts.1 h.2) (free_place a.program.types target is.kind h.1.0) (own_counts target.ty n.0) n.1
+      (promoted_value (own_type target.ty) (own_type e.ty)) (promoted_is (own_type target.ty) (own_type e.ty)) stands)
   done_part (step target o place) behind s b h stands =
       let is = whole target b h.1.1 in
       let plain = own_plain target.ty (operand_kind a.program.types target is.kind) in
       let n = step_value (own_type target.ty) plain.iterator (subst (λ (t : Ty). can_step t ≡ true) (own_same target.ty) h.0) in
-      stepped_part target o place (promoted (own_type target.ty) (own_type target.ty)) s is (free_place a.program.types target is.kind h.1.0) (own_counts target.ty n)
-      (promoted_value (own_type target.ty) (own_type target.ty)) (promoted_is (own_type target.ty) (own_type target.ty)) stands
-  done_part (discarded e) behind s b h stands = let parts = and_parts (is_call e.form) (is_built_expression e) b in discarded_part e behind s parts.1 h parts.0 stands
+      subst (λ (b : Bool). Acts s (cond b (advanced (uses a (whole_form target)) o place s) (stepped a target o place (promoted (own_type target.ty) (own_type target.ty)) s))) (sym plain.iterator)
+      (stepped_part target o place (promoted (own_type target.ty) (own_type target.ty)) s is (free_place a.program.types target is.kind h.1.0) (own_counts target.ty n)
+      (promoted_value (own_type target.ty) (own_type target.ty)) (promoted_is (own_type target.ty) (own_type target.ty)) stands)
+  done_part (discarded e) behind s b h stands = let parts = and_parts (is_call e.form) (is_built_expression e) b in discarded_part e.form e behind s refl parts.1 h parts.0 stands
 
   -- .. makes no temporaries
   pub simple_part : (it : SimpleForm) (behind : Place) (s : State) → is_built_simple it ≡ true → IsSimple a.program a.function.locals a.function.result visible it → Standing s → Acts s (simple a it behind s)

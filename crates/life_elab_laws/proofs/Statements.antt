@@ -14,15 +14,17 @@ use Rattle.life_well_typed.specs.Statements.{AreBranches, Decides, DecidesIfAny,
 use Rattle.life_well_typed.specs.Visible.{Visible, after, after_start, behind, with_next}
 use Rattle.life_writer.specs.Around.{Around}
 use Rattle.life_writer.specs.Behind.{ending}
-use Rattle.life_writer.specs.Expressions.{condition}
+use Rattle.life_writer.specs.ExpressionForms.{uses}
+use Rattle.life_writer.specs.Using.{condition}
 use Rattle.life_writer.specs.Registers.{computed, constant}
 use Rattle.life_writer.specs.Variables.{end_past}
 use Rattle.life_writer.specs.Writing.{State, Gives, with_code}
-use Rattle.life_elab.specs.Declarations.{declared}
+use Rattle.life_elab.specs.DeclarationForms.{declared}
 use Rattle.life_typed.specs.Ends.{all_end, ends, last_ends}
 use Rattle.life_elab.specs.LastTokens.{last_token}
-use Rattle.life_elab.specs.Simples.{simple_if}
-use Rattle.life_elab.specs.Statements.{branches_of, condition_or_true, end_line, looped, result_given, started, statement}
+use Rattle.life_elab.specs.SimpleForms.{simple_if}
+use Rattle.life_elab.specs.StatementForms.{branches_of, condition_or_true, result_given, started, statement}
+use Rattle.life_elab.specs.Statements.{end_line, looped}
 use Rattle.life_elab_laws.proofs.Branching.{asserted_does, branched_does, tested_follows}
 use Rattle.life_elab_laws.proofs.Conditions.{Tests, non_zero_part}
 use Rattle.life_elab_laws.proofs.DeclarationWriting.{declaration_does}
@@ -72,7 +74,7 @@ module _ (a : Around) (types : Types) (texts : ℕ) (fs : List Function) (f : Fu
 
   -- ---- the parts of loops
 
-  pub decided : (v : Visible) (e : Typed) (behind : Place) (s : State) → is_built_expression e ≡ true → Decides a.program a.function.locals a.function.result v.visible e → Follows types f a v s → Tests types texts fs f s (condition a (whole_form e) (ending behind) s)
+  pub decided : (v : Visible) (e : Typed) (behind : Place) (s : State) → is_built_expression e ≡ true → Decides a.program a.function.locals a.function.result v.visible e → Follows types f a v s → Tests types texts fs f s (condition (uses a (whole_form e)) (ending behind) s)
   decided v e behind s b h follows = (whole_expression a v.visible types texts fs f setting (whole_form e) b h.1).conditions h.0 (ending behind) s follows.stands
 
   pub decided_or_true : (v : Visible) (keyword : Place) (e : Option Typed) (behind : Place) (s : State) → is_built_if_any e ≡ true → DecidesIfAny a.program a.function.locals a.function.result v.visible e → Follows types f a v s
@@ -131,7 +133,7 @@ module _ (a : Around) (types : Types) (texts : ℕ) (fs : List Function) (f : Fu
     statement_does (while_loop keyword decides closing body) in_loop v s b h follows register =
         let parts = and_parts (is_built_expression decides) (is_built_statement a.program.types a.function.locals body) b in
         done_alone (while_loop keyword decides closing body) in_loop v s
-        (loop_done v (after body v) in_loop (condition a (whole_form decides) (ending closing)) (statement a body) (λ t. t) s follows register (decided v decides closing s parts.0 h.0 follows)
+        (loop_done v (after body v) in_loop (condition (uses a (whole_form decides)) (ending closing)) (statement a body) (λ t. t) s follows register (decided v decides closing s parts.0 h.0 follows)
         (λ t later there. level_of body true v t (statement_does body true v t parts.1 h.2 later there) h.1)
         (λ t later. record { does = does_nothing types texts fs f a (behind v (after body v)) false t later; level = refl }))
         (λ e. runs_on e)
@@ -163,7 +165,7 @@ module _ (a : Around) (types : Types) (texts : ℕ) (fs : List Function) (f : Fu
     statement_does (loop_continue keyword semicolon) in_loop v s b h follows register =
         done_alone (loop_continue keyword semicolon) in_loop v s (continue_does a types texts fs f setting v in_loop s follows h keyword) (λ e. runs_on e) (λ before e. e)
     statement_does (returned keyword value semicolon) in_loop v s b h follows register =
-        let t = result_given a value semicolon s in
+        let t = result_given a value keyword semicolon s in
         done_alone (returned keyword value semicolon) in_loop v s (returned_does a types texts fs f setting v in_loop s follows register keyword value semicolon b h)
         (λ e. stops_right (end_past 0 keyword t).code (Returns keyword ∷ []) refl)
         (λ before e. e)
@@ -171,7 +173,7 @@ module _ (a : Around) (types : Types) (texts : ℕ) (fs : List Function) (f : Fu
         done_alone (print items semicolon) in_loop v s (items_do a types texts fs f setting v in_loop lines items semicolon s b h follows) (λ e. runs_on e) (λ before e. e)
     statement_does (assertion keyword decides closing semicolon) in_loop v s b h follows register =
         done_alone (assertion keyword decides closing semicolon) in_loop v s
-        (asserted_does types texts fs f a v in_loop s (condition a (whole_form decides) (ending closing) s) follows (decided v decides closing s b h follows) keyword) (λ e. runs_on e) (λ before e. e)
+        (asserted_does types texts fs f a v in_loop s (condition (uses a (whole_form decides)) (ending closing) s) follows (decided v decides closing s b h follows) keyword) (λ e. runs_on e) (λ before e. e)
     statement_does (branch keyword decides closing body) in_loop v s b h follows register = absurd h
     statement_does (declaration d semicolon) in_loop v s b h follows register =
         let does = declaration_does a types texts fs f setting v in_loop d semicolon s follows b h in
@@ -202,7 +204,7 @@ module _ (a : Around) (types : Types) (texts : ℕ) (fs : List Function) (f : Fu
     branches_do (chain (branch keyword decides closing body) others) in_loop v s b h follows register last x over end =
         let parts = and_parts (is_built_expression decides && is_built_statement a.program.types a.function.locals body) (is_built_statement a.program.types a.function.locals others) b in
         let inner = and_parts (is_built_expression decides) (is_built_statement a.program.types a.function.locals body) parts.0 in
-        let w = condition a (whole_form decides) (ending closing) s in
+        let w = condition (uses a (whole_form decides)) (ending closing) s in
         let test = decided v decides closing s inner.0 h.0 follows in
         let ready = tested_follows types texts fs f a v in_loop s w follows test in
         let there = register_later a s (with_code [] w.state) test.grown.locals test.grown.types register in

@@ -20,8 +20,8 @@ use Rattle.life_well_typed.specs.Functions.{IsWellTyped}
 use Rattle.life_well_typed.specs.Names.{HasNames}
 use Rattle.life_well_typed.specs.Results.{HasResults}
 use Rattle.life_writer.specs.Variables.{kind}
-use Rattle.life_elab.specs.Functions.{written}
-use Rattle.life_elab.specs.Programs.{around, core_program, texts_of}
+use Rattle.life_elab.specs.ProgramForms.{translated, written}
+use Rattle.life_elab.specs.Programs.{around, texts_of}
 use Rattle.life_elab_laws.proofs.ExpressionKinds.{variable_built}
 use Rattle.life_elab_laws.proofs.FormedLocals.{variable_fits, variable_found}
 use Rattle.life_elab_laws.proofs.Fronts.{IsFront}
@@ -96,13 +96,13 @@ module _ (p : ProgramForm) (typed : IsWellTyped p) (built : are_built_functions 
 
   -- ---- all of them
 
-  program_keeps : keeps_all_given (core_program p) ≡ true
+  program_keeps : keeps_all_given (translated p) ≡ true
   program_keeps = passed_by_all p typed built results (all_keep_given types) (list_all (all_keep_given types)) refl (λ core cores. refl) one_keeps
 
-  program_serves : is_served_program (core_program p) ≡ true
+  program_serves : is_served_program (translated p) ≡ true
   program_serves = passed_by_all p typed built results (is_served types) (list_all (is_served types)) refl (λ core cores. refl) one_served
 
-  program_formed : HasNames p → IsOrdered p.types → p.types.structs ≡ [] → has_no_structs p.structs ≡ true → IsWellFormedProgram (core_program p)
+  program_formed : HasNames p → IsOrdered p.types → p.types.structs ≡ [] → has_no_structs p.structs ≡ true → IsWellFormedProgram (translated p)
   program_formed named ordered structs none =
       let order = whole_order p typed built results in
       record {
@@ -114,12 +114,12 @@ module _ (p : ProgramForm) (typed : IsWellTyped p) (built : are_built_functions 
             (λ n f at core w. one_formed n f at core w named);
       }
 
-pub program_well_formed : (p : ProgramForm) → IsWellTyped p → HasResults p → HasNames p → IsOrdered p.types → p.types.structs ≡ [] → is_built p ≡ true → IsWellFormedProgram (core_program p)
+pub program_well_formed : (p : ProgramForm) → IsWellTyped p → HasResults p → HasNames p → IsOrdered p.types → p.types.structs ≡ [] → is_built p ≡ true → IsWellFormedProgram (translated p)
 program_well_formed p typed results named ordered structs b =
     program_formed p typed (functions_built p b) results named ordered structs (and_parts (has_no_structs p.structs) (are_built_functions p.types p.functions) (and_parts (has_built_types p.types) _ b).1).0
 
-pub program_served : (p : ProgramForm) → IsWellTyped p → HasResults p → is_built p ≡ true → is_served_program (core_program p) ≡ true
+pub program_served : (p : ProgramForm) → IsWellTyped p → HasResults p → is_built p ≡ true → is_served_program (translated p) ≡ true
 program_served p typed results b = program_serves p typed (functions_built p b) results
 
-pub program_keeps_given : (p : ProgramForm) → IsWellTyped p → HasResults p → is_built p ≡ true → keeps_all_given (core_program p) ≡ true
+pub program_keeps_given : (p : ProgramForm) → IsWellTyped p → HasResults p → is_built p ≡ true → keeps_all_given (translated p) ≡ true
 program_keeps_given p typed results b = program_keeps p typed (functions_built p b) results

@@ -17,7 +17,8 @@ use Rattle.life_proper.proofs.ResultsFound.{results_found}
 use Rattle.life_well_typed.specs.Functions.{IsWellTyped}
 use Rattle.life_well_typed.specs.Mains.{HasIntMain, HaveIntMains}
 use Rattle.life_well_typed.specs.Results.{HasResults}
-use Rattle.life_elab.specs.Programs.{around, core_program}
+use Rattle.life_elab.specs.ProgramForms.{translated}
+use Rattle.life_elab.specs.Programs.{around}
 use Rattle.life_elab_laws.proofs.Fronts.{each_at}
 use Rattle.life_elab_laws.proofs.GivingBack.{GivesValue}
 use Rattle.life_elab_laws.proofs.Programs.{IsWritten, functions_built, of_all, of_program, one_body, whole, written_result}
@@ -60,7 +61,7 @@ module _ (p : ProgramForm) (typed : IsWellTyped p) (built : are_built_functions 
         let body = one_body p typed built results n f at core w in
         results_found (whole p typed built results).types core body.checked core.parameters (body.returns g) q bits l way here is
 
-pub program_writes_results : (p : ProgramForm) → IsWellTyped p → HasResults p → HasIntMain p → is_built p ≡ true → WritesResults (core_program p)
+pub program_writes_results : (p : ProgramForm) → IsWellTyped p → HasResults p → HasIntMain p → is_built p ≡ true → WritesResults (translated p)
 program_writes_results p typed results mains b =
     let built = functions_built p b in
     let names = p.names in

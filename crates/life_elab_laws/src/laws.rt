@@ -1,7 +1,7 @@
 // What is translated is proper, and has short places.
 ghost use Rattle.life_built.specs.Built.{is_built};
 ghost use Rattle.life_elab.specs.Bounds.{HaveShortPlaces};
-ghost use Rattle.life_elab.specs.Programs.{core_program};
+ghost use Rattle.life_elab.specs.ProgramForms.{translated};
 ghost use Rattle.life_proper.specs.ProperPrograms.{IsProperProgram};
 ghost use Rattle.life_pset.specs.Limits.{IsProgramWithinLimits};
 ghost use Rattle.life_typed.specs.Programs.{ProgramForm};
@@ -14,10 +14,10 @@ ghost use Rattle.std.specs.Prelude.{IsTrue};
 /// The core program of a well typed program that is built is proper, where it passes no limit.
 pub fn translations_are_proper()
     ensures { (p : ProgramForm) → IsWellTyped p → HasResults p → HasTable p → HasNames p → HasIntMain p → IsTrue (is_built p)
-        → IsProgramWithinLimits (core_program p) → IsProperProgram (core_program p) }
+        → IsProgramWithinLimits (translated p) → IsProperProgram (translated p) }
 {}
 
 /// Its places are short, as the rules ask: each has at most eight steps.
 pub fn translations_have_short_places()
-    ensures { (p : ProgramForm) → IsWellTyped p → HasResults p → IsTrue (is_built p) → HaveShortPlaces (core_program p).types (core_program p).functions }
+    ensures { (p : ProgramForm) → IsWellTyped p → HasResults p → IsTrue (is_built p) → HaveShortPlaces (translated p).types (translated p).functions }
 {}

@@ -1,21 +1,20 @@
 -- What is decided by tests, and what isn't.
 use Rattle.std.proofs.Common.{◌≡◌, ℕ, Bool, true, false, List, [], length, Option, None, Some, Result, Ok, refl, sym, ap, subst, ◌∙◌}
 use Rattle.std.specs.Prelude.{if◌then◌else◌}
-use Rattle.life_types.specs.TypeTests.{is_raw}
 use Rattle.life_types.specs.declared.memory.NoMemory.{NoMemory}
 use Rattle.life_types.specs.declared.place.Place.{Place}
 use Rattle.life_types.specs.declared.ty.Ty.{Ty}
-use Rattle.life_typed.specs.TypedForm.{Typed}
+use Rattle.life_typed.specs.Operators.{is_nullable}
 use Rattle.life_typed.specs.declared.typed_expr.Category.{Category}
 use Rattle.life_core.specs.Operands.{Location, Operand}
 use Rattle.life_core.specs.Step.{Test}
 use Rattle.life_core.specs.Tree.{Tree, condition_tree, trees}
 use Rattle.life_core.specs.declared.stmt.Condition.{Condition}
 use Rattle.life_writer.specs.Answers.{Answered, Answers, AnswersIf}
-use Rattle.life_writer.specs.Around.{Around}
-use Rattle.life_writer.specs.Conditions.{behind_code, branched, by_branch, condition_from, end_tested, non_zero, not_null, tested}
-use Rattle.life_writer.specs.Expressions.{decision}
+use Rattle.life_writer.specs.Conditions.{behind_code, branched, by_branch, end_tested, non_zero, not_null, tested}
 use Rattle.life_writer.specs.Registers.{target}
+use Rattle.life_writer.specs.Uses.{Uses}
+use Rattle.life_writer.specs.Using.{condition_by}
 use Rattle.life_writer.specs.Values as values
 use Rattle.life_writer.specs.declared.behind.Behind.{Behind}
 use Rattle.life_writer.specs.Writing.{State, Gives, gives, ◌>>◌, mapped, taken, with_code}
@@ -34,29 +33,29 @@ pub leaves : {X A : Type 0} (view : X → A) (o : Option X) (by : Option (State 
 leaves {X = X} view o by before now is h = subst (λ (p : Option X). AnswersIf view (Ok p) by before now) is h
 
 -- .. with the same behind it
-pub decision_behind : (a : Around) (e : Typed) (o : Option Condition) (b c : Behind) (before now : State) → b ≡ c → AnswersIf condition_tree (Ok o) (decision a e.form e.place b) before now → AnswersIf condition_tree (Ok o) (decision a e.form e.place c) before now
-decision_behind a e o b c before now same h = subst (λ (d : Behind). AnswersIf condition_tree (Ok o) (decision a e.form e.place d) before now) same h
+pub decision_behind : (e : Uses) (o : Option Condition) (b c : Behind) (before now : State) → b ≡ c → AnswersIf condition_tree (Ok o) (e.decision b) before now → AnswersIf condition_tree (Ok o) (e.decision c) before now
+decision_behind e o b c before now same h = subst (λ (d : Behind). AnswersIf condition_tree (Ok o) (e.decision d) before now) same h
 
 -- ---- conditions
 
 pub condition_decided : {X : Type 0} (view : X → Tree) (x : X) (d : Option (State → Gives Tree)) (t : Ty) (place : Place) (ends : Option Place) (pointer : State → Gives Location) (value : State → Gives ℕ) (s now : State)
-    → Answered view x d s now → condition_from d t place ends pointer value s ≡ gives (view x) now
+    → Answered view x d s now → condition_by d t place ends pointer value s ≡ gives (view x) now
 condition_decided view x None t place ends pointer value s now h = absurd h
 condition_decided view x (Some g) t place ends pointer value s now h = h
 
 condition_else : (b : Bool) (d : Option (State → Gives Tree)) (t : Ty) (place : Place) (ends : Option Place) (pointer : State → Gives Location) (value : State → Gives ℕ) (s s1 : State)
-    → d ≡ None → s1 ≡ s → is_raw t ≡ b → condition_from d t place ends pointer value s ≡ (if b then not_null place ends pointer s1 else non_zero place ends value s1)
+    → d ≡ None → s1 ≡ s → is_nullable t ≡ b → condition_by d t place ends pointer value s ≡ (if b then not_null place ends pointer s1 else non_zero place ends value s1)
 condition_else b d t place ends pointer value s s1 none same raw =
-    ap (λ (x : Option (State → Gives Tree)). condition_from x t place ends pointer value s) none
+    ap (λ (x : Option (State → Gives Tree)). condition_by x t place ends pointer value s) none
     ∙ ap (λ (c : Bool). if c then not_null place ends pointer s else non_zero place ends value s) raw
     ∙ ap (λ (x : State). if b then not_null place ends pointer x else non_zero place ends value x) (sym same)
 
 pub condition_pointer : (d : Option (State → Gives Tree)) (t : Ty) (place : Place) (ends : Option Place) (pointer : State → Gives Location) (value : State → Gives ℕ) (s s1 : State)
-    → d ≡ None → s1 ≡ s → is_raw t ≡ true → condition_from d t place ends pointer value s ≡ not_null place ends pointer s1
+    → d ≡ None → s1 ≡ s → is_nullable t ≡ true → condition_by d t place ends pointer value s ≡ not_null place ends pointer s1
 condition_pointer d t place ends pointer value s s1 none same raw = condition_else true d t place ends pointer value s s1 none same raw
 
 pub condition_value : (d : Option (State → Gives Tree)) (t : Ty) (place : Place) (ends : Option Place) (pointer : State → Gives Location) (value : State → Gives ℕ) (s s1 : State)
-    → d ≡ None → s1 ≡ s → is_raw t ≡ false → condition_from d t place ends pointer value s ≡ non_zero place ends value s1
+    → d ≡ None → s1 ≡ s → is_nullable t ≡ false → condition_by d t place ends pointer value s ≡ non_zero place ends value s1
 condition_value d t place ends pointer value s s1 none same raw = condition_else false d t place ends pointer value s s1 none same raw
 
 -- ---- values

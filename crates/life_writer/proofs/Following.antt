@@ -6,7 +6,7 @@ use Rattle.std.specs.Prelude.{IsTrue, if◌then◌else◌}
 use Rattle.life_types.specs.contracts.ty.TyPartialEq.TheImpl.{ghosts as compared}
 use Rattle.life_types.specs.declared.place.Place.{Place}
 use Rattle.life_types.specs.declared.ty.Ty.{Ty}
-use Rattle.life_typed.specs.TypedForm.{Form, number, character, boolean, text, null, local, call, construct, paren, move, make_unique, text_of, input, member, dereference, index, method, negate, not, address_of, binary, typed, nothing, ◌⨟◌, whole}
+use Rattle.life_typed.specs.TypedForm.{Form, binary, typed, whole}
 use Rattle.life_typed.specs.declared.typed_expr.BinaryOperator.{BinaryOperator}
 use Rattle.life_typed.specs.declared.typed_expr.Category.{Category}
 use Rattle.life_typed.specs.declared.typed_expr.Category.TheVariants as category
@@ -15,13 +15,15 @@ use Rattle.life_typed.specs.declared.typed_expr.TypedOperand.{TypedOperand}
 use Rattle.life_core.specs.Operands.{Location}
 use Rattle.life_core.specs.Tree.{Tree}
 use Rattle.life_writer.specs.Around.{Around, own_type}
-use Rattle.life_writer.specs.Behind.{ending}
-use Rattle.life_writer.specs.Chains.{Follows, Runs, converted_in, is_between, is_computed, is_link, joined_on, joined_with, links, operated_on, operated_with, own_of}
-use Rattle.life_writer.specs.Conditions.{condition_from, decided, nowhere}
-use Rattle.life_writer.specs.Expressions.{condition, operand, pointer, value}
+use Rattle.life_writer.specs.Behind.{ending, lasting}
+use Rattle.life_writer.specs.Chains.{Follows, Runs, converted_in, is_between, is_computed, is_link, joined_on, joined_with, links, operated_on, operated_with}
+use Rattle.life_writer.specs.Conditions.{nowhere}
+use Rattle.life_writer.specs.ExpressionForms.{binary_uses, uses}
 use Rattle.life_writer.specs.Parts.{HasLeft, inside, node_view, part_view, shape_form}
 use Rattle.life_writer.specs.Registers.{as_type, computed, conversion, converted}
 use Rattle.life_writer.specs.Rows.{computes, joins, row_between}
+use Rattle.life_writer.specs.Uses.{Uses, own}
+use Rattle.life_writer.specs.Using.{condition, condition_by, nullable, own_value, read_or_made, value}
 use Rattle.life_writer.specs.Values as values
 use Rattle.life_writer.specs.Writing.{State, Gives, gives, ◌>>◌}
 use Rattle.life_writer.specs.declared.behind.Behind.{Behind}
@@ -135,77 +137,59 @@ as_type_behind from to place of s = go (compared.eq from to)
     go true = refl
     go false = refl
 
-operand_value : (a : Around) (e : Form) (behind : Place) (to : Ty) (s : State) → value a e behind to None s ≡ (own_of a e behind None s >> λ r s. converted_in e to r s)
-operand_value a (typed place t category form) behind to s = as_type_behind (own_type t) to place (own_of a (typed place t category form) behind) s
-operand_value a (number n) behind to s = refl
-operand_value a (character c) behind to s = refl
-operand_value a (boolean b) behind to s = refl
-operand_value a (text t) behind to s = refl
-operand_value a null behind to s = refl
-operand_value a (local x) behind to s = refl
-operand_value a (call f arguments delimiters) behind to s = refl
-operand_value a (construct n elements delimiters) behind to s = refl
-operand_value a (paren inner closing) behind to s = refl
-operand_value a (move x) behind to s = refl
-operand_value a (make_unique t argument closing) behind to s = refl
-operand_value a (text_of inner closing) behind to s = refl
-operand_value a input behind to s = refl
-operand_value a (member base which) behind to s = refl
-operand_value a (dereference e) behind to s = refl
-operand_value a (index base position closing) behind to s = refl
-operand_value a (method base called arguments delimiters) behind to s = refl
-operand_value a (negate e) behind to s = refl
-operand_value a (not e) behind to s = refl
-operand_value a (address_of e) behind to s = refl
-operand_value a (binary o left right) behind to s = refl
-operand_value a nothing behind to s = refl
-operand_value a (e ⨟ es) behind to s = refl
+operand_value : (e : Uses) (behind : Place) (to : Ty) (s : State) → value e behind to None s ≡ (own_value e behind None s >> λ r s. converted_in e to r s)
+operand_value e behind to s = as_type_behind (own e) to e.place (own_value e behind) s
 
 -- an operator that computes
-module _ (a : Around) (place behind : Place) (t : ExprType) (o : BinaryOperator) (left right : Form) (into : Option ℕ) (s : State) where
+module _ (place behind : Place) (t : ExprType) (left right : Uses) (into : Option ℕ) (s : State) where
   abbrev Between : Row → Type 0
   Between w =
-      values.value_from (own_type t) place category.Value
-      (decided w place None (condition a left (ending place)) (condition a right (ending behind)) (pointer a left) (pointer a right))
-      (operand a (binary o left right))
-      (λ into s. values.operated_by w into (own_type t) place (λ common s. value a left behind common None s) (λ common s. value a right behind common None s) s)
-      into s
-      ≡ (own_of a left behind None s >> λ r s. operated_with w left r into (own_type t) place (λ common s. value a right behind common None s) s)
+      (let e = binary_uses w left right place t category.Value in values.value_from (own_type t) place category.Value (e.decision (lasting behind)) e.at (e.made behind) into s)
+      ≡ (own_value left behind None s >> λ r s. operated_with w left r into (own_type t) place (λ common s. value right behind common None s) s)
 
   between : (w : Row) → IsTrue (computes w) → Between w
   between (row.Computed by common) h =
-      ap (λ (w : Gives ℕ). w >> λ x s. value a right behind common None s >> λ y s. computed into (own_type t) place (values.binary by x y) s) (operand_value a left behind common s)
+      ap (λ (w : Gives ℕ). w >> λ x s. value right behind common None s >> λ y s. computed into (own_type t) place (values.binary by x y) s) (operand_value left behind common s)
   between (row.Joined by) h = absurd (true≢false (sym h))
   between (row.IsNull side) h = absurd (true≢false (sym h))
   between (row.NotNull side) h = absurd (true≢false (sym h))
+  between row.Concatenated h = absurd (true≢false (sym h))
+  between (row.Advanced direction) h = absurd (true≢false (sym h))
+  between (row.Compared equal) h = absurd (true≢false (sym h))
 
 value_between : (a : Around) (place behind : Place) (t : ExprType) (category : Category) (o : BinaryOperator) (left right : Form) (into : Option ℕ) (s : State)
     → IsTrue (is_computed category (row_between o left right))
-    → own_of a (typed place t category (binary o left right)) behind into s ≡ (own_of a left behind None s >> λ r s. operated_on a (typed place t category (binary o left right)) behind r into s)
+    → own_value (uses a (typed place t category (binary o left right))) behind into s
+    ≡ (own_value (uses a left) behind None s >> λ r s. operated_on a (typed place t category (binary o left right)) behind r into s)
 value_between a place behind t (category.Place ty constant) o left right into s h = absurd (true≢false (sym h))
-value_between a place behind t category.Value o left right into s h = between a place behind t o left right into s (row_between o left right) h
+value_between a place behind t category.Value o left right into s h = between place behind t (uses a left) (uses a right) into s (row_between o left right) h
 
-pub next_value : (a : Around) (behind : Place) (first second : Form) (into : Option ℕ) (s0 s : State) (r : ℕ) → Follows chain.Computed first second → own_of a first behind None s0 ≡ gives r s
-    → own_of a second behind into s0 ≡ operated_on a second behind r into s
+pub next_value : (a : Around) (behind : Place) (first second : Form) (into : Option ℕ) (s0 s : State) (r : ℕ) → Follows chain.Computed first second → own_value (uses a first) behind None s0 ≡ gives r s
+    → own_value (uses a second) behind into s0 ≡ operated_on a second behind r into s
 next_value a behind first second into s0 s r h so_far =
-    subst (λ (f : Form). own_of a f behind into s0 ≡ operated_on a f behind r into s) (sym h.between)
+    subst (λ (f : Form). own_value (uses a f) behind into s0 ≡ operated_on a f behind r into s) (sym h.between)
     (value_between a h.place behind h.ty h.kind h.by first h.right into s0 h.link
     ∙ ap (λ (w : Gives ℕ). operated_on a (typed h.place h.ty h.kind (binary h.by first h.right)) behind w.given into w.state) so_far)
 
 -- ---- conditions
 
-joined_between : (a : Around) (place : Place) (b : Behind) (t : ExprType) (left right : Form) (pointer value_of : State → Gives Location) (p : State → Gives Location) (v : State → Gives ℕ) (s : State) (w : Row) → IsTrue (joins w)
-    → condition_from (decided w place b.ends (condition a left (ending place)) (condition a right (ending b.token)) pointer value_of) (own_type t) place b.ends p v s
-    ≡ (condition a left (ending place) s >> λ test s. joined_with w test (condition a right (ending b.token)) s)
-joined_between a place b t left right pointer value_of p v s (row.Joined by) h = refl
-joined_between a place b t left right pointer value_of p v s (row.Computed by common) h = absurd (true≢false (sym h))
-joined_between a place b t left right pointer value_of p v s (row.IsNull side) h = absurd (true≢false (sym h))
-joined_between a place b t left right pointer value_of p v s (row.NotNull side) h = absurd (true≢false (sym h))
+joined_between : (place : Place) (b : Behind) (t : ExprType) (category : Category) (left right : Uses) (p : State → Gives Location) (v : State → Gives ℕ) (s : State) (w : Row) → IsTrue (joins w)
+    → condition_by ((binary_uses w left right place t category).decision b) (own_type t) place b.ends p v s
+    ≡ (condition left (ending place) s >> λ test s. joined_with w test (condition right (ending b.token)) s)
+joined_between place b t category left right p v s (row.Joined by) h = refl
+joined_between place b t category left right p v s (row.Computed by common) h = absurd (true≢false (sym h))
+joined_between place b t category left right p v s (row.IsNull side) h = absurd (true≢false (sym h))
+joined_between place b t category left right p v s (row.NotNull side) h = absurd (true≢false (sym h))
+joined_between place b t category left right p v s row.Concatenated h = absurd (true≢false (sym h))
+joined_between place b t category left right p v s (row.Advanced direction) h = absurd (true≢false (sym h))
+joined_between place b t category left right p v s (row.Compared equal) h = absurd (true≢false (sym h))
 
 condition_between : (a : Around) (place : Place) (b : Behind) (t : ExprType) (category : Category) (o : BinaryOperator) (left right : Form) (s : State) → IsTrue (joins (row_between o left right))
-    → condition a (typed place t category (binary o left right)) b s ≡ (condition a left (ending place) s >> λ test s. joined_on a (typed place t category (binary o left right)) b.token test s)
+    → condition (uses a (typed place t category (binary o left right))) b s
+    ≡ (condition (uses a left) (ending place) s >> λ test s. joined_on a (typed place t category (binary o left right)) b.token test s)
 condition_between a place b t category o left right s h =
-    joined_between a place b t left right (pointer a left) (pointer a right) _ _ s (row_between o left right) h
+    let e = uses a (typed place t category (binary o left right)) in
+    joined_between place b t category (uses a left) (uses a right) (nullable e) (read_or_made e b.token None) s (row_between o left right) h
 
 -- the place of an expression
 abbrev pub form_place : Form → Place
@@ -215,10 +199,11 @@ form_place _ = nowhere
 pub follows_place : (which : Chain) (first second : Form) (h : Follows which first second) → h.place ≡ form_place second
 follows_place which first second h = sym (ap form_place h.between)
 
-pub next_condition : (a : Around) (b : Behind) (first second : Form) (s0 s : State) (test : Tree) → Follows chain.Joined first second → condition a first (ending (form_place second)) s0 ≡ gives test s
-    → condition a second b s0 ≡ joined_on a second b.token test s
+pub next_condition : (a : Around) (b : Behind) (first second : Form) (s0 s : State) (test : Tree) → Follows chain.Joined first second
+    → condition (uses a first) (ending (form_place second)) s0 ≡ gives test s
+    → condition (uses a second) b s0 ≡ joined_on a second b.token test s
 next_condition a b first second s0 s test h so_far =
-    subst (λ (f : Form). condition a f b s0 ≡ joined_on a f b.token test s) (sym h.between)
+    subst (λ (f : Form). condition (uses a f) b s0 ≡ joined_on a f b.token test s) (sym h.between)
     (condition_between a h.place b h.ty h.kind h.by first h.right s0 h.link
     ∙ ap (λ (w : Gives Tree). joined_on a (typed h.place h.ty h.kind (binary h.by first h.right)) b.token w.given w.state)
-    (ap (λ (place : Place). condition a first (ending place) s0) (follows_place chain.Joined first second h) ∙ so_far))
+    (ap (λ (place : Place). condition (uses a first) (ending place) s0) (follows_place chain.Joined first second h) ∙ so_far))

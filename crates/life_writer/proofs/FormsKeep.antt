@@ -6,11 +6,10 @@ use Rattle.life_types.specs.declared.ty.Ty.TheVariants as ty
 use Rattle.life_typed.specs.Delimiters.{DelimitersForm, behind_first, behind_others}
 use Rattle.life_typed.specs.Members.{element_type}
 use Rattle.life_typed.specs.declared.typed_expr.Category.{Category}
-use Rattle.life_typed.specs.declared.typed_expr.Category.TheVariants as category
 use Rattle.life_typed.specs.declared.typed_expr.ExprType.{ExprType}
 use Rattle.life_typed.specs.declared.typed_expr.Method.{Method}
 use Rattle.life_typed.specs.declared.typed_expr.Method.TheVariants as method
-use Rattle.life_core.specs.Operands.{Location, Operand}
+use Rattle.life_core.specs.Operands.{Operand}
 use Rattle.life_core.specs.Step.{Change, Clear, PopBack, Size}
 use Rattle.life_core.specs.declared.instr.Form.TheVariants.{Plain}
 use Rattle.life_core.specs.declared.operand.RangeEnd.{RangeEnd}
@@ -19,17 +18,16 @@ use Rattle.life_core.specs.declared.operand.Which.{Which}
 use Rattle.life_core.specs.declared.operand.Which.TheVariants as which_one
 use Rattle.life_core.specs.declared.operation.Operation.TheVariants as operation
 use Rattle.life_writer.proofs.GivingKeep.{AllKeep, given_over_keeps}
-use Rattle.life_writer.proofs.UsesKeep.{Does, DoesTo, Keeps, Steps, Writes, WritesAct, WritesIf, WritesRest, computed_keeps, emits, lived_keeps, located_keeps}
-use Rattle.life_writer.proofs.UsingKeep.{base_keeps, changed_by_keeps, concatenated_keeps, element_keeps, operand_keeps, pointer_keeps, seen_keeps, value_keeps}
+use Rattle.life_writer.proofs.UsesKeep.{Does, Keeps, Steps, Writes, WritesAct, WritesRest, computed_keeps, emits, lived_keeps}
+use Rattle.life_writer.proofs.UsingKeep.{base_keeps, element_keeps, operand_keeps, pointer_keeps, value_keeps}
 use Rattle.life_writer.specs.Around.{Around}
 use Rattle.life_writer.specs.Bases.{base, element}
 use Rattle.life_writer.specs.Registers.{eval}
 use Rattle.life_writer.specs.MethodForms.{alone_uses, changed, count_if, cursor, cut, emptied, end_uses, erased, got, method_uses, pointing_uses, pushed_back, reserved, reset, sized}
-use Rattle.life_writer.specs.OwnerForms.{concatenation_uses, literal_uses, make_unique_uses, move_uses, moved_from, null_uses, owned_operand, replacing_uses, string_of, string_of_string, string_uses}
+use Rattle.life_writer.specs.OwnerForms.{move_uses, moved_from, owned_operand, replacing_uses}
 use Rattle.life_writer.specs.Pointers.{Pointing}
 use Rattle.life_writer.specs.Uses.{Act, Remaining, Uses, own, unused}
 use Rattle.life_writer.specs.Writing.{State, Gives, gives, ◌>>◌}
-use Rattle.life_writer.specs.declared.behind.Behind.{Behind}
 
 module _ (Kept : State → State → Type 0) (k : Steps Kept) where
   -- ---- one use alone

@@ -1,5 +1,5 @@
 -- What each step of writing keeps is kept where something is initialised, handed over or assigned.
-use Rattle.std.proofs.Common.{ℕ, zero, suc, Bool, true, false, List, [], ◌∷◌, Option, Some, None, length}
+use Rattle.std.proofs.Common.{ℕ, suc, Bool, true, false, List, [], ◌∷◌, Option, Some, None, length}
 use Rattle.std.specs.Prelude.{if◌then◌else◌, not, pos, ◌&&◌}
 use Rattle.life_types.specs.Trees.{members_at}
 use Rattle.life_types.specs.Types.{class}
@@ -14,16 +14,16 @@ use Rattle.life_typed.specs.Conversions.{is_place, is_place_of}
 use Rattle.life_typed.specs.Delimiters.{DelimitersForm, behind_first, behind_others}
 use Rattle.life_typed.specs.declared.typed_expr.Category.{Category}
 use Rattle.life_typed.specs.declared.typed_expr.Category.TheVariants as category
-use Rattle.life_core.specs.Operands.{Argument, Location, Operand, Place as Aimed, object_named}
+use Rattle.life_core.specs.Operands.{Location, Operand, Place as Aimed, object_named}
 use Rattle.life_core.specs.Step.{Step}
 use Rattle.life_core.specs.declared.instr.Form.TheVariants.{Plain, Zero}
 use Rattle.life_writer.proofs.UsesKeep.{Does, DoesTo, Finishes, Keeps, Steps, Writes, WritesActIf, WritesAct, WritesIf, WritesRest, built_keeps, computed_keeps, consumed_keeps, emits, lived_keeps, temporary_keeps, wanted_keeps}
 use Rattle.life_writer.proofs.UsingKeep.{pointer_keeps, pointing_keeps, temporary_of_keeps, value_keeps}
 use Rattle.life_writer.specs.Around.{Around, type_of}
-use Rattle.life_writer.specs.Assigning.{Target, acted, assigned, assigned_by, moved, owner_by, replaced_by, struct_by}
+use Rattle.life_writer.specs.Assigning.{Target, acted, assigned, assigned_by, owner_by, replaced_by, struct_by}
 use Rattle.life_writer.specs.Building.{Destination, Fill, Saved}
 use Rattle.life_writer.specs.Pointers.{aimed, pointed}
-use Rattle.life_writer.specs.Giving.{aimed_at, argument, argument_by, arguments, bound, call_to, consumed_by, copied, given, given_by, given_over, initial, object_by, value_by}
+use Rattle.life_writer.specs.Giving.{aimed_at, argument, argument_by, arguments, bound, call_to, consumed_by, copied, given, given_by, given_over, object_by, pointer_argument, value_by}
 use Rattle.life_writer.specs.Lists.{assigned_members, filled_in, list_object, member_target, pushed, reserved}
 use Rattle.life_writer.specs.Registers.{constant, wanted}
 use Rattle.life_writer.specs.Temporaries.{consumed, temporary}
@@ -136,15 +136,18 @@ module _ (Kept : State → State → Type 0) (k : Steps Kept) where
 
     -- ---- arguments
 
+    pub pointer_argument_keeps : (e : Uses) → Keeps Kept k e → (t : Ty) (behind : Place) → Writes Kept k (pointer_argument a e t behind)
+    pointer_argument_keeps e h (ty.Reference target constant) behind s =
+        k.goes_on _ _ _ (bound_keeps temporary (temporary_keeps Kept k) e h target behind s).0
+        ((bound_keeps temporary (temporary_keeps Kept k) e h target behind s).1 (wanted e.place None (ty.Reference target constant)) (wanted_keeps Kept k e.place None (ty.Reference target constant)) _)
+    pointer_argument_keeps e h t behind s = pointer_keeps Kept k e h t s
+
     pub argument_by_keeps : (kind : Class) (e : Uses) → Keeps Kept k e → (t : Ty) (behind : Place) → Writes Kept k (argument_by a kind e t behind)
     argument_by_keeps classes.Value e h t behind s = value_keeps Kept k e h behind t None s
-    argument_by_keeps classes.Pointer e h t behind s = pointer_keeps Kept k e h t s
+    argument_by_keeps classes.Pointer e h t behind s = pointer_argument_keeps e h t behind s
     argument_by_keeps _ e h t behind s = given_over_keeps e h t behind s
 
     pub argument_keeps : (e : Uses) → Keeps Kept k e → (t : Ty) (behind : Place) → Writes Kept k (argument a e t behind)
-    argument_keeps e h (ty.Reference target constant) behind s =
-        k.goes_on _ _ _ (bound_keeps temporary (temporary_keeps Kept k) e h target behind s).0
-        ((bound_keeps temporary (temporary_keeps Kept k) e h target behind s).1 (wanted e.place None (ty.Reference target constant)) (wanted_keeps Kept k e.place None (ty.Reference target constant)) _)
     argument_keeps e h t behind s = argument_by_keeps (class (Some t)) e h t behind s
 
     pub arguments_keep : (es : List Uses) → AllKeep es → (d : DelimitersForm) (ts : List TyId) → Writes Kept k (arguments a es d ts)

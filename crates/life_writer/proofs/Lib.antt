@@ -1,3 +1,5 @@
+pub mod Begun
+pub mod Called
 pub mod Decided
 pub mod Following
 pub mod FormsKeep
@@ -5,9 +7,11 @@ pub mod Giving
 pub mod GivingKeep
 pub mod Handing
 pub mod Made
+pub mod MadeTests
 pub mod NothingEnds
 pub mod Opened
 pub mod Seen
+pub mod SeenExpressions
 pub mod Turns
 pub mod TypeNumbers
 pub mod UsesKeep

@@ -1,26 +1,25 @@
 -- What each step of writing keeps is kept by each use of an expression of any form: a lemma for each way of writing, one for each form, and one recursion.
 use Rattle.std.proofs.Common.{ℕ, Bool, true, false, List, [], ◌∷◌, ◌++◌, Option, Some, None}
-use Rattle.std.specs.Prelude.{drop, if◌then◌else◌, length, reverse, take}
+use Rattle.std.specs.Prelude.{drop, if◌then◌else◌, length, reverse}
 use Rattle.life_types.specs.declared.place.Place.{Place}
 use Rattle.life_types.specs.declared.ty.Ty.{Ty}
 use Rattle.life_typed.specs.declared.typed_expr.Category.{Category}
 use Rattle.life_typed.specs.declared.typed_expr.Category.TheVariants as category
-use Rattle.life_core.specs.Operands.{Location, Operand, object_named, whole}
-use Rattle.life_core.specs.Step.{Step, End, Live, Save, Test}
+use Rattle.life_core.specs.Operands.{Operand}
+use Rattle.life_core.specs.Step.{Step, End, Test}
 use Rattle.life_core.specs.Tree.{Tree, Acts}
 use Rattle.life_core.specs.declared.instr.Form.{Form}
-use Rattle.life_core.specs.declared.instr.Form.TheVariants.{Plain}
 use Rattle.life_core.specs.declared.program.Local.{Local}
 use Rattle.life_core.specs.declared.program.LocalKind.{LocalKind}
 use Rattle.life_writer.specs.Building.{Destination, Last, Fill, Saved, built}
 use Rattle.life_writer.specs.Conditions.{by_branch, end_tested, tested}
 use Rattle.life_writer.specs.Pointers.{Pointing, As, By, located}
 use Rattle.life_writer.specs.Registers.{computed, load, new_register, typed_with, wanted, with_local}
-use Rattle.life_writer.specs.Temporaries.{consumed, new_nameless, scoped, temporary, with_pending, with_scope}
+use Rattle.life_writer.specs.Temporaries.{consumed, new_nameless, scoped, temporary, with_scope}
 use Rattle.life_writer.specs.Uses.{Act, Remaining, Uses, lived}
 use Rattle.life_writer.specs.Values as values
 use Rattle.life_writer.specs.Variables.{end, end_pending}
-use Rattle.life_writer.specs.Writing.{State, Gives, gives, ◌>>◌, emit, with_code, write}
+use Rattle.life_writer.specs.Writing.{State, Gives, emit, with_code}
 use Rattle.life_writer.specs.declared.behind.Behind.{Behind}
 
 -- what is kept from a state to a later one, whatever single step leads there

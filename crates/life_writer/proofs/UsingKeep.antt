@@ -1,5 +1,5 @@
 -- What each step of writing keeps is kept where expressions are used whose uses keep it.
-use Rattle.std.proofs.Common.{ℕ, Bool, true, false, Option, Some, None}
+use Rattle.std.proofs.Common.{ℕ, Option, Some, None}
 use Rattle.std.specs.Prelude.{if◌then◌else◌}
 use Rattle.life_types.specs.contracts.ty.TyPartialEq.TheImpl.{ghosts as compared}
 use Rattle.life_types.specs.declared.place.Place.{Place}
@@ -18,7 +18,7 @@ use Rattle.life_writer.specs.Behind.{lasting}
 use Rattle.life_writer.specs.Building.{Fill}
 use Rattle.life_writer.specs.Characters.{Seen, InRegister, InString, InView, changed_by, characters, concatenated, seen, seen_by, viewed}
 use Rattle.life_writer.specs.Conditions.{non_zero, not_null}
-use Rattle.life_writer.specs.Pointers.{Pointing, aimed}
+use Rattle.life_writer.specs.Pointers.{aimed}
 use Rattle.life_writer.specs.Registers.{as_type, computed, conversion, wanted}
 use Rattle.life_writer.specs.Temporaries.{temporary}
 use Rattle.life_writer.specs.Uses.{Uses, own}

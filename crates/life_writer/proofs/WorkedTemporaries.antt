@@ -13,12 +13,12 @@ use Rattle.life_core.specs.Step.{End, NonZero}
 use Rattle.life_core.specs.Tree.{Acts, Asks, Skip, Then}
 use Rattle.life_writer.specs.Around.{Around, type_of}
 use Rattle.life_writer.specs.Behind.{ending}
-use Rattle.life_writer.specs.Calls.{handed}
 use Rattle.life_writer.specs.Conditions.{by_branch, joined, joined_by, non_zero}
-use Rattle.life_writer.specs.Expressions.{condition as tested, handed_over, made, value as valued}
-use Rattle.life_writer.specs.Registers.{as_type}
+use Rattle.life_writer.specs.ExpressionForms.{all_uses, uses}
+use Rattle.life_writer.specs.Giving.{argument, arguments}
+use Rattle.life_writer.specs.Using.{condition as tested, value}
 use Rattle.life_writer.specs.Variables.{full}
-use Rattle.life_writer.specs.Writing.{State, Gives, gives, nothing_written}
+use Rattle.life_writer.specs.Writing.{State, Gives, gives, ◌>>◌, nothing_written}
 use Rattle.life_writer.specs.declared.rows.Join.TheVariants as join
 
 -- a place on the one line
@@ -38,8 +38,8 @@ condition : (types : Types) → non_zero (at 3) (Some (at 9)) makes (begun types
 condition types = refl
 
 -- those of a test within a value last
-value : (types : Types) → non_zero (at 3) None makes (begun types) ≡ gives (Then Skip (Asks (at 3) (NonZero 6))) (record (begun types) { pending = 4 ∷ 5 ∷ 6 ∷ [] })
-value types = refl
+lasting_value : (types : Types) → non_zero (at 3) None makes (begun types) ≡ gives (Then Skip (Asks (at 3) (NonZero 6))) (record (begun types) { pending = 4 ∷ 5 ∷ 6 ∷ [] })
+lasting_value types = refl
 
 -- .. up to the end of the full expression
 expression : (types : Types) → full (at 12) (λ s. (makes s).state) (begun types) ≡ record (begun types) { code = Acts (at 12) (End (6 ∷ 5 ∷ [])) ∷ [] }
@@ -51,16 +51,19 @@ expression types = refl
 abbrev truth : Place → Form → Form
 truth place form = typed place (expr_type.Of ty.Bool) category.Value form
 
--- in `f(a && b, c)`, with `&&` in column 5, the comma in column 8 and the parenthesis in column 11, what is made for `b` ends at the comma, and `c` stands before the parenthesis
-arguments : (a : Around) (first b c : Form) (t u : TyId) (s : State)
-    → handed_over a (truth (at 5) (binary And first b) ⨟ c ⨟ nothing) (record { commas = at 8 ∷ []; closing = at 11 }) (t ∷ u ∷ []) s
-    ≡ handed
-    (as_type ty.Bool (type_of a t) (at 5) (λ into. by_branch into ty.Bool (at 5) (joined (joined_by join.Both) (tested a first (ending (at 5))) (tested a b (ending (at 8))))) None)
-    (handed (valued a c (at 11) (type_of a u) None) (gives []))
-    s
-arguments a first b c t u s = refl
+-- in `f(a && b, c)`, with `&&` in column 5, the comma in column 8 and the parenthesis in column 11, `a && b` stands before the comma, and `c` before the parenthesis
+arguments_of : (a : Around) (first b c : Form) (t u : TyId) (s : State)
+    → arguments a (all_uses a (truth (at 5) (binary And first b) ⨟ c ⨟ nothing)) (record { commas = at 8 ∷ []; closing = at 11 }) (t ∷ u ∷ []) s
+    ≡ (argument a (uses a (truth (at 5) (binary And first b))) (type_of a t) (at 8) s >> λ x s. argument a (uses a c) (type_of a u) (at 11) s >> λ y s. gives (x ∷ y ∷ []) s)
+arguments_of a first b c t u s = refl
+
+-- .. so that what is made for `b` ends at the comma
+operands : (a : Around) (first b : Form) (s : State)
+    → value (uses a (truth (at 5) (binary And first b))) (at 8) ty.Bool None s
+    ≡ by_branch None ty.Bool (at 5) (joined (joined_by join.Both) (tested (uses a first) (ending (at 5))) (tested (uses a b) (ending (at 8)))) s
+operands a first b s = refl
 
 -- .. which, where `b` is a call, is the test above, with the comma as where the temporaries end
 operand : (a : Around) (f : ℕ) (given : Form) (d : DelimitersForm) (s : State)
-    → tested a (truth (at 7) (call f given d)) (ending (at 8)) s ≡ non_zero (at 7) (Some (at 8)) (made a (call f given d) (at 7) (at 8) ty.Bool None) s
+    → tested (uses a (truth (at 7) (call f given d))) (ending (at 8)) s ≡ non_zero (at 7) (Some (at 8)) ((uses a (truth (at 7) (call f given d))).made (at 8) None) s
 operand a f given d s = refl

@@ -16,12 +16,14 @@ use Rattle.life_writer.specs.declared.parts.Shape.TheVariants as shape
 use Rattle.life_writer.specs.declared.rows.Row.{Row}
 use Rattle.life_writer.specs.declared.rows.Row.TheVariants.{Computed, Joined}
 use Rattle.life_writer.specs.Around.{Around, own_type}
-use Rattle.life_writer.specs.Behind.{ending, lasting}
+use Rattle.life_writer.specs.Behind.{ending}
 use Rattle.life_writer.specs.Conditions.{joined_by}
-use Rattle.life_writer.specs.Expressions.{condition, decision, made, operand, value}
+use Rattle.life_writer.specs.ExpressionForms.{uses}
 use Rattle.life_writer.specs.Parts.{inside, part_form, part_view}
 use Rattle.life_writer.specs.Registers.{computed, converted}
 use Rattle.life_writer.specs.Rows.{computes, joins, row_between}
+use Rattle.life_writer.specs.Uses.{Uses, own}
+use Rattle.life_writer.specs.Using.{condition, value}
 use Rattle.life_writer.specs.Values as values
 use Rattle.life_writer.specs.Writing.{State, Gives, gives, ◌>>◌, mapped}
 
@@ -83,30 +85,23 @@ joined_with (Joined by) test right s = mapped (joined_by by test) (right s)
 joined_with _ test right s = gives test s
 
 -- an operand's value in a register as one of a type
-abbrev pub converted_in : Form → Ty → ℕ → State → Gives ℕ
-converted_in (typed place t category form) to r s = converted (own_type t) to place r s
-converted_in _ to r s = gives r s
+abbrev pub converted_in : Uses → Ty → ℕ → State → Gives ℕ
+converted_in e to r s = converted (own e) to e.place r s
 
 -- .. with the other operand behind it
-abbrev pub operated_with : Row → Form → ℕ → Option ℕ → Ty → Place → (right : Ty → State → Gives ℕ) → State → Gives ℕ
+abbrev pub operated_with : Row → (left : Uses) → ℕ → Option ℕ → Ty → Place → (right : Ty → State → Gives ℕ) → State → Gives ℕ
 operated_with (Computed operator common) left r into t place right s =
     converted_in left common r s >> λ x s. right common s >> λ y s. computed into t place (values.binary operator x y) s
 operated_with _ left r into t place right s = gives 0 s
 
 module _ (a : Around) where
-  -- the value of an expression, of its own type
-  abbrev pub own_of : Form → Place → Option ℕ → State → Gives ℕ
-  own_of (typed place t category form) behind into s =
-      values.value_from (own_type t) place category (decision a form place (lasting behind)) (operand a form) (made a form place behind (own_type t)) into s
-  own_of _ behind into s = gives 0 s
-
   -- an operator whose left operand is in a register
-  abbrev pub operated_on : Form → Place → ℕ → Option ℕ → State → Gives ℕ
+  abbrev pub operated_on : Form → (behind : Place) → ℕ → Option ℕ → State → Gives ℕ
   operated_on (typed place t category (binary o left right)) behind r into s =
-      operated_with (row_between o left right) left r into (own_type t) place (λ common s. value a right behind common None s) s
+      operated_with (row_between o left right) (uses a left) r into (own_type t) place (λ common s. value (uses a right) behind common None s) s
   operated_on _ behind r into s = gives 0 s
 
   -- a condition with the one to its right
-  abbrev pub joined_on : Form → Place → Tree → State → Gives Tree
-  joined_on (typed place t category (binary o left right)) behind test s = joined_with (row_between o left right) test (condition a right (ending behind)) s
+  abbrev pub joined_on : Form → (behind : Place) → Tree → State → Gives Tree
+  joined_on (typed place t category (binary o left right)) behind test s = joined_with (row_between o left right) test (condition (uses a right) (ending behind)) s
   joined_on _ behind test s = gives test s

@@ -1,6 +1,5 @@
 -- Conditions: tests, and what is decided by them.
-use Rattle.std.specs.Prelude.{ℕ, [], Option, Some, None, length, if◌then◌else◌, ℤ, pos}
-use Rattle.life_types.specs.TypeTests.{is_raw}
+use Rattle.std.specs.Prelude.{ℕ, [], Option, Some, None, length, ℤ, pos}
 use Rattle.life_types.specs.declared.place.Place.{Place}
 use Rattle.life_types.specs.declared.ty.Ty.{Ty}
 use Rattle.life_core.specs.Operands.{Location}
@@ -11,8 +10,6 @@ use Rattle.life_writer.specs.Variables.{end_pending}
 use Rattle.life_writer.specs.Writing.{State, Gives, gives, ◌>>◌, mapped, taken, with_code, write}
 use Rattle.life_writer.specs.declared.rows.Join.{Join}
 use Rattle.life_writer.specs.declared.rows.Join.TheVariants as join
-use Rattle.life_writer.specs.declared.rows.Row.{Row}
-use Rattle.life_writer.specs.declared.rows.Row.TheVariants.{Computed, Joined, IsNull, NotNull}
 use Rattle.life_writer.specs.declared.rows.Side.{Side}
 use Rattle.life_writer.specs.declared.rows.Side.TheVariants.{Left, Right}
 
@@ -60,13 +57,6 @@ abbrev pub on : {A : Type 0} → Side → (left right : A) → A
 on Left left right = left
 on Right left right = right
 
--- by the row
-abbrev pub decided : Row → Place → Option Place → (left right : State → Gives Tree) → (pointer_left pointer_right : State → Gives Location) → Option (State → Gives Tree)
-decided (Joined by) place ends left right p q = Some (joined (joined_by by) left right)
-decided (IsNull side) place ends left right p q = Some (negation (not_null place ends (on side p q)))
-decided (NotNull side) place ends left right p q = Some (not_null place ends (on side p q))
-decided (Computed operator t) place ends left right p q = None
-
 -- ---- conditions as values
 
 -- an answer in a register: 1 where the condition holds, else 0
@@ -78,10 +68,3 @@ branched place test r s = gives r (write (Choice test (answer place (pos 1) r) (
 
 abbrev pub by_branch : Option ℕ → Ty → Place → (State → Gives Tree) → State → Gives ℕ
 by_branch into t place condition s = condition s >> λ test s. target place into t s >> λ r s. branched place test r s
-
--- ---- any condition
-
--- one that is made of others is written so; a raw pointer is tested for null, and a value for 0
-abbrev pub condition_from : Option (State → Gives Tree) → Ty → Place → Option Place → (State → Gives Location) → (State → Gives ℕ) → State → Gives Tree
-condition_from (Some decision) t place ends pointer value s = decision s
-condition_from None t place ends pointer value s = if is_raw t then not_null place ends pointer s else non_zero place ends value s

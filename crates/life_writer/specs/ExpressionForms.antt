@@ -22,16 +22,18 @@ use Rattle.life_writer.specs.Conditions.{joined, joined_by, negation, not_null, 
 use Rattle.life_writer.specs.Giving.{arguments}
 use Rattle.life_writer.specs.Lists.{listed}
 use Rattle.life_writer.specs.MethodForms.{method_uses, pointing_uses}
-use Rattle.life_writer.specs.OperatorRows.{OperatorRow, Advanced, Compared, Computed, Concatenated, IsNull, Joined, NotNull, row_of}
 use Rattle.life_writer.specs.OwnerForms.{concatenation_uses, literal_uses, make_unique_uses, move_uses, null_uses, string_uses}
 use Rattle.life_writer.specs.Pointers.{As, By, aimed}
 use Rattle.life_writer.specs.Registers.{computed, constant, wanted}
+use Rattle.life_writer.specs.Rows.{row_between}
 use Rattle.life_writer.specs.Uses.{Uses, filled, own, unused}
 use Rattle.life_writer.specs.Using.{condition, location_in, nullable, operand, pointer, value, with_member}
 use Rattle.life_writer.specs.Values as values
 use Rattle.life_writer.specs.Variables.{variable, variable_place}
 use Rattle.life_writer.specs.Writing.{State, Gives, gives, ◌>>◌, emit, mapped}
 use Rattle.life_core.specs.declared.operation.Operator.{Operator}
+use Rattle.life_writer.specs.declared.rows.Row.{Row}
+use Rattle.life_writer.specs.declared.rows.Row.TheVariants.{Advanced, Compared, Computed, Concatenated, IsNull, Joined, NotNull}
 use Rattle.life_core.specs.declared.instr.Direction.{Direction}
 
 -- ---- values
@@ -114,7 +116,7 @@ compared_uses equal left right place t c =
           computed into (own_type t) place (λ r. Same r p q equal) s;
     }
 
-abbrev pub binary_uses : OperatorRow → (left right : Uses) → Place → ExprType → Category → Uses
+abbrev pub binary_uses : Row → (left right : Uses) → Place → ExprType → Category → Uses
 binary_uses (Computed operator common) left right place t c = operated_uses operator common left right place t c
 binary_uses (Joined by) left right place t c =
     record (unused place t c) { decision = λ b. Some (joined (joined_by by) (condition left (ending place)) (condition right (ending b.token))) }
@@ -146,8 +148,9 @@ module _ (a : Around) where
   -- ---- any expression
 
   abbrev mutual
+    -- it stands where it does, whatever it is made of
     pub uses : Form → Uses
-    uses (typed place t c form) = form_uses form place t c
+    uses (typed place t c form) = record (form_uses form place t c) { place = place; ty = t; category = c }
     uses _ = unused nowhere expr_type.NullPointer category.Value
 
     pub all_uses : Form → List Uses
@@ -156,7 +159,7 @@ module _ (a : Around) where
 
     -- one that may be left out
     pub uses_if : Form → Option Uses
-    uses_if (typed place t c form) = Some (form_uses form place t c)
+    uses_if (typed place t c form) = Some (record (form_uses form place t c) { place = place; ty = t; category = c })
     uses_if _ = None
 
     pub form_uses : Form → Place → ExprType → Category → Uses
@@ -180,5 +183,5 @@ module _ (a : Around) where
     form_uses (negate e) place t c = negated_uses (uses e) place t c
     form_uses (not e) place t c = not_uses (uses e) place t c
     form_uses (address_of e) place t c = address_uses (uses e) place t c
-    form_uses (binary operator left right) place t c = binary_uses (row_of operator (uses left).ty (uses right).ty) (uses left) (uses right) place t c
+    form_uses (binary operator left right) place t c = binary_uses (row_between operator left right) (uses left) (uses right) place t c
     form_uses _ place t c = unused place t c

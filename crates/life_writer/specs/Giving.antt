@@ -80,16 +80,18 @@ module _ (a : Around) where
 
   -- ---- arguments
 
-  -- a pointer is its location, also where it is read later than what stands behind it
+  -- what a reference is bound to is aimed at by a register; any other pointer is its location, also where it is read later than what stands behind it
+  abbrev pub pointer_argument : Uses → Ty → (behind : Place) → State → Gives Argument
+  pointer_argument e (ty.Reference target constant) behind s =
+      bound temporary e target behind s >> λ rest s. mapped (λ r. PointerOf (whole r)) (rest (wanted e.place None (ty.Reference target constant)) s)
+  pointer_argument e t behind s = mapped PointerOf (pointer e t s)
+
   abbrev pub argument_by : Class → Uses → Ty → (behind : Place) → State → Gives Argument
   argument_by classes.Value e t behind s = mapped Value (value e behind t None s)
-  argument_by classes.Pointer e t behind s = mapped PointerOf (pointer e t s)
+  argument_by classes.Pointer e t behind s = pointer_argument e t behind s
   argument_by _ e t behind s = mapped GivenOver (given_over e t behind s)
 
-  -- what a reference is bound to is aimed at by a register
   abbrev pub argument : Uses → Ty → (behind : Place) → State → Gives Argument
-  argument e (ty.Reference target constant) behind s =
-      bound temporary e target behind s >> λ rest s. mapped (λ r. PointerOf (whole r)) (rest (wanted e.place None (ty.Reference target constant)) s)
   argument e t behind s = argument_by (class (Some t)) e t behind s
 
   -- as the types of the parameters, each with the token behind it

@@ -9,13 +9,12 @@ pub mod Chains
 pub mod Characters
 pub mod Conditions
 pub mod ExpressionForms
-pub mod Expressions
 pub mod Giving
 pub mod Initialising
 pub mod Lists
 pub mod MethodForms
-pub mod OperatorRows
 pub mod OwnerForms
+pub mod PartUses
 pub mod Parts
 pub mod Pointers
 pub mod Registers

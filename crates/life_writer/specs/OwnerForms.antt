@@ -75,7 +75,7 @@ copied_at at from place to s = emit at (Copy to from) s
 
 -- `std::string(e)`: a copy of a string, a string that is a value itself, or one that takes what a view sees
 abbrev pub string_of_string : Category → Uses → Place → ExprType → Category → Uses
-string_of_string category.Value e place t c = record (unused place t c) { object = e.object; replacing = e.replacing; call = e.call }
+string_of_string category.Value e place t c = record (unused place t c) { object = e.object; replacing = e.replacing }
 string_of_string (category.Place id constant) e place t c =
     record (unused place t c) { object = λ s. mapped (λ from. lived Plain (copied_at place from)) (e.at s) }
 

@@ -1,5 +1,6 @@
--- What an operator between two operands does: a row for each case, by the operator and the types of the operands.
-use Rattle.std.specs.Prelude.{Bool, true, false, Option, Some, None}
+-- What an operator between two operands does: a row for each case, by the operator and the types of the operands (ISO/IEC 14882:2017 [expr]).
+use Rattle.std.specs.Prelude.{Bool, true, false, ◌&&◌, Option, Some, None, if◌then◌else◌}
+use Rattle.life_types.specs.TypeTests.{is_iterator, is_value}
 use Rattle.life_types.specs.declared.ty.Ty.{Ty}
 use Rattle.life_typed.specs.Operators.{promoted}
 use Rattle.life_typed.specs.TypedForm.{Form}
@@ -7,10 +8,12 @@ use Rattle.life_typed.specs.declared.typed_expr.BinaryOperator.{BinaryOperator}
 use Rattle.life_typed.specs.declared.typed_expr.BinaryOperator.TheVariants as typed
 use Rattle.life_typed.specs.declared.typed_expr.ExprType.{ExprType}
 use Rattle.life_typed.specs.declared.typed_expr.ExprType.TheVariants as expr_type
+use Rattle.life_core.specs.declared.instr.Direction.TheVariants.{Forward, Backward}
+use Rattle.life_core.specs.declared.operation.Operator.{Operator}
 use Rattle.life_core.specs.declared.operation.Operator.TheVariants as core
 use Rattle.life_writer.specs.Around.{operand_type, own_type}
 use Rattle.life_writer.specs.declared.rows.Row.{Row}
-use Rattle.life_writer.specs.declared.rows.Row.TheVariants.{Computed, Joined, IsNull, NotNull}
+use Rattle.life_writer.specs.declared.rows.Row.TheVariants.{Computed, Joined, IsNull, NotNull, Concatenated, Advanced, Compared}
 use Rattle.life_writer.specs.declared.rows.Join.TheVariants.{Both, Either}
 use Rattle.life_writer.specs.declared.rows.Side.{Side}
 use Rattle.life_writer.specs.declared.rows.Side.TheVariants.{Left, Right}
@@ -27,22 +30,35 @@ beside_null expr_type.NullPointer right = Some Right
 beside_null _ expr_type.NullPointer = Some Left
 beside_null _ _ = None
 
--- a comparison with nullptr is a test, and any other is computed
-abbrev pub compared : Option Side → (null : Side → Row) → (otherwise : Row) → Row
-compared (Some side) null otherwise = null side
-compared None null otherwise = otherwise
+-- a comparison with nullptr is a test
+abbrev pub unless_null : Option Side → (null : Side → Row) → (otherwise : Row) → Row
+unless_null (Some side) null otherwise = null side
+unless_null None null otherwise = otherwise
 
-abbrev pub row_of : BinaryOperator → ExprType → ExprType → Row
+-- two values are compared as numbers
+abbrev pub compared : Operator → (equal : Bool) → (left right : ExprType) → Row
+compared operator equal left right = if is_value (own_type left) then Computed operator (common left right) else Compared equal
+
+-- a sum of two values, or of two texts; the left operand alone may be an iterator
+abbrev pub added : (left right : ExprType) → Row
+added left right =
+    if is_iterator (own_type left) then Advanced Forward
+    else (if is_value (own_type left) && is_value (own_type right) then Computed core.Add (common left right) else Concatenated)
+
+abbrev pub subtracted : (left right : ExprType) → Row
+subtracted left right = if is_iterator (own_type left) then Advanced Backward else Computed core.Subtract (common left right)
+
+abbrev pub row_of : BinaryOperator → (left right : ExprType) → Row
 row_of typed.Or left right = Joined Either
 row_of typed.And left right = Joined Both
-row_of typed.Equal left right = compared (beside_null left right) IsNull (Computed core.Equal (common left right))
-row_of typed.NotEqual left right = compared (beside_null left right) NotNull (Computed core.NotEqual (common left right))
+row_of typed.Equal left right = unless_null (beside_null left right) IsNull (compared core.Equal true left right)
+row_of typed.NotEqual left right = unless_null (beside_null left right) NotNull (compared core.NotEqual false left right)
 row_of typed.Less left right = Computed core.Less (common left right)
 row_of typed.LessEqual left right = Computed core.LessEqual (common left right)
 row_of typed.Greater left right = Computed core.Greater (common left right)
 row_of typed.GreaterEqual left right = Computed core.GreaterEqual (common left right)
-row_of typed.Add left right = Computed core.Add (common left right)
-row_of typed.Subtract left right = Computed core.Subtract (common left right)
+row_of typed.Add left right = added left right
+row_of typed.Subtract left right = subtracted left right
 row_of typed.Multiply left right = Computed core.Multiply (common left right)
 row_of typed.Divide left right = Computed core.Divide (common left right)
 row_of typed.Remainder left right = Computed core.Remainder (common left right)

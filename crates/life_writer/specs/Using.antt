@@ -21,10 +21,17 @@ use Rattle.life_writer.specs.declared.behind.Behind.{Behind}
 
 -- ---- values
 
--- as one of a type, in the register that is wanted or one of its own, with the token behind it
+-- a place is read, and any other value made
+abbrev pub read_or_made : Uses → (behind : Place) → Option ℕ → State → Gives ℕ
+read_or_made e behind into s = values.read_or_made (own e) e.place e.category e.at (e.made behind) into s
+
+-- as one of its own type, in the register that is wanted or one of its own, with the token behind it
+abbrev pub own_value : Uses → (behind : Place) → Option ℕ → State → Gives ℕ
+own_value e behind into s = values.value_from (own e) e.place e.category (e.decision (lasting behind)) e.at (e.made behind) into s
+
+-- .. as one of any type
 abbrev pub value : Uses → (behind : Place) → Ty → Option ℕ → State → Gives ℕ
-value e behind to into s =
-    as_type (own e) to e.place (values.value_from (own e) e.place e.category (e.decision (lasting behind)) e.at (e.made behind)) into s
+value e behind to into s = as_type (own e) to e.place (own_value e behind) into s
 
 -- ---- places
 
@@ -90,5 +97,4 @@ condition_by (Some decision) t place ends pointer value s = decision s
 condition_by None t place ends pointer value s = if is_nullable t then not_null place ends pointer s else non_zero place ends value s
 
 abbrev pub condition : Uses → Behind → State → Gives Tree
-condition e b s =
-    condition_by (e.decision b) (own e) e.place b.ends (nullable e) (values.read_or_made (own e) e.place e.category e.at (e.made b.token) None) s
+condition e b s = condition_by (e.decision b) (own e) e.place b.ends (nullable e) (read_or_made e b.token None) s

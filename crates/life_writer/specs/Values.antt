@@ -12,9 +12,7 @@ use Rattle.life_core.specs.declared.operation.Operation.TheVariants as operation
 use Rattle.life_core.specs.declared.operation.Operator.{Operator}
 use Rattle.life_writer.specs.Conditions.{by_branch}
 use Rattle.life_writer.specs.Registers.{computed, eval, load}
-use Rattle.life_writer.specs.Writing.{State, Gives, gives, ◌>>◌}
-use Rattle.life_writer.specs.declared.rows.Row.{Row}
-use Rattle.life_writer.specs.declared.rows.Row.TheVariants.{Computed}
+use Rattle.life_writer.specs.Writing.{State, Gives, ◌>>◌}
 
 abbrev pub truth : Bool → ℤ
 truth true = pos 1
@@ -37,11 +35,6 @@ input r = Ports (Takes r)
 abbrev pub operated : Option ℕ → Ty → Place → Operator → (left right : State → Gives ℕ) → State → Gives ℕ
 operated into t place operator left right s =
     left s >> λ x s. right s >> λ y s. computed into t place (binary operator x y) s
-
--- .. by the row: what tests decide isn't computed
-abbrev pub operated_by : Row → Option ℕ → Ty → Place → (left right : Ty → State → Gives ℕ) → State → Gives ℕ
-operated_by (Computed operator common) into t place left right s = operated into t place operator (left common) (right common) s
-operated_by _ into t place left right s = gives 0 s
 
 -- ---- a value of its own type
 

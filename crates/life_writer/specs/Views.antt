@@ -2,21 +2,19 @@
 use Rattle.std.specs.Prelude.{map}
 use Rattle.life_core.specs.Tree.{tree_of}
 use Rattle.life_writer.specs.Around.{Around}
-use Rattle.life_writer.specs.Initialising.{Plan, ByCall, ByPlace, ByPointer, ByValue}
-use Rattle.life_writer.specs.Building.{Last, Fill, Saved, Destination}
+use Rattle.life_writer.specs.Building.{Destination}
 use Rattle.life_writer.specs.Pointers.{Pointing, As, aimed, pointed}
 use Rattle.life_core.specs.Operands.{argument_of, location_of, source_of}
 use Rattle.life_typed.specs.Delimiters.{delimiters_view}
 use Rattle.life_typed.specs.Programs.{function_view, program_view}
 use Rattle.life_writer.specs.Registers.{wanted}
+use Rattle.life_writer.specs.Uses.{Remaining, filled, saved}
 use Rattle.life_writer.specs.Variables.{named}
 use Rattle.life_writer.specs.Writing.{State}
 use Rattle.life_typed.specs.TypedForm.{forms, typed_views}
 use Rattle.life_writer.specs.Calls.{Called, called}
 use Rattle.life_writer.specs.declared.calls.Called.{Called as Call}
 use Rattle.life_writer.specs.declared.around.Around.{Around as Surroundings}
-use Rattle.life_writer.specs.declared.initialising.Plan.{Plan as Planned}
-use Rattle.life_writer.specs.declared.initialising.Plan.TheVariants as planned
 use Rattle.life_writer.specs.declared.building.Destination.{Destination as Goal}
 use Rattle.life_writer.specs.declared.building.Destination.TheVariants as goal
 use Rattle.life_writer.specs.declared.building.Last.{Last as LastLeft}
@@ -43,10 +41,10 @@ abbrev pub pointing_of : Pointed → Pointing
 pointing_of (pointing.At source) = aimed (source_of source)
 pointing_of (pointing.As location) = As (location_of location)
 
-abbrev pub last_of : LastLeft → Last
-last_of (last.Point place p) = Fill place (pointed (pointing_of p))
-last_of (last.Call place f arguments) = Fill place (called f (map argument_of arguments.items))
-last_of (last.Saved r) = Saved r
+abbrev pub last_of : LastLeft → Remaining
+last_of (last.Point place p) = filled place (pointed (pointing_of p))
+last_of (last.Call place f arguments) = filled place (called f (map argument_of arguments.items))
+last_of (last.Saved r) = saved r
 
 abbrev pub destination_of : Goal → Destination
 destination_of (goal.Register place into t) = wanted place into t
@@ -54,9 +52,3 @@ destination_of (goal.Variable l place) = named l place
 
 abbrev pub called_of : Call → Called
 called_of c = record { function = c.function; arguments = forms (typed_views c.arguments.now); delimiters = delimiters_view c.delimiters.now }
-
-abbrev pub plan_of : Planned → Plan
-plan_of planned.Value = ByValue
-plan_of (planned.Call c) = ByCall (called_of c)
-plan_of planned.Pointer = ByPointer
-plan_of planned.Place = ByPlace

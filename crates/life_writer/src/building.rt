@@ -66,7 +66,7 @@ impl Writer {
 
     /// The last is done.
     pub fn built(&mut self, last: Last, destination: Destination) -> Result<u32, NoMemory>
-        ensures { Answers (λ x. x) result (spec.built (last_of last) (destination_of destination) (state_of self.old)) (state_of self.new) }
+        ensures { Answers (λ x. x) result (last_of last (destination_of destination) (state_of self.old)) (state_of self.new) }
     {
         match last {
             Last::Point(place, pointing) => {

@@ -102,6 +102,3 @@ pub(crate) fn token_behind(operands: &[TypedOperand], number: usize, last: Place
         None => last,
     }
 }
-
-/// Where nothing stands.
-pub(crate) const NOWHERE: Place = Place { line: 0, column: 0 };

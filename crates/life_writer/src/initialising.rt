@@ -1,87 +1,98 @@
-// What an initialisation does (ISO/IEC 14882:2017 [dcl.init]): a plan, with all but the last of it written.
-ghost use Rattle.std.specs.Prelude.{◌≡◌, option_map};
-ghost use Rattle.life_typed.specs.TypedForm.{typed_view};
+// What is initialised with an expression (ISO/IEC 14882:2017 [dcl.init]): all but the last is written,
+// and then it is built where it goes.
+ghost use Rattle.std.specs.Prelude.{◌≡◌, None, Some};
 ghost use Rattle.life_writer.specs.Answers.{Answers};
-ghost use Rattle.life_writer.specs.Initialising as spec;
-ghost use Rattle.life_writer.specs.Views.{around_of, called_of, destination_of, last_of, plan_of, state_of};
+ghost use Rattle.life_writer.specs.Giving as spec;
+ghost use Rattle.life_writer.specs.Initialising.{initialised};
+ghost use Rattle.life_writer.specs.PartUses.{expression_uses, part_uses};
+ghost use Rattle.life_writer.specs.Temporaries.{scoped};
+ghost use Rattle.life_writer.specs.Using.{value};
+ghost use Rattle.life_writer.specs.Views.{around_of, destination_of, last_of, state_of};
 
-use crate::around::{Around, own_type};
+use crate::around::Around;
 use crate::building::{Destination, Last};
-use crate::calls::{Called, call_of};
+use crate::calls::call_for;
+use crate::parts::Part;
 use crate::pointers::Pointing;
+use crate::types::class;
 use crate::writer::Writer;
 use life_core::Source;
-use life_typed::TypedExpr;
-use life_types::{NoMemory, Place, Ty};
-
-/// What an initialisation does.
-#[derive(Clone, Copy)]
-pub(crate) enum Plan<'a> {
-    /// A value is computed, and then saved.
-    Value,
-    /// A call gives its result there.
-    Call(Called<'a>),
-    /// A pointer is given what it points to.
-    Pointer,
-    /// A reference is aimed at a place ([dcl.init.ref]).
-    Place,
-}
-
-// The plan by the type of what is initialised, the type of the expression that it is given, and whether
-// this is a call, whose result needs no conversion.
-fn plan_for(wanted: Ty, own: Ty, call: Option<Called<'_>>) -> Plan<'_>
-    ensures { plan_of result ≡ spec.plan_for wanted own (option_map called_of call.entry) }
-{
-    match wanted {
-        Ty::Raw { .. } => Plan::Pointer,
-        Ty::Reference { .. } => Plan::Place,
-        _ => match call {
-            Some(called) if own == wanted => Plan::Call(called),
-            _ => Plan::Value,
-        },
-    }
-}
+use life_typed::{Category, TypedExpr};
+use life_types::{Class, NoMemory, Place, Ty, TyId};
 
 impl Writer {
-    // All but the last is written.
-    fn begun(
+    // A value: a call whose result needs no conversion gives it where it goes.
+    fn value_given(
         &mut self,
         a: &Around,
-        plan: Plan<'_>,
+        part: Part<'_>,
         ty: Ty,
-        expression: &TypedExpr,
         behind: Place,
     ) -> Result<Last, NoMemory>
-        ensures { Answers last_of result (spec.begun (around_of a.now) (plan_of plan.entry) ty (typed_view expression.now) behind (state_of self.old)) (state_of self.new) }
+        ensures { Answers last_of result (spec.value_by (spec.call_to (part_uses (around_of a.now) (Some part.entry)) ty) part.entry.place (value (part_uses (around_of a.now) (Some part.entry)) behind ty None) (state_of self.old)) (state_of self.new) }
     {
-        let place = expression.place;
-        match plan {
-            Plan::Value => {
-                let register = self.value(a, expression, behind, ty, None)?;
-                Ok(Last::Saved(register))
-            }
-            Plan::Call(called) => {
-                let parameters = a.parameters(called.function);
-                let arguments = self.handed_over(
+        match call_for(part, ty) {
+            Some(called) => {
+                let arguments = self.arguments(
                     a,
                     called.arguments,
                     called.delimiters,
-                    parameters,
+                    a.parameters(called.function),
                 )?;
-                Ok(Last::Call(place, called.function, arguments))
+                Ok(Last::Call(part.place, called.function, arguments))
             }
-            Plan::Pointer => {
-                let pointing = self.pointing(a, expression)?;
-                Ok(Last::Point(place, pointing))
-            }
-            Plan::Place => {
-                let target = self.operand(a, expression)?;
-                Ok(Last::Point(place, Pointing::At(Source::Place(target))))
+            None => {
+                let register = self.part_value(a, Some(part), behind, ty, None)?;
+                Ok(Last::Saved(register))
             }
         }
     }
 
-    /// Something of a type is given an expression, with the token behind it.
+    // .. by the class of what is initialised.
+    fn given(&mut self, a: &Around, part: Part<'_>, ty: Ty, behind: Place) -> Result<Last, NoMemory>
+        ensures { Answers last_of result (spec.given (part_uses (around_of a.now) (Some part.entry)) ty behind (state_of self.old)) (state_of self.new) }
+    {
+        match class(ty) {
+            Class::Value => self.value_given(a, part, ty, behind),
+            Class::Pointer => {
+                let pointing = self.part_pointing(a, Some(part))?;
+                Ok(Last::Point(part.place, pointing))
+            }
+            Class::Owner => Err(NoMemory),
+            Class::Aggregate => Err(NoMemory),
+        }
+    }
+
+    // A reference refers to a place of its type ([dcl.init.ref]).
+    fn bound(
+        &mut self,
+        a: &Around,
+        part: Part<'_>,
+        target: TyId,
+        behind: Place,
+    ) -> Result<Last, NoMemory>
+        ensures { Answers last_of result (spec.bound (around_of a.now) scoped (part_uses (around_of a.now) (Some part.entry)) target behind (state_of self.old)) (state_of self.new) }
+    {
+        match part.category {
+            Category::Place { ty, .. } if ty == target => {
+                let place = self.part_at(a, Some(part))?;
+                Ok(Last::Point(part.place, Pointing::At(Source::Place(place))))
+            }
+            _ => Err(NoMemory),
+        }
+    }
+
+    // A variable of a type.
+    fn begun(&mut self, a: &Around, ty: Ty, part: Part<'_>, behind: Place) -> Result<Last, NoMemory>
+        ensures { Answers last_of result (spec.initial (around_of a.now) scoped (part_uses (around_of a.now) (Some part.entry)) ty behind (state_of self.old)) (state_of self.new) }
+    {
+        match ty {
+            Ty::Reference { target, .. } => self.bound(a, part, target, behind),
+            _ => self.given(a, part, ty, behind),
+        }
+    }
+
+    /// A variable of a type is given an expression, with the token behind it.
     pub fn initialised(
         &mut self,
         a: &Around,
@@ -90,10 +101,9 @@ impl Writer {
         behind: Place,
         destination: Destination,
     ) -> Result<u32, NoMemory>
-        ensures { Answers (λ x. x) result (spec.initialised (around_of a.now) ty (typed_view expression.now) behind (destination_of destination) (state_of self.old)) (state_of self.new) }
+        ensures { Answers (λ x. x) result (initialised (around_of a.now) (expression_uses (around_of a.now) expression.now) ty behind (destination_of destination) (state_of self.old)) (state_of self.new) }
     {
-        let plan = plan_for(ty, own_type(expression.ty), call_of(expression));
-        let last = self.begun(a, plan, ty, expression, behind)?;
+        let last = self.begun(a, ty, Part::of(expression), behind)?;
         self.built(last, destination)
     }
 }

@@ -2,6 +2,7 @@
 //! pointers and conditions of expressions.
 #![tactic(auto)]
 
+mod arguments;
 mod around;
 mod behind;
 mod building;
@@ -13,9 +14,11 @@ mod initialising;
 mod numbers;
 mod operands;
 mod parts;
+mod places;
 mod pointers;
 mod registers;
 mod rows;
+mod tested;
 mod types;
 mod values;
 mod variables;
@@ -24,13 +27,12 @@ mod writer;
 pub use around::{Around, own_type};
 pub use behind::Behind;
 pub use building::{Destination, Last};
-pub use calls::{Called, call_of};
 pub use conditions::Before;
 pub use numbers::number;
 pub use operands::copied_operand;
 pub use pointers::Pointing;
 pub use registers::nameless;
 pub use rows::{Join, Row, Side};
-pub use types::add_type;
+pub use types::{add_type, class};
 pub use variables::variable_local;
 pub use writer::Writer;

@@ -1,9 +1,28 @@
-// The table of types, as it grows.
-ghost use Rattle.std.specs.Prelude.{◌≡◌, ◌<◌, ◌-◌, ◌^◌, length, IfOk, IfSome, IsTrue, OnOk};
+// The classes of types, and the table of types as it grows.
+ghost use Rattle.std.specs.Prelude.{◌≡◌, ◌<◌, ◌-◌, ◌^◌, length, IfOk, IfSome, IsTrue, OnOk, Some};
+ghost use Rattle.life_types.specs.Types as types;
 ghost use Rattle.life_types.specs.Types.{HasParts, HasType, with_type};
 ghost use Rattle.life_writer.specs.Registers.{number_of};
 
-use life_types::{NoMemory, Ty, TyId, TypeTable};
+use life_types::{Class, NoMemory, Ty, TyId, TypeTable};
+
+/// The class of a type.
+pub fn class(ty: Ty) -> Class
+    ensures { result ≡ types.class (Some ty) }
+{
+    match ty {
+        Ty::Text => Class::Owner,
+        Ty::Vector(_) => Class::Owner,
+        Ty::Unique(_) => Class::Owner,
+        Ty::View => Class::Pointer,
+        Ty::Raw { .. } => Class::Pointer,
+        Ty::Reference { .. } => Class::Pointer,
+        Ty::Iterator { .. } => Class::Pointer,
+        Ty::Span { .. } => Class::Pointer,
+        Ty::Struct(_) => Class::Aggregate,
+        _ => Class::Value,
+    }
+}
 
 // A table that has this type is full.
 const LAST: TyId = TyId(u32::MAX - 1);

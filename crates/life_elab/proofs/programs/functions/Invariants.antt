@@ -2,7 +2,7 @@ use Rattle.std.proofs.Common.{◌≡◌, drop, map}
 use Rattle.life_typed.specs.Programs.{function_view, program_view}
 use Rattle.life_core.specs.Function.{function_of}
 use Rattle.life_elab.specs.Bounds.{HaveNumberedLocals}
-use Rattle.life_elab.specs.Programs.{all_functions, functions}
+use Rattle.life_elab.specs.ProgramForms.{all_functions, functions}
 use Rattle.life_elab.proofs.programs.functions.Given as goal
 
 abbrev pub invariant-functions : goal.invariant-functions

@@ -4,15 +4,15 @@ use Rattle.std.proofs.lemmas.Result.{on_ok_weaker}
 use Rattle.life_typed.specs.TypedForm.{typed_view, whole}
 use Rattle.life_typed.specs.TypedStatement.{branch_view, branching, for_of, for_start_view, optional_view, simple_view, stmt_forms, stmt_view}
 use Rattle.life_typed.specs.declared.typed_stmt.TypedBranch.{TypedBranch, out-TypedBranch}
-use Rattle.life_typed.specs.declared.typed_stmt.TypedStmt.{TypedStmt}
 use Rattle.life_core.specs.Tree.{condition_tree, tree_of}
 use Rattle.life_built.specs.Last.{last_view}
-use Rattle.life_writer.specs.Expressions.{condition}
+use Rattle.life_writer.specs.ExpressionForms.{uses}
+use Rattle.life_writer.specs.Using.{condition}
 use Rattle.life_writer.specs.Views.{around_of, state_of}
 use Rattle.life_writer.specs.declared.behind.Behind.{Behind}
 use Rattle.life_elab.specs.OpenedViews.{opened_of}
-use Rattle.life_elab.specs.Statements.{Opened, asserted, opened, opened_all, statement}
-use Rattle.life_elab.specs.LastTokens.{last_token}
+use Rattle.life_elab.specs.StatementForms.{opened_all, statement}
+use Rattle.life_elab.specs.Statements.{Opened, asserted, opened}
 use Rattle.life_elab.proofs.LoopWriting.{for_gives, while_gives}
 use Rattle.life_elab.proofs.SeenStatements.{assert_seen, for_seen, if_seen, while_seen}
 use Rattle.life_elab.proofs.SimpleSteps.{followed}
@@ -27,7 +27,7 @@ open_branches-branches-preserved t c =
     let more = opening_turn a (map opened_of given) c.args.branches.now c.branches.branch-index c.branch-item.result c.deref.result.now
     (state_of c.branches.writer) (opened_of c.in_ok-one.one) (state_of c.open_branch.new.writer) total
     c.branches-test.true c.branch-item.is (sym c.deref.ensures)
-    (ap (λ (b : Behind). opened (condition a (whole (typed_view (out-TypedBranch c.branch-item.result).condition)) b) (statement a (stmt_view c.deref.result.now)) (state_of c.branches.writer)) (sym c.ending-behind.ensures) ∙ c.in_ok-one.ensures)
+    (ap (λ (b : Behind). opened (condition (uses a (whole (typed_view (out-TypedBranch c.branch-item.result).condition))) b) (statement a (stmt_view c.deref.result.now)) (state_of c.branches.writer)) (sym c.ending-behind.ensures) ∙ c.in_ok-one.ensures)
     c.branches.invariant in
     subst (λ (xs : List Opened). Opening a xs (drop (c.branches.branch-index + 1) c.args.branches.now) (state_of c.open_branch.new.writer) total)
     (sym (ap (map opened_of) c.in_ok-push.ensures.items ∙ map-append opened_of given (c.in_ok-one.one ∷ [])))
@@ -82,7 +82,7 @@ write_statement-returns-in-Assert t c =
     let st = c.args.statement.now in
     on_ok_weaker c.asserted.result
     (followed (state_of c.asserted.new.writer)
-    (ap (λ (b : Behind). asserted (condition (around_of c.args.a.now) (whole (typed_view c.in-Assert.condition)) b) c.in-Assert.keyword (state_of c.args.writer.now)) c.ending-in-Assert.ensures
+    (ap (λ (b : Behind). asserted (condition (uses (around_of c.args.a.now) (whole (typed_view c.in-Assert.condition))) b) c.in-Assert.keyword (state_of c.args.writer.now)) c.ending-in-Assert.ensures
     ∙ ap (λ f. statement (around_of c.args.a.now) f (state_of c.args.writer.now))
     (sym (assert_seen st c.in-Assert.keyword c.in-Assert.condition c.in-Assert.closing c.in-Assert.semicolon c.in-Assert.is))))
     c.asserted.ensures

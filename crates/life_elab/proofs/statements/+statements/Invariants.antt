@@ -2,7 +2,7 @@ use Rattle.std.proofs.Common.{◌≡◌, drop, map}
 use Rattle.life_typed.specs.TypedStatement.{block_item_view, branch_view, stmt_forms}
 use Rattle.life_writer.specs.Views.{around_of, state_of}
 use Rattle.life_elab.specs.OpenedViews.{opened_of}
-use Rattle.life_elab.specs.Statements.{opened_all, statement}
+use Rattle.life_elab.specs.StatementForms.{opened_all, statement}
 use Rattle.life_elab.proofs.OpenBranches.{Opening}
 use Rattle.life_elab.proofs.statements.+statements.Given as goal
 

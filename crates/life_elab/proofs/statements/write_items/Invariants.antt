@@ -1,7 +1,7 @@
 use Rattle.std.proofs.Common.{◌≡◌, drop, map}
 use Rattle.life_typed.specs.TypedStatement.{item_view}
 use Rattle.life_writer.specs.Views.{around_of, state_of}
-use Rattle.life_elab.specs.Statements.{items}
+use Rattle.life_elab.specs.StatementForms.{items}
 use Rattle.life_elab.proofs.statements.write_items.Given as goal
 
 abbrev pub invariant-items : goal.invariant-items
