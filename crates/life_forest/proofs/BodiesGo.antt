@@ -9,11 +9,12 @@ use Rattle.life_core.specs.Function.{Function}
 use Rattle.life_core.specs.Operands.{Argument, Location}
 use Rattle.life_core.specs.Linked.{Lead, Linked, code_of, enter, goes, no_exits, numbered, parts, spot_at}
 use Rattle.life_core.specs.Proper.{HasReadyWays, IsNodeReady, Reaches, bits_past, goes_on, starts}
-use Rattle.life_core.specs.Ready.{Ready, entry_ready}
+use Rattle.life_core.specs.Ready.{IsThere, Ready, entry_ready}
 use Rattle.life_core.specs.Step.{Step, Call, Test}
 use Rattle.life_core.specs.Tree.{Action, Question, Return}
 use Rattle.life_core.specs.declared.exits.Exits.{Exits}
 use Rattle.life_core.specs.declared.program.FnId.{FnId}
+use Rattle.life_proper.specs.Placed.{slot_at}
 use Rattle.life_proper.specs.WellFormedPrograms.{is_well_formed_function}
 use Rattle.life_store.specs.Content.{Content}
 use Rattle.life_store.specs.Doing.{Setting, Effect, Next, Traps, Faults, Strays, does}
@@ -27,7 +28,7 @@ use Rattle.life_forest.proofs.HeldPoints.{GoesOn, IsSound, held_answers, held_go
 use Rattle.life_forest.proofs.SettledSteps.{IsOneFrame}
 use Rattle.life_forest.proofs.SettledTests.{Answers}
 use Rattle.life_forest.proofs.SettlingLives.{HaveMembers}
-use Rattle.life_forest.proofs.Slots.{ArePointsFormed}
+use Rattle.life_forest.proofs.Slots.{ArePointsFormed, slots_stay}
 
 -- what each point asks of a state: that it is reached with the locals that are there, that the frame is sound, and that what waits has its pointers as it
 -- had in the content from which the function went on
@@ -39,6 +40,7 @@ pub record IsSoundAt (types : Types) (f : Function) (rest : ℕ → ℕ) (before
 -- .. and where the function is left
 pub record IsLeft (types : Types) (f : Function) (rest : ℕ → ℕ) (before : Content) (st : State) : Type 0 where
   pub ready : IsNodeReady types f (ready_of st) Return
+  pub slots : (x : ℕ) → slot_at types f x ≡ true → IsThere (ready_of st) x
   pub sound : IsSound types f rest st
   pub waits : KeepsWaiting types rest before st.world.content
 
@@ -124,7 +126,7 @@ module _ (types : Types) (ordered : IsOrdered types) (once : HasEachOnce types) 
         verdict_good held failed st (test_at types f t n st) (held_answers types ordered once some names texts fs f formed points ready rest b st l t n inv.reached here refl inv.sound)
         (lead_stands b place t held failed _ st here (first_lead held failed) on.0 inv)
         (lead_stands b place t held failed _ st here (second_lead held failed) on.1.0 inv);
-    returns = λ b place here st inv. record { ready = ready.ready b (ready_of st) _ inv.reached here; sound = inv.sound; waits = inv.waits };
+    returns = λ b place here st inv. record { ready = ready.ready b (ready_of st) _ inv.reached here; slots = slots_stay types ordered texts fs f names formed points b (ready_of st) inv.reached; sound = inv.sound; waits = inv.waits };
     stops = λ b place here st inv. tt;
     exhausted = tt;
   }

@@ -1,15 +1,16 @@
--- A caller goes on behind a call without slots: its frame stands as it did, and its target has the result.
-use Rattle.std.proofs.Common.{◌≡◌, ℕ, zero, suc, ◌+◌, Bool, true, false, if◌then◌else◌, List, [], ◌∷◌, ◌++◌, Option, Some, None, refl, sym, ap, subst, ◌∙◌, arith}
+-- A caller goes on behind a call that hands over no slot with a unique_ptr: its frame stands as it did, and its slots and its target have what is given back.
+use Rattle.std.proofs.Common.{◌≡◌, inl, inr, ℕ, zero, suc, ◌+◌, ◌<◌, Bool, true, false, if◌then◌else◌, List, [], ◌∷◌, ◌++◌, length-append, Option, Some, None, refl, sym, ap, subst, ◌∙◌, arith}
 use Rattle.std.proofs.lemmas.Bool.{and_parts, false≢true}
 use Rattle.std.specs.Prelude.{drop, flat_map, length, slice_get, slice_set, ◌-◌}
 use Rattle.life_types.specs.Pointees.{ty_of}
 use Rattle.life_types.specs.Trees.{IsOrdered}
-use Rattle.life_types.specs.Types.{HasEachOnce, Types, is_slot_at}
+use Rattle.life_types.specs.TypeTests.{is_pointer}
+use Rattle.life_types.specs.Types.{HasEachOnce, Types}
 use Rattle.life_types.specs.declared.place.Place.{Place}
 use Rattle.life_types.specs.declared.ty.TyId.{TyId}
 use Rattle.life_core.specs.Function.{Function}
 use Rattle.life_core.specs.Linked.{code_of, goes, numbered, spot_at}
-use Rattle.life_core.specs.Operands.{Argument, GivenOver, Location, PointerOf, Slot, Value}
+use Rattle.life_core.specs.Operands.{Argument, Location}
 use Rattle.life_core.specs.Proper.{HasReadyWays, IsNodeReady, Reaches, bits_past}
 use Rattle.life_core.specs.Ready.{AreBits, IsBit, IsThere, Ready, set_bits}
 use Rattle.life_core.specs.Step.{Call}
@@ -18,66 +19,75 @@ use Rattle.life_core.specs.Tree.{Action}
 use Rattle.life_core.specs.declared.exits.Exits.{Exits}
 use Rattle.life_core.specs.declared.program.FnId.{FnId}
 use Rattle.life_core.proofs.ReadyLemmas.{bits_left}
-use Rattle.life_proper.specs.Placed.{object_at, slot_at, type_at}
-use Rattle.life_proper.specs.WellFormed.{are_arguments_for, goes_to, have_own_slots, is_argument_for, is_call, types_taken}
+use Rattle.life_proper.specs.Placed.{object_at, slot_at, type_at, type_in}
+use Rattle.life_proper.specs.WellFormed.{are_arguments_for, goes_to, have_own_slots, is_call, types_taken}
 use Rattle.life_proper.specs.WellFormedPrograms.{is_well_formed_function}
 use Rattle.life_proper.proofs.SortedNodes.{formed_parts}
-use Rattle.life_store.specs.Calls.{lent, slot_count, slots_returned, target_given}
+use Rattle.life_store.specs.Calls.{lent, slot_count, slots_returned, taken_back, target_given}
 use Rattle.life_store.specs.Content.{Content}
 use Rattle.life_store.specs.Doing.{Setting, Effect, Next, Traps, Faults, Strays, cell, on_next}
-use Rattle.life_store.specs.Meaning.{Back, Barred, Callee, Called, Quit, act, call_with, came_back, paid}
+use Rattle.life_store.specs.Meaning.{Back, Barred, Callee, Called, Quit, act, call_with, came_back}
+use Rattle.life_store.specs.Parts.{location_parts, parts_if}
 use Rattle.life_store.specs.State.{Cell, Empty, Named, Number, Points, State, World, is_there, ready_of}
 use Rattle.life_store.proofs.CellLemmas.{some_same}
 use Rattle.life_store.proofs.Going.{GoodEffect, paid_good}
 use Rattle.life_forest.specs.FrameTypes.{IsFrame, IsVariable}
 use Rattle.life_forest.specs.Frames.{named_in}
-use Rattle.life_forest.specs.Owned.{times}
+use Rattle.life_forest.specs.Owned.{alive, times}
 use Rattle.life_forest.specs.Sorted.{Fits, sort_at}
 use Rattle.life_forest.specs.Typed.{IsStore}
 use Rattle.life_forest.proofs.BodiesGo.{CallsAreSound, IsLeft, IsNoStray, IsSoundAt, SoundAnswer, leads}
-use Rattle.life_forest.proofs.EnteredFrames.{GivesOn}
+use Rattle.life_forest.proofs.EnteredFrames.{GivesOn, later, less_sound, on_given_next}
+use Rattle.life_forest.proofs.EntryFrames.{as_many, types_held}
 use Rattle.life_forest.proofs.Following.{in_hand, waiting_stays}
-use Rattle.life_forest.proofs.Frames.{less_in_hand}
-use Rattle.life_forest.proofs.GivenResults.{IsResult}
-use Rattle.life_forest.proofs.HandedOver.{AreHanded, AreHandedTo, AreNoSlots, IsLent, hands_all, leaves_are, lent_less}
+use Rattle.life_forest.proofs.Frames.{first_named, less_in_hand}
+use Rattle.life_forest.proofs.GivenResults.{IsBack, IsResult, slot_types}
+use Rattle.life_forest.proofs.HandedOver.{AreHanded, AreHandedTo, ArePointerSlots, IsLent, hands_all, leaves_are, lent_less}
 use Rattle.life_forest.proofs.HeldPoints.{IsSound, poised}
 use Rattle.life_forest.proofs.HeldPointers.{pointers_aim, pointers_fit}
 use Rattle.life_forest.proofs.Holding.{KeepsWaiting, variable_holds}
-use Rattle.life_forest.proofs.Keeping.{keeps_more, keeps_then}
+use Rattle.life_forest.proofs.Keeping.{Keeps, keeps_more, keeps_then}
+use Rattle.life_forest.proofs.SeenTypes.{pointer_parts, pointer_solid}
 use Rattle.life_forest.proofs.SettledPoints.{kinds_fit}
 use Rattle.life_forest.proofs.SettlingLives.{HaveMembers}
 use Rattle.life_forest.proofs.Shaped.{IsShaped, locals_shaped}
 use Rattle.life_forest.proofs.Slots.{ArePointsFormed, slots_stay}
+use Rattle.life_forest.proofs.SlotsGo.{AreSlotsThere, slots_counted, slots_give}
+use Rattle.life_forest.proofs.StandingPointers.{IsPointer}
+use Rattle.life_forest.proofs.TypedSteps.{location_of}
 use Rattle.life_forest.proofs.TargetsGo.{IsTargetReady, target_gives}
 
 -- ---- what a call gives back
 
 -- the store has what is given back in the hand, beside what waits, which has its pointers still
 abbrev pub GoodCalled : Types → Function → (ℕ → ℕ) → Content → Called → Type 0
-GoodCalled types g rest c (Back n w values) = IsStore types (λ k. times (named_in values) k + rest k) w.content × KeepsWaiting types rest c w.content × IsResult types w.content g.result values
+GoodCalled types g rest c (Back n w values) = IsStore types (λ k. times (named_in values) k + rest k) w.content × KeepsWaiting types rest c w.content × IsBack types w.content g.result (slot_types types (types_taken g)) values
 GoodCalled types g rest c (Barred kind) = Unit {0}
 GoodCalled types g rest c (Quit stop w) = IsNoStray stop
 
 -- .. where it is handed what its parameters take
 abbrev pub GoodCallee : Types → List Function → Callee → Type 0
-GoodCallee types fs call = (k : ℕ) (g : Function) (rest : ℕ → ℕ) (xs : List Cell) (n : ℕ) (w : World) → slice_get fs k ≡ Some g → AreHandedTo types w.content (types_taken g) xs → IsStore types (λ k. times (named_in xs) k + rest k) w.content
+GoodCallee types fs call = (k : ℕ) (g : Function) (rest : ℕ → ℕ) (xs : List Cell) (n : ℕ) (w : World) → slice_get fs k ≡ Some g → AreHandedTo types w.content (types_held types g) xs → IsStore types (λ k. times (named_in xs) k + rest k) w.content
     → GoodCalled types g rest w.content (call k xs n w)
 
--- the object of which a member is given the result isn't given over by the call
-abbrev pub KeepsTargets : Types → Function → Type 0
-KeepsTargets types f =
-    (b : ℕ) (bits : Ready) (place : Place) (l : Location) (g : FnId) (xs : List Argument) (to : Option ℕ) → Reaches types f b bits → numbered (code_of f) b ≡ Some (record { spot = spot_at place (Action (Call (Some l) g xs)); leads = goes to })
-    → (m : ℕ) (ms : List ℕ) → l.members ≡ m ∷ ms → IsThere (set_bits false (flat_map (argument_leaves f) xs) bits) l.local
+-- what a call writes isn't given over by it: the object of which a member is given the result, and what is handed over as a slot
+pub record KeepsTargets (types : Types) (f : Function) : Type 0 where
+  pub target : (b : ℕ) (bits : Ready) (place : Place) (l : Location) (g : FnId) (xs : List Argument) (to : Option ℕ) → Reaches types f b bits → numbered (code_of f) b ≡ Some (record { spot = spot_at place (Action (Call (Some l) g xs)); leads = goes to })
+      → (m : ℕ) (ms : List ℕ) → l.members ≡ m ∷ ms → IsThere (set_bits false (flat_map (argument_leaves f) xs) bits) l.local
+  pub slots : (b : ℕ) (bits : Ready) (place : Place) (target : Option Location) (g : FnId) (xs : List Argument) (to : Option ℕ) → Reaches types f b bits → numbered (code_of f) b ≡ Some (record { spot = spot_at place (Action (Call target g xs)); leads = goes to })
+      → AreSlotsThere (set_bits false (flat_map (argument_leaves f) xs) bits) xs
 
--- ---- no slot is given back
+-- ---- bits and lists
 
-none_returned : (types : Types) (texts : ℕ) (fs : List Function) (f : Function) (ids : List TyId) (xs : List Argument) (vs : List Cell) (st : State) → AreNoSlots types ids → are_arguments_for types texts fs f ids xs ≡ true → slots_returned types f xs vs st ≡ Next st
-none_returned types texts fs f ids [] vs st free e = refl
-none_returned types texts fs f [] (x ∷ xs) vs st free e = absurd (false≢true e)
-none_returned types texts fs f (id ∷ ids) (Value r ∷ xs) vs st free e = none_returned types texts fs f ids xs vs st free.1 (and_parts (is_argument_for types texts fs f id (Value r)) _ e).1
-none_returned types texts fs f (id ∷ ids) (GivenOver x ∷ xs) vs st free e = none_returned types texts fs f ids xs vs st free.1 (and_parts (is_argument_for types texts fs f id (GivenOver x)) _ e).1
-none_returned types texts fs f (id ∷ ids) (PointerOf l ∷ xs) vs st free e = none_returned types texts fs f ids xs vs st free.1 (and_parts (is_argument_for types texts fs f id (PointerOf l)) _ e).1
-none_returned types texts fs f (id ∷ ids) (Slot l ∷ xs) vs st free e = absurd (false≢true (sym free.0 ∙ (and_parts (is_slot_at types id) _ (and_parts (is_argument_for types texts fs f id (Slot l)) _ e).0).0))
+back_of : (first others : List Cell) (n : ℕ) → length others ≡ n → drop (length (first ++ others) - n) (first ++ others) ≡ others
+back_of first others n e =
+    let l = length-append first others in
+    let k : length (first ++ others) - n ≡ length first = omega (arith, l, e) in
+    ap (λ m. drop m (first ++ others)) k ∙ all first
+  where
+    all : (xs : List Cell) → drop (length xs) (xs ++ others) ≡ others
+    all [] = refl
+    all (x ∷ xs) = all xs
 
 still_false : (bits : Ready) (ys : List ℕ) (x : ℕ) → IsBit bits x false → IsBit (set_bits false ys bits) x false
 still_false bits [] x e = e
@@ -93,6 +103,16 @@ still_false bits (y ∷ ys) x e = still_false (slice_set bits y false) ys x (onc
 still_all : (bits : Ready) (ys xs : List ℕ) → AreBits false bits xs → AreBits false (set_bits false ys bits) xs
 still_all bits ys [] e = tt
 still_all bits ys (x ∷ xs) e = (still_false bits ys x e.0, still_all bits ys xs e.1)
+
+named_append : (xs ys : List Cell) (k : ℕ) → times (named_in (xs ++ ys)) k ≡ times (named_in xs) k + times (named_in ys) k
+named_append [] ys k = omega arith
+named_append (v ∷ xs) ys k = let a = first_named v (xs ++ ys) k in let b = first_named v xs k in let h = named_append xs ys k in omega (arith, a, b, h)
+
+-- a result stays while slots have their values back
+result_later : (types : Types) (loose : ℕ → Type 0) (hand : ℕ → ℕ) (c d : Content) → IsStore types hand c → Keeps types loose c d → (id : TyId) (vs : List Cell) → ((n : ℕ) → 0 < times (named_in vs) n → (loose n → ⊥) × (0 < alive d n)) → IsResult types c id vs → IsResult types d id vs
+result_later types loose hand c d store keeps id vs waits (inl none) = inl none
+result_later types loose hand c d store keeps id vs waits (inr r) =
+    inr (r.0, r.1, (later types loose hand c d store keeps (id ∷ []) (r.0 ∷ []) (λ n lt. waits n (let a = ap (λ (ws : List Cell). times (named_in ws) n) r.1 in omega (arith, a, lt))) (r.2, tt)).0)
 
 -- ---- the caller's frame behind the call
 
@@ -126,9 +146,15 @@ module _ (types : Types) (f : Function) (rest : ℕ → ℕ) (st : State) (sound
       sorted_less x (Points p) e = sound.sorted x (Points p) (less x (Points p) refl e)
 
 module _ (types : Types) (ordered : IsOrdered types) (once : HasEachOnce types) (some : HaveMembers types) (names texts : ℕ) (fs : List Function) (f : Function) (formed : is_well_formed_function types names texts fs f ≡ true) (points : ArePointsFormed types texts fs f)
-    (ready : HasReadyWays types f) (rest : ℕ → ℕ) (before : Content) (s : Setting) (call : Callee) (callees : GoodCallee types fs call) (free : (k : ℕ) (g : Function) → slice_get fs k ≡ Some g → AreNoSlots types (types_taken g)) (kept : KeepsTargets types f) where
+    (ready : HasReadyWays types f) (rest : ℕ → ℕ) (before : Content) (s : Setting) (call : Callee) (callees : GoodCallee types fs call) (free : (k : ℕ) (g : Function) → slice_get fs k ≡ Some g → ArePointerSlots types (types_taken g)) (kept : KeepsTargets types f) where
   shaped : IsShaped types f
   shaped = locals_shaped types ordered names f (formed_parts types names texts fs f formed).locals
+
+  -- what is a pointer by its test is one by its parts
+  pointers : (l : Location) → is_pointer (type_in types f l) ≡ true → IsPointer (location_parts types f l)
+  pointers l e =
+      let of = location_of types ordered once texts fs f shaped l (type_in types f l) refl (pointer_solid (type_in types f l) e) in
+      subst (λ (id : Option TyId). IsPointer (parts_if types id)) (sym of.is) (pointer_parts types ordered of.number (type_in types f l) of.there e)
 
   -- a result that is given takes the caller to where its point leads
   gives_good : (b : ℕ) (place : Place) (target : Option Location) (g : FnId) (xs : List Argument) (to : Option ℕ) (bits : Ready) (c : Content) → numbered (code_of f) b ≡ Some (record { spot = spot_at place (Action (Call target g xs)); leads = goes to }) → Reaches types f b bits → KeepsWaiting types rest before c
@@ -149,8 +175,8 @@ module _ (types : Types) (ordered : IsOrdered types) (once : HasEachOnce types) 
       handed = hands_all types ordered once texts fs f shaped rest st inv.sound.stands (poised types ordered once some names texts fs f formed points ready rest st inv.sound) (pointers_aim types ordered f st inv.sound.held inv.sound.stands.frame) inv.sound.held (types_taken gf) xs (free g.0 gf is) args
           (bits_left true (ready_of st) (flat_map (argument_uses f) xs) (target_uses target) are.uses) (leaves_are (ready_of st) (flat_map (argument_leaves f) xs) are.leaves)
 
-      loan : IsLent types texts fs f st xs handed.values st
-      loan = lent_less types texts fs f st xs handed.values (types_taken gf) st (free g.0 gf is) args handed.each (record { world = refl; cells = λ y v there e. e }) are.leaves
+      loan : IsLent types texts fs f pointers st xs handed.values st
+      loan = lent_less types texts fs f pointers st xs handed.values (types_taken gf) st (free g.0 gf is) args handed.each (record { world = refl; cells = λ y v there e. e }) are.leaves
 
       abbrev left : List Cell
       left = (lent types f xs st).cells
@@ -158,11 +184,11 @@ module _ (types : Types) (ordered : IsOrdered types) (once : HasEachOnce types) 
       abbrev waiting : ℕ → ℕ
       waiting k = times (named_in left) k + rest k
 
-      target_ready : (w : World) → IsTargetReady types ordered once texts fs f shaped (kinds_fit types ordered once some names texts fs f formed points ready) rest s (record { world = w; cells = left }) target
-      target_ready w = record {
-        births = subst (λ (bits : Ready). AreBits false bits (target_births f target)) (sym loan.bits) (still_all (ready_of st) (flat_map (argument_leaves f) xs) (target_births f target) are.births);
-        object = λ l at_l m ms k. subst (λ (bits : Ready). IsThere bits l.local) (sym loan.bits)
-            (kept b (ready_of st) place l g xs x.next inv.reached (subst (λ (t : Option Location). numbered (code_of f) b ≡ Some (record { spot = spot_at place (Action (Call t g xs)); leads = goes x.next })) at_l here) m ms k);
+      target_ready : (st3 : State) → ready_of st3 ≡ ready_of (lent types f xs st) → IsTargetReady types ordered once texts fs f shaped (kinds_fit types ordered once some names texts fs f formed points ready) rest s st3 target
+      target_ready st3 same = record {
+        births = subst (λ (bits : Ready). AreBits false bits (target_births f target)) (sym (same ∙ loan.bits)) (still_all (ready_of st) (flat_map (argument_leaves f) xs) (target_births f target) are.births);
+        object = λ l at_l m ms k. subst (λ (bits : Ready). IsThere bits l.local) (sym (same ∙ loan.bits))
+            (kept.target b (ready_of st) place l g xs x.next inv.reached (subst (λ (t : Option Location). numbered (code_of f) b ≡ Some (record { spot = spot_at place (Action (Call t g xs)); leads = goes x.next })) at_l here) m ms k);
         slots = λ l at_l whole object. not_there l at_l whole object (slot_at types f l.local) refl;
       }
         where
@@ -174,18 +200,38 @@ module _ (types : Types) (ordered : IsOrdered types) (once : HasEachOnce types) 
               let one : AreBits false (ready_of st) (l.local ∷ []) = subst (λ (b : Bool). AreBits false (ready_of st) (if b then l.local ∷ [] else [])) object of_whole in
               absurd (false≢true (some_same (sym one.0 ∙ slots_stay types ordered texts fs f names formed points b (ready_of st) inv.reached l.local e)))
 
+      -- the slots have their values back, and then the target the result
+      taken_gives : (w : World) (vs : List Cell) → GoodCalled types gf (λ k. times (named_in (lent types f xs st).cells) k + rest k) st.world.content (Back 0 w vs)
+          → GivesOn types f rest w.content (bits_past types f (Action (Call target g xs)) (ready_of st)) (taken_back s types f target xs vs (record { world = w; cells = (lent types f xs st).cells }))
+      taken_gives w vs h =
+          let back = h.2 in
+          let st2 : State = record { world = w; cells = left } in
+          let hand : ℕ → ℕ = λ k. times (named_in back.first) k + rest k in
+          let sound2 = less_sound types f (λ k. times (named_in vs) k + rest k) hand st2
+          (λ k. let a = ap (λ (ws : List Cell). times (named_in ws) k) back.are in let b = named_append back.first back.others k in omega (arith, a, b)) (behind_sound types f rest st inv.sound left (λ y v there e. loan.less.cells y v there e) w vs h.0 h.1) in
+          let free_g = free g.0 gf is in
+          let drops : drop (length vs - slot_count xs) vs ≡ back.others =
+          ap (λ (ws : List Cell). drop (length ws - slot_count xs) ws) back.are
+          ∙ back_of back.first back.others (slot_count xs) (as_many types w.content (slot_types types (types_taken gf)) back.others back.suit ∙ slots_counted types texts fs f (types_taken gf) xs args) in
+          subst (λ (bits : Ready). GivesOn types f rest w.content (set_bits true (target_births f target ++ target_writes f target) bits) (taken_back s types f target xs vs st2)) loan.bits
+          (subst (λ (ws : List Cell). GivesOn types f rest w.content (set_bits true (target_births f target ++ target_writes f target) (ready_of st2)) (on_next (slots_returned types f xs ws st2) (target_given s types f target vs))) (sym drops)
+          (on_given_next types ordered f shaped (kinds_fit types ordered once some names texts fs f formed points ready) rest s hand w.content (ready_of st2) (set_bits true (target_births f target ++ target_writes f target) (ready_of st2)) (slots_returned types f xs back.others st2) (target_given s types f target vs) (λ k. omega arith)
+          (slots_give types ordered once texts fs f shaped (kinds_fit types ordered once some names texts fs f formed points ready) hand s (types_taken gf) xs back.others st2 free_g args back.suit sound2
+          (subst (λ (bits : Ready). AreSlotsThere bits xs) (sym loan.bits) (kept.slots b (ready_of st) place target g xs x.next inv.reached here)))
+          (λ st3 next. subst (λ (bits : Ready). GivesOn types f rest st3.world.content (set_bits true (target_births f target ++ target_writes f target) bits) (target_given s types f target vs st3)) next.bits
+          (subst (λ (ws : List Cell). GivesOn types f rest st3.world.content (set_bits true (target_births f target ++ target_writes f target) (ready_of st3)) (target_given s types f target ws st3)) (sym back.are)
+          (target_gives types ordered once texts fs f shaped (kinds_fit types ordered once some names texts fs f formed points ready) rest s st3 target gf.result back.first back.others (pointers_fit types ordered f st3 next.sound.held once texts fs shaped next.sound.sorted) into next.sound
+          (result_later types (λ k. times (named_in back.first) k + rest k ≡ 0) (λ k. times (named_in left) k + (times (named_in back.first) k + rest k)) w.content st3.world.content sound2.stands.store next.waits gf.result back.first
+          (λ n lt. ((λ z. omega (arith, z, lt)), let i = next.sound.stands.store.forest.held n in omega (arith, i, lt))) back.given)
+          (target_ready st3 next.bits))))))
+
       returned : (r : Called) → GoodCalled types gf (λ k. times (named_in (lent types f xs st).cells) k + rest k) st.world.content r → SoundAnswer types f rest before x (came_back s types f place target xs st r)
       returned (Barred kind) h = tt
       returned (Quit stop w) h = h
       returned (Back m w vs) h =
-          let st2 : State = record { world = w; cells = left } in
-          let sound = behind_sound types f rest st inv.sound left (λ y v there e. loan.less.cells y v there e) w vs h.0 h.1 in
           let waits = keeps_then types (λ k. rest k ≡ 0) before st.world.content w.content inv.waits (keeps_more types (λ k. waiting k ≡ 0) (λ k. rest k ≡ 0) st.world.content w.content (λ k z. omega (arith, z)) h.1) in
-          subst (λ (e : Effect). SoundAnswer types f rest before x (paid place w e m)) (sym (ap (λ (e : Effect). on_next e (target_given s types f target vs)) (none_returned types texts fs f (types_taken gf) xs (drop (length vs - slot_count xs) vs) st2 (free g.0 gf is) args)))
-          (paid_good (IsSoundAt types f rest before) (IsLeft types f rest before) IsNoStray tt place w x (target_given s types f target vs st2) m
-          (gives_good b place target g xs x.next (ready_of st) w.content here inv.reached waits (target_given s types f target vs st2)
-          (subst (λ (bits : Ready). GivesOn types f rest w.content (set_bits true (target_births f target ++ target_writes f target) bits) (target_given s types f target vs st2)) loan.bits
-          (target_gives types ordered once texts fs f shaped (kinds_fit types ordered once some names texts fs f formed points ready) rest s st2 target gf.result vs (pointers_fit types ordered f st2 sound.held once texts fs shaped sound.sorted) into sound h.2 (target_ready w)))))
+          paid_good (IsSoundAt types f rest before) (IsLeft types f rest before) IsNoStray tt place w x (taken_back s types f target xs vs (record { world = w; cells = left })) m
+          (gives_good b place target g xs x.next (ready_of st) w.content here inv.reached waits (taken_back s types f target xs vs (record { world = w; cells = left })) (taken_gives w vs h))
 
       called : SoundAnswer types f rest before x (act s types f call place (Call target g xs) n st)
       called =

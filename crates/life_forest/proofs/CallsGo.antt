@@ -1,54 +1,44 @@
--- Each call of a program without slots is sound, however deep calls may stand; so no run of such a program strays, whatever the kinds of its instructions.
-use Rattle.std.proofs.Common.{◌≡◌, ℕ, zero, suc, ◌+◌, ◌<◌, true, false, List, [], ◌∷◌, Option, Some, sym, subst, arith}
-use Rattle.std.specs.Prelude.{map, slice_get, take}
+-- Each call of a program is sound that hands over no slot with a unique_ptr, however deep calls may stand.
+use Rattle.std.proofs.Common.{◌≡◌, ℕ, zero, suc, ◌+◌, true, List, Option, Some, refl, sym, subst}
+use Rattle.std.specs.Prelude.{slice_get}
 use Rattle.life_types.specs.Trees.{IsOrdered}
-use Rattle.life_types.specs.Types.{HasEachOnce, Types, is_slot_at}
-use Rattle.life_core.specs.declared.program.Local.{Local}
+use Rattle.life_types.specs.Types.{HasEachOnce, Types}
 use Rattle.life_core.specs.Function.{Function, Program}
 use Rattle.life_core.specs.Linked.{no_exits}
 use Rattle.life_core.specs.Proper.{HasReadyWays}
 use Rattle.life_core.specs.Ready.{entry_ready}
 use Rattle.life_proper.specs.WellFormed.{types_taken}
-use Rattle.life_proper.specs.WellFormed as formed
 use Rattle.life_proper.specs.WellFormedPrograms.{is_well_formed_function}
 use Rattle.life_proper.proofs.SortedNodes.{formed_parts}
-use Rattle.life_store.specs.Calls.{parameters_given}
+use Rattle.life_store.specs.Calls.{parameters_given, slots_back}
 use Rattle.life_store.specs.Content.{Content}
 use Rattle.life_store.specs.Doing.{Setting, Effect, Next, Traps, Faults, Strays}
 use Rattle.life_store.specs.Meaning.{Answer, Normal, Broke, Continued, Returned, Stopped, Callee, Called, begun, calls, entered, exec, finish, frame}
 use Rattle.life_store.specs.State.{Cell, State, World}
-use Rattle.life_store.proofs.CellLemmas.{none_some, some_same}
 use Rattle.life_forest.specs.Frames.{named_in}
 use Rattle.life_forest.specs.Owned.{times}
 use Rattle.life_forest.specs.Typed.{IsStore}
 use Rattle.life_forest.proofs.BodiesGo.{IsLeft, SoundAnswer, body_goes}
 use Rattle.life_forest.proofs.CallersGo.{GoodCalled, GoodCallee, KeepsTargets, calls_sound}
 use Rattle.life_forest.proofs.EnteredFrames.{GivesOn}
-use Rattle.life_forest.proofs.EntryFrames.{entry_gives, taking_all}
-use Rattle.life_forest.proofs.GivenResults.{no_slots_back, results_given}
-use Rattle.life_forest.proofs.HandedOver.{AreHandedTo, AreNoSlots}
+use Rattle.life_forest.proofs.EntryFrames.{entry_gives, taking_all, types_held}
+use Rattle.life_forest.proofs.GivenResults.{no_names, results_given, slots_given}
+use Rattle.life_forest.proofs.HandedOver.{AreHandedTo, ArePointerSlots}
 use Rattle.life_forest.proofs.HeldPoints.{IsNext, poised}
 use Rattle.life_forest.proofs.SettledPoints.{formed_at, kinds_fit}
 use Rattle.life_forest.proofs.SettlingLives.{HaveMembers}
 use Rattle.life_forest.proofs.Shaped.{IsShaped, locals_shaped}
 use Rattle.life_forest.proofs.Slots.{ArePointsFormed}
 
--- ---- a function whose calls hand over no slots
+-- ---- a function without such slots
 
 -- what is asked of a function, in a program with these types, so many names and texts, and these functions
 pub record GoesWell (types : Types) (names texts : ℕ) (fs : List Function) (f : Function) : Type 0 where
   pub formed : is_well_formed_function types names texts fs f ≡ true
   pub points : ArePointsFormed types texts fs f
   pub ready : HasReadyWays types f
-  pub free : AreNoSlots types (types_taken f)
+  pub free : ArePointerSlots types (types_taken f)
   pub kept : KeepsTargets types f
-
--- no parameter is a slot
-parameter_free : (types : Types) (n : ℕ) (ls : List Local) → AreNoSlots types (map formed.local_type (take n ls)) → (y : ℕ) (l : Local) → y < n → slice_get ls y ≡ Some l → is_slot_at types l.ty ≡ false
-parameter_free types zero ls free y l lt e = absurd (omega (arith, lt))
-parameter_free types (suc n) [] free y l lt e = absurd (none_some e)
-parameter_free types (suc n) (m ∷ ls) free zero l lt e = subst (λ (k : Local). is_slot_at types k.ty ≡ false) (some_same e) free.0
-parameter_free types (suc n) (m ∷ ls) free (suc y) l lt e = parameter_free types n ls free.1 y l (omega (arith, lt)) e
 
 module _ (types : Types) (ordered : IsOrdered types) (once : HasEachOnce types) (some : HaveMembers types) (names texts : ℕ) (fs : List Function) (all : (k : ℕ) (g : Function) → slice_get fs k ≡ Some g → GoesWell types names texts fs g) (s : Setting) where
   module _ (call : Callee) (callees : GoodCallee types fs call) (f : Function) (well : GoesWell types names texts fs f) (rest : ℕ → ℕ) where
@@ -58,10 +48,11 @@ module _ (types : Types) (ordered : IsOrdered types) (once : HasEachOnce types) 
     -- what is left gives back what its result takes
     left_gives : (before : Content) (n : ℕ) (st : State) → IsLeft types f rest before st → GoodCalled types f rest before (finish types f (Returned n st))
     left_gives before n st left =
-        let given = results_given types ordered f shaped rest st left.sound (poised types ordered once some names texts fs f well.formed well.points well.ready rest st left.sound)
-        (no_slots_back types f st 0 f.parameters (λ y l le lt e. parameter_free types f.parameters f.locals well.free y l (omega (arith, lt)) e))
+        let at_point = poised types ordered once some names texts fs f well.formed well.points well.ready rest st left.sound in
+        let suits = slots_given types f shaped st at_point left.slots well.free in
+        let given = results_given types ordered f shaped rest st left.sound at_point (slots_back types f 0 f.parameters st) refl suits (no_names types st.world.content (types_taken f) (slots_back types f 0 f.parameters st) well.free suits)
         (formed_parts types names texts fs f well.formed).result left.ready.uses in
-        (given.store, left.waits, given.result)
+        (given.store, left.waits, given.back)
 
     finish_good : (before : Content) (a : Answer) → SoundAnswer types f rest before no_exits a → GoodCalled types f rest before (finish types f a)
     finish_good before (Normal n st) g = absurd g
@@ -76,7 +67,7 @@ module _ (types : Types) (ordered : IsOrdered types) (once : HasEachOnce types) 
     begun_good c (Faults kind) w run g k = absurd g
     begun_good c Strays w run g k = absurd g
 
-    entered_good : (xs : List Cell) (n : ℕ) (w : World) → AreHandedTo types w.content (types_taken f) xs → IsStore types (λ k. times (named_in xs) k + rest k) w.content → GoodCalled types f rest w.content (entered s types (Some f) call xs n w)
+    entered_good : (xs : List Cell) (n : ℕ) (w : World) → AreHandedTo types w.content (types_held types f) xs → IsStore types (λ k. times (named_in xs) k + rest k) w.content → GoodCalled types f rest w.content (entered s types (Some f) call xs n w)
     entered_good xs n w suits store =
         begun_good w.content (parameters_given s types f 0 xs (frame f w)) w (λ st. finish types f (exec s types f call f.body n st))
         (entry_gives types ordered f shaped (kinds_fit types ordered once some names texts fs f well.formed well.points well.ready) rest s xs w

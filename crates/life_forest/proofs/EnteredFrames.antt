@@ -1,10 +1,10 @@
--- The frame of a callee without slots: each parameter is given what was handed to it, and the frame is sound.
-use Rattle.std.proofs.Common.{◌≡◌, ⊎_elim, ℕ, zero, suc, ◌+◌, ◌*◌, ◌≤◌, ◌<◌, Bool, true, false, cond, List, [], ◌∷◌, length, Option, Some, refl, sym, ap, subst, ◌∙◌, arith}
+-- The frame of a callee that has no slot with a unique_ptr: each parameter is given what was handed to it, and the frame is sound.
+use Rattle.std.proofs.Common.{◌≡◌, ⊎_elim, ℕ, zero, suc, ◌+◌, ◌*◌, ◌≤◌, ◌<◌, Bool, true, false, cond, List, [], ◌∷◌, length, Option, Some, refl, sym, ap, subst, ◌∙◌, arith, ◌||◌, not}
 use Rattle.std.proofs.lemmas.Bool.{false≢true}
 use Rattle.std.specs.Prelude.{ℤ, nat_lt, slice_get, slice_set}
 use Rattle.life_types.specs.Pointees.{ty_of}
 use Rattle.life_types.specs.Trees.{IsOrdered}
-use Rattle.life_types.specs.TypeTests.{is_pointer, is_value}
+use Rattle.life_types.specs.TypeTests.{is_pointer, is_value, is_void}
 use Rattle.life_types.specs.Types.{Types, class, class_at, is_slot_at}
 use Rattle.life_types.specs.declared.ty.Class.{Class}
 use Rattle.life_types.specs.declared.ty.Class.TheVariants as class_of
@@ -41,7 +41,7 @@ use Rattle.life_forest.specs.Typed.{IsStore}
 use Rattle.life_forest.proofs.Counting.{one_same}
 use Rattle.life_forest.proofs.Following.{pointer_stays, variable_stays}
 use Rattle.life_forest.proofs.Frames.{first_named, less_in_hand, named_put}
-use Rattle.life_forest.proofs.HandedOver.{AreHandedTo, IsHandedTo}
+use Rattle.life_forest.proofs.HandedOver.{AreHandedTo, IsHandedTo, taken_type}
 use Rattle.life_forest.proofs.HeldPoints.{IsNext, IsSound}
 use Rattle.life_forest.proofs.Holding.{Holds, held_cell, held_holds, held_self, variable_holds}
 use Rattle.life_forest.proofs.HoldingChanges.{saved_keeps}
@@ -50,7 +50,7 @@ use Rattle.life_forest.proofs.Keeping.{Keeps, keeps_more, keeps_self, keeps_then
 use Rattle.life_forest.proofs.Members.{within_self}
 use Rattle.life_forest.proofs.Operands.{IsPlace}
 use Rattle.life_forest.proofs.OneNumber.{type_there}
-use Rattle.life_forest.proofs.ReadyCells.{composed_is_object, pointer_no_object}
+use Rattle.life_forest.proofs.ReadyCells.{composed_is_object, pointer_no_object, value_points}
 use Rattle.life_forest.proofs.SeenTypes.{value_parts}
 use Rattle.life_forest.proofs.Settling.{sorted_put}
 use Rattle.life_forest.proofs.Shaped.{IsShaped, no_slot}
@@ -91,29 +91,44 @@ value_class ty.Long e = refl
 value_class ty.Size e = refl
 value_class _ e = absurd (false≢true e)
 
--- a local that is no slot, and an object where it is a value
-pub record IsTaking (types : Types) (f : Function) (x : ℕ) (l : Local) : Type 0 where
+-- a local of the type: no slot but of a pointer, and an object where it is a value
+pub record IsTaking (types : Types) (f : Function) (x : ℕ) (l : Local) (id : TyId) : Type 0 where
   pub there : slice_get f.locals x ≡ Some l
-  pub free : is_slot_at types l.ty ≡ false
-  pub value : is_value (ty_of types l.ty) ≡ true → l.kind ≡ kind.Object
+  pub type : taken_type types l.ty ≡ id
+  pub free : is_pointer (ty_of types id) ≡ false → is_slot_at types l.ty ≡ false
+  pub value : is_value (ty_of types id) ≡ true → l.kind ≡ kind.Object
 
 -- .. and so is each from one on
 abbrev pub AreTaking : Types → Function → ℕ → List TyId → Type 0
 AreTaking types f x [] = Unit {0}
-AreTaking types f x (id ∷ ids) = ((l : Local) × IsTaking types f x l × (l.ty ≡ id)) × AreTaking types f (x + 1) ids
+AreTaking types f x (id ∷ ids) = ((l : Local) × IsTaking types f x l id) × AreTaking types f (x + 1) ids
+
+-- an owner or a struct is no pointer
+pub composed_points : (t : Ty) → is_composed t ≡ true → is_pointer t ≡ false
+composed_points t c = go (is_void t) (is_value t) (is_pointer t) c
+  where
+    go : (a b d : Bool) → not (a || (b || d)) ≡ true → d ≡ false
+    go true b d e = absurd (false≢true e)
+    go false true d e = absurd (false≢true e)
+    go false false true e = absurd (false≢true e)
+    go false false false e = refl
 
 module _ (types : Types) (ordered : IsOrdered types) (f : Function) (shaped : IsShaped types f) (kinds : KindsFit types f) (rest : ℕ → ℕ) (s : Setting) where
   -- ---- one local that isn't there is given what was handed over
 
-  module _ (x : ℕ) (l : Local) (takes : IsTaking types f x l) (st : State) (empty : cell st x ≡ Some Empty) where
-    local : local_type types f x ≡ Some l.ty
-    local = ap (held_type_if types) takes.there ∙ ap Some (no_slot types l.ty (slice_get types.types l.ty.0) takes.free)
+  module _ (x : ℕ) (l : Local) (id : TyId) (takes : IsTaking types f x l id) (st : State) (empty : cell st x ≡ Some Empty) where
+    local : local_type types f x ≡ Some id
+    local = ap (held_type_if types) takes.there ∙ ap Some takes.type
 
-    own : type_at types f x ≡ ty_of types l.ty
+    own : type_at types f x ≡ ty_of types id
     own = ap (ty_if types) (shaped x ∙ local)
 
+    -- what is no pointer is no slot
+    itself : is_pointer (ty_of types id) ≡ false → l.ty ≡ id
+    itself other = sym (no_slot types l.ty (slice_get types.types l.ty.0) (takes.free other)) ∙ takes.type
+
     -- an object is named
-    named_gives : (n : ℕ) → IsSound types f (λ k. times (n ∷ []) k + rest k) st → IsHandedTo types st.world.content l.ty (Named n) → IsNext types f rest st.world.content (slice_set (ready_of st) x true) (put_cell x (Named n) st)
+    named_gives : (n : ℕ) → IsSound types f (λ k. times (n ∷ []) k + rest k) st → IsHandedTo types st.world.content id (Named n) → IsNext types f rest st.world.content (slice_set (ready_of st) x true) (put_cell x (Named n) st)
     named_gives n sound suits = record {
       sound = record {
         stands = record {
@@ -121,7 +136,7 @@ module _ (types : Types) (ordered : IsOrdered types) (f : Function) (shaped : Is
               (λ k. let e = named_put st.cells x Empty (Named n) k empty in omega (arith, e)) sound.stands.store;
           frame = record {
             objects = λ y m e. ⊎_elim
-                (λ h. subst (λ z. IsVariable st.world.content (local_type types f z) m) h.0 (subst (λ id. IsVariable st.world.content id m) (sym local) (subst (IsVariable st.world.content (Some l.ty)) (one n m h.1) suits.0)))
+                (λ h. subst (λ z. IsVariable st.world.content (local_type types f z) m) h.0 (subst (λ id. IsVariable st.world.content id m) (sym local) (subst (IsVariable st.world.content (Some id)) (one n m h.1) suits.0)))
                 (λ h. sound.stands.frame.objects y m h.1)
                 (cell_cases st.cells x y (Named n) (Named m) e);
             pointers = λ y p e. ⊎_elim (λ h. absurd (unlike p h.1)) (λ h. sound.stands.frame.pointers y p h.1) (cell_cases st.cells x y (Named n) (Points p) e);
@@ -144,7 +159,7 @@ module _ (types : Types) (ordered : IsOrdered types) (f : Function) (shaped : Is
         unlike p e = cc
 
     -- a pointer
-    points_gives : (p : Pointer) → IsSound types f rest st → IsHandedTo types st.world.content l.ty (Points p) → IsNext types f rest st.world.content (slice_set (ready_of st) x true) (put_cell x (Points p) st)
+    points_gives : (p : Pointer) → IsSound types f rest st → IsHandedTo types st.world.content id (Points p) → IsNext types f rest st.world.content (slice_set (ready_of st) x true) (put_cell x (Points p) st)
     points_gives p sound suits =
         let pointer : is_pointer (type_at types f x) ≡ true = ap is_pointer own ∙ suits.0 in
         let h = held_holds types f rest st sound.stands (put_cell x (Points p) st) (held_cell types f st st x (Points p) unlike (held_self types f st)) sound.held in
@@ -163,64 +178,65 @@ module _ (types : Types) (ordered : IsOrdered types) (f : Function) (shaped : Is
         unlike n e = cc
 
     -- an object comes to life with a value
-    number_gives : (z : ℤ) → IsSound types f rest st → is_value (ty_of types l.ty) ≡ true → GivesOn types f rest st.world.content (slice_set (ready_of st) x true) (born_with s l.ty z x st)
-    number_gives z sound value = born (nat_lt s.given.cells (live_words_of st.world.content + (2 + 1 * 1))) (value_stands types ordered f rest st sound.stands s x l.ty local wide empty) (value_holds types ordered f rest st sound.stands sound.held s x l.ty local wide)
+    number_gives : (z : ℤ) → IsSound types f rest st → is_value (ty_of types id) ≡ true → GivesOn types f rest st.world.content (slice_set (ready_of st) x true) (born_with s id z x st)
+    number_gives z sound value = born (nat_lt s.given.cells (live_words_of st.world.content + (2 + 1 * 1))) (value_stands types ordered f rest st sound.stands s x id local wide empty) (value_holds types ordered f rest st sound.stands sound.held s x id local wide)
       where
-        single : parts_at types l.ty ≡ Single
-        single = value_parts types ordered l.ty (ty_of types l.ty) (type_there types l.ty (ty_of types l.ty) refl (value_solid (ty_of types l.ty) value)) value
+        single : parts_at types id ≡ Single
+        single = value_parts types ordered id (ty_of types id) (type_there types id (ty_of types id) refl (value_solid (ty_of types id) value)) value
 
-        wide : width_at types l.ty ≡ 1
+        wide : width_at types id ≡ 1
         wide = ap width single
 
         object : object_at types f x ≡ true
         object = ap (has_kind is_object) takes.there ∙ ap is_object (takes.value value)
 
-        is_named : cell (put_cell x (Named st.world.content.births) (put_content (with_value_object l.ty st.world.content) st)) x ≡ Some (Named st.world.content.births)
+        is_named : cell (put_cell x (Named st.world.content.births) (put_content (with_value_object id st.world.content) st)) x ≡ Some (Named st.world.content.births)
         is_named = put_same st.cells x (Named st.world.content.births) Empty empty
 
         written : (st1 : State) → cell st1 x ≡ Some (Named st.world.content.births) → ready_of st1 ≡ slice_set (ready_of st) x true → AreSorted types f st1.cells → Stands types f rest st1 → Holds types f rest st st1
             → GivesOn types f rest st.world.content (slice_set (ready_of st) x true) (on_found (found_at st1.world.content st.world.content.births 0) (λ n i o. Next (saved z n i 0 o st1)))
         written st1 named bits sorted stands holds =
             let v = stands.frame.objects x st.world.content.births named in
-            let type : l.ty ≡ v.object.ty = some_same (sym local ∙ v.type) in
-            let place : IsPlace types st1.world.content l.ty st.world.content.births 0 0 v.object =
-            record { there = v.there; slot = (let e = ap length v.one in omega (arith, e)); within = subst (λ id. LiesWithin types id 0 l.ty) type (within_self types l.ty) } in
+            let type : id ≡ v.object.ty = some_same (sym local ∙ v.type) in
+            let place : IsPlace types st1.world.content id st.world.content.births 0 0 v.object =
+            record { there = v.there; slot = (let e = ap length v.one in omega (arith, e)); within = subst (λ i. LiesWithin types i 0 id) type (within_self types id) } in
             subst (λ (o : Option Object). GivesOn types f rest st.world.content (slice_set (ready_of st) x true) (on_found (found_in o st.world.content.births 0) (λ n i o. Next (saved z n i 0 o st1)))) (sym v.there)
             (subst (λ (ss : List Slot). GivesOn types f rest st.world.content (slice_set (ready_of st) x true) (on_found (here_if (nat_lt 0 (length ss)) st.world.content.births 0 v.object) (λ n i o. Next (saved z n i 0 o st1)))) (sym v.one)
-            (let h = held_holds types f rest st1 stands (saved z st.world.content.births 0 0 v.object st1) (saved_keeps types ordered f rest st1 stands l.ty single z st.world.content.births 0 0 v.object place) holds.well in
+            (let h = held_holds types f rest st1 stands (saved z st.world.content.births 0 0 v.object st1) (saved_keeps types ordered f rest st1 stands id single z st.world.content.births 0 0 v.object place) holds.well in
             record {
-              sound = record { stands = saved_stands types ordered f rest st1 stands l.ty single z st.world.content.births 0 0 v.object place; sorted = sorted; held = h.well };
+              sound = record { stands = saved_stands types ordered f rest st1 stands id single z st.world.content.births 0 0 v.object place; sorted = sorted; held = h.well };
               bits = bits;
               waits = keeps_then types (λ k. rest k ≡ 0) st.world.content st1.world.content (saved z st.world.content.births 0 0 v.object st1).world.content holds.waits h.waits;
             }))
 
         born : (full : Bool)
-            → OnNext (cond full (Traps trap.Cells) (Next (put_cell x (Named st.world.content.births) (put_content (with_value_object l.ty st.world.content) st)))) (Stands types f rest)
-            → OnNext (cond full (Traps trap.Cells) (Next (put_cell x (Named st.world.content.births) (put_content (with_value_object l.ty st.world.content) st)))) (Holds types f rest st)
+            → OnNext (cond full (Traps trap.Cells) (Next (put_cell x (Named st.world.content.births) (put_content (with_value_object id st.world.content) st)))) (Stands types f rest)
+            → OnNext (cond full (Traps trap.Cells) (Next (put_cell x (Named st.world.content.births) (put_content (with_value_object id st.world.content) st)))) (Holds types f rest st)
             → GivesOn types f rest st.world.content (slice_set (ready_of st) x true)
-            (on_next (cond full (Traps trap.Cells) (Next (put_cell x (Named st.world.content.births) (put_content (with_value_object l.ty st.world.content) st)))) (λ born. on_found (found_at born.world.content st.world.content.births 0) (λ n i o. Next (saved z n i 0 o born))))
+            (on_next (cond full (Traps trap.Cells) (Next (put_cell x (Named st.world.content.births) (put_content (with_value_object id st.world.content) st)))) (λ born. on_found (found_at born.world.content st.world.content.births 0) (λ n i o. Next (saved z n i 0 o born))))
         born true stands holds = tt
         born false stands holds =
-            written (put_cell x (Named st.world.content.births) (put_content (with_value_object l.ty st.world.content) st)) is_named (ready_set st.cells x (Named st.world.content.births))
+            written (put_cell x (Named st.world.content.births) (put_content (with_value_object id st.world.content) st)) is_named (ready_set st.cells x (Named st.world.content.births))
             (sorted_put types f st.cells x (Named st.world.content.births) (ap (λ b. sort_if b (is_pointer (type_at types f x))) object) sound.sorted) stands holds
 
-    object_sort : is_value (ty_of types l.ty) ≡ true → sort_of types f x ≡ AnObject
+    object_sort : is_value (ty_of types id) ≡ true → sort_of types f x ≡ AnObject
     object_sort value =
         ap (held_by types) takes.there
         ∙ ap (λ (k : LocalKind). held_if (class_at types l.ty) k (slice_get types.types l.ty.0)) (takes.value value)
-        ∙ ap (λ (c : Class). held_if c kind.Object (slice_get types.types l.ty.0)) (ap class (type_there types l.ty (ty_of types l.ty) refl (value_solid (ty_of types l.ty) value)) ∙ value_class (ty_of types l.ty) value)
+        ∙ ap (λ (c : Class). held_if c kind.Object (slice_get types.types l.ty.0))
+        (ap (class_at types) (itself (value_points (ty_of types id) value)) ∙ ap class (type_there types id (ty_of types id) refl (value_solid (ty_of types id) value)) ∙ value_class (ty_of types id) value)
 
-    pub local_gives : (v : Cell) → IsSound types f (λ k. times (named_in (v ∷ [])) k + rest k) st → IsHandedTo types st.world.content l.ty v → GivesOn types f rest st.world.content (slice_set (ready_of st) x true) (given s types f v x st)
-    local_gives v sound suits =
-        subst (λ (o : Option Local). GivesOn types f rest st.world.content (slice_set (ready_of st) x true) (given_if s types f o v x st)) (sym takes.there) (by_cell v sound suits)
+    pub local_gives : (v : Cell) → IsSound types f (λ k. times (named_in (v ∷ [])) k + rest k) st → IsHandedTo types st.world.content id v → GivesOn types f rest st.world.content (slice_set (ready_of st) x true) (given s types f v x st)
+    local_gives v sound suits = subst (λ (o : Option Local). GivesOn types f rest st.world.content (slice_set (ready_of st) x true) (given_if s types f o v x st)) (sym takes.there) (by_cell v sound suits)
       where
-        by_cell : (v : Cell) → IsSound types f (λ k. times (named_in (v ∷ [])) k + rest k) st → IsHandedTo types st.world.content l.ty v → GivesOn types f rest st.world.content (slice_set (ready_of st) x true) (given_to s types (sort_of types f x) l.ty v x st)
+        by_cell : (v : Cell) → IsSound types f (λ k. times (named_in (v ∷ [])) k + rest k) st → IsHandedTo types st.world.content id v → GivesOn types f rest st.world.content (slice_set (ready_of st) x true) (given_to s types (sort_of types f x) l.ty v x st)
         by_cell Empty sound suits = absurd suits
         by_cell (Named n) sound suits =
-            subst (λ (b : Bool). GivesOn types f rest st.world.content (slice_set (ready_of st) x true) (cond b (slot_born s types l.ty (Some n) x st) (Next (put_cell x (Named n) st)))) (sym takes.free) (named_gives n sound suits)
+            subst (λ (b : Bool). GivesOn types f rest st.world.content (slice_set (ready_of st) x true) (cond b (slot_born s types l.ty (Some n) x st) (Next (put_cell x (Named n) st)))) (sym (takes.free (composed_points (ty_of types id) suits.2))) (named_gives n sound suits)
         by_cell (Points p) sound suits = points_gives p (less_sound types f (λ k. 0 + rest k) rest st (λ k. omega arith) sound) suits
         by_cell (Number z) sound suits =
-            subst (λ (sort : Holding). GivesOn types f rest st.world.content (slice_set (ready_of st) x true) (number_given s sort l.ty z x st)) (sym (object_sort suits)) (number_gives z (less_sound types f (λ k. 0 + rest k) rest st (λ k. omega arith) sound) suits)
+            subst (λ (sort : Holding). GivesOn types f rest st.world.content (slice_set (ready_of st) x true) (number_given s sort l.ty z x st)) (sym (object_sort suits))
+            (subst (λ (i : TyId). GivesOn types f rest st.world.content (slice_set (ready_of st) x true) (born_with s i z x st)) (sym (itself (value_points (ty_of types id) suits))) (number_gives z (less_sound types f (λ k. 0 + rest k) rest st (λ k. omega arith) sound) suits))
 
 -- ---- what was handed over stays as it is while others are given
 
@@ -258,7 +274,7 @@ not_given zero (m ∷ ls) l e = refl
 not_given (suc x) (m ∷ ls) l e = not_given x ls l e
 
 module _ (types : Types) (ordered : IsOrdered types) (f : Function) (shaped : IsShaped types f) (kinds : KindsFit types f) (rest : ℕ → ℕ) (s : Setting) where
-  on_given_next : (less : ℕ → ℕ) (c : Content) (bits after : Ready) (e : Effect) (go : State → Effect) → ((k : ℕ) → rest k ≤ less k) → GivesOn types f less c bits e
+  pub on_given_next : (less : ℕ → ℕ) (c : Content) (bits after : Ready) (e : Effect) (go : State → Effect) → ((k : ℕ) → rest k ≤ less k) → GivesOn types f less c bits e
       → ((st : State) → IsNext types f less c bits st → GivesOn types f rest st.world.content after (go st)) → GivesOn types f rest c after (on_next e go)
   on_given_next less c bits after (Traps kind) go le g more = tt
   on_given_next less c bits after (Faults kind) go le g more = absurd g
@@ -289,9 +305,9 @@ module _ (types : Types) (ordered : IsOrdered types) (f : Function) (shaped : Is
       let all : x + 1 + length vs ≡ x + suc (length vs) = omega arith in
       let l = taking.0.0 in
       on_given_next (λ k. times (named_in vs) k + rest k) st.world.content (slice_set (ready_of st) x true) (given_ready (x + suc (length vs)) f.locals) (given s types f v x st) (parameters_given s types f (x + 1) vs) (λ k. omega arith)
-      (local_gives types ordered f shaped kinds (λ k. times (named_in vs) k + rest k) s x l taking.0.1 st (empty_cell_is st.cells x (subst (λ (b : Ready). IsBit b x false) (sym bits) (not_given x f.locals l taking.0.1.there))) v
+      (local_gives types ordered f shaped kinds (λ k. times (named_in vs) k + rest k) s x l id taking.0.1 st (empty_cell_is st.cells x (subst (λ (b : Ready). IsBit b x false) (sym bits) (not_given x f.locals l taking.0.1.there))) v
       (less_sound types f (λ k. times (named_in (v ∷ vs)) k + rest k) (λ k. times (named_in (v ∷ [])) k + (times (named_in vs) k + rest k)) st (λ k. let a = first_named v vs k in omega (arith, a)) sound)
-      (subst (λ (i : TyId). IsHandedTo types st.world.content i v) (sym taking.0.2) suits.0))
+      suits.0)
       (λ st' g. subst (λ n. GivesOn types f rest st'.world.content (given_ready n f.locals) (parameters_given s types f (x + 1) vs st')) all
       (parameters_give (x + 1) ids vs st' taking.1 g.sound
       (later types (λ k. times (named_in vs) k + rest k ≡ 0) (λ k. times (named_in st.cells) k + (times (named_in (v ∷ vs)) k + rest k)) st.world.content st'.world.content sound.stands.store g.waits ids vs

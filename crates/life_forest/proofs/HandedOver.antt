@@ -1,12 +1,14 @@
--- What a call without slots hands over: each argument is as its parameter's type takes it, and the caller has in the hand what is left.
+-- What a call hands over that has no slot with a unique_ptr: each argument is as its parameter takes it, and the caller has in the hand what is left.
 use Rattle.std.proofs.Common.{◌≡◌, ⊎_elim, ℕ, ◌+◌, Bool, true, false, not, if◌then◌else◌, List, [], ◌∷◌, ◌++◌, Option, Some, None, refl, sym, ap, subst, ◌∙◌, arith}
 use Rattle.std.proofs.lemmas.Bool.{and_parts, false≢true}
 use Rattle.std.proofs.lemmas.Option.{slice_get-map}
-use Rattle.std.specs.Prelude.{flat_map, option_map, slice_set}
-use Rattle.life_types.specs.Pointees.{ty_of}
+use Rattle.std.specs.Prelude.{cond, flat_map, map, option_map, slice_get, slice_set}
+use Rattle.life_types.specs.Pointees.{or_void, pointee, ty_of}
 use Rattle.life_types.specs.Trees.{IsOrdered}
 use Rattle.life_types.specs.TypeTests.{is_constant, is_pointer, is_value}
-use Rattle.life_types.specs.Types.{HasEachOnce, Types, is_slot_at}
+use Rattle.life_types.specs.Types.{HasEachOnce, Types, is_slot_at, is_slot_type}
+use Rattle.life_types.specs.declared.ty.Ty.{Ty}
+use Rattle.life_types.specs.declared.ty.Ty.TheVariants as ty
 use Rattle.life_types.specs.declared.ty.TyId.{TyId}
 use Rattle.life_core.specs.Function.{Function}
 use Rattle.life_core.specs.Operands.{Argument, GivenOver, Location, PointerOf, Slot, Value}
@@ -16,10 +18,11 @@ use Rattle.life_core.proofs.ReadyLemmas.{bits_left, bits_right}
 use Rattle.life_proper.specs.OperandTypes.{are_alike, is_composed, keeps_const, same, takes}
 use Rattle.life_proper.specs.Placed.{object_at, register_at, result_at, slot_at, type_at, type_in}
 use Rattle.life_proper.specs.WellFormed.{are_arguments_for, is_argument_for}
-use Rattle.life_store.specs.Calls.{all_handed, handed, lent, number_handed, object_handed, pointer_handed, with_handed}
+use Rattle.life_proper.proofs.HeldSorts.{same_is}
+use Rattle.life_store.specs.Calls.{all_handed, handed, lent, number_handed, object_handed, pointer_handed, slot_handed, slot_lent, with_handed}
 use Rattle.life_store.specs.Content.{Content}
 use Rattle.life_store.specs.Effects.{cell, put_cell}
-use Rattle.life_store.specs.Parts.{local_type, location_type}
+use Rattle.life_store.specs.Parts.{Iterates, Member, NoMember, Parts, Raw, Single, Text, Unique, Vector, Views, local_type, location_parts, location_type, parts_at, parts_if, variable_type}
 use Rattle.life_store.specs.Places.{location_cell}
 use Rattle.life_store.specs.State.{Cell, Empty, Named, Number, Points, State, is_there, ready_of}
 use Rattle.life_store.proofs.CellLemmas.{cell_cases, none_some, ready_set, some_same}
@@ -34,10 +37,11 @@ use Rattle.life_forest.proofs.OneNumber.{also_solid, number_of_type, type_there}
 use Rattle.life_forest.proofs.ReadyCells.{location_pointer, number_any, number_cell, object_cell}
 use Rattle.life_forest.proofs.SeenTypes.{alike_seen, pointer_solid}
 use Rattle.life_forest.proofs.SettlingPointers.{alike_fits, alike_points}
-use Rattle.life_forest.proofs.Shaped.{IsShaped}
+use Rattle.life_forest.proofs.Shaped.{IsShaped, no_slot}
+use Rattle.life_forest.proofs.StandingPointers.{IsPointer}
 use Rattle.life_forest.proofs.TypedSteps.{PointersAim, local_of, pointer_of}
 
--- ---- what a parameter that is no slot takes: a value, a pointer that points well, or an object that holds well
+-- ---- what a local of the type takes: a value, a pointer that points well, or an object that holds well
 
 abbrev pub IsHandedTo : Types → Content → TyId → Cell → Type 0
 IsHandedTo types c id Empty = ⊥
@@ -50,9 +54,33 @@ AreHandedTo types c [] [] = Unit {0}
 AreHandedTo types c (id ∷ ids) (v ∷ vs) = IsHandedTo types c id v × AreHandedTo types c ids vs
 AreHandedTo types c _ _ = ⊥
 
-abbrev pub AreNoSlots : Types → List TyId → Type 0
-AreNoSlots types [] = Unit {0}
-AreNoSlots types (id ∷ ids) = (is_slot_at types id ≡ false) × AreNoSlots types ids
+-- a parameter that is a slot is like a local of the type to which it refers
+abbrev pub taken_type : Types → TyId → TyId
+taken_type types id = variable_type types id (slice_get types.types id.0)
+
+-- each slot is one of a pointer
+abbrev pub ArePointerSlots : Types → List TyId → Type 0
+ArePointerSlots types [] = Unit {0}
+ArePointerSlots types (id ∷ ids) = (is_slot_at types id ≡ true → is_pointer (ty_of types (taken_type types id)) ≡ true) × ArePointerSlots types ids
+
+-- what a slot is of is what its type points to
+pub slot_taken : (types : Types) (id : TyId) → is_slot_at types id ≡ true → ty_of types (taken_type types id) ≡ pointee types (ty_of types id)
+slot_taken types id e = go (slice_get types.types id.0) e
+  where
+    go : (o : Option Ty) → is_slot_type types o ≡ true → ty_of types (variable_type types id o) ≡ pointee types (or_void o)
+    go None h = absurd (false≢true h)
+    go (Some (ty.Reference target false)) h = ap (λ (b : Bool). ty_of types (cond b target id)) h
+    go (Some _) h = absurd (false≢true h)
+
+pub value_free : (types : Types) (o : Option Ty) → is_value (or_void o) ≡ true → is_slot_type types o ≡ false
+value_free types None e = refl
+value_free types (Some (ty.Reference target constant)) e = absurd (false≢true e)
+value_free types (Some _) e = refl
+
+pub composed_free : (types : Types) (o : Option Ty) → is_composed (or_void o) ≡ true → is_slot_type types o ≡ false
+composed_free types None e = refl
+composed_free types (Some (ty.Reference target constant)) e = absurd (false≢true e)
+composed_free types (Some _) e = refl
 
 -- each argument hands this over
 abbrev pub HandEach : Types → Function → State → List Argument → List Cell → Type 0
@@ -109,11 +137,40 @@ module _ (types : Types) (ordered : IsOrdered types) (once : HasEachOnce types) 
       local_seen : Location → Option TyId
       local_seen m = location_type types f m
 
-  hands_one : (id : TyId) (x : Argument) → is_slot_at types id ≡ false → is_argument_for types texts fs f id x ≡ true → AreBits true (ready_of st) (argument_uses f x) → AreBits true (ready_of st) (argument_leaves f x) → IsHanded id x
-  hands_one id (Value r) free e uses leaves =
+  -- a slot of a pointer hands over what stands there
+  slot_handed_to : (id : TyId) (l : Location) → same (ty_of types id) (type_in types f l) ≡ true → is_pointer (ty_of types id) ≡ true → IsThere (ready_of st) l.local → IsHanded id (Slot l)
+  slot_handed_to id l e pointer there =
+      let t : ty_of types id ≡ type_in types f l = same_is (ty_of types id) (type_in types f l) e in
+      let points : is_pointer (type_in types f l) ≡ true = ap is_pointer (sym t) ∙ pointer in
+      let p = location_pointer types f st at_point l points there in
+      let from = pointer_of types ordered once texts fs f shaped st aims at_point.sorted l (type_in types f l) refl points in
+      let one : id ≡ from.part = number_of_type types once id from.part (type_in types f l) e from.there in
+      record {
+        value = Points p.0;
+        is = ap (λ (q : Parts). slot_handed types f q l st) (ap (parts_if types) from.takes.0) ∙ by_parts (parts_at types from.part) from.takes.1 l ∙ ap pointer_handed p.1;
+        suits = (
+          pointer,
+          subst (λ (y : Option TyId). PointsWell types st.world.content (seen_type types y) p.0) (from.takes.0 ∙ ap Some (sym one)) (aims l from.part from.takes.0 from.takes.1 p.0 p.1),
+          subst (λ (u : Ty). PointerFits u p.0) (sym t) (at_point.pointers l p.0 points p.1),
+        );
+      }
+    where
+      by_parts : (q : Parts) → IsPointer q → (m : Location) → slot_handed types f q m st ≡ pointer_handed (location_cell types f m st)
+      by_parts Raw is m = refl
+      by_parts Iterates is m = refl
+      by_parts Views is m = refl
+      by_parts Single is m = absurd is
+      by_parts (Text i) is m = absurd is
+      by_parts (Vector i element) is m = absurd is
+      by_parts (Unique i target) is m = absurd is
+      by_parts (Member first others) is m = absurd is
+      by_parts NoMember is m = absurd is
+
+  hands_own : (id : TyId) (x : Argument) → is_slot_at types id ≡ false → is_argument_for types texts fs f id x ≡ true → AreBits true (ready_of st) (argument_uses f x) → AreBits true (ready_of st) (argument_leaves f x) → IsHanded id x
+  hands_own id (Value r) free e uses leaves =
       let z = number_cell types f st at_point r (number_any types f (ty_of types id) r e) uses.0 in
       record { value = Number z.0; is = ap number_handed z.1; suits = (and_parts (is_value (ty_of types id)) (same (ty_of types id) (type_at types f r)) (and_parts (register_at types f r) _ e).1).0 }
-  hands_one id (GivenOver x) free e uses leaves =
+  hands_own id (GivenOver x) free e uses leaves =
       let outer = and_parts (is_composed (ty_of types id)) _ e in
       let object = and_parts (object_at types f x) _ outer.1 in
       let alike = (and_parts (not (slot_at types f x)) (same (ty_of types id) (type_at types f x)) (and_parts (not (result_at types f x)) _ object.1).1).1 in
@@ -126,8 +183,23 @@ module _ (types : Types) (ordered : IsOrdered types) (once : HasEachOnce types) 
         is = ap object_handed n.1;
         suits = (subst (λ (y : Option TyId). IsVariable st.world.content y n.0) typed (stands.frame.objects x n.0 n.1), held x n.0 id n.1 typed, outer.0);
       }
-  hands_one id (PointerOf l) free e uses leaves = pointer_handed_to id l (and_parts (not (is_slot_at types id)) _ e).1 uses.0
-  hands_one id (Slot l) free e uses leaves = absurd (false≢true (sym free ∙ (and_parts (is_slot_at types id) _ e).0))
+  hands_own id (PointerOf l) free e uses leaves = pointer_handed_to id l (and_parts (not (is_slot_at types id)) _ e).1 uses.0
+  hands_own id (Slot l) free e uses leaves = absurd (false≢true (sym free ∙ (and_parts (is_slot_at types id) _ e).0))
+
+  hands_one : (id : TyId) (x : Argument) → (is_slot_at types id ≡ true → is_pointer (ty_of types (taken_type types id)) ≡ true) → is_argument_for types texts fs f id x ≡ true → AreBits true (ready_of st) (argument_uses f x) → AreBits true (ready_of st) (argument_leaves f x) → IsHanded (taken_type types id) x
+  hands_one id x pointers e uses leaves = go (is_slot_at types id) refl
+    where
+      slot : (y : Argument) → is_slot_at types id ≡ true → is_argument_for types texts fs f id y ≡ true → AreBits true (ready_of st) (argument_uses f y) → IsHanded (taken_type types id) y
+      slot (Slot l) is h used =
+          slot_handed_to (taken_type types id) l (subst (λ (t : Ty). same t (type_in types f l) ≡ true) (sym (slot_taken types id is)) (and_parts (is_slot_at types id) (same (pointee types (ty_of types id)) (type_in types f l)) h).1) (pointers is) used.0
+      slot (Value r) is h used =
+          absurd (false≢true (sym (value_free types (slice_get types.types id.0) (and_parts (is_value (ty_of types id)) (same (ty_of types id) (type_at types f r)) (and_parts (register_at types f r) _ h).1).0) ∙ is))
+      slot (GivenOver y) is h used = absurd (false≢true (sym (composed_free types (slice_get types.types id.0) (and_parts (is_composed (ty_of types id)) _ h).0) ∙ is))
+      slot (PointerOf l) is h used = absurd (false≢true (sym (ap not is) ∙ (and_parts (not (is_slot_at types id)) _ h).0))
+
+      go : (b : Bool) → is_slot_at types id ≡ b → IsHanded (taken_type types id) x
+      go true is = slot x is e uses
+      go false is = subst (λ (i : TyId). IsHanded i x) (sym (no_slot types id (slice_get types.types id.0) is)) (hands_own id x is e uses leaves)
 
   -- ---- all of them
 
@@ -135,9 +207,9 @@ module _ (types : Types) (ordered : IsOrdered types) (once : HasEachOnce types) 
     pub values : List Cell
     pub are : all_handed types f st xs ≡ Some values
     pub each : HandEach types f st xs values
-    pub suit : AreHandedTo types st.world.content ids values
+    pub suit : AreHandedTo types st.world.content (map (taken_type types) ids) values
 
-  pub hands_all : (ids : List TyId) (xs : List Argument) → AreNoSlots types ids → are_arguments_for types texts fs f ids xs ≡ true → AreBits true (ready_of st) (flat_map (argument_uses f) xs) → AreBits true (ready_of st) (flat_map (argument_leaves f) xs) → AreHanded ids xs
+  pub hands_all : (ids : List TyId) (xs : List Argument) → ArePointerSlots types ids → are_arguments_for types texts fs f ids xs ≡ true → AreBits true (ready_of st) (flat_map (argument_uses f) xs) → AreBits true (ready_of st) (flat_map (argument_leaves f) xs) → AreHanded ids xs
   hands_all [] [] free e uses leaves = record { values = []; are = refl; each = tt; suit = tt }
   hands_all [] (x ∷ xs) free e uses leaves = absurd (false≢true e)
   hands_all (id ∷ ids) [] free e uses leaves = absurd (false≢true e)
@@ -159,7 +231,7 @@ pub record IsLess (st st' : State) : Type 0 where
   pub world : st'.world ≡ st.world
   pub cells : (x : ℕ) (v : Cell) → is_there v ≡ true → cell st' x ≡ Some v → cell st x ≡ Some v
 
-module _ (types : Types) (texts : ℕ) (fs : List Function) (f : Function) (st : State) where
+module _ (types : Types) (texts : ℕ) (fs : List Function) (f : Function) (pointers : (l : Location) → is_pointer (type_in types f l) ≡ true → IsPointer (location_parts types f l)) (st : State) where
   pub record IsLent (xs : List Argument) (vs : List Cell) (st' : State) : Type 0 where
     pub less : IsLess st (lent types f xs st')
     pub bits : ready_of (lent types f xs st') ≡ set_bits false (flat_map (argument_leaves f) xs) (ready_of st')
@@ -179,7 +251,7 @@ module _ (types : Types) (texts : ℕ) (fs : List Function) (f : Function) (st :
       unnamed (Number z) h k = refl
       unnamed (Points p) h k = refl
 
-  pub lent_less : (xs : List Argument) (vs : List Cell) (ids : List TyId) (st' : State) → AreNoSlots types ids → are_arguments_for types texts fs f ids xs ≡ true → HandEach types f st xs vs → IsLess st st' → CanLeave (ready_of st') (flat_map (argument_leaves f) xs) → IsLent xs vs st'
+  pub lent_less : (xs : List Argument) (vs : List Cell) (ids : List TyId) (st' : State) → ArePointerSlots types ids → are_arguments_for types texts fs f ids xs ≡ true → HandEach types f st xs vs → IsLess st st' → CanLeave (ready_of st') (flat_map (argument_leaves f) xs) → IsLent xs vs st'
   lent_less [] [] ids st' free e each less leaves = record { less = less; bits = refl; hand = λ k. omega arith }
   lent_less [] (v ∷ vs) ids st' free e each less leaves = absurd each
   lent_less (x ∷ xs) [] ids st' free e each less leaves = absurd each
@@ -202,7 +274,41 @@ module _ (types : Types) (texts : ℕ) (fs : List Function) (f : Function) (st :
       no_name (Some (Named m)) n k = cc
       no_name (Some (Number z)) n k = cc
       no_name (Some (Points p)) n k = cc
-  lent_less (Slot l ∷ xs) (v ∷ vs) (id ∷ ids) st' free e each less leaves = absurd (false≢true (sym free.0 ∙ (and_parts (is_slot_at types id) _ (and_parts (is_argument_for types texts fs f id (Slot l)) _ e).0).0))
+  lent_less (Slot l ∷ xs) (v ∷ vs) (id ∷ ids) st' free e each less leaves =
+      let outer = and_parts (is_argument_for types texts fs f id (Slot l)) (are_arguments_for types texts fs f ids xs) e in
+      let both = and_parts (is_slot_at types id) (same (pointee types (ty_of types id)) (type_in types f l)) outer.0 in
+      let t : ty_of types (taken_type types id) ≡ type_in types f l = slot_taken types id both.0 ∙ same_is (pointee types (ty_of types id)) (type_in types f l) both.1 in
+      let parts = pointers l (ap is_pointer (sym t) ∙ free.0 both.0) in
+      nothing_lent (Slot l) v xs vs st' refl (ap (lent types f xs) (none (location_parts types f l) parts)) (λ n is. no_name (location_parts types f l) parts n (each.0 ∙ ap Some is)) (lent_less xs vs ids st' free.1 outer.1 each.1 less leaves)
+    where
+      none : (q : Parts) → IsPointer q → slot_lent types f q l st' ≡ st'
+      none Raw is = refl
+      none Iterates is = refl
+      none Views is = refl
+      none Single is = absurd is
+      none (Text i) is = absurd is
+      none (Vector i element) is = absurd is
+      none (Unique i target) is = absurd is
+      none (Member first others) is = absurd is
+      none NoMember is = absurd is
+
+      no_pointer : (o : Option Cell) (n : ℕ) → pointer_handed o ≡ Some (Named n) → ⊥
+      no_pointer None n k = cc
+      no_pointer (Some Empty) n k = cc
+      no_pointer (Some (Named m)) n k = cc
+      no_pointer (Some (Number z)) n k = cc
+      no_pointer (Some (Points p)) n k = cc
+
+      no_name : (q : Parts) → IsPointer q → (n : ℕ) → slot_handed types f q l st ≡ Some (Named n) → ⊥
+      no_name Raw is n k = no_pointer (location_cell types f l st) n k
+      no_name Iterates is n k = no_pointer (location_cell types f l st) n k
+      no_name Views is n k = no_pointer (location_cell types f l st) n k
+      no_name Single is n k = is
+      no_name (Text i) is n k = is
+      no_name (Vector i element) is n k = is
+      no_name (Unique i target) is n k = is
+      no_name (Member first others) is n k = is
+      no_name NoMember is n k = is
   lent_less (GivenOver x ∷ xs) (v ∷ vs) (id ∷ ids) st' free e each less leaves =
       let both = and_parts (is_argument_for types texts fs f id (GivenOver x)) (are_arguments_for types texts fs f ids xs) e in
       let object = (and_parts (object_at types f x) _ (and_parts (is_composed (ty_of types id)) _ both.0).1).0 in

@@ -92,6 +92,7 @@ pub mod Shaped
 pub mod Shortening
 pub mod Single
 pub mod Slots
+pub mod SlotsGo
 pub mod Sparing
 pub mod Spots
 pub mod StandingChanges

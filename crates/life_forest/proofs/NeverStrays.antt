@@ -1,5 +1,5 @@
--- No run of a proper program strays, whatever the kinds of its instructions, where no call hands over a slot.
-use Rattle.std.proofs.Common.{◌≡◌, ℕ, zero, suc, ◌+◌, ◌≤◌, ◌<◌, Bool, true, false, List, [], ◌∷◌, length, Option, Some, None, refl, sym, subst, ◌∙◌, arith}
+-- No run of a proper program strays, whatever the kinds of its instructions, where no call hands over a slot with a unique_ptr.
+use Rattle.std.proofs.Common.{◌≡◌, ℕ, zero, suc, ◌+◌, ◌≤◌, ◌<◌, Bool, true, false, List, [], ◌∷◌, length, Option, Some, None, refl, sym, subst, ◌∙◌, arith, ap}
 use Rattle.std.proofs.lemmas.Bool.{and_parts, false≢true}
 use Rattle.std.specs.Prelude.{ℤ, map, nat_eq, nat_lt, not, slice_get, take}
 use Rattle.std.specs.List.{list_all}
@@ -34,9 +34,9 @@ use Rattle.life_forest.proofs.CallersGo.{GoodCalled, KeepsTargets}
 use Rattle.life_forest.proofs.CallsGo.{GoesWell, calls_good}
 use Rattle.life_forest.proofs.FrameChanges.{lt_of}
 use Rattle.life_forest.proofs.Frames.{less_in_hand}
-use Rattle.life_forest.proofs.HandedOver.{AreHandedTo, AreNoSlots}
+use Rattle.life_forest.proofs.HandedOver.{AreHandedTo, ArePointerSlots, taken_type, value_free}
 use Rattle.life_forest.proofs.SettlingLives.{HaveMembers}
-use Rattle.life_forest.proofs.Shaped.{local_formed}
+use Rattle.life_forest.proofs.Shaped.{local_formed, no_slot}
 use Rattle.life_forest.proofs.Slots.{ArePointsFormed}
 use Rattle.life_forest.proofs.Worked.{empty_store}
 
@@ -110,13 +110,17 @@ object_value k (Some ty.View) e solid = absurd (view e)
     view h = cc
 
 module _ (types : Types) (f : Function) (c : Content) where
+  -- a value is no slot
+  value_taken : (id : TyId) → is_value (ty_of types id) ≡ true → is_value (ty_of types (taken_type types id)) ≡ true
+  value_taken id value = ap (λ (i : TyId). is_value (ty_of types i)) (no_slot types id (slice_get types.types id.0) (value_free types (slice_get types.types id.0) value)) ∙ value
+
   numbers_handed : (n : ℕ) (ls : List Local) (x : ℕ) (input : List ℤ) → AreObjects (map (sort_of_local types) (take n ls)) → n ≤ length ls → n ≤ length input → ((i : ℕ) (l : Local) → slice_get ls i ≡ Some l → is_void (ty_of types l.ty) ≡ false)
-      → AreHandedTo types c (map formed.local_type (take n ls)) (entry_arguments types f x n input)
+      → AreHandedTo types c (map (taken_type types) (map formed.local_type (take n ls))) (entry_arguments types f x n input)
   numbers_handed zero ls x input objects le enough solid = tt
   numbers_handed (suc n) [] x input objects le enough solid = absurd (omega (arith, le))
   numbers_handed (suc n) (l ∷ ls) x [] objects le enough solid = absurd (omega (arith, enough))
   numbers_handed (suc n) (l ∷ ls) x (z ∷ zs) objects le enough solid = (
-    object_value l.kind (slice_get types.types l.ty.0) objects.0 (solid 0 l refl),
+    value_taken l.ty (object_value l.kind (slice_get types.types l.ty.0) objects.0 (solid 0 l refl)),
     numbers_handed n ls (x + 1) zs objects.1 (omega (arith, le)) (omega (arith, enough)) (λ i m e. solid (suc i) m e),
   )
 
@@ -135,12 +139,12 @@ called_found types f entry before c (Quit (Faulted kind place) w) g = tt
 called_found types f entry before c (Quit Stray w) g = g
 called_found types f entry before c (Quit Exhausted w) g = tt
 
--- a program without slots, in which no call gives over the object to a member of which its result goes
-pub record HandsNoSlots (p : Program) : Type 0 where
-  pub free : (k : ℕ) (g : Function) → slice_get p.functions k ≡ Some g → AreNoSlots p.types (types_taken g)
+-- a program in which each slot is one of a pointer, and no call gives over what it writes
+pub record HandsPointerSlots (p : Program) : Type 0 where
+  pub free : (k : ℕ) (g : Function) → slice_get p.functions k ≡ Some g → ArePointerSlots p.types (types_taken g)
   pub kept : (k : ℕ) (g : Function) → slice_get p.functions k ≡ Some g → KeepsTargets p.types g
 
-pub never_strays : (p : Program) (given : Given) (entry : ℕ) (f : Function) (input : List ℤ) (n : ℕ) → IsWellFormedProgram p → HasEachOnce p.types → IsReadyProgram p → HandsNoSlots p → slice_get p.functions entry ≡ Some f → IsAdmitted p f input
+pub never_strays : (p : Program) (given : Given) (entry : ℕ) (f : Function) (input : List ℤ) (n : ℕ) → IsWellFormedProgram p → HasEachOnce p.types → IsReadyProgram p → HandsPointerSlots p → slice_get p.functions entry ≡ Some f → IsAdmitted p f input
     → IsFound (run_of given p entry f input n).outcome
 never_strays p given entry f input n well once ready hands is admitted =
     called_found p.types f f.place (first_world f input) empty_content (first_called given p entry f input n)

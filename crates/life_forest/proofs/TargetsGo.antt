@@ -1,4 +1,4 @@
--- Behind a call without slots its target is given the result: the frame goes on as the point says.
+-- Behind a call its target is given the result: the frame goes on as the point says.
 use Rattle.std.proofs.Common.{◌≡◌, inl, inr, ℕ, ◌+◌, Bool, true, false, ◌&&◌, ◌||◌, not, if◌then◌else◌, List, [], ◌∷◌, ◌++◌, Option, Some, None, refl, sym, ap, subst, ◌∙◌, arith}
 use Rattle.std.proofs.lemmas.Bool.{and_parts, false≢true}
 use Rattle.std.specs.Prelude.{ℤ, cond, slice_get, slice_set}
@@ -38,9 +38,9 @@ use Rattle.life_forest.specs.Frames.{OnNext, named_in}
 use Rattle.life_forest.specs.Owned.{times}
 use Rattle.life_forest.specs.Settled.{KindsFit, PointersFit, Settles}
 use Rattle.life_forest.specs.Sorted.{PointerFits}
-use Rattle.life_forest.proofs.EnteredFrames.{GivesOn, less_sound, local_gives, value_class}
+use Rattle.life_forest.proofs.EnteredFrames.{GivesOn, composed_points, less_sound, local_gives, value_class}
 use Rattle.life_forest.proofs.GivenResults.{IsResult}
-use Rattle.life_forest.proofs.HandedOver.{IsHandedTo}
+use Rattle.life_forest.proofs.HandedOver.{IsHandedTo, taken_type}
 use Rattle.life_forest.proofs.HeldPoints.{IsSound}
 use Rattle.life_forest.proofs.HeldPointers.{pointers_aim}
 use Rattle.life_forest.proofs.Holding.{Holds, held_cell, held_holds, held_self}
@@ -53,6 +53,7 @@ use Rattle.life_forest.proofs.Settling.{number_settles, pointed_settles}
 use Rattle.life_forest.proofs.SettlingPointers.{alike_fits, alike_points}
 use Rattle.life_forest.proofs.Shaped.{IsShaped, no_slot}
 use Rattle.life_forest.proofs.StandingPointers.{number_stands, pointed_stands}
+use Rattle.life_forest.proofs.StandingSteps.{TakesPointer}
 use Rattle.life_forest.proofs.TypedSteps.{local_of, pointer_of, value_solid}
 
 -- a location without members is a whole local
@@ -101,17 +102,16 @@ composed_value t c v = go (is_void t) (is_value t) (is_pointer t) c v
     go false true d e h = false≢true e
     go false false d e h = false≢true h
 
-composed_points : (t : Ty) → is_composed t ≡ true → is_pointer t ≡ true → ⊥
-composed_points t c p = go (is_void t) (is_value t) (is_pointer t) c p
-  where
-    go : (a b d : Bool) → not (a || (b || d)) ≡ true → d ≡ true → ⊥
-    go true b d e h = false≢true e
-    go false true d e h = false≢true e
-    go false false true e h = false≢true e
-    go false false false e h = false≢true h
-
 module _ (types : Types) (ordered : IsOrdered types) (once : HasEachOnce types) (texts : ℕ) (fs : List Function) (f : Function) (shaped : IsShaped types f) (kinds : KindsFit types f) (rest : ℕ → ℕ) (s : Setting) (st : State) where
   -- ---- a pointer goes to a pointer
+
+  pub pointer_into : IsSound types f rest st → (l : Location) (p : Pointer) → ((m : ℕ) (ms : List ℕ) → l.members ≡ m ∷ ms → (n : ℕ) × (cell st l.local ≡ Some (Named n))) → is_pointer (type_in types f l) ≡ true → (part : TyId) → slice_get types.types part.0 ≡ Some (type_in types f l) → TakesPointer types f st l part
+      → PointsWell types st.world.content (seen_type types (Some part)) p → PointerFits (type_in types f l) p → GivesOn types f rest st.world.content (set_bits true (written l) (ready_of st)) (pointed types f l p st)
+  pointer_into sound l p object points part there into well fits =
+      joined types f rest st (set_bits true (written l) (ready_of st)) (pointed types f l p st) (pointed_stands types ordered f rest st sound.stands l part p into.0 into.1 well)
+      (pointed_holds types ordered f rest st sound.stands sound.held l part p into.0 into.1 well (λ t h. subst (λ (u : Ty). PointerFits u p) (some_same (sym there ∙ h)) fits))
+      (pointed_settles types f kinds st l p sound.sorted points fits object)
+      (λ k is. pointed_faults types f l.local l.members (cell st l.local) p st k is)
 
   module _ (sound : IsSound types f rest st) (fit : PointersFit types f st) (l : Location) (id : TyId) (e : takes types (type_in types f l) (ty_of types id) ≡ true) (p : Pointer) (suits : IsHandedTo types st.world.content id (Points p))
       (object : (m : ℕ) (ms : List ℕ) → l.members ≡ m ∷ ms → (n : ℕ) × (cell st l.local ≡ Some (Named n))) where
@@ -122,14 +122,9 @@ module _ (types : Types) (ordered : IsOrdered types) (once : HasEachOnce types) 
         let seen = alike_seen types ordered once (type_in types f l) (ty_of types id) both.0 in
         let into = pointer_of types ordered once texts fs f shaped st (pointers_aim types ordered f st sound.held sound.stands.frame) sound.sorted l (type_in types f l) refl points.0 in
         let there = type_there types id (ty_of types id) refl (pointer_solid (ty_of types id) points.1) in
-        let well : PointsWell types st.world.content (seen_type types (Some into.part)) p =
-        subst (λ (seen : Option TyId). PointsWell types st.world.content seen p) (ap (seen_in types) there ∙ seen.seen ∙ sym (ap (seen_in types) into.there)) suits.1 in
-        let fits : PointerFits (type_in types f l) p = alike_fits types (type_in types f l) (ty_of types id) p both.0 both.1 suits.2 in
-        joined types f rest st (set_bits true (written l) (ready_of st)) (pointed types f l p st)
-        (pointed_stands types ordered f rest st sound.stands l into.part p into.takes.0 into.takes.1 well)
-        (pointed_holds types ordered f rest st sound.stands sound.held l into.part p into.takes.0 into.takes.1 well (λ t h. subst (λ (u : Ty). PointerFits u p) (some_same (sym into.there ∙ h)) fits))
-        (pointed_settles types f kinds st l p sound.sorted points.0 fits object)
-        (λ k is. pointed_faults types f l.local l.members (cell st l.local) p st k is)
+        pointer_into sound l p object points.0 into.part into.there into.takes
+        (subst (λ (seen : Option TyId). PointsWell types st.world.content seen p) (ap (seen_in types) there ∙ seen.seen ∙ sym (ap (seen_in types) into.there)) suits.1)
+        (alike_fits types (type_in types f l) (ty_of types id) p both.0 both.1 suits.2)
 
     -- .. as the result of a call
     member_points : (m : ℕ) (ms : List ℕ) → l.members ≡ m ∷ ms → GivesOn types f rest st.world.content (set_bits true (written l) (ready_of st)) (result_given s types f l l.members (Points p) st)
@@ -165,12 +160,16 @@ module _ (types : Types) (ordered : IsOrdered types) (once : HasEachOnce types) 
     -- an object that isn't there
     object_gives : object_at types f x ≡ true → slot_at types f x ≡ false → cell st x ≡ Some Empty → GivesOn types f rest st.world.content (slice_set (ready_of st) x true) (given s types f v x st)
     object_gives object slot empty =
-        let free : is_slot_at types lo.ty ≡ false = ap (is_slot_local types f) (sym there) ∙ slot in
-        let local : local_type types f x ≡ Some lo.ty = ap (held_type_if types) there ∙ ap Some (no_slot types lo.ty (slice_get types.types lo.ty.0) free) in
         let of = local_of types ordered once texts fs f shaped x (type_at types f x) refl (also_solid (ty_of types id) (type_at types f x) alike) in
-        let is : id ≡ lo.ty = number_of_type types once id of.number (type_at types f x) alike of.there ∙ some_same (sym of.is ∙ local) in
-        local_gives types ordered f shaped kinds rest s x lo (record { there = there; free = free; value = λ value. object_kind lo.kind (ap (has_kind is_object) (sym there) ∙ object) }) st empty v sound
-        (subst (λ (i : TyId). IsHandedTo types st.world.content i v) is suits)
+        let local : local_type types f x ≡ Some (taken_type types lo.ty) = ap (held_type_if types) there in
+        local_gives types ordered f shaped kinds rest s x lo id
+        (record {
+          there = there;
+          type = some_same (sym local ∙ of.is) ∙ sym (number_of_type types once id of.number (type_at types f x) alike of.there);
+          free = λ other. ap (is_slot_local types f) (sym there) ∙ slot;
+          value = λ value. object_kind lo.kind (ap (has_kind is_object) (sym there) ∙ object);
+        })
+        st empty v sound suits
 
     -- a register with a value
     number_into : is_number types f x ≡ true → GivesOn types f rest st.world.content (slice_set (ready_of st) x true) (given s types f v x st)
@@ -260,11 +259,11 @@ module _ (types : Types) (ordered : IsOrdered types) (once : HasEachOnce types) 
           as_whole (slice_set (ready_of st) l.local true) (ap (λ (b : Bool). set_bits true ((if b then l.local ∷ [] else []) ++ (if b then [] else l.local ∷ [])) (ready_of st)) e)
           (number_into l.local id alike_at lo.0 lo.1 v sound suits (subst (λ (b : Bool). (b || is_number types f l.local) ≡ true) e kept))
 
-  points_only : (id : TyId) (v : Cell) → is_pointer (ty_of types id) ≡ true → IsHandedTo types st.world.content id v → (p : Pointer) × (v ≡ Points p)
+  pub points_only : (id : TyId) (v : Cell) → is_pointer (ty_of types id) ≡ true → IsHandedTo types st.world.content id v → (p : Pointer) × (v ≡ Points p)
   points_only id Empty pointer suits = absurd suits
   points_only id (Points p) pointer suits = (p, refl)
   points_only id (Number z) pointer suits = absurd (false≢true (sym (value_points (ty_of types id) suits) ∙ pointer))
-  points_only id (Named n) pointer suits = absurd (composed_points (ty_of types id) suits.2 pointer)
+  points_only id (Named n) pointer suits = absurd (false≢true (sym (composed_points (ty_of types id) suits.2) ∙ pointer))
 
   some_gives : (l : Location) (id : TyId) (v : Cell) → PointersFit types f st → (b : Bool) → is_pointer (ty_of types id) ≡ b → (if b then takes types (type_in types f l) (ty_of types id) else (is_whole l && (same (ty_of types id) (type_in types f l) && (object_at types f l.local || is_number types f l.local)))) ≡ true
       → IsSound types f (λ k. times (named_in (v ∷ [])) k + rest k) st → IsHandedTo types st.world.content id v → IsTargetReady (Some l)
@@ -303,14 +302,14 @@ module _ (types : Types) (ordered : IsOrdered types) (once : HasEachOnce types) 
 
   -- ---- what comes of the values that are given back
 
-  pub target_gives : (target : Option Location) (id : TyId) (vs : List Cell) → PointersFit types f st → goes_to types texts fs f (ty_of types id) target ≡ true → IsSound types f (λ k. times (named_in vs) k + rest k) st → IsResult types st.world.content id vs → IsTargetReady target
-      → GivesOn types f rest st.world.content (set_bits true (target_births f target ++ target_writes f target) (ready_of st)) (target_given s types f target vs st)
-  target_gives None id vs fit e sound result ready = record { sound = less_sound types f (λ k. times (named_in vs) k + rest k) rest st (λ k. omega arith) sound; bits = refl; waits = keeps_self types (λ k. rest k ≡ 0) st.world.content }
-  target_gives (Some l) id vs fit e sound (inl none) ready = absurd (no_void (ty_of types id) none.0 e)
+  pub target_gives : (target : Option Location) (id : TyId) (vs more : List Cell) → PointersFit types f st → goes_to types texts fs f (ty_of types id) target ≡ true → IsSound types f (λ k. times (named_in vs) k + rest k) st → IsResult types st.world.content id vs → IsTargetReady target
+      → GivesOn types f rest st.world.content (set_bits true (target_births f target ++ target_writes f target) (ready_of st)) (target_given s types f target (vs ++ more) st)
+  target_gives None id vs more fit e sound result ready = record { sound = less_sound types f (λ k. times (named_in vs) k + rest k) rest st (λ k. omega arith) sound; bits = refl; waits = keeps_self types (λ k. rest k ≡ 0) st.world.content }
+  target_gives (Some l) id vs more fit e sound (inl none) ready = absurd (no_void (ty_of types id) none.0 e)
     where
       no_void : (t : Ty) → is_void t ≡ true → goes_to types texts fs f t (Some l) ≡ true → ⊥
       no_void ty.Void v h = false≢true (and_parts false (object_at types f l.local || is_number types f l.local) (and_parts (is_whole l) _ h).1).0
       no_void _ v h = false≢true v
-  target_gives (Some l) id vs fit e sound (inr r) ready =
-      subst (λ (ws : List Cell). GivesOn types f rest st.world.content (set_bits true (target_births f (Some l) ++ target_writes f (Some l)) (ready_of st)) (target_given s types f (Some l) ws st)) (sym r.1)
+  target_gives (Some l) id vs more fit e sound (inr r) ready =
+      subst (λ (ws : List Cell). GivesOn types f rest st.world.content (set_bits true (target_births f (Some l) ++ target_writes f (Some l)) (ready_of st)) (target_given s types f (Some l) (ws ++ more) st)) (sym r.1)
       (some_gives l id r.0 fit (is_pointer (ty_of types id)) refl e (subst (λ (ws : List Cell). IsSound types f (λ k. times (named_in ws) k + rest k) st) r.1 sound) r.2 ready)
