@@ -56,17 +56,17 @@ one_or_before (suc a) (suc b) high low = one_or_before a b (λ le. high (omega a
 
 -- ---- sizes stay
 
-sized_word : (kinds : Seen) (o : Object) (i u v : ℕ) → IsSized kinds o → IsSized kinds (with_word i u v o)
+pub sized_word : (kinds : Seen) (o : Object) (i u v : ℕ) → IsSized kinds o → IsSized kinds (with_word i u v o)
 sized_word kinds o i u v h =
     record {
       wide = subst (λ (x : Object). AllWide o.width x.slots) (sym (with_word_is i u v o)) (wide_put o.width o.slots i u v h.wide);
       owners = h.owners;
     }
 
-sized_with : (kinds : Seen) (c : Content) (n : ℕ) (o : Object) → AreSized kinds c → IsSized kinds o → AreSized kinds (with_object n o c)
+pub sized_with : (kinds : Seen) (c : Content) (n : ℕ) (o : Object) → AreSized kinds c → IsSized kinds o → AreSized kinds (with_object n o c)
 sized_with kinds c n o h own m q there = set_cases c.objects n m o q there (λ e same. subst (IsSized kinds) same own) (λ ne old. h m q old)
 
-sized_less : (kinds : Seen) (kind : Kinds) (gone : List ℕ) (c : Content) → AreSized kinds c → AreSized kinds (without_all gone c)
+pub sized_less : (kinds : Seen) (kind : Kinds) (gone : List ℕ) (c : Content) → AreSized kinds c → AreSized kinds (without_all gone c)
 sized_less kinds kind gone c h m q there = h m q (was_there kind gone c m q there)
 
 module _ (kinds : Seen) (kind : Kinds) (alike : AreAlike kinds kind) (depth : ℕ) (r : ObjRef) (c : Content) (rows : Rows) (can : CanEnd kinds kind depth r c rows) where

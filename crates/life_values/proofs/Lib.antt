@@ -2,9 +2,12 @@ pub mod AlikeKinds
 pub mod Clearing
 pub mod Deep
 pub mod DeepSteps
+pub mod Emptied
+pub mod EmptiedMeant
 pub mod Emptying
 pub mod Ends
 pub mod Flat
+pub mod HeldWords
 pub mod Joining
 pub mod Meant
 pub mod Owners

@@ -4,7 +4,11 @@
 mod deep_end;
 mod layout;
 mod layouts;
+mod spot;
+mod value_end;
 
 pub use deep_end::end_deep;
 pub use layout::{Holds, Layout, Leaf};
 pub use layouts::layouts_of;
+pub use spot::Spot;
+pub use value_end::end_words;
