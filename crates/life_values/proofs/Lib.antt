@@ -1,4 +1,5 @@
 pub mod AlikeKinds
+pub mod Beginning
 pub mod Clearing
 pub mod Deep
 pub mod DeepSteps
@@ -6,8 +7,11 @@ pub mod Emptied
 pub mod EmptiedMeant
 pub mod Emptying
 pub mod Ends
+pub mod Filling
 pub mod Flat
+pub mod FreshMeant
 pub mod HeldWords
 pub mod Joining
 pub mod Meant
 pub mod Owners
+pub mod Zeros

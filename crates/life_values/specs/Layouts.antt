@@ -84,6 +84,13 @@ owners_in (Some l) = l.owners.items
 abbrev pub owners_at : List Layout → TyId → List ℕ
 owners_at layouts ty = owners_in (slice_get layouts ty.0)
 
+abbrev pub width_in : Option Layout → ℕ
+width_in None = 1
+width_in (Some l) = l.width
+
+abbrev pub width_at : List Layout → TyId → ℕ
+width_at layouts ty = width_in (slice_get layouts ty.0)
+
 -- the words own, and no other does
 pub record AreOwners (f : ℕ → Kind) (owners : List ℕ) : Type 0 where
   pub sound : (j u : ℕ) → slice_get owners j ≡ Some u → f u ≡ Owner

@@ -1,5 +1,6 @@
 pub mod Emptied
 pub mod Ended
 pub mod Ending
+pub mod Fresh
 pub mod Layouts
 pub mod Zeroed

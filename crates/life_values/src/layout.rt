@@ -1,6 +1,6 @@
 // Where what owns and what points lies in the values of each type.
 ghost use Rattle.std.specs.Prelude.{◌≡◌, ◌+◌, ◌++◌, ◌∷◌, [], map, OnOk};
-ghost use Rattle.life_values.specs.Layouts.{moved, owned_word, owner_words, owners_at};
+ghost use Rattle.life_values.specs.Layouts.{moved, owned_word, owner_words, owners_at, width_at};
 
 use life_types::{NoMemory, TyId};
 use std::alloc::Global;
@@ -93,5 +93,15 @@ pub(crate) fn owners_of(layouts: &[Layout], ty: TyId) -> &[u64]
     match layouts.get(ty.0 as usize) {
         None => &[],
         Some(layout) => &layout.owners,
+    }
+}
+
+/// How many words a value of a type has: one, if the table doesn't have the type.
+pub(crate) fn width_of(layouts: &[Layout], ty: TyId) -> u64
+    ensures { result ≡ width_at layouts.now ty }
+{
+    match layouts.get(ty.0 as usize) {
+        None => 1,
+        Some(layout) => layout.width,
     }
 }

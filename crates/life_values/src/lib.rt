@@ -2,12 +2,14 @@
 #![tactic(auto)]
 
 mod deep_end;
+mod fresh_value;
 mod layout;
 mod layouts;
 mod spot;
 mod value_end;
 
 pub use deep_end::end_deep;
+pub use fresh_value::fresh;
 pub use layout::{Holds, Layout, Leaf};
 pub use layouts::layouts_of;
 pub use spot::Spot;
