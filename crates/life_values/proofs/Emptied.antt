@@ -1,5 +1,5 @@
 -- A store goes the way of the meaning where what a value owns ends, one word after the other.
-use Rattle.std.proofs.Common.{◌≡◌, ℕ, zero, suc, ◌+◌, ◌<◌, ◌≤◌, true, List, [], ◌∷◌, length, drop, Option, Some, None, MatchOption, IfSome, refl, sym, ap, subst, ◌∙◌, arith}
+use Rattle.std.proofs.Common.{◌≡◌, ℕ, suc, ◌+◌, ◌<◌, ◌≤◌, true, List, [], ◌∷◌, length, drop, Option, Some, None, MatchOption, IfSome, refl, sym, ap, subst, ◌∙◌, arith}
 use Rattle.std.proofs.lemmas.List.{drop_all}
 use Rattle.std.proofs.lemmas.Option.{none-some, same_Some}
 use Rattle.std.specs.Prelude.{slice_get, option_map, ◌&&◌}
@@ -36,7 +36,7 @@ use Rattle.life_values.specs.declared.spot.Spot.{Spot}
 use Rattle.life_values.proofs.Deep.{sized_less, sized_with, sized_word}
 use Rattle.life_values.proofs.Ends.{AreBelow, number_end}
 use Rattle.life_values.proofs.Flat.{drop_here}
-use Rattle.life_values.proofs.Owners.{count_put, wide_word, with_word_is, word_of_is}
+use Rattle.life_values.proofs.Owners.{count_put, hit_times, wide_word, with_word_is, word_of_is}
 
 -- what is beneath an object is of types as low as its own
 pub below_rank : (kind : Kinds) (hand : ℕ → ℕ) (c : Content) (q top : ℕ) → IsForest kind hand c → ((y : Object) → at c.objects q ≡ Some y → kind.rank y.ty < top)
@@ -52,10 +52,6 @@ below_rank kind hand c q top forest high k x (under m _ b own) at_k =
     let low = forest.lower m k l.0 x l.1 owned at_k in
     let above = below_rank kind hand c q top forest high m l.0 b l.1 in
     omega (arith, low, above)
-
-hit_times : (v k : ℕ) → hit v k ≡ times (listed (owned_in v)) k
-hit_times zero k = refl
-hit_times (suc n) k = omega arith
 
 module _ (kinds : Seen) (kind : Kinds) (alike : AreAlike kinds kind) (depth : ℕ) (spot : Spot) (owners : List ℕ) where
   module _ (c : Content) (rows : Rows) (can : CanEmpty kinds kind depth spot owners c rows) where

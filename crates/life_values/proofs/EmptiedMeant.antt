@@ -1,5 +1,5 @@
 -- What ends word by word is what the meaning ends by the parts of the value's type; and then its words are 0.
-use Rattle.std.proofs.Common.{◌≡◌, ℕ, zero, suc, ◌+◌, ◌≤◌, ◌<◌, true, List, [], ◌∷◌, ◌++◌, length, take, drop, Option, Some, None, refl, sym, ap, subst, ◌∙◌, arith}
+use Rattle.std.proofs.Common.{◌≡◌, ℕ, suc, ◌+◌, ◌≤◌, ◌<◌, true, List, [], ◌∷◌, ◌++◌, length, take, drop, Option, Some, None, refl, sym, ap, subst, ◌∙◌, arith}
 use Rattle.std.specs.Prelude.{slice_get, ◌&&◌}
 use Rattle.life_store.specs.Cells.{Cells, at, set, at-set_same, at-set_other}
 use Rattle.life_store.specs.Content.{Object, Content, with_object, with_word, word_at}
@@ -15,6 +15,8 @@ use Rattle.life_forest.specs.Values.{listed, owned_of, AllWide, Known}
 use Rattle.life_forest.proofs.Below.{empty_handed, no_part, owner_lives, positive_is}
 use Rattle.life_forest.proofs.ByParts.{parts_end}
 use Rattle.life_forest.proofs.Counting.{times-append}
+use Rattle.life_forest.proofs.Steps.{at-without_all}
+use Rattle.life_forest.proofs.Ending.{Ended}
 use Rattle.life_forest.proofs.Puts.{IsWord, counted, counts, word_of, in_slots-puts}
 use Rattle.life_forest.proofs.Words.{forest_wrote}
 use Rattle.life_seen.proofs.MapViews.{set_cases}
@@ -25,11 +27,8 @@ use Rattle.life_values.specs.Zeroed.{held, zeroed}
 use Rattle.life_values.proofs.Ends.{AreBelow, each_end, ended_alike, ended_aside, number_end}
 use Rattle.life_values.proofs.Flat.{owner_words_own}
 use Rattle.life_values.proofs.HeldWords.{held_is}
-use Rattle.life_values.proofs.Owners.{count_put, wide_put, wide_word, with_word_is, word_of_is}
-
-hit_times : (v k : ℕ) → hit v k ≡ times (listed (owned_in v)) k
-hit_times zero k = refl
-hit_times (suc n) k = omega arith
+use Rattle.life_values.proofs.Owners.{count_put, hit_times, wide_put, wide_word, with_word_is, word_of_is}
+use Rattle.life_values.proofs.Zeroing.{zeroed_like}
 
 -- what is beneath some is of types as low as theirs
 low_below : (kind : Kinds) (hand : ℕ → ℕ) (c : Content) (ns : List ℕ) (top : ℕ) → IsForest kind hand c → AreBelow kind top ns c → (k : ℕ) (x : Object) → Below kind c ns k → at c.objects k ≡ Some x → kind.rank x.ty < top
@@ -198,32 +197,56 @@ module _ (kind : Kinds) (depth n i : ℕ) where
         (ap is_owner (place.kinds u l ∙ ap (kind_in p) s ∙ r.owner), (let f = place.fits in omega (arith, f, l)));
   }
 
-  pub emptied_meant : (hand : ℕ → ℕ) (w : ℕ) (p : Parts) (m : Content) (o : Object) → at m.objects n ≡ Some o → IsForest kind hand m → kind.rank o.ty ≤ depth → IsPlace w p o
-      → Known kind (with_object n (zeroed i w (owner_words (flat 0 p)) o) m) p (words_at m n i w (width p))
-      → emptied_each end n i w (owner_words (flat 0 p)) m ≡ with_object n (zeroed i w (owner_words (flat 0 p)) o) (ended p (words_at m n i w (width p)) m)
-  emptied_meant hand w p m o at_n forest deep place known =
-      let us : List ℕ = owner_words (flat 0 p) in
-      let ws : List ℕ = words_at m n i w (width p) in
-      let out_m : Content = with_object n (zeroed i w us o) m in
-      let same : m ≡ with_object n o m = ap (λ (x : Cells Object). record { objects = x; births = m.births; clock = m.clock }) (sym (sym (set-unset m.objects n o) ∙ set_back m.objects n o at_n)) in
-      let are = place_words w p o place in
-      let here : IsForest kind hand (with_object n o m) = subst (IsForest kind hand) same forest in
-      let list : held i w us o ≡ owned_of p ws = held_is p i w o ∙ ap (λ (x : Option Object). owned_of p (take (width p) (drop w (words_if (slice_get (slots_if x) i))))) (sym at_n) in
-      let z = zeroed_forest hand w us m o here are in
-      let in_hand : IsForest kind (λ k. times (owned_of p ws) k + hand k) out_m = subst (λ ns. IsForest kind (λ k. times ns k + hand k) out_m) list z.0 in
-      let low : AreBelow kind (kind.rank o.ty) (owned_of p ws) out_m = subst (λ ns. AreBelow kind (kind.rank o.ty) ns out_m) list z.1 in
-      let agree : (k : ℕ) → Below kind out_m (owned_of p ws) k → at m.objects k ≡ at out_m.objects k = λ k b.
-      sym (at-set_other m.objects n k (zeroed i w us o) (λ s.
-      let l = low_below kind (λ k. times (owned_of p ws) k + hand k) out_m (owned_of p ws) (kind.rank o.ty) in_hand low n (zeroed i w us o) (subst (Below kind out_m (owned_of p ws)) (sym s) b) (at-set_same m.objects n n (zeroed i w us o) refl) in
-      let t = ap kind.rank (zeroed_ty w us o) in
-      absurd (omega (arith, l, t)))) in
-      let by_number = each_end kind depth end (number_end kind depth) (owned_of p ws) hand out_m m in_hand (λ q y lt at_q. let l = low q y lt at_q in omega (arith, l, deep)) agree in
-      let by_part = parts_end kind p ws hand out_m m in_hand known agree in
-      ap (emptied_each end n i w us) same
-      ∙ emptied_apart hand w us m o here deep are
-      ∙ ap (λ ns. with_object n (zeroed i w us o) (ended_each end ns m)) list
-      ∙ ap (with_object n (zeroed i w us o)) (ended_alike kind hand (owned_of p ws) out_m m (ended_each end (owned_of p ws) m) (ended p ws m) by_number by_part)
-    where
-      zeroed_ty : (w : ℕ) (us : List ℕ) (o : Object) → (zeroed i w us o).ty ≡ o.ty
-      zeroed_ty w [] o = refl
-      zeroed_ty w (u ∷ us) o = zeroed_ty w us (with_word i (w + u) 0 o)
+  module _ (hand : ℕ → ℕ) (w : ℕ) (p : Parts) (m : Content) (o : Object) (at_n : at m.objects n ≡ Some o) (forest : IsForest kind hand m) (deep : kind.rank o.ty ≤ depth) (place : IsPlace w p o)
+      (known : Known kind (with_object n (zeroed i w (owner_words (flat 0 p)) o) m) p (words_at m n i w (width p))) where
+    abbrev us : List ℕ
+    us = owner_words (flat 0 p)
+
+    abbrev ws : List ℕ
+    ws = words_at m n i w (width p)
+
+    abbrev out_m : Content
+    out_m = with_object n (zeroed i w us o) m
+
+    same : m ≡ with_object n o m
+    same = ap (λ (x : Cells Object). record { objects = x; births = m.births; clock = m.clock }) (sym (sym (set-unset m.objects n o) ∙ set_back m.objects n o at_n))
+
+    here : IsForest kind hand (with_object n o m)
+    here = subst (IsForest kind hand) same forest
+
+    list : held i w us o ≡ owned_of p ws
+    list = held_is p i w o ∙ ap (λ (x : Option Object). owned_of p (take (width p) (drop w (words_if (slice_get (slots_if x) i))))) (sym at_n)
+
+    in_hand : IsForest kind (λ k. times (owned_of p ws) k + hand k) out_m
+    in_hand = subst (λ ns. IsForest kind (λ k. times ns k + hand k) out_m) list (zeroed_forest hand w us m o here (place_words w p o place)).0
+
+    low : AreBelow kind (kind.rank o.ty) (owned_of p ws) out_m
+    low = subst (λ ns. AreBelow kind (kind.rank o.ty) ns out_m) list (zeroed_forest hand w us m o here (place_words w p o place)).1
+
+    apart : Below kind out_m (owned_of p ws) n → ⊥
+    apart b =
+        let l = low_below kind (λ k. times (owned_of p ws) k + hand k) out_m (owned_of p ws) (kind.rank o.ty) in_hand low n (zeroed i w us o) b (at-set_same m.objects n n (zeroed i w us o) refl) in
+        let t = ap kind.rank (zeroed_like i w us o).ty in
+        absurd (omega (arith, l, t))
+
+    agree : (k : ℕ) → Below kind out_m (owned_of p ws) k → at m.objects k ≡ at out_m.objects k
+    agree k b = sym (at-set_other m.objects n k (zeroed i w us o) (λ s. apart (subst (Below kind out_m (owned_of p ws)) (sym s) b)))
+
+    by_part : Ended kind hand (owned_of p ws) out_m m (ended p ws m)
+    by_part = parts_end kind p ws hand out_m m in_hand known agree
+
+    by_number : Ended kind hand (owned_of p ws) out_m m (ended_each end (owned_of p ws) m)
+    by_number = each_end kind depth end (number_end kind depth) (owned_of p ws) hand out_m m in_hand (λ q y lt at_q. let l = low q y lt at_q in omega (arith, l, deep)) agree
+
+    pub emptied_meant : emptied_each end n i w (owner_words (flat 0 p)) m ≡ with_object n (zeroed i w (owner_words (flat 0 p)) o) (ended p (words_at m n i w (width p)) m)
+    emptied_meant =
+        ap (emptied_each end n i w us) same
+        ∙ emptied_apart hand w us m o here deep (place_words w p o place)
+        ∙ ap (λ ns. with_object n (zeroed i w us o) (ended_each end ns m)) list
+        ∙ ap (with_object n (zeroed i w us o)) (ended_alike kind hand (owned_of p ws) out_m m (ended_each end (owned_of p ws) m) (ended p ws m) by_number by_part)
+
+    -- the object isn't among what ends
+    pub ended_beside : at (ended p (words_at m n i w (width p)) m).objects n ≡ Some o
+    ended_beside =
+        let none : times by_part.list n ≡ 0 = one_or_apart (times by_part.list n) 0 (λ z. z) (λ nz. absurd (apart (by_part.low n (omega (arith, nz))))) in
+        ap (λ (x : Content). at x.objects n) by_part.is ∙ at-without_all kind by_part.list m n none ∙ at_n

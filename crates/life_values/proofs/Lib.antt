@@ -5,6 +5,7 @@ pub mod Deep
 pub mod DeepSteps
 pub mod Emptied
 pub mod EmptiedMeant
+pub mod EmptiedThen
 pub mod Emptying
 pub mod Ends
 pub mod Filling
@@ -14,4 +15,7 @@ pub mod HeldWords
 pub mod Joining
 pub mod Meant
 pub mod Owners
+pub mod PoppedMeant
+pub mod Popping
+pub mod Zeroing
 pub mod Zeros

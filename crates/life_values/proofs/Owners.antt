@@ -4,11 +4,12 @@ use Rattle.std.proofs.lemmas.List.{length-set}
 use Rattle.std.specs.Prelude.{slice_get, option_map, ◌&&◌}
 use Rattle.life_store.specs.Cells.{at}
 use Rattle.life_store.specs.Content.{Slot, Object, Content, set_slot, with_word, word_in, written}
+use Rattle.life_store.specs.Held.{owned_in}
 use Rattle.life_forest.specs.Kinds.{Kinds}
 use Rattle.life_store.specs.Kinds.{Kind, Plain, Owner, Pointing, is_owner}
-use Rattle.life_forest.specs.Owned.{every, one, hit, in_words, in_slots, owns_if}
+use Rattle.life_forest.specs.Owned.{every, one, hit, in_words, in_slots, owns_if, times}
 use Rattle.life_forest.specs.Forest.{IsForest}
-use Rattle.life_forest.specs.Values.{AllWide}
+use Rattle.life_forest.specs.Values.{listed, AllWide}
 use Rattle.life_forest.proofs.Below.{owned_at_held}
 use Rattle.life_forest.proofs.Counting.{one_same}
 use Rattle.life_forest.proofs.Puts.{IsWord, put_in, word_of}
@@ -18,6 +19,10 @@ use Rattle.life_seen.specs.Owned.{owner_of, owner_at, owner_in, owner_if, IsUnow
 use Rattle.life_values.specs.Ended.{AreAlike}
 
 -- ---- what is owned is counted
+
+pub hit_times : (v k : ℕ) → hit v k ≡ times (listed (owned_in v)) k
+hit_times zero k = refl
+hit_times (suc n) k = omega arith
 
 hit_same : (k : Kind) (x n : ℕ) (b : Bool) → is_owner k ≡ b → owner_of k x ≡ suc n → 0 < cond b (hit x n) 0
 hit_same Plain x n b e own = absurd (omega (arith, own))

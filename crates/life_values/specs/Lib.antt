@@ -3,4 +3,5 @@ pub mod Ended
 pub mod Ending
 pub mod Fresh
 pub mod Layouts
+pub mod Popped
 pub mod Zeroed

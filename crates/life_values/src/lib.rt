@@ -2,6 +2,7 @@
 #![tactic(auto)]
 
 mod deep_end;
+mod edits;
 mod fresh_value;
 mod layout;
 mod layouts;
@@ -9,6 +10,7 @@ mod spot;
 mod value_end;
 
 pub use deep_end::end_deep;
+pub use edits::pop;
 pub use fresh_value::fresh;
 pub use layout::{Holds, Layout, Leaf};
 pub use layouts::layouts_of;
