@@ -5,14 +5,14 @@ use Rattle.life_types.specs.Types.{Types}
 use Rattle.life_types.specs.declared.ty.TyId.{TyId}
 use Rattle.life_core.specs.declared.instr.Form.{Form}
 use Rattle.life_core.specs.declared.instr.Form.TheVariants as form
-use Rattle.life_store.specs.Cells.{Cells, at, set, at-set_same, at-set_other}
+use Rattle.life_store.specs.Cells.{Cells, at, set, at-set_other}
 use Rattle.life_store.specs.Content.{Object, Content, cost, live_words_of, newborn, with_birth, with_object, with_word}
 use Rattle.life_store.specs.Effects.{Setting, Attempt, Got, GotTrap, GotFault, GotLost, then_get}
 use Rattle.life_store.specs.Held.{owner_word, pointer_words, with_words, wrote, wrote_if}
 use Rattle.life_store.specs.Owners.{Words, birth, born_pointer, fresh, owning}
 use Rattle.life_store.specs.Parts.{Parts, Single, Raw, Iterates, Views, Text, Vector, Unique, Member, NoMember, parts_at, width}
 use Rattle.life_store.specs.declared.run.TrapKind.TheVariants as trap
-use Rattle.life_store.proofs.MapLemmas.{set-set, set-unset, set_apart, set_back, sum-set}
+use Rattle.life_store.proofs.MapLemmas.{set-unset, set_apart, set_back, sum-set}
 use Rattle.life_forest.specs.Kinds.{kinds_of}
 use Rattle.life_forest.specs.Values.{Named}
 use Rattle.life_forest.proofs.Coming.{IfGot, got_then, if_room}
@@ -21,7 +21,7 @@ use Rattle.life_values.specs.Fresh.{leaf_wrote, leaves_wrote, raw_word}
 use Rattle.life_values.specs.Layouts.{flat}
 use Rattle.life_values.specs.declared.layout.Leaf.{Leaf}
 use Rattle.life_values.proofs.Beginning.{by_word}
-use Rattle.life_values.proofs.Zeros.{AreZero, with_zeros, zero_behind, words-append, words_other}
+use Rattle.life_values.proofs.Zeros.{AreZero, with_zeros, wrote_with, zero_behind, words-append, words_other}
 
 -- ---- attempts
 
@@ -73,11 +73,6 @@ module _ (s : Setting) (types : Types) (f : Form) (n i : ℕ) (old : Object) whe
       set_apart d.objects n d.births o (newborn ty w capacity d.clock) (λ e. let l = sits.born in absurd (omega (arith, e, l))) in
       (λ j. cond (nat_lt s.given.cells (live_same o d sits like j + (2 + w * capacity))) (GotTrap trap.Cells) (Got (d.births, record { objects = apart j; births = d.births + 1; clock = d.clock })))
       ∙ sym (cond_then (nat_lt s.given.cells (live_words_of d + (2 + w * capacity))) (GotTrap trap.Cells) (Got (d.births, with_birth ty w capacity d)) (λ b. Got (b.0, with_object n o b.1)))
-
-  wrote_with : (w : ℕ) (vs : List ℕ) (o : Object) (d : Content) → wrote n i w vs (with_object n o d) ≡ with_object n (with_words i w vs o) d
-  wrote_with w vs o d =
-      ap (λ (x : Option Object). wrote_if x n i w vs (with_object n o d)) (at-set_same d.objects n n o refl)
-      ∙ ap (λ (m : Cells Object). record { objects = m; births = d.births; clock = d.clock }) (set-set d.objects n o (with_words i w vs o))
 
   -- ---- what comes to life leaves the object
 
@@ -145,7 +140,7 @@ module _ (s : Setting) (types : Types) (f : Form) (n i : ℕ) (old : Object) whe
       ∙ each (birth s ty k 0 d)
     where
       each : (x : Attempt (ℕ × Content)) → then_get (then_get (then_get (then_get x (beside o)) by_word) (wrote_first w)) as_it_is ≡ then_get (then_get x as_owned) (with_fresh w o)
-      each (Got b) = ap (λ (y : Content). Got y) (wrote_with w (owner_word (Some b.0) ∷ []) o b.1)
+      each (Got b) = ap (λ (y : Content). Got y) (wrote_with n i w (owner_word (Some b.0) ∷ []) o b.1)
       each (GotTrap kind) = refl
       each (GotFault kind) = refl
       each GotLost = refl
@@ -154,7 +149,7 @@ module _ (s : Setting) (types : Types) (f : Form) (n i : ℕ) (old : Object) whe
   pointer_wrote : (v w : ℕ) (ws : List ℕ) (o : Object) (d : Content) → ws ≡ v ∷ replicate 4 0 → AreZero i w 5 o → Got (wrote n i w (v ∷ []) (with_object n o d)) ≡ with_fresh w o (ws, d)
   pointer_wrote v w ws o d is z =
       ap (λ (y : Content). Got y)
-      (wrote_with w (v ∷ []) o d
+      (wrote_with n i w (v ∷ []) o d
       ∙ ap (λ (x : Object). with_object n x d) (sym (with_zeros i (w + 1) 4 (with_word i w v o) (zero_behind i w v 4 o z)))
       ∙ ap (λ vs. with_object n (with_words i w vs o) d) (sym is))
 
@@ -178,7 +173,7 @@ module _ (s : Setting) (types : Types) (f : Form) (n i : ℕ) (old : Object) whe
   fresh_meant (Vector ty element) w v o d named sits like z =
       owner_wrote ty (width (parts_at types ty)) (w + v) o d sits like
       ∙ ap (λ k. then_get (then_get (birth s ty k 0 d) as_owned) (with_fresh (w + v) o)) named.0.0
-  fresh_meant (Unique ty target) w v o d named sits like z = ap (λ (y : Content). Got y) (wrote_with (w + v) (0 ∷ []) o d)
+  fresh_meant (Unique ty target) w v o d named sits like z = ap (λ (y : Content). Got y) (wrote_with n i (w + v) (0 ∷ []) o d)
   fresh_meant (Member first others) w v o d named sits like z =
       leaves-append w (flat v first) (flat (v + width first) others) (with_object n o d)
       ∙ ap (λ (x : Attempt Content). then_get x (leaves_wrote s types f n i w (flat (v + width first) others)))

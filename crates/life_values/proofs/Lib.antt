@@ -17,5 +17,10 @@ pub mod Meant
 pub mod Owners
 pub mod PoppedMeant
 pub mod Popping
+pub mod ReadWords
+pub mod Renewed
+pub mod Renewing
+pub mod TakenLeaves
+pub mod TakenMeant
 pub mod Zeroing
 pub mod Zeros

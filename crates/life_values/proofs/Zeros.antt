@@ -1,8 +1,10 @@
 -- Words that are 0, and are written as 0 or left alone.
-use Rattle.std.proofs.Common.{◌≡◌, ℕ, zero, suc, ◌+◌, ◌≤◌, ◌<◌, List, [], ◌∷◌, ◌++◌, length, refl, sym, ap, ◌∙◌, arith}
+use Rattle.std.proofs.Common.{◌≡◌, ℕ, zero, suc, ◌+◌, ◌≤◌, ◌<◌, List, [], ◌∷◌, ◌++◌, length, Option, refl, sym, ap, ◌∙◌, arith}
 use Rattle.std.specs.Prelude.{replicate, slice_get, slice_index, slice_set}
-use Rattle.life_store.specs.Content.{Slot, Object, with_word, word_in, word_at}
-use Rattle.life_store.specs.Held.{with_words}
+use Rattle.life_store.specs.Cells.{Cells, at-set_same}
+use Rattle.life_store.specs.Content.{Slot, Object, Content, with_object, with_word, word_in, word_at}
+use Rattle.life_store.specs.Held.{with_words, wrote, wrote_if}
+use Rattle.life_store.proofs.MapLemmas.{set-set}
 use Rattle.life_forest.proofs.Puts.{put_in}
 use Rattle.life_values.proofs.HeldWords.{word_other}
 use Rattle.life_values.proofs.Owners.{with_word_is}
@@ -46,3 +48,9 @@ words-append i w (x ∷ xs) ys o =
 pub words_other : (i w : ℕ) (xs : List ℕ) (o : Object) (u : ℕ) → w + length xs ≤ u → word_at (with_words i w xs o) i u ≡ word_at o i u
 words_other i w [] o u le = refl
 words_other i w (x ∷ xs) o u le = words_other i (w + 1) xs (with_word i w x o) u (omega (arith, le)) ∙ word_other o i w x u (omega (arith, le))
+
+-- into an object that is written itself
+pub wrote_with : (n i w : ℕ) (vs : List ℕ) (o : Object) (d : Content) → wrote n i w vs (with_object n o d) ≡ with_object n (with_words i w vs o) d
+wrote_with n i w vs o d =
+    ap (λ (x : Option Object). wrote_if x n i w vs (with_object n o d)) (at-set_same d.objects n n o refl)
+    ∙ ap (λ (m : Cells Object). record { objects = m; births = d.births; clock = d.clock }) (set-set d.objects n o (with_words i w vs o))

@@ -4,4 +4,5 @@ pub mod Ending
 pub mod Fresh
 pub mod Layouts
 pub mod Popped
+pub mod Taken
 pub mod Zeroed

@@ -7,6 +7,7 @@ mod fresh_value;
 mod layout;
 mod layouts;
 mod spot;
+mod taking;
 mod value_end;
 
 pub use deep_end::end_deep;
@@ -15,4 +16,5 @@ pub use fresh_value::fresh;
 pub use layout::{Holds, Layout, Leaf};
 pub use layouts::layouts_of;
 pub use spot::Spot;
+pub use taking::take_value;
 pub use value_end::end_words;
