@@ -65,7 +65,7 @@ leaf_keeps s types f (holds.Elements ty) c m v n lt e = born_keeps (nat_lt s.giv
 leaf_keeps s types f (holds.Target ty) c m v n lt e = stays c m _ v n e
 
 -- some run has the limit
-abbrev some_setting : ℕ → Setting
+abbrev pub some_setting : ℕ → Setting
 some_setting limit = record { given = record { growth = growth.Double; cells = limit; depth = 0 }; texts = [] }
 
 module _ (kinds : Kinds) (types : Types) (f : Form) (limit : ℕ) (spot : Spot) (leaves : List Leaf) where

@@ -1,6 +1,9 @@
 pub mod AlikeKinds
 pub mod Beginning
 pub mod Clearing
+pub mod CopiedGood
+pub mod CopyingDeep
+pub mod CopyingSlots
 pub mod Deep
 pub mod DeepSteps
 pub mod Emptied
@@ -11,6 +14,7 @@ pub mod Ends
 pub mod Filling
 pub mod Flat
 pub mod FreshMeant
+pub mod GoodSteps
 pub mod HeldWords
 pub mod Joining
 pub mod Meant
@@ -18,9 +22,11 @@ pub mod Owners
 pub mod PoppedMeant
 pub mod Popping
 pub mod ReadWords
+pub mod Recopying
 pub mod Renewed
 pub mod Renewing
 pub mod TakenLeaves
 pub mod TakenMeant
+pub mod WordsCopied
 pub mod Zeroing
 pub mod Zeros

@@ -19,7 +19,7 @@ use Rattle.life_values.specs.Zeroed.{zeroed}
 use Rattle.life_values.proofs.EmptiedMeant.{emptied_meant, ended_beside, IsPlace}
 use Rattle.life_values.proofs.Zeroing.{resized_zeroed}
 
-wide_slot : (k : ℕ) (ss : List Slot) (i : ℕ) → AllWide k ss → i < length ss → length (words_if (slice_get ss i)) ≡ k
+pub wide_slot : (k : ℕ) (ss : List Slot) (i : ℕ) → AllWide k ss → i < length ss → length (words_if (slice_get ss i)) ≡ k
 wide_slot k [] i wide lt = absurd (omega (arith, lt))
 wide_slot k (s ∷ ss) zero wide lt = wide.0
 wide_slot k (s ∷ ss) (suc i) wide lt = wide_slot k ss i wide.1 (omega arith)

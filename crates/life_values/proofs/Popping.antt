@@ -56,7 +56,7 @@ slot_can kinds kind depth r slot width owners c rows can small = record {
 
 -- ---- the buffer
 
-ok_shape : {o : Option Object} {s : Shape} (x : Object) → o ≡ Some x → asked_of o shape_of ≡ Ok s → shape_of x ≡ s
+pub ok_shape : {o : Option Object} {s : Shape} (x : Object) → o ≡ Some x → asked_of o shape_of ≡ Ok s → shape_of x ≡ s
 ok_shape {o = o} {s = s} x e asked = same (sym (ap (λ (y : Option Object). asked_of y shape_of) e) ∙ asked)
   where
     same : asked_of (Some x) shape_of ≡ Ok s → shape_of x ≡ s

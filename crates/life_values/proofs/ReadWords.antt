@@ -84,12 +84,12 @@ with_twice i w a b o =
 
 -- ---- as the meaning reads them
 
-cut : (xs : List ℕ) (w k : ℕ) → w + suc k ≤ length xs → take (suc k) (drop w xs) ≡ slice_index xs w ∷ take k (drop (w + 1) xs)
+pub cut : (xs : List ℕ) (w k : ℕ) → w + suc k ≤ length xs → take (suc k) (drop w xs) ≡ slice_index xs w ∷ take k (drop (w + 1) xs)
 cut [] w k le = absurd (omega (arith, le))
 cut (x ∷ xs) zero k le = refl
 cut (x ∷ xs) (suc w) k le = let z : suc w + 1 ≡ suc (w + 1) = omega arith in cut xs w k (omega (arith, le)) ∙ ap (λ n. slice_index xs w ∷ take k (drop n (x ∷ xs))) (sym z)
 
-in_slot : (ss : List Slot) (i w : ℕ) → word_in (slice_get ss i) w ≡ slice_index (words_if (slice_get ss i)) w
+pub in_slot : (ss : List Slot) (i w : ℕ) → word_in (slice_get ss i) w ≡ slice_index (words_if (slice_get ss i)) w
 in_slot [] i zero = refl
 in_slot [] i (suc w) = refl
 in_slot (s ∷ ss) zero w = refl

@@ -28,10 +28,10 @@ use Rattle.life_values.proofs.Zeros.{with_zero}
 pub word_like : (i u v : ℕ) (o : Object) → IsLike (with_word i u v o) o
 word_like i u v o = record { ty = refl; width = refl; capacity = refl; count = ap (λ (x : Object). length x.slots) (with_word_is i u v o) ∙ count_put o.slots i u v }
 
-like_then : {x y z : Object} → IsLike x y → IsLike y z → IsLike x z
+pub like_then : {x y z : Object} → IsLike x y → IsLike y z → IsLike x z
 like_then a b = record { ty = a.ty ∙ b.ty; width = a.width ∙ b.width; capacity = a.capacity ∙ b.capacity; count = a.count ∙ b.count }
 
-word_wide : (i u v : ℕ) (o : Object) → AllWide o.width o.slots → AllWide (with_word i u v o).width (with_word i u v o).slots
+pub word_wide : (i u v : ℕ) (o : Object) → AllWide o.width o.slots → AllWide (with_word i u v o).width (with_word i u v o).slots
 word_wide i u v o wide = subst (λ (x : Object). AllWide o.width x.slots) (sym (with_word_is i u v o)) (wide_put o.width o.slots i u v wide)
 
 -- the object is as it was but for some words, and the forest is one

@@ -1,7 +1,9 @@
+pub mod Copied
 pub mod Emptied
 pub mod Ended
 pub mod Ending
 pub mod Fresh
+pub mod Good
 pub mod Layouts
 pub mod Popped
 pub mod Taken

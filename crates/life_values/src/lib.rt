@@ -1,6 +1,7 @@
 //! Values of all types in a store: how they end, and go from one place to another.
 #![tactic(auto)]
 
+mod copying;
 mod deep_end;
 mod edits;
 mod fresh_value;
@@ -10,6 +11,7 @@ mod spot;
 mod taking;
 mod value_end;
 
+pub use copying::{CopyFault, copy_deep};
 pub use deep_end::end_deep;
 pub use edits::pop;
 pub use fresh_value::fresh;
