@@ -1,20 +1,20 @@
 -- A run begins with a store that holds nothing.
 use Rattle.std.proofs.Common.{◌≡◌, sym, subst, ◌∙◌}
-use Rattle.std.proofs.lemmas.Option.{none-some}
 use Rattle.life_types.specs.Types.{Types}
-use Rattle.life_store.specs.Cells.{at-none, none}
+use Rattle.life_store.specs.Cells.{none}
 use Rattle.life_store.specs.Content.{Content, empty_content}
 use Rattle.life_store.specs.References.{Rows}
 use Rattle.life_seen.specs.Kinds.{kinds_of}
 use Rattle.life_seen.proofs.Empty.{shows_empty}
 use Rattle.life_interp.specs.Fits.{meant, HoldsNumbers}
 use Rattle.life_interp.proofs.NumberLemmas.{holds}
+use Rattle.life_interp.proofs.Numbers.{no_numbers}
 
 pub holds_nothing : (types : Types) (c : Content) (rows : Rows) → c ≡ empty_content → rows ≡ none → HoldsNumbers types c rows
 holds_nothing types c rows empty vacant =
     subst (λ x. HoldsNumbers types x rows) (sym empty)
     (subst (λ x. HoldsNumbers types empty_content x) (sym vacant)
-    (holds types empty_content none empty_content (shows_empty (kinds_of types)) (λ n o there. absurd (none-some o (sym (at-none n) ∙ there)))))
+    (holds types empty_content none empty_content (shows_empty (kinds_of types)) (no_numbers types)))
 
 -- .. as the meaning begins
 pub meant_empty : (types : Types) (c : Content) (rows : Rows) → c ≡ empty_content → rows ≡ none → meant types c rows ≡ empty_content

@@ -22,7 +22,7 @@ use Rattle.life_store.specs.State.{Characters, Null, Wild, To, Static, Cell, Emp
 use Rattle.life_store.specs.declared.run.TrapKind.TheVariants as trap
 use Rattle.life_store.specs.Calls.{with_handed, number_handed, pointer_handed, number_or_zero, pointer_back}
 use Rattle.life_store.specs.Doing.{Setting, Effect, Next, Traps, Faults, Strays, Found, Here, Fixed, Outside, Wrong, Astray, cell, put_cell, put_content, type_of, with_value_object, on_found, on_number, on_pointer, on_next, found_at, born_object, born_pointer, computed_into, evaluated, input_taken}
-use Rattle.life_interp.specs.SoFar.{on_view, locate, live_as, live_over, live_local, end_object, end_cell, end_locals, aimed, port, does, handed, all_handed, born_with, number_given, given_to, given_if, given, parameters_given, given_back, results, target_given}
+use Rattle.life_interp.specs.SoFar.{on_view, locate, live_as, live_over, live_local, end_typed, end_cell, end_locals, aimed, port, does, handed, all_handed, born_with, number_given, given_to, given_if, given, parameters_given, given_back, results, target_given}
 
 abbrev pub AtFirst : Cell → Type 0
 AtFirst Empty = Unit {0}
@@ -122,20 +122,20 @@ live_first : (s : Setting) (types : Types) (f : Function) (l : Option Local) (fo
 live_first s types f None form x st h = tt
 live_first s types f (Some l) form x st h = live_over_first s (cell st x) (sort_of types f x) l.ty form x st h
 
-end_object_first : (o : Option Object) (n x : ℕ) (st : State) → AreFirst st.cells → FirstNext (end_object o n x st)
-end_object_first None n x st h = tt
-end_object_first (Some o) n x st h = set_first st.cells x Empty h tt
+end_typed_first : (types : Types) (o : Option Object) (n x : ℕ) (st : State) → AreFirst st.cells → FirstNext (end_typed types o n x st)
+end_typed_first types None n x st h = tt
+end_typed_first types (Some o) n x st h = set_first st.cells x Empty h tt
 
-end_cell_first : (o : Option Cell) (x : ℕ) (st : State) → AreFirst st.cells → FirstNext (end_cell o x st)
-end_cell_first None x st h = tt
-end_cell_first (Some Empty) x st h = tt
-end_cell_first (Some (Named n)) x st h = end_object_first (at st.world.content.objects n) n x st h
-end_cell_first (Some (Number z)) x st h = tt
-end_cell_first (Some (Points p)) x st h = set_first st.cells x Empty h tt
+end_cell_first : (types : Types) (o : Option Cell) (x : ℕ) (st : State) → AreFirst st.cells → FirstNext (end_cell types o x st)
+end_cell_first types None x st h = tt
+end_cell_first types (Some Empty) x st h = tt
+end_cell_first types (Some (Named n)) x st h = end_typed_first types (at st.world.content.objects n) n x st h
+end_cell_first types (Some (Number z)) x st h = tt
+end_cell_first types (Some (Points p)) x st h = set_first st.cells x Empty h tt
 
-ends_first : (xs : List ℕ) (st : State) → AreFirst st.cells → FirstNext (end_locals xs st)
-ends_first [] st h = h
-ends_first (x ∷ xs) st h = next_first (end_cell (cell st x) x st) (end_locals xs) (end_cell_first (cell st x) x st h) (ends_first xs)
+ends_first : (types : Types) (xs : List ℕ) (st : State) → AreFirst st.cells → FirstNext (end_locals types xs st)
+ends_first types [] st h = h
+ends_first types (x ∷ xs) st h = next_first (end_cell types (cell st x) x st) (end_locals types xs) (end_cell_first types (cell st x) x st h) (ends_first types xs)
 
 computed_first : (r : ℕ) (computed : Computed) (st : State) → AreFirst st.cells → FirstNext (computed_into r computed st)
 computed_first r (Ok z) st h = set_first st.cells r (Number z) h tt
@@ -178,7 +178,7 @@ repointed_first p q st h = go (cell st q) refl
 
 pub does_first : (s : Setting) (types : Types) (f : Function) (i : Step) (st : State) → AreFirst st.cells → FirstNext (does s types f i st)
 does_first s types f (Live x form) st h = live_first s types f (slice_get f.locals x) form x st h
-does_first s types f (End xs) st h = ends_first xs st h
+does_first s types f (End xs) st h = ends_first types xs st h
 does_first s types f (Eval r o) st h = evaluated_first types f r o st h
 does_first s types f (Load r o) st h = found_first (locate o st) _ (λ n i object. set_first st.cells r _ h tt)
 does_first s types f (Save o r) st h = number_first (cell st r) _ (λ z. found_first (locate o st) _ (λ n i object. h))

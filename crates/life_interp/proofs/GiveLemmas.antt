@@ -28,7 +28,8 @@ use Rattle.life_interp.specs.Cells.{state_of}
 use Rattle.life_interp.specs.Fits.{most_births, AreNumbers, CanBear, CanStep, CellFits, CellsFit, Gives, Grows, IsNumber}
 use Rattle.life_interp.specs.declared.value.Cell.{Cell}
 use Rattle.life_interp.proofs.FitLemmas.{cell_fits}
-use Rattle.life_interp.proofs.NumberLemmas.{numbers_born, numbers_with, unborn, IsNewValue}
+use Rattle.life_interp.proofs.NumberLemmas.{unborn, IsNewValue}
+use Rattle.life_interp.proofs.Numbers.{numbers_born, numbers_written}
 
 -- ---- an object with a value
 
@@ -69,7 +70,7 @@ live_more z ty c none =
 
 pub numbers_given : (types : Types) (m : Content) (z : ℤ) (ty : TyId) → AreNumbers types m → IsNumber types ty → AreNumbers types (given_content z ty m)
 numbers_given types m z ty h is =
-    numbers_with types (with_value_object ty m) m.births (m.births + 1) (m.clock + 1) (with_word 0 0 (word_of_number z) (value_object ty m.clock)) (numbers_born types m ty h is) is
+    numbers_written types (with_value_object ty m) (numbers_born types m h ty is) m.births 0 (word_of_number z) (value_object ty m.clock) (at-set_same (set m.objects m.births (newborn ty 1 1 m.clock)) m.births m.births (value_object ty m.clock) refl)
 
 pub given_gives : (kinds : Kinds) (c e : Content) (rows after : Rows) (z : ℤ) (ty : TyId) (limit : ℕ) → IsHoused kinds c rows → live_words_of c + 3 ≤ limit → seen kinds e after ≡ given_content z ty (seen kinds c rows) → Gives limit c e
 given_gives kinds c e rows after z ty limit h room is =

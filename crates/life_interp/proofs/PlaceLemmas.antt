@@ -32,7 +32,13 @@ ok_length shape o e = ap (λ (s : Shape). s.length) (same shape (shape_of o) e)
     same : (s t : Shape) → ◌≡◌ {A = Result Shape Dead} (Ok s) (Ok t) → s ≡ t
     same s t h = cc
 
-err_none : (d : Dead) (x : Option Object) → ◌≡◌ {A = Result Shape Dead} (Err d) (asked_of x shape_of) → x ≡ None
+-- what has a shape lives
+pub ok_lives : (shape : Shape) (x : Option Object) → ◌≡◌ {A = Result Shape Dead} (Ok shape) (asked_of x shape_of) → (o : Object) × (x ≡ Some o)
+ok_lives shape None e = absurd (ok_none shape None refl e)
+ok_lives shape (Some o) e = (o, refl)
+
+-- .. and nothing else does
+pub err_none : (d : Dead) (x : Option Object) → ◌≡◌ {A = Result Shape Dead} (Err d) (asked_of x shape_of) → x ≡ None
 err_none d None e = refl
 err_none d (Some o) e = absurd (clash e)
   where

@@ -38,6 +38,7 @@ use Rattle.life_interp.specs.declared.frames.Waiting.{Waiting}
 use Rattle.life_interp.specs.declared.outcome.Outcome.TheVariants as outcome
 use Rattle.life_interp.proofs.CodeLists.{function_there}
 use Rattle.life_interp.proofs.FirstWords.{AreFirst}
+use Rattle.life_interp.proofs.Numbers.{no_numbers}
 use Rattle.life_interp.proofs.SameCalls.{entry_same, parameters_same}
 use Rattle.life_interp.proofs.Walks.{calls_come, ends_alone, enters_standing, EndsAs}
 
@@ -168,7 +169,7 @@ module _ (given : Given) (p : Program) (entry : ℕ) (f : Function) (input : Lis
           let texts = length p.texts in
           let one = all entry f there in
           let same = ap (run_from f.place first) (called_is d eq ∙ ap (λ x. begun x first (body d)) is) in
-          let stands = enters_standing s p f [] arguments first one.ready (first_suited p f input admitted) (first_housed p.types f f.parameters input) (arguments_first p.types f 0 f.parameters input) st is in
+          let stands = enters_standing s p f [] arguments first one.ready (first_suited p f input admitted) (first_housed p.types f f.parameters input) (arguments_first p.types f 0 f.parameters input) (no_numbers p.types).single st is in
           let ends = ends_alone s p [] f (calls s p d) (calls_come s p texts all d [] (omega (arith, eq))) arguments texts all one (calls_good s p texts all d) (λ u left. entry_same p.types f u left.leaving.sorted admitted.values) refl n st stands in
           let walked = same_end f.place first (body d st) _ ends (found_as _ same) in
           same

@@ -19,7 +19,7 @@ use Rattle.life_store.specs.Doing.{Setting, Effect, Next, Traps, Faults, Strays,
 use Rattle.life_store.specs.Iterators.{at_index}
 use Rattle.life_store.specs.Meaning as meaning
 use Rattle.life_store.specs.Meaning.{pointer_test, tested, whole_tested}
-use Rattle.life_store.specs.Parts.{Single, local_parts, local_type, location_type, target_type, word_within}
+use Rattle.life_store.specs.Parts.{Parts, local_parts, local_type, parts_at, location_type, target_type, word_within}
 use Rattle.life_store.specs.State.{Characters, Target, Pointer, Null, Wild, To, Static, Cell, Empty, Named, Number, Points, State, ready_of}
 use Rattle.life_store.proofs.CellLemmas.{held_is, pointer_cell, set_sorted, view_cell}
 use Rattle.life_store.proofs.Found.{IsThere, operand_there}
@@ -30,6 +30,7 @@ use Rattle.life_store.proofs.Waiting.{aims_behind}
 use Rattle.life_store.proofs.WholeLocals.{object_single, whole_cell, whole_pointed}
 use Rattle.life_interp.specs.SoFar as so_far
 use Rattle.life_interp.proofs.FirstWords.{AreFirst, get_first}
+use Rattle.life_interp.proofs.SingleSteps.{IsSingle, SingleNext, end_single}
 
 -- ---- one after the other
 
@@ -145,45 +146,46 @@ same_cells : {a b : State} → Next a ≡ Next b → a.cells ≡ b.cells
 same_cells e = cc
 
 module _ (types : Types) (f : Function) where
-  -- what owns nothing ends alone
-  object_end_same : (o : Option Object) (n x : ℕ) (st : State) → doing.end_object Single o n x st ≡ so_far.end_object o n x st
-  object_end_same None n x st = refl
-  object_end_same (Some o) n x st = refl
+  -- the object's parts are the local's
+  object_end_same : (parts : Parts) (o : Option Object) (n x : ℕ) (st : State) → ((p : Object) → o ≡ Some p → parts ≡ parts_at types p.ty) → doing.end_object parts o n x st ≡ so_far.end_typed types o n x st
+  object_end_same parts None n x st same = refl
+  object_end_same parts (Some o) n x st same = ap (λ p. doing.end_object p (Some o) n x st) (same o refl)
 
-  end_same : (x : ℕ) (st : State) → IsSorted types f st.cells → doing.end_cell (local_parts types f x) (cell st x) x st ≡ so_far.end_cell (cell st x) x st
-  end_same x st sorted = go (cell st x) refl
+  end_same : (x : ℕ) (st : State) → IsSorted types f st.cells → IsSingle types st → doing.end_cell (local_parts types f x) (cell st x) x st ≡ so_far.end_cell types (cell st x) x st
+  end_same x st sorted single = go (cell st x) refl
     where
-      go : (o : Option Cell) → slice_get st.cells x ≡ o → doing.end_cell (local_parts types f x) o x st ≡ so_far.end_cell o x st
+      go : (o : Option Cell) → slice_get st.cells x ≡ o → doing.end_cell (local_parts types f x) o x st ≡ so_far.end_cell types o x st
       go None e = refl
       go (Some Empty) e = refl
       go (Some (Number z)) e = refl
       go (Some (Points p)) e = refl
       go (Some (Named n)) e =
-          ap (λ parts. doing.end_object parts (at st.world.content.objects n) n x st) (object_single types f x (named_sort types f st.cells x n sorted e))
-          ∙ object_end_same (at st.world.content.objects n) n x st
+          object_end_same (local_parts types f x) (at st.world.content.objects n) n x st
+          (λ o there. object_single types f x (named_sort types f st.cells x n sorted e) ∙ sym (single n o there))
 
-  -- .. and leaves a blank
-  ended_is : (x : ℕ) (o : Option Cell) (st st' : State) → so_far.end_cell o x st ≡ Next st' → st'.cells ≡ slice_set st.cells x Empty
+  -- .. and it leaves a blank
+  ended_is : (x : ℕ) (o : Option Cell) (st st' : State) → so_far.end_cell types o x st ≡ Next st' → st'.cells ≡ slice_set st.cells x Empty
   ended_is x None st st' e = absurd (strays_on e)
   ended_is x (Some Empty) st st' e = absurd (strays_on e)
   ended_is x (Some (Number z)) st st' e = absurd (strays_on e)
   ended_is x (Some (Points p)) st st' e = sym (same_cells e)
   ended_is x (Some (Named n)) st st' e = go (at st.world.content.objects n) e
     where
-      go : (o : Option Object) → so_far.end_object o n x st ≡ Next st' → st'.cells ≡ slice_set st.cells x Empty
+      go : (o : Option Object) → so_far.end_typed types o n x st ≡ Next st' → st'.cells ≡ slice_set st.cells x Empty
       go None e = absurd (strays_on e)
       go (Some o) e = sym (same_cells e)
 
-  ends_same : (xs : List ℕ) (st : State) → IsSorted types f st.cells → doing.end_locals types f xs st ≡ so_far.end_locals xs st
-  ends_same [] st sorted = refl
-  ends_same (x ∷ xs) st sorted =
-      ap (λ e. on_next e (doing.end_locals types f xs)) (end_same x st sorted)
-      ∙ next_same (so_far.end_cell (cell st x) x st) (doing.end_locals types f xs) (so_far.end_locals xs)
-      (λ st' e. ends_same xs st' (subst (IsSorted types f) (sym (ended_is x (cell st x) st st' e)) (set_sorted types f st.cells x Empty tt sorted)))
+  ends_same : (xs : List ℕ) (st : State) → IsSorted types f st.cells → IsSingle types st → doing.end_locals types f xs st ≡ so_far.end_locals types xs st
+  ends_same [] st sorted single = refl
+  ends_same (x ∷ xs) st sorted single =
+      ap (λ e. on_next e (doing.end_locals types f xs)) (end_same x st sorted single)
+      ∙ next_same (so_far.end_cell types (cell st x) x st) (doing.end_locals types f xs) (so_far.end_locals types xs)
+      (λ st' e. ends_same xs st' (subst (IsSorted types f) (sym (ended_is x (cell st x) st st' e)) (set_sorted types f st.cells x Empty tt sorted))
+      (subst (SingleNext types) e (end_single types (cell st x) x st single)))
 
 -- ---- the instructions
 
-module _ (s : Setting) (types : Types) (fs : List Function) (f : Function) (outer : List Cell) (st : State) (sorted : IsSorted types f st.cells) (h : Housed st.world.content (outer ++ st.cells)) (first : AreFirst st.cells) where
+module _ (s : Setting) (types : Types) (fs : List Function) (f : Function) (outer : List Cell) (st : State) (sorted : IsSorted types f st.cells) (h : Housed st.world.content (outer ++ st.cells)) (first : AreFirst st.cells) (single : IsSingle types st) where
   aim_same : (p : Location) (sort : Holding) (x : Source) → p.members ≡ [] → IsSourceSorted types f (ready_of st) sort x → doing.aimed s types f p x st ≡ so_far.aimed s p.local x st
   aim_same p sort source.Null whole ready = whole_pointed types f p st whole Null
   aim_same p sort (source.Text n) whole ready = whole_pointed types f p st whole (doing.viewed s.texts n)
@@ -213,7 +215,7 @@ module _ (s : Setting) (types : Types) (fs : List Function) (f : Function) (oute
 
   pub does_same : (i : Step) → IsPlain i → IsStepSorted types f fs (ready_of st) i → doing.does s types f i st ≡ so_far.does s types f i st
   does_same (Live x form) plain ready = live_same s types f (slice_get f.locals x) form x st ready.1
-  does_same (End xs) plain ready = ends_same types f xs st sorted
+  does_same (End xs) plain ready = ends_same types f xs st sorted single
   does_same (Eval r op) plain ready = refl
   does_same (Load r o) plain ready = place_same types f outer st sorted h first o (λ w n i object. Next (put_cell r (Number (number_in_word (word_at object i w))) st)) _ ready.1
   does_same (Save o r) plain ready = saved_same (cell st r)

@@ -39,11 +39,13 @@ use Rattle.life_store.proofs.Sorts.{IsSorted}
 use Rattle.life_store.proofs.Standing.{Standing, Leaving, IsHeld, GoodCalled, GoodCallee, proper_keeps}
 use Rattle.life_store.proofs.Waiting.{housed_more}
 use Rattle.life_store.specs.declared.run.TrapKind.TheVariants as trap
+use Rattle.life_interp.specs.Fits.{AreSingle}
 use Rattle.life_interp.specs.SoFar as so_far
 use Rattle.life_interp.specs.Walk.{Waiting, at_action, at_node, at_point, back, called_in, chosen, entered_in, let_in, moved, walk}
 use Rattle.life_interp.proofs.FirstWords.{AreFirst, FirstHanded, FirstNext, all_handed_first, does_first, frame_first, parameters_first, results_first, target_first}
 use Rattle.life_interp.proofs.SameCalls.{IsResult, handed_same, parameters_same, result_same, taken_same}
 use Rattle.life_interp.proofs.SameSteps.{does_same, test_same}
+use Rattle.life_interp.proofs.SingleSteps.{IsSingle, SingleNext, does_single, parameters_single, target_single}
 
 -- what a stop says of how the machine ends: of a step that strays nothing
 abbrev EndsAt : Stop → World → Called → Type 0
@@ -66,22 +68,23 @@ EndsAs (Quit stop w) c = EndsAt stop w c
 
 -- what a call says of how the machine goes on, that enters a function with a result of this sort while a frame waits
 abbrev pub Comes : (s : Setting) (p : Program) → List Waiting → Waiting → World → ℕ → Holding → Called → Called → Type 0
-Comes s p ws v before n sort c (Back m w values) = (m ≤ n) × (result : List Cell) × (c ≡ back s p (walk s p m) (v ∷ ws) m w result) × IsResult sort values result × AreFirst result
+Comes s p ws v before n sort c (Back m w values) = (m ≤ n) × (result : List Cell) × (c ≡ back s p (walk s p m) (v ∷ ws) m w result) × IsResult sort values result × AreFirst result × AreSingle p.types w.content
 Comes s p ws v before n sort c (Barred kind) = c ≡ Quit (Trapped kind v.place) before
 Comes s p ws v before n sort c (Quit stop w) = EndsAt stop w c
 
 -- each call does what the machine does with it, where what is handed over suits the function
 abbrev pub CallsCome : (s : Setting) (p : Program) → List Waiting → Callee → Type 0
 CallsCome s p ws call = (v : Waiting) (g : ℕ) (k : Function) (outer xs : List Cell) (n : ℕ) (w : World) → slice_get p.functions g ≡ Some k → AreSuited (parameter_sorts p.types k) xs → Housed w.content (outer ++ xs) → AreFirst xs
-    → Comes s p ws v w n (result_sort p.types k) (called_in s p (walk s p n) ws v w (slice_get p.functions g) (Some xs)) (call g xs n w)
+    → AreSingle p.types w.content → Comes s p ws v w n (result_sort p.types k) (called_in s p (walk s p n) ws v w (slice_get p.functions g) (Some xs)) (call g xs n w)
 
 -- what each point asks of a state, and what holds where the function is left
 abbrev pub Stands : Types → Function → List Cell → ℕ → State → Type 0
-Stands types f outer q st = Standing types f outer q st × AreFirst st.cells
+Stands types f outer q st = Standing types f outer q st × AreFirst st.cells × IsSingle types st
 
 pub record IsLeft (types : Types) (f : Function) (outer : List Cell) (st : State) : Type 0 where
   pub leaving : Leaving types f outer st
   pub first : AreFirst st.cells
+  pub single : IsSingle types st
 
 module _ (s : Setting) (p : Program) (ws : List Waiting) (f : Function) (call : Callee) (come : CallsCome s p ws call)
     (outer : List Cell) (texts : ℕ) (all : AreProperFunctions p.types texts p.functions) (proper : IsProperFunction p.types texts p.functions f) (callee : GoodCallee p.types p.functions call) where
@@ -108,9 +111,9 @@ module _ (s : Setting) (p : Program) (ws : List Waiting) (f : Function) (call : 
   asked q l st way here = point_sorted types texts p.functions f all proper q (ready_of st) l way here
 
   -- it stands there, and its pointers point to first words
-  at_both : (to : Option ℕ) (st : State) → InvAt (Standing types f outer) to st → AreFirst st.cells → At to st
-  at_both None st g h = g
-  at_both (Some q) st g h = (g, h)
+  at_both : (to : Option ℕ) (st : State) → InvAt (Standing types f outer) to st → AreFirst st.cells → IsSingle types st → At to st
+  at_both None st g h i = g
+  at_both (Some q) st g h i = (g, h, i)
 
   -- the machine, of which this is the end, goes on as the statement answers
   abbrev Agree : Exits → ℕ → Called → Answer → Type 0
@@ -143,24 +146,24 @@ module _ (s : Setting) (p : Program) (ws : List Waiting) (f : Function) (call : 
   step : (n q : ℕ) (st : State) (l : Linked) → numbered code q ≡ Some l → on (suc n) (Some q) st ≡ at_node s p (walk s p n) ws f l.spot.node l.spot.place l.leads n st
   step n q st l h = ap (λ o. at_point s p (walk s p n) ws f o n st) h
 
-  paid_agrees : (place : Place) (before : World) (x : Exits) (n : ℕ) (e : Effect) → Good x (paid place before e n) → FirstNext e → Agree x (suc n) (moved (on n x.next) place before e) (paid place before e n)
-  paid_agrees place before x n (Next st) good first = (omega arith, refl, at_both x.next st good first)
-  paid_agrees place before x n (Traps kind) good first = refl
-  paid_agrees place before x n (Faults kind) good first = refl
-  paid_agrees place before x n Strays good first = tt
+  paid_agrees : (place : Place) (before : World) (x : Exits) (n : ℕ) (e : Effect) → Good x (paid place before e n) → FirstNext e → SingleNext types e → Agree x (suc n) (moved (on n x.next) place before e) (paid place before e n)
+  paid_agrees place before x n (Next st) good first single = (omega arith, refl, at_both x.next st good first single)
+  paid_agrees place before x n (Traps kind) good first single = refl
+  paid_agrees place before x n (Faults kind) good first single = refl
+  paid_agrees place before x n Strays good first single = tt
 
   -- a step that is another one, whose cells point to first words
-  same_agrees : (place : Place) (before : World) (x : Exits) (n : ℕ) (e e' : Effect) → e ≡ e' → Good x (paid place before e n) → FirstNext e' → Agree x (suc n) (moved (on n x.next) place before e') (paid place before e n)
-  same_agrees place before x n e e' same good first =
-      agree_from x (suc n) (suc n) _ _ (paid place before e n) (omega arith) (ap (moved (on n x.next) place before) (sym same)) (paid_agrees place before x n e good (subst FirstNext (sym same) first))
+  same_agrees : (place : Place) (before : World) (x : Exits) (n : ℕ) (e e' : Effect) → e ≡ e' → Good x (paid place before e n) → FirstNext e' → SingleNext types e' → Agree x (suc n) (moved (on n x.next) place before e') (paid place before e n)
+  same_agrees place before x n e e' same good first single =
+      agree_from x (suc n) (suc n) _ _ (paid place before e n) (omega arith) (ap (moved (on n x.next) place before) (sym same)) (paid_agrees place before x n e good (subst FirstNext (sym same) first) (subst (SingleNext types) (sym same) single))
 
   -- ---- instructions of a state that stands at its point
 
-  module _ (st : State) (sorted : IsSorted types f st.cells) (housed : Housed st.world.content (outer ++ st.cells)) (first : AreFirst st.cells) where
+  module _ (st : State) (sorted : IsSorted types f st.cells) (housed : Housed st.world.content (outer ++ st.cells)) (first : AreFirst st.cells) (single : IsSingle types st) where
     own_agrees : (place : Place) (i : Step) (x : Exits) (n : ℕ) → IsPlain i → IsStepSorted types f p.functions (ready_of st) i → Good x (paid place st.world (doing.does s types f i st) n)
         → Agree x (suc n) (moved (on n x.next) place st.world (so_far.does s types f i st)) (paid place st.world (doing.does s types f i st) n)
     own_agrees place i x n plain ready good =
-        same_agrees place st.world x n (doing.does s types f i st) (so_far.does s types f i st) (does_same s types p.functions f outer st sorted housed first i plain ready) good (does_first s types f i st first)
+        same_agrees place st.world x n (doing.does s types f i st) (so_far.does s types f i st) (does_same s types p.functions f outer st sorted housed first single i plain ready) good (does_first s types f i st first) (does_single types s f i st single)
 
     -- behind a call
     back_agrees : (place : Place) (k : Function) (target : Option Location) (xs : List Argument) (x : Exits) (n : ℕ) (c r : Called) → IsCallSorted types f (ready_of st) (Some k) target xs
@@ -170,7 +173,7 @@ module _ (s : Setting) (p : Program) (ws : List Waiting) (f : Function) (call : 
         let same = taken_same s types f (result_sort types k) (parameter_sorts types k) target xs values h.1 st w ready.0 ready.1 gives.1 h.3 in
         let e = whole.taken_back s types f target xs values (with_world w (lent types f xs st)) in
         agree_from x (suc m) (suc n) c _ (paid place w e m) (omega (arith, h.0)) h.2
-        (same_agrees place w x m e (so_far.target_given s types f target h.1 (with_world w st)) same good (target_first s types f target h.1 (with_world w st) first h.4))
+        (same_agrees place w x m e (so_far.target_given s types f target h.1 (with_world w st)) same good (target_first s types f target h.1 (with_world w st) first h.4) (target_single types s f target h.1 (with_world w st) h.5))
     back_agrees place k target xs x n c (Barred kind) ready gives h good = h
     back_agrees place k target xs x n c (Quit stop w) ready gives h good = h
 
@@ -190,7 +193,7 @@ module _ (s : Setting) (p : Program) (ws : List Waiting) (f : Function) (call : 
         ∙ ap (λ o. came_back s types f place target xs st (call_with call g o n st.world)) handed.are in
         let inside = housed_more st.world.content (outer ++ st.cells) handed.values housed handed.loose in
         let firsts : AreFirst handed.values = subst FirstHanded same (all_handed_first st xs first) in
-        let comes = come v g k (outer ++ st.cells) handed.values n st.world is handed.suited inside firsts in
+        let comes = come v g k (outer ++ st.cells) handed.values n st.world is handed.suited inside firsts single in
         let gives = callee g k (outer ++ st.cells) handed.values n st.world is handed.suited inside in
         subst (Agree x (suc n) (called_in s p (walk s p n) ws v st.world (slice_get p.functions g) (so_far.all_handed st xs))) (sym back_is)
         (agree_from x (suc n) (suc n) _ _ (came_back s types f place target xs st r) (omega arith) (ap (called_in s p (walk s p n) ws v st.world (slice_get p.functions g)) same)
@@ -223,24 +226,24 @@ module _ (s : Setting) (p : Program) (ws : List Waiting) (f : Function) (call : 
   acts_agree place i q x h zero st inv = refl
   acts_agree place i q x h (suc n) st inv =
       agree_from x (suc n) (suc n) _ _ (act s types f call place i n st) (omega arith) (step n q st (record { spot = spot_at place (Action i); leads = goes x.next }) h)
-      (act_agrees st inv.0.sorted inv.0.housed inv.1 place i x n (asked q _ st inv.0.reached h) (keeps.acts q place i x h n st inv.0))
+      (act_agrees st inv.0.sorted inv.0.housed inv.1 inv.2 place i x n (asked q _ st inv.0.reached h) (keeps.acts q place i x h n st inv.0))
 
   -- ---- tests of a state whose cells point to first words
 
   abbrev GoodTest : Option ℕ → Option ℕ → Verdict → Type 0
   GoodTest = GoodVerdict (Standing types f outer) IsHeld
 
-  module _ (held failed : Option ℕ) (n : ℕ) (st : State) (first : AreFirst st.cells) where
+  module _ (held failed : Option ℕ) (n : ℕ) (st : State) (first : AreFirst st.cells) (single : IsSingle types st) where
     by_number_agrees : (z : ℤ) → GoodTest held failed (by_number z n st) → AgreeTest held failed (suc n) (chosen (on n) held failed (by_number z n st)) (by_number z n st)
-    by_number_agrees (pos zero) g = (omega arith, refl, at_both failed st g first)
-    by_number_agrees (pos (suc z)) g = (omega arith, refl, at_both held st g first)
-    by_number_agrees (negsuc z) g = (omega arith, refl, at_both held st g first)
+    by_number_agrees (pos zero) g = (omega arith, refl, at_both failed st g first single)
+    by_number_agrees (pos (suc z)) g = (omega arith, refl, at_both held st g first single)
+    by_number_agrees (negsuc z) g = (omega arith, refl, at_both held st g first single)
 
     by_pointer_agrees : (p : Pointer) → GoodTest held failed (by_pointer p n st) → AgreeTest held failed (suc n) (chosen (on n) held failed (by_pointer p n st)) (by_pointer p n st)
-    by_pointer_agrees Null g = (omega arith, refl, at_both failed st g first)
-    by_pointer_agrees Wild g = (omega arith, refl, at_both held st g first)
-    by_pointer_agrees (To t) g = (omega arith, refl, at_both held st g first)
-    by_pointer_agrees (Static c) g = (omega arith, refl, at_both held st g first)
+    by_pointer_agrees Null g = (omega arith, refl, at_both failed st g first single)
+    by_pointer_agrees Wild g = (omega arith, refl, at_both held st g first single)
+    by_pointer_agrees (To t) g = (omega arith, refl, at_both held st g first single)
+    by_pointer_agrees (Static c) g = (omega arith, refl, at_both held st g first single)
 
     number_agrees : (o : Option Cell) → GoodTest held failed (number_test o n st) → AgreeTest held failed (suc n) (chosen (on n) held failed (number_test o n st)) (number_test o n st)
     number_agrees None g = tt
@@ -267,14 +270,14 @@ module _ (s : Setting) (p : Program) (ws : List Waiting) (f : Function) (call : 
       let same = test_same types f t n st inv.0.sorted (asked q _ st inv.0.reached h) in
       test_from held failed (suc n) (suc n) _ _ (meaning.test_at types f t n st) (omega arith) (step n q st (record { spot = spot_at place (Question t); leads = parts held failed }) h)
       (subst (AgreeTest held failed (suc n) (chosen (on n) held failed (so_far.test_at t n st))) (sym same)
-      (test_at_agrees held failed n st inv.1 t (subst (GoodTest held failed) same (keeps.asks q place t held failed h n st inv.0))))
+      (test_at_agrees held failed n st inv.1 inv.2 t (subst (GoodTest held failed) same (keeps.asks q place t held failed h n st inv.0))))
 
   leave_agrees : (place : Place) (q : ℕ) (x : Exits) → numbered code q ≡ Some (record { spot = spot_at place Return; leads = [] }) → (n : ℕ) (st : State) → Stands types f outer q st → Agree x n (on n (Some q) st) (leave n st)
   leave_agrees place q x h zero st inv = refl
   leave_agrees place q x h (suc n) st inv = (
     omega arith,
     step n q st (record { spot = spot_at place Return; leads = [] }) h,
-    record { leaving = keeps.returns q place h st inv.0; first = inv.1 },
+    record { leaving = keeps.returns q place h st inv.0; first = inv.1; single = inv.2 },
   )
 
   stop_agrees : (place : Place) (q : ℕ) (x : Exits) → numbered code q ≡ Some (record { spot = spot_at place StopHere; leads = [] }) → (n : ℕ) (st : State) → Agree x n (on n (Some q) st) (stop_at place n st)
@@ -458,7 +461,7 @@ module _ (s : Setting) (p : Program) (ws : List Waiting) (f : Function) (call : 
   finished v vs e before n c (Broke m st) h = tt
   finished v vs e before n c (Continued m st) h = tt
   finished v vs e before n c (Returned m st) h =
-      (h.0, so_far.results types f st, h.1 ∙ ap (λ us. back s p (walk s p m) us m st.world (so_far.results types f st)) e, result_same types f st h.2.leaving.sorted h.2.leaving.ready, results_first types f st h.2.first)
+      (h.0, so_far.results types f st, h.1 ∙ ap (λ us. back s p (walk s p m) us m st.world (so_far.results types f st)) e, result_same types f st h.2.leaving.sorted h.2.leaving.ready, results_first types f st h.2.first, h.2.single)
   finished v vs e before n c (Stopped stop w) h = h
 
   -- the machine, from where control enters the body on, goes on as the body does
@@ -486,15 +489,17 @@ module _ (s : Setting) (p : Program) (ws : List Waiting) (f : Function) (call : 
 
 -- a frame that is entered stands at the first point
 pub enters_standing : (s : Setting) (p : Program) (k : Function) (outer xs : List Cell) (w : World) → HasReadyWays p.types k → AreSuited (parameter_sorts p.types k) xs → Housed w.content (outer ++ xs) → AreFirst xs
-    → (st : State) → whole.parameters_given s p.types k 0 xs (frame k w) ≡ Next st → InvAt (Stands p.types k (outer ++ xs)) (enter k.body 1 no_exits) st
-enters_standing s p k outer xs w proper suited housed first st e =
+    → AreSingle p.types w.content → (st : State) → whole.parameters_given s p.types k 0 xs (frame k w) ≡ Next st → InvAt (Stands p.types k (outer ++ xs)) (enter k.body 1 no_exits) st
+enters_standing s p k outer xs w proper suited housed first single st e =
     let gives = subst (Gives p.types k (outer ++ xs) (entry_ready k)) e (entry_gives outer s p.types k xs w housed suited) in
-    let firsts = subst FirstNext (sym (parameters_same s p.types k (parameter_sorts p.types k) xs 0 (frame k w) suited) ∙ e) (parameters_first s p.types k 0 xs (frame k w) (frame_first k w) first) in
-    go (enter k.body 1 no_exits) (first_stands p.types k (outer ++ xs) st (enter k.body 1 no_exits) refl proper.begins gives.0 gives.1.0 gives.1.1) firsts
+    let given = sym (parameters_same s p.types k (parameter_sorts p.types k) xs 0 (frame k w) suited) ∙ e in
+    let firsts = subst FirstNext given (parameters_first s p.types k 0 xs (frame k w) (frame_first k w) first) in
+    let singles = subst (SingleNext p.types) given (parameters_single p.types s k 0 xs (frame k w) single) in
+    go (enter k.body 1 no_exits) (first_stands p.types k (outer ++ xs) st (enter k.body 1 no_exits) refl proper.begins gives.0 gives.1.0 gives.1.1) firsts singles
   where
-    go : (to : Option ℕ) → InvAt (Standing p.types k (outer ++ xs)) to st → AreFirst st.cells → InvAt (Stands p.types k (outer ++ xs)) to st
-    go None g h = g
-    go (Some q) g h = (g, h)
+    go : (to : Option ℕ) → InvAt (Standing p.types k (outer ++ xs)) to st → AreFirst st.cells → IsSingle p.types st → InvAt (Stands p.types k (outer ++ xs)) to st
+    go None g h i = g
+    go (Some q) g h i = (g, h, i)
 
 module _ (s : Setting) (p : Program) (texts : ℕ) (all : AreProperFunctions p.types texts p.functions) (d : ℕ) (ws : List Waiting) (v : Waiting) (come : CallsCome s p (v ∷ ws) (calls s p d)) (n : ℕ) (w : World) where
   begun_comes : (k : Function) (outer : List Cell) → IsProperFunction p.types texts p.functions k → (e : Effect) → ((st : State) → e ≡ Next st → InvAt (Stands p.types k outer) (enter k.body 1 no_exits) st)
@@ -505,22 +510,22 @@ module _ (s : Setting) (p : Program) (texts : ℕ) (all : AreProperFunctions p.t
   begun_comes k outer one Strays stands = tt
 
   callee_comes : (g : ℕ) (k : Function) (outer xs : List Cell) → slice_get p.functions g ≡ Some k → AreSuited (parameter_sorts p.types k) xs → Housed w.content (outer ++ xs) → AreFirst xs
-      → Comes s p ws v w n (result_sort p.types k) (entered_in s p (walk s p n) (v ∷ ws) v.place w (slice_get p.functions g) xs) (entered s p.types (slice_get p.functions g) (calls s p d) xs n w)
-  callee_comes g k outer xs is suited housed first =
+      → AreSingle p.types w.content → Comes s p ws v w n (result_sort p.types k) (entered_in s p (walk s p n) (v ∷ ws) v.place w (slice_get p.functions g) xs) (entered s p.types (slice_get p.functions g) (calls s p d) xs n w)
+  callee_comes g k outer xs is suited housed first single =
       let one = all g k is in
       let e = whole.parameters_given s p.types k 0 xs (frame k w) in
       let same = parameters_same s p.types k (parameter_sorts p.types k) xs 0 (frame k w) suited in
       let body = λ (st : State). finish p.types k (exec s p.types k (calls s p d) k.body n st) in
       subst (λ o. Comes s p ws v w n (result_sort p.types k) (entered_in s p (walk s p n) (v ∷ ws) v.place w o xs) (entered s p.types o (calls s p d) xs n w)) (sym is)
       (subst (λ x. Comes s p ws v w n (result_sort p.types k) (let_in (walk s p n (v ∷ ws) k (enter k.body 1 no_exits)) v.place w x) (begun e w body)) same
-      (begun_comes k (outer ++ xs) one e (enters_standing s p k outer xs w one.ready suited housed first)))
+      (begun_comes k (outer ++ xs) one e (enters_standing s p k outer xs w one.ready suited housed first single)))
 
 module _ (s : Setting) (p : Program) (texts : ℕ) (all : AreProperFunctions p.types texts p.functions) where
   -- as many calls may stand in calls as there is room for frames
   pub calls_come : (d : ℕ) (ws : List Waiting) → length ws + 1 + d ≡ s.given.depth → CallsCome s p ws (calls s p d)
-  calls_come zero ws room v g k outer xs n w is suited housed first =
+  calls_come zero ws room v g k outer xs n w is suited housed first single =
       ap (λ b. cond b (entered_in s p (walk s p n) (v ∷ ws) v.place w (slice_get p.functions g) xs) (Quit (Trapped trap.Depth v.place) w)) (le-ltb (length (v ∷ ws)) s.given.depth (omega (arith, room)))
-  calls_come (suc d) ws room v g k outer xs n w is suited housed first =
+  calls_come (suc d) ws room v g k outer xs n w is suited housed first single =
       subst (λ b. Comes s p ws v w n (result_sort p.types k) (cond b (entered_in s p (walk s p n) (v ∷ ws) v.place w (slice_get p.functions g) xs) (Quit (Trapped trap.Depth v.place) w)) (calls s p (suc d) g xs n w))
       (sym (lt-ltb (length (v ∷ ws)) s.given.depth (omega (arith, room))))
-      (callee_comes s p texts all d ws v (calls_come d (v ∷ ws) (omega (arith, room))) n w g k outer xs is suited housed first)
+      (callee_comes s p texts all d ws v (calls_come d (v ∷ ws) (omega (arith, room))) n w g k outer xs is suited housed first single)

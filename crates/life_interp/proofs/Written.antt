@@ -16,7 +16,7 @@ use Rattle.life_core.specs.Holdings.{Holding, Blank, AnObject, ANumber, APointer
 use Rattle.life_core.specs.Step.{Step, Live, End, Eval, Load, Save, Copy, Move, Aim, Repoint, Element, Cursor, Advance, Cut, Size, Same, Changes, Make, Call, Port, Ports, Writes, WritesView, Takes, Test, NonZero, NotNull}
 use Rattle.life_core.specs.Tree.{Node, Action, Question, Return, Stop}
 use Rattle.life_store.specs.Doing.{Setting, put_cell, put_content, with_value_object, Effect, Next, Traps, Faults, Strays, Found, Here, Fixed, Outside, Wrong, Astray, cell, characters_in, found_at, input_taken, number_text, on_found, on_number, on_pointer, born_object, on_next, computed_into, evaluated, type_of}
-use Rattle.life_interp.specs.SoFar.{test_at, all_handed, born_with, given, given_if, given_to, number_given, parameters_given, results, target_given, does, on_view, live_as, live_over, live_local, end_object, end_cell, end_locals, aimed, port, locate}
+use Rattle.life_interp.specs.SoFar.{test_at, all_handed, born_with, given, given_if, given_to, number_given, parameters_given, results, target_given, does, on_view, live_as, live_over, live_local, end_typed, end_cell, end_locals, aimed, port, locate}
 use Rattle.life_store.specs.Cells.{at}
 use Rattle.life_store.specs.Content.{Object, live_words_of}
 use Rattle.life_store.specs.Meaning.{Verdict, Holds, Fails, Cut, by_number, by_pointer, frame, number_test, pointer_test, Called, Quit, Trapped}
@@ -101,16 +101,16 @@ live_begins : (s : Setting) (types : Types) (f : Function) (l : Option Local) (f
 live_begins s types f None form x st = tt
 live_begins s types f (Some l) form x st = live_over_begins s (cell st x) (sort_of types f x) l.ty form x st
 
-object_begins : (o : Option Object) (n x : ℕ) (st : State) → EffectBegins st.world.output (end_object o n x st)
-object_begins None n x st = tt
-object_begins (Some o) n x st = begins_itself st.world.output
+object_begins : (types : Types) (o : Option Object) (n x : ℕ) (st : State) → EffectBegins st.world.output (end_typed types o n x st)
+object_begins types None n x st = tt
+object_begins types (Some o) n x st = begins_itself st.world.output
 
-cell_begins : (o : Option Cell) (x : ℕ) (st : State) → EffectBegins st.world.output (end_cell o x st)
-cell_begins None x st = tt
-cell_begins (Some Empty) x st = tt
-cell_begins (Some (Named n)) x st = object_begins (at st.world.content.objects n) n x st
-cell_begins (Some (Number z)) x st = tt
-cell_begins (Some (Points p)) x st = begins_itself st.world.output
+cell_begins : (types : Types) (o : Option Cell) (x : ℕ) (st : State) → EffectBegins st.world.output (end_cell types o x st)
+cell_begins types None x st = tt
+cell_begins types (Some Empty) x st = tt
+cell_begins types (Some (Named n)) x st = object_begins types (at st.world.content.objects n) n x st
+cell_begins types (Some (Number z)) x st = tt
+cell_begins types (Some (Points p)) x st = begins_itself st.world.output
 
 next_begins : (front : List ℕ) (e : Effect) (go : State → Effect) → EffectBegins front e → ((st : State) → EffectBegins st.world.output (go st)) → EffectBegins front (on_next e go)
 next_begins front (Next st) go h k = further (go st) (k st)
@@ -124,9 +124,9 @@ next_begins front (Traps kind) go h k = tt
 next_begins front (Faults kind) go h k = tt
 next_begins front Strays go h k = tt
 
-ends_begin : (xs : List ℕ) (st : State) → EffectBegins st.world.output (end_locals xs st)
-ends_begin [] st = begins_itself st.world.output
-ends_begin (x ∷ xs) st = next_begins st.world.output (end_cell (cell st x) x st) (end_locals xs) (cell_begins (cell st x) x st) (ends_begin xs)
+ends_begin : (types : Types) (xs : List ℕ) (st : State) → EffectBegins st.world.output (end_locals types xs st)
+ends_begin types [] st = begins_itself st.world.output
+ends_begin types (x ∷ xs) st = next_begins st.world.output (end_cell types (cell st x) x st) (end_locals types xs) (cell_begins types (cell st x) x st) (ends_begin types xs)
 
 computed_begins : (r : ℕ) (computed : Computed) (st : State) → EffectBegins st.world.output (computed_into r computed st)
 computed_begins r (Ok z) st = begins_itself st.world.output
@@ -158,7 +158,7 @@ port_begins s types f (Takes r) st = taken_begins r st.world.input st
 
 does_begins : (s : Setting) (types : Types) (f : Function) (i : Step) (st : State) → EffectBegins st.world.output (does s types f i st)
 does_begins s types f (Live x form) st = live_begins s types f _ form x st
-does_begins s types f (End xs) st = ends_begin xs st
+does_begins s types f (End xs) st = ends_begin types xs st
 does_begins s types f (Eval r o) st = evaluated_begins types f r o st
 does_begins s types f (Load r o) st = found_begins st.world.output (locate o st) _ (λ n i object. begins_itself st.world.output)
 does_begins s types f (Save o r) st = number_begins st.world.output (cell st r) _ (λ z. found_begins st.world.output (locate o st) _ (λ n i object. begins_itself st.world.output))

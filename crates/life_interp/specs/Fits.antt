@@ -4,8 +4,10 @@ use Rattle.life_types.specs.Types.{Types}
 use Rattle.life_types.specs.declared.ty.TyId.{TyId}
 use Rattle.life_store.specs.Cells.{at}
 use Rattle.life_store.specs.Content.{Object, Content, live_words_of}
-use Rattle.life_store.specs.Kinds.{Plain}
+use Rattle.life_store.specs.Parts.{Single, parts_at}
 use Rattle.life_store.specs.References.{Rows}
+use Rattle.life_forest.specs.Owned.{alive}
+use Rattle.life_forest.specs.Typed.{IsStore}
 use Rattle.life_seen.specs.Housed.{IsHoused, IsRef}
 use Rattle.life_seen.specs.Kinds.{kinds_of}
 use Rattle.life_seen.specs.Seen.{seen}
@@ -20,14 +22,20 @@ use Rattle.life_interp.specs.declared.value.Pointer.TheVariants as leads
 abbrev pub meant : Types → Content → Rows → Content
 meant types c rows = seen (kinds_of types) c rows
 
--- each word of the type's values is a number
+-- each value of the type is one number
 abbrev pub IsNumber : Types → TyId → Type 0
-IsNumber types ty = (u : ℕ) → kinds_of types ty u ≡ Plain
+IsNumber types ty = parts_at types ty ≡ Single
 
-abbrev pub AreNumbers : Types → Content → Type 0
-AreNumbers types m = (n : ℕ) (o : Object) → at m.objects n ≡ Some o → IsNumber types o.ty
+-- .. and each object is one
+abbrev pub AreSingle : Types → Content → Type 0
+AreSingle types m = (n : ℕ) (o : Object) → at m.objects n ≡ Some o → IsNumber types o.ty
 
--- nothing in the store owns something or points: no program that is built so far has such an object
+-- nothing owns something or points: all that lives is in the hand. No program that is built so far has another object
+pub record AreNumbers (types : Types) (m : Content) : Type 0 where
+  pub single : AreSingle types m
+  pub store : IsStore types (alive m) m
+
+-- the store stands for such a content
 pub record HoldsNumbers (types : Types) (c : Content) (rows : Rows) : Type 0 where
   pub housed : IsHoused (kinds_of types) c rows
   pub numbers : AreNumbers types (meant types c rows)

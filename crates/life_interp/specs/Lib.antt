@@ -1,6 +1,7 @@
 pub mod Cells
 pub mod SoFar
 pub mod Fits
+pub mod Layouts
 pub mod Steps
 pub mod Walk
 pub mod Frames

@@ -11,9 +11,10 @@ use Rattle.life_core.specs.Holdings.{Holding, Blank, AnObject, ANumber, APointer
 use Rattle.life_core.specs.Step.{Step, Live, End, Eval, Load, Save, Aim, Repoint, Port, Ports, Writes, WritesView, Takes, Test, NonZero, NotNull}
 use Rattle.life_store.specs.Calls.{number_handed, pointer_handed, with_handed, number_or_zero, pointer_back}
 use Rattle.life_store.specs.Cells.{at}
-use Rattle.life_store.specs.Content.{Object, Content, with_object, with_word, without, word_at}
-use Rattle.life_store.specs.Doing.{Setting, Effect, Next, Strays, cell, put_cell, put_content, word_of_number, number_in_word, type_of, on_number, on_pointer, on_next, born_object, born_pointer, viewed, characters_in, Found, Wrong, Astray, found_at, named_by, is_valid, on_found, evaluated, with_output, number_text, input_taken}
+use Rattle.life_store.specs.Content.{Object, Content, with_object, with_word, word_at}
+use Rattle.life_store.specs.Doing.{Setting, Effect, Next, Strays, cell, put_cell, put_content, word_of_number, number_in_word, type_of, on_number, on_pointer, on_next, born_object, born_pointer, end_object, viewed, characters_in, Found, Wrong, Astray, found_at, named_by, is_valid, on_found, evaluated, with_output, number_text, input_taken}
 use Rattle.life_store.specs.Meaning.{Verdict, number_test, pointer_test}
+use Rattle.life_store.specs.Parts.{parts_at}
 use Rattle.life_store.specs.State.{Characters, Target, Pointer, Null, Wild, To, Static, Cell, Empty, Named, Number, Points, State}
 use Rattle.life_store.specs.declared.run.FaultKind.TheVariants as fault
 
@@ -63,21 +64,21 @@ abbrev pub live_local : Setting → Types → Function → Option Local → Form
 live_local s types f None form x st = Strays
 live_local s types f (Some l) form x st = live_over s (cell st x) (sort_of types f x) l.ty form x st
 
--- an object of a value owns nothing
-abbrev pub end_object : Option Object → ℕ → ℕ → State → Effect
-end_object None n x st = Strays
-end_object (Some o) n x st = Next (put_cell x Empty (put_content (without n st.world.content) st))
+-- by the parts of the object's own type, which is that of the local
+abbrev pub end_typed : Types → Option Object → ℕ → ℕ → State → Effect
+end_typed types None n x st = Strays
+end_typed types (Some o) n x st = end_object (parts_at types o.ty) (Some o) n x st
 
-abbrev pub end_cell : Option Cell → ℕ → State → Effect
-end_cell None x st = Strays
-end_cell (Some Empty) x st = Strays
-end_cell (Some (Named n)) x st = end_object (at st.world.content.objects n) n x st
-end_cell (Some (Number z)) x st = Strays
-end_cell (Some (Points p)) x st = Next (put_cell x Empty st)
+abbrev pub end_cell : Types → Option Cell → ℕ → State → Effect
+end_cell types None x st = Strays
+end_cell types (Some Empty) x st = Strays
+end_cell types (Some (Named n)) x st = end_typed types (at st.world.content.objects n) n x st
+end_cell types (Some (Number z)) x st = Strays
+end_cell types (Some (Points p)) x st = Next (put_cell x Empty st)
 
-abbrev pub end_locals : List ℕ → State → Effect
-end_locals [] st = Next st
-end_locals (x ∷ xs) st = on_next (end_cell (cell st x) x st) (end_locals xs)
+abbrev pub end_locals : Types → List ℕ → State → Effect
+end_locals types [] st = Next st
+end_locals types (x ∷ xs) st = on_next (end_cell types (cell st x) x st) (end_locals types xs)
 
 -- ---- the instructions
 
@@ -107,7 +108,7 @@ port s types f (Takes r) st = input_taken r st.world.input st
 
 abbrev pub does : Setting → Types → Function → Step → State → Effect
 does s types f (Live x form) st = live_local s types f (slice_get f.locals x) form x st
-does s types f (End xs) st = end_locals xs st
+does s types f (End xs) st = end_locals types xs st
 does s types f (Eval r operation) st = evaluated types f r operation st
 does s types f (Load r o) st = on_found (locate o st) (λ n i object. Next (put_cell r (Number (number_in_word (word_at object i 0))) st))
 does s types f (Save o r) st = on_number (cell st r) (λ z. on_found (locate o st) (λ n i object. Next (saved z n i object st)))

@@ -3,10 +3,12 @@ ghost use Rattle.std.specs.Prelude.{◌≡◌, ◌≤◌, ◌<◌, IfOk, IfSome,
 ghost use Rattle.life_core.specs.Function.{program_of};
 ghost use Rattle.life_core.specs.Linked.{code_of};
 ghost use Rattle.life_proper.specs.ProperPrograms.{IsProperProgram};
+ghost use Rattle.life_interp.specs.Layouts.{AreReady};
 ghost use Rattle.life_interp.specs.Runs.{links_seen, RunEnds};
 ghost use Rattle.life_store.specs.Meaning.{run_of, IsAdmitted};
 ghost use Rattle.life_store.specs.declared.run.Growth.{Growth as AnyGrowth};
 
+use crate::layouts::Layouts;
 use crate::outcome::Outcome;
 use crate::run::{MOST_STEPS, run_on};
 use life_base::Sink;
@@ -32,6 +34,7 @@ pub(crate) fn run_entry<'p, O: Sink>(
     alloc: Global,
     program: &'p CoreProgram,
     code: &[Vec<LinkRef<'p>>],
+    layouts: &Layouts,
     entry: FnId,
     input: &[i64],
     limits: Limits,
@@ -39,6 +42,7 @@ pub(crate) fn run_entry<'p, O: Sink>(
     out: &mut O,
 ) -> Outcome
     requires linked { map links_seen code.now ≡ map code_of (program_of program.now).functions }
+    requires layouts { AreReady (program_of program.now).types layouts.now }
     requires proper { IsProperProgram (program_of program.now) }
     requires entry { entry.0 < length (program_of program.now).functions }
     requires steps { steps ≤ MOST_STEPS }
@@ -53,6 +57,6 @@ pub(crate) fn run_entry<'p, O: Sink>(
     }
     let mut store = PlainStore::new(alloc, limits.cells);
     run_on(
-        alloc, program, code, entry, input, limits, steps, &mut store, out,
+        alloc, program, code, layouts, entry, input, limits, steps, &mut store, out,
     )
 }

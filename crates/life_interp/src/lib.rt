@@ -10,6 +10,7 @@ mod frame;
 mod frames;
 mod giving;
 mod handing;
+mod layouts;
 mod links;
 mod locals;
 mod machine;

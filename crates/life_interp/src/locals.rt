@@ -3,6 +3,7 @@ ghost use Rattle.std.specs.Prelude.{◌≡◌, ◌≤◌, ◌+◌, IfErr, IfOk, 
 ghost use Rattle.life_core.specs.Function.{function_of};
 ghost use Rattle.life_interp.specs.Cells.{pointer_seen};
 ghost use Rattle.life_interp.specs.Fits.{meant, CanBear, CanStep, Grows, IsFit, IsNumber};
+ghost use Rattle.life_interp.specs.Layouts.{AreReady};
 ghost use Rattle.life_interp.specs.Steps.{BirthFails, LeavesBoth};
 ghost use Rattle.life_seen.specs.Housed.{IsHoused, Later, Shows};
 ghost use Rattle.life_seen.specs.Kinds.{Kinds};
@@ -14,11 +15,13 @@ ghost use Rattle.life_interp.specs.SoFar.{end_cell, end_locals, live_local};
 
 use crate::ending::Ending;
 use crate::frame::{cell_at, put_cell};
+use crate::layouts::Layouts;
 use crate::sort::{Sort, sort_of};
 use crate::value::{Cell, Pointer};
 use life_core::{CoreFn, Form};
 use life_store::{BirthFault, ObjRef, Store, TrapKind};
 use life_types::{TyId, TypeTable};
+use life_values::end_deep;
 use life_words::born_sized;
 
 /// Brings a local to life.
@@ -120,12 +123,14 @@ pub(crate) fn new_object<S: Store>(store: &mut S, ty: TyId) -> Result<ObjRef, En
 /// Ends locals, in the order of the list.
 pub(crate) fn end<S: Store>(
     types: &TypeTable,
+    layouts: &Layouts,
     store: &mut S,
     cells: &mut Vec<Cell>,
     locals: &[u32],
 ) -> Result<(), Ending>
-    requires { IsFit types.now (S.content store.old) (S.rows store.old) cells.old.items }
-    ensures step { LeavesBoth (end_locals locals.now) (meant types.now (S.content store.old) (S.rows store.old)) cells.old.items (meant types.now (S.content store.new) (S.rows store.new)) cells.new.items result }
+    requires layouts { AreReady types.now layouts.now }
+    requires fits { IsFit types.now (S.content store.old) (S.rows store.old) cells.old.items }
+    ensures step { LeavesBoth (end_locals types.now locals.now) (meant types.now (S.content store.old) (S.rows store.old)) cells.old.items (meant types.now (S.content store.new) (S.rows store.new)) cells.new.items result }
     ensures fits { OnOk result (IsFit types.now (S.content store.new) (S.rows store.new) cells.new.items) }
     ensures later { OnOk result (Later (S.content store.old) (S.content store.new) (S.rows store.old) (S.rows store.new)) }
     ensures births { OnOk result ((S.content store.new).births ≡ (S.content store.old).births) }
@@ -133,7 +138,7 @@ pub(crate) fn end<S: Store>(
     ensures limit { S.limit store.new ≡ S.limit store.old }
 {
     for local in locals {
-        match end_one(types, store, cells, *local) {
+        match end_one(types, layouts, store, cells, *local) {
             Err(ending) => return Err(ending),
             Ok(()) => {}
         }
@@ -141,14 +146,17 @@ pub(crate) fn end<S: Store>(
     Ok(())
 }
 
+// Ends a local with all beneath its object.
 fn end_one<S: Store>(
     types: &TypeTable,
+    layouts: &Layouts,
     store: &mut S,
     cells: &mut Vec<Cell>,
     local: u32,
 ) -> Result<(), Ending>
-    requires { IsFit types.now (S.content store.old) (S.rows store.old) cells.old.items }
-    ensures step { LeavesBoth (λ st. end_cell (cell st local) local st) (meant types.now (S.content store.old) (S.rows store.old)) cells.old.items (meant types.now (S.content store.new) (S.rows store.new)) cells.new.items result }
+    requires layouts { AreReady types.now layouts.now }
+    requires fits { IsFit types.now (S.content store.old) (S.rows store.old) cells.old.items }
+    ensures step { LeavesBoth (λ st. end_cell types.now (cell st local) local st) (meant types.now (S.content store.old) (S.rows store.old)) cells.old.items (meant types.now (S.content store.new) (S.rows store.new)) cells.new.items result }
     ensures fits { OnOk result (IsFit types.now (S.content store.new) (S.rows store.new) cells.new.items) }
     ensures later { OnOk result (Later (S.content store.old) (S.content store.new) (S.rows store.old) (S.rows store.new)) }
     ensures births { OnOk result ((S.content store.new).births ≡ (S.content store.old).births) }
@@ -156,9 +164,10 @@ fn end_one<S: Store>(
     ensures limit { S.limit store.new ≡ S.limit store.old }
 {
     match cell_at(cells, local) {
-        Some(Cell::Object(object)) => match store.finish(object) {
+        Some(Cell::Object(object)) => match store.shape(object) {
             Err(_) => Err(Ending::Stray),
-            Ok(()) => {
+            Ok(_) => {
+                end_deep(types, &layouts.all, store, object, layouts.depth);
                 put_cell(cells, local, Cell::Empty);
                 Ok(())
             }

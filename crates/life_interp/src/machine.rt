@@ -3,10 +3,12 @@ ghost use Rattle.std.specs.Prelude.{◌≡◌, ◌≤◌, ◌<◌, IfOk, IfSome,
 ghost use Rattle.life_core.specs.Function.{program_of};
 ghost use Rattle.life_core.specs.Linked.{code_of};
 ghost use Rattle.life_proper.specs.ProperPrograms.{IsProperProgram};
+ghost use Rattle.life_interp.specs.Layouts.{AreReady};
 ghost use Rattle.life_interp.specs.Runs.{links_seen, RunEnds};
 ghost use Rattle.life_store.specs.Meaning.{run_of, IsAdmitted};
 
 use crate::entry::{all_links, run_entry};
+use crate::layouts::{Layouts, prepared};
 use crate::outcome::Outcome;
 use crate::run::MOST_STEPS;
 use life_base::Sink;
@@ -15,13 +17,15 @@ use life_store::{Growth, Limits};
 use life_types::NoMemory;
 use std::alloc::Global;
 
-/// A program, its points each with its ways on, and the limits of its runs.
+/// A program, its points each with its ways on, the layouts of its types, and the limits of its runs.
 #[derive(Drop)]
 pub struct Machine<'p> {
     pub program: &'p CoreProgram,
     pub limits: Limits,
     alloc: Global,
     code: Vec<Vec<LinkRef<'p>>>,
+    layouts: Layouts,
+    ghost laid: { AreReady (program_of program.now).types layouts },
     ghost linked: { map links_seen code.items ≡ map code_of (program_of program.now).functions },
 }
 
@@ -36,12 +40,14 @@ impl<'p> Machine<'p> {
         ensures program { IfOk result (λ machine. machine.program.now ≡ p.now) }
         ensures limits { IfOk result (λ machine. machine.limits ≡ limits) }
     {
+        let layouts = prepared(alloc, &p.types)?;
         let code = all_links(alloc, p)?;
         Ok(Machine {
             program: p,
             limits,
             alloc,
             code,
+            layouts,
         })
     }
 
@@ -69,6 +75,7 @@ impl<'p> Machine<'p> {
             self.alloc,
             self.program,
             &self.code,
+            &self.layouts,
             entry,
             input,
             self.limits,

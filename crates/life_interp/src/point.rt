@@ -6,6 +6,7 @@ ghost use Rattle.life_core.specs.Linked.{code_of};
 ghost use Rattle.life_core.specs.Step.{asked_of, step_of};
 ghost use Rattle.life_interp.specs.Fits.{meant, most_births, CanStep, Grows, IsFit};
 ghost use Rattle.life_interp.specs.Frames.{all_cells, AllBegin, AreFrames};
+ghost use Rattle.life_interp.specs.Layouts.{AreReady};
 ghost use Rattle.life_interp.specs.Runs.{links_seen};
 ghost use Rattle.life_interp.specs.Steps.{IsSet};
 ghost use Rattle.life_interp.specs.Walk.{first_way, second_way};
@@ -17,6 +18,7 @@ use crate::ask::ask;
 use crate::calls::{back, call};
 use crate::ending::{Halt, halt_at};
 use crate::frames::Frames;
+use crate::layouts::Layouts;
 use crate::links::link_at;
 use crate::steps::perform;
 use life_base::Sink;
@@ -30,6 +32,7 @@ pub(crate) fn pass<'p, S: Store, O: Sink>(
     alloc: Global,
     program: &'p CoreProgram,
     code: &[Vec<LinkRef<'p>>],
+    layouts: &Layouts,
     depth: u32,
     store: &mut S,
     frames: &mut Frames<'p>,
@@ -38,6 +41,7 @@ pub(crate) fn pass<'p, S: Store, O: Sink>(
     out: &mut O,
 ) -> Result<(), Halt>
     requires linked { map links_seen code.now ≡ map code_of (program_of program.now).functions }
+    requires layouts { AreReady (program_of program.now).types layouts.now }
     requires begin { AllBegin (program_of program.now).functions }
     requires frames { AreFrames (program_of program.now).functions frames.old }
     requires fits { IsFit (program_of program.now).types (S.content store.old) (S.rows store.old) (all_cells frames.old) }
@@ -58,6 +62,7 @@ pub(crate) fn pass<'p, S: Store, O: Sink>(
             NodeRef::Action(instr) => act(
                 alloc,
                 program,
+                layouts,
                 depth,
                 instr,
                 link.spot.place,
@@ -79,6 +84,7 @@ pub(crate) fn pass<'p, S: Store, O: Sink>(
 fn act<'p, S: Store, O: Sink>(
     alloc: Global,
     program: &CoreProgram,
+    layouts: &Layouts,
     depth: u32,
     instr: &'p Instr,
     place: Place,
@@ -89,6 +95,7 @@ fn act<'p, S: Store, O: Sink>(
     taken: &mut usize,
     out: &mut O,
 ) -> Result<(), Halt>
+    requires layouts { AreReady (program_of program.now).types layouts.now }
     requires begin { AllBegin (program_of program.now).functions }
     requires frames { AreFrames (program_of program.now).functions frames.old }
     requires fits { IsFit (program_of program.now).types (S.content store.old) (S.rows store.old) (all_cells frames.old) }
@@ -116,6 +123,7 @@ fn act<'p, S: Store, O: Sink>(
             match perform(
                 alloc,
                 program,
+                layouts,
                 f,
                 instr,
                 store,

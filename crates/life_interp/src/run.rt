@@ -5,6 +5,7 @@ ghost use Rattle.life_core.specs.Linked.{code_of};
 ghost use Rattle.life_proper.specs.ProperPrograms.{IsProperProgram};
 ghost use Rattle.life_interp.specs.Cells.{cell_seen, cells_seen};
 ghost use Rattle.life_interp.specs.Fits.{meant, most_births, CanStep, CellFits, CellsFit, Grows, HoldsNumbers, IsFit};
+ghost use Rattle.life_interp.specs.Layouts.{AreReady};
 ghost use Rattle.life_interp.specs.Runs.{barred_as, links_seen, IsBarred, RunEnds};
 ghost use Rattle.life_interp.specs.Steps.{Begins};
 ghost use Rattle.life_store.specs.Calls.{entry_arguments};
@@ -20,6 +21,7 @@ ghost use Rattle.life_store.specs.declared.run.Growth.{Growth as AnyGrowth};
 use crate::calls::given_cells;
 use crate::ending::{Ending, Halt};
 use crate::frames::Frames;
+use crate::layouts::Layouts;
 use crate::outcome::Outcome;
 use crate::ports::as_long;
 use crate::value::Cell;
@@ -39,6 +41,7 @@ pub(crate) fn run_on<'p, S: Store, O: Sink>(
     alloc: Global,
     program: &'p CoreProgram,
     code: &[Vec<LinkRef<'p>>],
+    layouts: &Layouts,
     entry: FnId,
     input: &[i64],
     limits: Limits,
@@ -48,6 +51,7 @@ pub(crate) fn run_on<'p, S: Store, O: Sink>(
 ) -> Outcome
     requires proper { IsProperProgram (program_of program.now) }
     requires linked { map links_seen code.now ≡ map code_of (program_of program.now).functions }
+    requires layouts { AreReady (program_of program.now).types layouts.now }
     requires entry { entry.0 < length (program_of program.now).functions }
     requires admitted { IfSome (slice_get (program_of program.now).functions entry.0) (λ f. IsAdmitted (program_of program.now) f input.now) }
     requires depth { 1 ≤ limits.depth }
@@ -74,6 +78,7 @@ pub(crate) fn run_on<'p, S: Store, O: Sink>(
                 alloc,
                 program,
                 code,
+                layouts,
                 limits.depth,
                 steps,
                 store,

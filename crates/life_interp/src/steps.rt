@@ -3,6 +3,7 @@ ghost use Rattle.std.specs.Prelude.{◌≡◌, drop, OnOk};
 ghost use Rattle.life_core.specs.Function.{function_of, program_of};
 ghost use Rattle.life_core.specs.Step.{step_of};
 ghost use Rattle.life_interp.specs.Fits.{meant, CanStep, Grows, IsFit};
+ghost use Rattle.life_interp.specs.Layouts.{AreReady};
 ghost use Rattle.life_interp.specs.Steps.{IsSet, LeavesBoth};
 ghost use Rattle.life_interp.specs.Walking.{IsOwn, IsQuiet, Performs};
 ghost use Rattle.life_seen.specs.Housed.{Later};
@@ -10,6 +11,7 @@ ghost use Rattle.life_store.specs.Doing.{Setting};
 ghost use Rattle.life_interp.specs.SoFar.{does};
 
 use crate::ending::Ending;
+use crate::layouts::Layouts;
 use crate::locals::{end, live};
 use crate::pointers::{aim, repoint};
 use crate::ports::pass;
@@ -24,6 +26,7 @@ use std::alloc::Global;
 pub(crate) fn perform<S: Store, O: Sink>(
     alloc: Global,
     program: &CoreProgram,
+    layouts: &Layouts,
     f: &CoreFn,
     instr: &Instr,
     store: &mut S,
@@ -33,6 +36,7 @@ pub(crate) fn perform<S: Store, O: Sink>(
     out: &mut O,
 ) -> Result<(), Ending>
     requires own { IsOwn (step_of instr.now) }
+    requires layouts { AreReady (program_of program.now).types layouts.now }
     requires fits { IsFit (program_of program.now).types (S.content store.old) (S.rows store.old) cells.old.items }
     requires countable { CanStep (S.content store.old) }
     ensures step { (s : Setting) → IsSet s (S.limit store.old) (program_of program.now).texts
@@ -46,13 +50,14 @@ pub(crate) fn perform<S: Store, O: Sink>(
 {
     match instr {
         Instr::Port(port) => pass(alloc, program, f, port, cells, input, taken, out),
-        _ => act(program, f, instr, store, cells),
+        _ => act(program, layouts, f, instr, store, cells),
     }
 }
 
 // An instruction by which nothing goes in or out.
 fn act<S: Store>(
     program: &CoreProgram,
+    layouts: &Layouts,
     f: &CoreFn,
     instr: &Instr,
     store: &mut S,
@@ -60,6 +65,7 @@ fn act<S: Store>(
 ) -> Result<(), Ending>
     requires quiet { IsQuiet (step_of instr.now) }
     requires own { IsOwn (step_of instr.now) }
+    requires layouts { AreReady (program_of program.now).types layouts.now }
     requires fits { IsFit (program_of program.now).types (S.content store.old) (S.rows store.old) cells.old.items }
     requires countable { CanStep (S.content store.old) }
     ensures step { (s : Setting) → IsSet s (S.limit store.old) (program_of program.now).texts
@@ -71,7 +77,7 @@ fn act<S: Store>(
 {
     match instr {
         Instr::Live { local, form } => live(&program.types, f, store, cells, *local, *form),
-        Instr::End { locals } => end(&program.types, store, cells, locals),
+        Instr::End { locals } => end(&program.types, layouts, store, cells, locals),
         Instr::Eval { into, operation } => evaluate(&program.types, f, *into, *operation, cells),
         Instr::Load { into, from } => load(&program.types, store, cells, *into, from),
         Instr::Save { to, from } => save(&program.types, store, cells, to, *from),

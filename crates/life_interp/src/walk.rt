@@ -4,6 +4,7 @@ ghost use Rattle.life_core.specs.Function.{program_of};
 ghost use Rattle.life_core.specs.Linked.{code_of};
 ghost use Rattle.life_interp.specs.Fits.{meant, most_births, CanWalk, IsFit};
 ghost use Rattle.life_interp.specs.Frames.{all_cells, AllBegin, AreFrames};
+ghost use Rattle.life_interp.specs.Layouts.{AreReady};
 ghost use Rattle.life_interp.specs.Runs.{links_seen};
 ghost use Rattle.life_interp.specs.Steps.{IsSet};
 ghost use Rattle.life_interp.specs.Walk.{walk};
@@ -12,6 +13,7 @@ ghost use Rattle.life_store.specs.Doing.{Setting};
 
 use crate::ending::Halt;
 use crate::frames::Frames;
+use crate::layouts::Layouts;
 use crate::point::pass;
 use life_base::Sink;
 use life_core::{CoreProgram, LinkRef};
@@ -23,6 +25,7 @@ pub(crate) fn walk<'p, S: Store, O: Sink>(
     alloc: Global,
     program: &'p CoreProgram,
     code: &[Vec<LinkRef<'p>>],
+    layouts: &Layouts,
     depth: u32,
     steps: u64,
     store: &mut S,
@@ -32,6 +35,7 @@ pub(crate) fn walk<'p, S: Store, O: Sink>(
     out: &mut O,
 ) -> Halt
     requires linked { map links_seen code.now ≡ map code_of (program_of program.now).functions }
+    requires layouts { AreReady (program_of program.now).types layouts.now }
     requires begin { AllBegin (program_of program.now).functions }
     requires frames { AreFrames (program_of program.now).functions frames.old }
     requires fits { IsFit (program_of program.now).types (S.content store.old) (S.rows store.old) (all_cells frames.old) }
@@ -44,7 +48,7 @@ pub(crate) fn walk<'p, S: Store, O: Sink>(
     let mut left = steps;
     while left > 0 {
         match pass(
-            alloc, program, code, depth, store, frames, input, taken, out,
+            alloc, program, code, layouts, depth, store, frames, input, taken, out,
         ) {
             Ok(()) => {}
             Err(halt) => return halt,

@@ -17,7 +17,8 @@ use Rattle.life_interp.specs.declared.value.Cell.TheVariants as held
 use Rattle.life_interp.proofs.FitLemmas.{cells_later, later_rows, set_fits}
 use Rattle.life_interp.proofs.GiveLemmas.{born_with_is, given_gives, numbers_given, shows_given}
 use Rattle.life_interp.proofs.LocalLemmas.{birth_fails, on_next_ends}
-use Rattle.life_interp.proofs.NumberLemmas.{holds, new_has_word, new_value, numbers_born, plain_here, ref_placed}
+use Rattle.life_interp.proofs.NumberLemmas.{holds, new_has_word, new_value, plain_here, ref_placed}
+use Rattle.life_interp.proofs.Numbers.{numbers_born}
 use Rattle.life_interp.proofs.StepLemmas.{put_now}
 use Rattle.life_interp.proofs.giving.born_with.Goals as goal
 
@@ -52,7 +53,7 @@ returns-in-Ok g c =
     let housed = c.requires.fits.store.housed in
     let born = q.shows kinds housed in
     let v = new_value kinds m d new r c.args.ty born q.number q.placed in
-    let held_there = holds types d new _ born (numbers_born types m c.args.ty c.requires.fits.store.numbers c.requires.value) in
+    let held_there = holds types d new _ born (numbers_born types m c.requires.fits.store.numbers c.args.ty c.requires.value) in
     let fits : SFits w64 c.args.number = search rules in
     let word : c.cast_unsigned.result ≡ cast_unsigned w64 c.args.number = c.cast_unsigned.ensures ∙ ap (cast_unsigned w64) (to_z-of_z w64 c.args.number fits) in
     let shows = shows_given kinds m d e new after r c.args.ty c.args.number c.cast_unsigned.result q.number born.is word v (c.put_number.ensures.shows kinds v.object (plain_here types d new held_there r v.object v.there 0)) in

@@ -17,7 +17,7 @@ use Rattle.life_interp.specs.declared.value.Cell.TheVariants as held
 use Rattle.life_interp.proofs.FitLemmas.{set_fits}
 use Rattle.life_interp.proofs.GiveLemmas.{given_is}
 use Rattle.life_interp.proofs.LocalLemmas.{leaves_as}
-use Rattle.life_interp.proofs.NumberLemmas.{object_is_number}
+use Rattle.life_interp.proofs.Single.{object_is_number}
 use Rattle.life_interp.proofs.StepLemmas.{put_now}
 use Rattle.life_interp.proofs.giving.give.Goals as goal
 

@@ -7,7 +7,8 @@ use Rattle.life_interp.specs.Fits.{meant}
 use Rattle.life_interp.specs.declared.value.Cell.TheVariants as held
 use Rattle.life_interp.proofs.FitLemmas.{cells_later, set_fits}
 use Rattle.life_interp.proofs.LocalLemmas.{birth_fails, born_step}
-use Rattle.life_interp.proofs.NumberLemmas.{holds, numbers_born, ref_placed}
+use Rattle.life_interp.proofs.NumberLemmas.{holds, ref_placed}
+use Rattle.life_interp.proofs.Numbers.{numbers_born}
 use Rattle.life_interp.proofs.locals.born.Goals as goal
 
 pub returns-in-Err-clause-step : goal.returns-in-Err-clause-step
@@ -37,7 +38,7 @@ returns-in-Ok-clause-fits g c =
     let births : d.births ≡ content.births + 1 = ap (λ (x : Content). x.births) shows.is in
     rw c.put_cell.ensures
     (record {
-      store = holds types d new _ shows (numbers_born types (meant types content rows) c.args.ty c.requires.fits.store.numbers c.requires.value);
+      store = holds types d new _ shows (numbers_born types (meant types content rows) c.requires.fits.store.numbers c.args.ty c.requires.value);
       held = set_fits d new c.args.cells.now.items c.args.local (held.Object c.in-Ok.object)
           (cells_later content d rows new q.later c.args.cells.now.items c.requires.fits.held)
           (ref_placed d new c.in-Ok.object (omega (arith, births, q.number)) q.placed);

@@ -13,8 +13,8 @@ pub returns-in-Err-clause-step : goal.returns-in-Err-clause-step
 returns-in-Err-clause-step g c = λ output input.
     let i = c.loop-local.local-index in
     let st = state_of (meant c.args.types.now (g.S.Store.content c.loop-local.store) (g.S.Store.rows c.loop-local.store)) c.loop-local.cells.items output input in
-    let more = c.loop-local.invariant.step output input ∙ ap (λ (xs : List ℕ). end_locals xs st) (drop_more c.args.locals.now i 0 c.loop-local-test.true) in
-    subst (λ x. TellsEnd x c.in-Err.ending) (sym more) (on_next_ends (end_cell (cell st _) _ st) c.in-Err.ending (end_locals (drop (i + 1) c.args.locals.now)) (c.in-Err.ensures.step output input))
+    let more = c.loop-local.invariant.step output input ∙ ap (λ (xs : List ℕ). end_locals c.args.types.now xs st) (drop_more c.args.locals.now i 0 c.loop-local-test.true) in
+    subst (λ x. TellsEnd x c.in-Err.ending) (sym more) (on_next_ends (end_cell c.args.types.now (cell st _) _ st) c.in-Err.ending (end_locals c.args.types.now (drop (i + 1) c.args.locals.now)) (c.in-Err.ensures.step output input))
 
 pub loop-local-preserved : goal.loop-local-preserved
 loop-local-preserved g c =
@@ -26,8 +26,8 @@ loop-local-preserved g c =
       step = λ output input.
           let st = state_of content c.loop-local.cells.items output input in
           was.step output input
-          ∙ ap (λ (xs : List ℕ). end_locals xs st) (drop_more c.args.locals.now i 0 c.loop-local-test.true)
-          ∙ ap (λ e. on_next e (end_locals (drop (i + 1) c.args.locals.now))) (q.step output input);
+          ∙ ap (λ (xs : List ℕ). end_locals c.args.types.now xs st) (drop_more c.args.locals.now i 0 c.loop-local-test.true)
+          ∙ ap (λ e. on_next e (end_locals c.args.types.now (drop (i + 1) c.args.locals.now))) (q.step output input);
       fits = q.fits;
       later = later_then _ _ _ _ _ _ was.later q.later;
       births = q.births ∙ was.births;

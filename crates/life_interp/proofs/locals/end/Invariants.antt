@@ -11,8 +11,8 @@ abbrev pub invariant-loop-local : goal.invariant-loop-local
 invariant-loop-local g l =
     let content = g.S.Store.content in
     record {
-      step : (output : List ℕ) (input : List ℤ) → end_locals l.locals (state_of (meant l.types (content l.initial.store) (g.S.Store.rows l.initial.store)) l.initial.cells.items output input)
-          ≡ end_locals (drop l.local-index l.locals) (state_of (meant l.types (content l.store) (g.S.Store.rows l.store)) l.cells.items output input);
+      step : (output : List ℕ) (input : List ℤ) → end_locals l.types l.locals (state_of (meant l.types (content l.initial.store) (g.S.Store.rows l.initial.store)) l.initial.cells.items output input)
+          ≡ end_locals l.types (drop l.local-index l.locals) (state_of (meant l.types (content l.store) (g.S.Store.rows l.store)) l.cells.items output input);
       fits : IsFit l.types (content l.store) (g.S.Store.rows l.store) l.cells.items;
       later : Later (content l.initial.store) (content l.store) (g.S.Store.rows l.initial.store) (g.S.Store.rows l.store);
       births : (content l.store).births ≡ (content l.initial.store).births;

@@ -11,7 +11,7 @@ use Rattle.life_interp.specs.declared.value.Cell.TheVariants as held
 use Rattle.life_interp.specs.Fits.{meant}
 use Rattle.life_interp.proofs.FitLemmas.{set_fits}
 use Rattle.life_interp.proofs.LocalLemmas.{born_fits, leaves_as, live_is, live_strays, none_strays}
-use Rattle.life_interp.proofs.NumberLemmas.{object_is_number}
+use Rattle.life_interp.proofs.Single.{object_is_number}
 use Rattle.life_interp.proofs.StepLemmas.{seen, put_now}
 use Rattle.life_interp.proofs.locals.live.Goals as goal
 

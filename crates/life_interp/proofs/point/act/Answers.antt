@@ -21,6 +21,7 @@ perform-requires g c =
     let frames = c.args.frames.now in
     record {
       own = own_else c.args.instr.now (λ target f xs e. c.in_default.not-Call target f xs e);
+      layouts = c.requires.layouts;
       fits = record { store = c.requires.fits.store; held = fit_behind _ _ (waiting_cells frames.waiting.items) frames.cells.items c.requires.fits.held };
       countable = c.requires.countable;
     }

@@ -83,6 +83,7 @@ walk-requires g c =
     let clock : (g.S.Store.content c.args.store.now).clock ≡ 0 = ap (λ (x : Content). x.clock) c.requires.empty in
     record {
       linked = c.requires.linked;
+      layouts = c.requires.layouts;
       begin = all_begin p c.requires.proper;
       frames = record { here = c.requires.entry; there = subst (AreThere p.functions) (sym c.new.ensures.items) tt };
       fits = subst (λ (ws : List Waiting). IsFit p.types (g.S.Store.content c.first_cells.new.store) (g.S.Store.rows c.first_cells.new.store) (waiting_cells ws ++ c.in-Ok.cells.items)) (sym c.new.ensures.items) c.in-Ok.ensures.fits;

@@ -21,7 +21,7 @@ returns-in-Live-clause-step g c = λ s e.
 pub returns-in-End-clause-step : goal.returns-in-End-clause-step
 returns-in-End-clause-step g c = λ s e.
     subst (λ (i : Instr). LeavesBoth (does s (program_of c.args.program.now).types (function_of c.args.f.now) (step_of i)) (meant (program_of c.args.program.now).types (g.S.Store.content c.args.store.now) (g.S.Store.rows c.args.store.now)) c.args.cells.now.items (meant (program_of c.args.program.now).types (g.S.Store.content c.end.new.store) (g.S.Store.rows c.end.new.store)) c.end.new.cells.items c.end.result) (sym c.in-End.is)
-    (subst (λ (xs : List ℕ). LeavesBoth (end_locals xs) (meant (program_of c.args.program.now).types (g.S.Store.content c.args.store.now) (g.S.Store.rows c.args.store.now)) c.args.cells.now.items (meant (program_of c.args.program.now).types (g.S.Store.content c.end.new.store) (g.S.Store.rows c.end.new.store)) c.end.new.cells.items c.end.result) c.deref.ensures.value c.end.ensures.step)
+    (subst (λ (xs : List ℕ). LeavesBoth (end_locals (program_of c.args.program.now).types xs) (meant (program_of c.args.program.now).types (g.S.Store.content c.args.store.now) (g.S.Store.rows c.args.store.now)) c.args.cells.now.items (meant (program_of c.args.program.now).types (g.S.Store.content c.end.new.store) (g.S.Store.rows c.end.new.store)) c.end.new.cells.items c.end.result) c.deref.ensures.value c.end.ensures.step)
 
 pub returns-in-Eval-clause-step : goal.returns-in-Eval-clause-step
 returns-in-Eval-clause-step g c = λ s e.

@@ -22,6 +22,7 @@ pass-requires g c =
     let h = c.loop-left.invariant in
     record {
       linked = c.requires.linked;
+      layouts = c.requires.layouts;
       begin = c.requires.begin;
       frames = h.there;
       fits = h.fits;
