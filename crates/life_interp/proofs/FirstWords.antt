@@ -16,12 +16,14 @@ use Rattle.life_core.specs.Holdings.{Holding, Blank, AnObject, ANumber, APointer
 use Rattle.life_core.specs.Step.{Step, Live, End, Eval, Load, Save, Copy, Move, Aim, Repoint, Element, Cursor, Advance, Cut, Size, Same, Changes, Make, Call, Port, Ports, Writes, WritesView, Takes}
 use Rattle.life_store.specs.Cells.{at}
 use Rattle.life_store.specs.Content.{Object, live_words_of}
+use Rattle.life_store.specs.Iterators.{at_index}
 use Rattle.life_store.specs.Meaning.{empty_cell, frame}
 use Rattle.life_store.specs.Numbers.{Computed, negated, truth, is_zero, combined}
+use Rattle.life_store.specs.Views.{text_size}
 use Rattle.life_store.specs.State.{Characters, Null, Wild, To, Static, Cell, Empty, Named, Number, Points, World, State}
 use Rattle.life_store.specs.declared.run.TrapKind.TheVariants as trap
 use Rattle.life_store.specs.Calls.{with_handed, number_handed, pointer_handed, number_or_zero, pointer_back}
-use Rattle.life_store.specs.Doing.{Setting, Effect, Next, Traps, Faults, Strays, Found, Here, Fixed, Outside, Wrong, Astray, cell, put_cell, put_content, type_of, with_value_object, on_found, on_number, on_pointer, on_next, found_at, born_object, born_pointer, computed_into, evaluated, input_taken}
+use Rattle.life_store.specs.Doing.{Setting, Effect, Next, Traps, Faults, Strays, Found, Here, Fixed, Outside, Wrong, Astray, cell, put_cell, put_content, type_of, with_value_object, empty_view, on_character, on_found, on_place, on_number, on_pointer, on_next, found_at, born_object, born_pointer, computed_into, evaluated, input_taken}
 use Rattle.life_interp.specs.SoFar.{on_view, locate, live_as, live_over, live_local, end_typed, end_cell, end_locals, aimed, port, does, handed, all_handed, born_with, number_given, given_to, given_if, given, parameters_given, given_back, results, target_given}
 
 abbrev pub AtFirst : Cell → Type 0
@@ -62,6 +64,21 @@ found_first (Fixed c) go h = tt
 found_first Outside go h = tt
 found_first (Wrong kind) go h = tt
 found_first Astray go h = tt
+
+-- .. or a character of a text
+character_first : (texts : List (List ℕ)) (c : Characters) (go : ℤ → Effect) → ((z : ℤ) → FirstNext (go z)) → FirstNext (on_character texts c go)
+character_first texts c go h = inside (nat_lt c.index (text_size texts c)) _
+  where
+    inside : (b : Bool) (z : ℤ) → FirstNext (cond b (go z) (Traps trap.Bounds))
+    inside true z = h z
+    inside false z = tt
+
+place_first : (x : Found) (go : ℕ → ℕ → Object → Effect) (fixed : Characters → Effect) → ((n i : ℕ) (o : Object) → FirstNext (go n i o)) → ((c : Characters) → FirstNext (fixed c)) → FirstNext (on_place x go fixed)
+place_first (Here n i o) go fixed h k = h n i o
+place_first (Fixed c) go fixed h k = k c
+place_first Outside go fixed h k = tt
+place_first (Wrong kind) go fixed h k = tt
+place_first Astray go fixed h k = tt
 
 number_first : (x : Option Cell) (go : ℤ → Effect) → ((z : ℤ) → FirstNext (go z)) → FirstNext (on_number x go)
 number_first None go h = tt
@@ -109,7 +126,7 @@ live_as_first s Blank ty form x st h = tt
 live_as_first s AnObject ty form x st h = object_first s ty x st h
 live_as_first s ANumber ty form x st h = tt
 live_as_first s APointer ty form x st h = set_first st.cells x (Points (born_pointer form)) h (pointer_born_first form)
-live_as_first s AView ty form x st h = tt
+live_as_first s AView ty form x st h = set_first st.cells x (Points empty_view) h tt
 
 live_over_first : (s : Setting) (o : Option Cell) (k : Holding) (ty : TyId) (form : Form) (x : ℕ) (st : State) → AreFirst st.cells → FirstNext (live_over s o k ty form x st)
 live_over_first s None k ty form x st h = tt
@@ -151,10 +168,11 @@ evaluated_first types f r (operation.Binary operator a b) st h = number_first (c
 aimed_first : (s : Setting) (p : ℕ) (x : Source) (st : State) → AreFirst st.cells → FirstNext (aimed s p x st)
 aimed_first s p source.Null st h = set_first st.cells p (Points Null) h tt
 aimed_first s p (source.Text n) st h = set_first st.cells p _ h tt
-aimed_first s p source.Empty st h = tt
+aimed_first s p source.Empty st h = set_first st.cells p (Points empty_view) h tt
 aimed_first s p (source.Whole o) st h = tt
 aimed_first s p (source.Get l) st h = tt
-aimed_first s p (source.Place o) st h = found_first (locate o st) _ (λ n i object. set_first st.cells p _ h refl)
+aimed_first s p (source.Place o) st h =
+    place_first (locate o st) _ _ (λ n i object. set_first st.cells p _ h refl) (λ c. character_first s.texts c (λ z. Next (put_cell p (Points (at_index 0 c.index (Static c))) st)) (λ z. set_first st.cells p (Points (at_index 0 c.index (Static c))) h tt))
 
 taken_first : (r : ℕ) (input : List ℤ) (st : State) → AreFirst st.cells → FirstNext (input_taken r input st)
 taken_first r [] st h = tt
@@ -180,7 +198,7 @@ pub does_first : (s : Setting) (types : Types) (f : Function) (i : Step) (st : S
 does_first s types f (Live x form) st h = live_first s types f (slice_get f.locals x) form x st h
 does_first s types f (End xs) st h = ends_first types xs st h
 does_first s types f (Eval r o) st h = evaluated_first types f r o st h
-does_first s types f (Load r o) st h = found_first (locate o st) _ (λ n i object. set_first st.cells r _ h tt)
+does_first s types f (Load r o) st h = place_first (locate o st) _ _ (λ n i object. set_first st.cells r _ h tt) (λ c. character_first s.texts c (λ z. Next (put_cell r (Number z) st)) (λ z. set_first st.cells r (Number z) h tt))
 does_first s types f (Save o r) st h = number_first (cell st r) _ (λ z. found_first (locate o st) _ (λ n i object. h))
 does_first s types f (Copy to from) st h = tt
 does_first s types f (Move to y) st h = tt

@@ -1,6 +1,5 @@
 -- What is ready the machine does as the meaning says.
-use Rattle.std.proofs.Common.{◌≡◌, ◌⊎◌, ⊎_elim, inl, inr, ℕ, length, List, [], ◌∷◌, ◌++◌, Option, Some, None, Bool, true, false, refl, sym, ap, subst, ◌∙◌, arith}
-use Rattle.std.proofs.lemmas.Bool.{lt-ltb}
+use Rattle.std.proofs.Common.{◌≡◌, ◌⊎◌, ⊎_elim, inl, inr, ℕ, List, [], ◌∷◌, Option, Some, None, refl, sym, ap, subst, ◌∙◌, arith}
 use Rattle.std.specs.Prelude.{slice_get, slice_set}
 use Rattle.life_types.specs.Types.{Types}
 use Rattle.life_types.specs.declared.ty.TyId.{TyId}
@@ -13,20 +12,17 @@ use Rattle.life_core.specs.declared.instr.Form.{Form}
 use Rattle.life_core.specs.declared.program.Local.{Local}
 use Rattle.life_proper.proofs.Sorted.{IsOperandSorted, IsPortSorted, IsSourceSorted, IsStepSorted, IsTestSorted}
 use Rattle.life_store.specs.Cells.{at}
-use Rattle.life_store.specs.Content.{Object, Content, word_at}
+use Rattle.life_store.specs.Content.{Object, word_at}
 use Rattle.life_store.specs.Doing as doing
-use Rattle.life_store.specs.Doing.{Setting, Effect, Next, Traps, Faults, Strays, Found, Here, Fixed, Outside, Wrong, Astray, here_if, reached_if, is_valid, cell, put_cell, member_pointed, operand_word, pointer_word, on_number, on_pointer, on_next, on_place, on_found, number_in_word}
+use Rattle.life_store.specs.Doing.{Setting, Effect, Next, Traps, Faults, Strays, cell, put_cell, member_pointed, operand_word, pointer_word, on_number, on_pointer, on_next, on_place, on_found, number_in_word}
 use Rattle.life_store.specs.Iterators.{at_index}
 use Rattle.life_store.specs.Meaning as meaning
 use Rattle.life_store.specs.Meaning.{pointer_test, tested, whole_tested}
 use Rattle.life_store.specs.Parts.{Parts, local_parts, local_type, parts_at, location_type, target_type, word_within}
-use Rattle.life_store.specs.State.{Characters, Target, Pointer, Null, Wild, To, Static, Cell, Empty, Named, Number, Points, State, ready_of}
-use Rattle.life_store.proofs.CellLemmas.{held_is, pointer_cell, set_sorted, view_cell}
-use Rattle.life_store.proofs.Found.{IsThere, operand_there}
-use Rattle.life_store.proofs.Housing.{Housed, Aims}
+use Rattle.life_store.specs.State.{Characters, Pointer, Null, Wild, To, Static, Cell, Empty, Named, Number, Points, State, ready_of}
+use Rattle.life_store.proofs.CellLemmas.{pointer_cell, set_sorted, view_cell}
 use Rattle.life_store.proofs.Settling.{IsPlain}
-use Rattle.life_store.proofs.Sorts.{IsRaw, IsSorted, named_sort}
-use Rattle.life_store.proofs.Waiting.{aims_behind}
+use Rattle.life_store.proofs.Sorts.{IsSorted, named_sort}
 use Rattle.life_store.proofs.WholeLocals.{object_single, whole_cell, whole_pointed}
 use Rattle.life_interp.specs.SoFar as so_far
 use Rattle.life_interp.proofs.FirstWords.{AreFirst, get_first}
@@ -42,44 +38,10 @@ next_same Strays go go' h = refl
 
 -- ---- operands
 
--- a character is never there
-fixed_never : (c : Content) (x : Found) (go : ℕ → ℕ → Object → Effect) (fixed : Characters → Effect) → IsThere c x → on_place x go fixed ≡ on_found x go
-fixed_never c (Here n i o) go fixed there = refl
-fixed_never c (Fixed s) go fixed there = absurd there
-fixed_never c Outside go fixed there = refl
-fixed_never c (Wrong kind) go fixed there = refl
-fixed_never c Astray go fixed there = absurd there
-
-module _ (c : Content) where
-  target_same : (t : Target) → Aims c t → doing.found_if (is_valid c t) c t ≡ so_far.found_if (is_valid c t) c t
-  target_same t aims = go (is_valid c t)
-    where
-      living : (o : Option Object) → at c.objects t.object ≡ o → doing.reached_in o t.object t.index ≡ doing.found_in o t.object t.index
-      living None e = refl
-      living (Some o) e =
-          let within = lt-ltb t.index (length o.slots) (aims.slot o e) in
-          ap (λ b. reached_if b t.object t.index o) within ∙ sym (ap (λ b. here_if b t.object t.index o) within)
-
-      go : (b : Bool) → doing.found_if b c t ≡ so_far.found_if b c t
-      go true = living (at c.objects t.object) refl
-      go false = refl
-
-  behind_same : (v : Pointer) → IsRaw v → ((t : Target) → v ≡ To t → Aims c t) → doing.behind_pointer c v ≡ so_far.behind_pointer c v
-  behind_same Null raw aims = refl
-  behind_same Wild raw aims = refl
-  behind_same (To t) raw aims = target_same t (aims t refl)
-  behind_same (Static s) raw aims = absurd raw
-
-module _ (types : Types) (f : Function) (outer : List Cell) (st : State) (sorted : IsSorted types f st.cells) (h : Housed st.world.content (outer ++ st.cells)) (first : AreFirst st.cells) where
+module _ (types : Types) (f : Function) (st : State) (sorted : IsSorted types f st.cells) (first : AreFirst st.cells) where
   locate_same : (o : Operand) → IsOperandSorted types f (ready_of st) o → doing.locate types f o st ≡ so_far.locate o st
   locate_same (Name l) ready = refl
-  locate_same (Through p members) ready =
-      let v = pointer_cell types f st.cells sorted p.local ready.1.1 in
-      let c = st.world.content in
-      let raw = held_is types f st.cells sorted p.local APointer (Points v.0) ready.1.1 v.1 in
-      ap (doing.behind_cell c) (whole_cell types f p st ready.1.0 ∙ v.1)
-      ∙ behind_same c v.0 raw (λ t e. aims_behind c outer st.cells h p.local t (v.1 ∙ ap (λ u. Some (Points u)) e))
-      ∙ ap (so_far.behind_cell c) (sym v.1)
+  locate_same (Through p members) ready = ap (doing.behind_cell st.world.content) (whole_cell types f p st ready.1.0)
 
   -- it begins at the first word
   pointer_word_first : (v : Pointer) (x : ℕ) → slice_get st.cells x ≡ Some (Points v) → pointer_word (Some (Points v)) ≡ 0
@@ -98,11 +60,10 @@ module _ (types : Types) (f : Function) (outer : List Cell) (st : State) (sorted
 
   -- what is done with an operand that is ready
   place_same : (o : Operand) (go : ℕ → ℕ → ℕ → Object → Effect) (fixed : Characters → Effect) → IsOperandSorted types f (ready_of st) o
-      → on_place (doing.locate types f o st) (go (operand_word types f o st)) fixed ≡ on_found (so_far.locate o st) (go 0)
+      → on_place (doing.locate types f o st) (go (operand_word types f o st)) fixed ≡ on_place (so_far.locate o st) (go 0) fixed
   place_same o go fixed ready =
-      fixed_never st.world.content (doing.locate types f o st) (go (operand_word types f o st)) fixed (operand_there types f outer st o sorted h ready)
-      ∙ ap (λ w. on_found (doing.locate types f o st) (go w)) (word_first o ready)
-      ∙ ap (λ x. on_found x (go 0)) (locate_same o ready)
+      ap (λ w. on_place (doing.locate types f o st) (go w) fixed) (word_first o ready)
+      ∙ ap (λ x. on_place x (go 0) fixed) (locate_same o ready)
 
 -- ---- births and ends
 
@@ -112,19 +73,13 @@ blank_object e = cc
 blank_pointer : Blank ≡ APointer → ⊥
 blank_pointer e = cc
 
-view_object : AView ≡ AnObject → ⊥
-view_object e = cc
-
-view_pointer : AView ≡ APointer → ⊥
-view_pointer e = cc
-
 module _ (s : Setting) (types : Types) where
   born_same : (sort : Holding) (ty : TyId) (form : Form) (x : ℕ) (st : State) → (sort ≡ AnObject) ⊎ (sort ≡ APointer) → doing.live_as s types sort ty form x st ≡ so_far.live_as s sort ty form x st
   born_same AnObject ty form x st e = refl
   born_same ANumber ty form x st e = refl
   born_same APointer ty form x st e = refl
   born_same Blank ty form x st e = absurd (⊎_elim blank_object blank_pointer e)
-  born_same AView ty form x st e = absurd (⊎_elim view_object view_pointer e)
+  born_same AView ty form x st e = refl
 
   over_same : (o : Option Cell) (sort : Holding) (ty : TyId) (form : Form) (x : ℕ) (st : State) → (sort ≡ AnObject) ⊎ (sort ≡ APointer)
       → doing.live_over s types o sort ty form x st ≡ so_far.live_over s o sort ty form x st
@@ -185,7 +140,7 @@ module _ (types : Types) (f : Function) where
 
 -- ---- the instructions
 
-module _ (s : Setting) (types : Types) (fs : List Function) (f : Function) (outer : List Cell) (st : State) (sorted : IsSorted types f st.cells) (h : Housed st.world.content (outer ++ st.cells)) (first : AreFirst st.cells) (single : IsSingle types st) where
+module _ (s : Setting) (types : Types) (fs : List Function) (f : Function) (st : State) (sorted : IsSorted types f st.cells) (first : AreFirst st.cells) (single : IsSingle types st) where
   aim_same : (p : Location) (sort : Holding) (x : Source) → p.members ≡ [] → IsSourceSorted types f (ready_of st) sort x → doing.aimed s types f p x st ≡ so_far.aimed s p.local x st
   aim_same p sort source.Null whole ready = whole_pointed types f p st whole Null
   aim_same p sort (source.Text n) whole ready = whole_pointed types f p st whole (doing.viewed s.texts n)
@@ -195,7 +150,7 @@ module _ (s : Setting) (types : Types) (fs : List Function) (f : Function) (oute
   aim_same p sort (source.Place o) whole ready =
       ap (λ ms. on_place (doing.locate types f o st) (λ n i object. member_pointed types f p.local ms (cell st p.local) (doing.pointer_to st.world.content n i (operand_word types f o st)) st)
       (λ c. doing.on_character s.texts c (λ z. member_pointed types f p.local ms (cell st p.local) (whole_at c) st))) whole
-      ∙ place_same types f outer st sorted h first o (λ w n i object. Next (put_cell p.local (Points (doing.pointer_to st.world.content n i w)) st)) _ ready.1
+      ∙ place_same types f st sorted first o (λ w n i object. Next (put_cell p.local (Points (doing.pointer_to st.world.content n i w)) st)) _ ready.1
     where
       whole_at : Characters → Pointer
       whole_at c = at_index 0 c.index (Static c)
@@ -217,7 +172,7 @@ module _ (s : Setting) (types : Types) (fs : List Function) (f : Function) (oute
   does_same (Live x form) plain ready = live_same s types f (slice_get f.locals x) form x st ready.1
   does_same (End xs) plain ready = ends_same types f xs st sorted single
   does_same (Eval r op) plain ready = refl
-  does_same (Load r o) plain ready = place_same types f outer st sorted h first o (λ w n i object. Next (put_cell r (Number (number_in_word (word_at object i w))) st)) _ ready.1
+  does_same (Load r o) plain ready = place_same types f st sorted first o (λ w n i object. Next (put_cell r (Number (number_in_word (word_at object i w))) st)) _ ready.1
   does_same (Save o r) plain ready = saved_same (cell st r)
     where
       saved_same : (v : Option Cell) → on_number v (λ z. on_found (doing.locate types f o st) (λ n i object. Next (doing.saved z n i (operand_word types f o st) object st)))
@@ -225,7 +180,7 @@ module _ (s : Setting) (types : Types) (fs : List Function) (f : Function) (oute
       saved_same None = refl
       saved_same (Some Empty) = refl
       saved_same (Some (Named n)) = refl
-      saved_same (Some (Number z)) = place_same types f outer st sorted h first o (λ w n i object. Next (doing.saved z n i w object st)) (λ c. Strays) ready.1
+      saved_same (Some (Number z)) = place_same types f st sorted first o (λ w n i object. Next (doing.saved z n i w object st)) (λ c. Strays) ready.1
       saved_same (Some (Points p)) = refl
   does_same (Aim p x) plain ready = aim_same p (sort_of types f p.local) x ready.0 ready.1
   does_same (Repoint p q) plain (inl ready) = repoint_same p q ready.0.0 ready.1.0

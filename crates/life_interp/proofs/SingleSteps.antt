@@ -14,17 +14,20 @@ use Rattle.life_core.specs.Operands as source
 use Rattle.life_core.specs.Step.{Step, Live, End, Eval, Load, Save, Copy, Move, Aim, Repoint, Element, Cursor, Advance, Cut, Size, Same, Changes, Make, Call, Port, Ports, Writes, WritesView, Takes}
 use Rattle.life_store.specs.Cells.{at}
 use Rattle.life_store.specs.Content.{Object, Content, live_words_of, with_word, without}
-use Rattle.life_store.specs.Doing.{Setting, Effect, Next, Traps, Faults, Strays, Found, Here, Fixed, Outside, Wrong, Astray, cell, put_cell, put_content, on_found, on_next, on_pointer, found_at, found_in, here_if, is_valid, named_by, born_object, computed_into, evaluated, input_taken, type_of, with_value_object, word_of_number}
+use Rattle.life_store.specs.Doing.{Setting, Effect, Next, Traps, Faults, Strays, Found, Here, Fixed, Outside, Wrong, Astray, cell, put_cell, put_content, on_found, on_next, on_place, on_pointer, found_at, found_if, found_in, here_if, reached_if, reached_in, behind_cell, behind_pointer, is_valid, named_by, born_object, computed_into, evaluated, input_taken, type_of, with_value_object, word_of_number}
 use Rattle.life_store.specs.Held.{words_if}
+use Rattle.life_store.specs.Iterators.{at_index}
 use Rattle.life_store.specs.Numbers.{Computed, negated, truth, is_zero, combined}
 use Rattle.life_store.specs.Owners.{ended}
 use Rattle.life_store.specs.Parts.{Parts}
+use Rattle.life_store.specs.Places.{found_text}
 use Rattle.life_store.specs.State.{Characters, Target, Pointer, Null, Wild, To, Static, Cell, Empty, Named, Number, Points, State}
 use Rattle.life_store.specs.declared.run.TrapKind.TheVariants as trap
 use Rattle.life_forest.specs.Frames.{OnNext}
 use Rattle.life_forest.proofs.StandingChanges.{on_number_next}
+use Rattle.life_forest.proofs.StandingCopies.{on_character_next}
 use Rattle.life_interp.specs.Fits.{AreSingle, IsNumber}
-use Rattle.life_interp.specs.SoFar.{on_view, locate, found_if, behind_pointer, behind_cell, live_as, live_over, live_local, end_typed, end_cell, end_locals, aimed, port, does, born_with, number_given, given_to, given_if, given, parameters_given, target_given}
+use Rattle.life_interp.specs.SoFar.{on_view, locate, live_as, live_over, live_local, end_typed, end_cell, end_locals, aimed, port, does, born_with, number_given, given_to, given_if, given, parameters_given, target_given}
 use Rattle.life_interp.proofs.Single.{object_is_number, single_born, single_with, single_without}
 
 module _ (types : Types) where
@@ -78,15 +81,27 @@ module _ (types : Types) where
   at_single : (c : Content) (n i : ℕ) → AreSingle types c → FoundSingle (found_at c n i)
   at_single c n i h = in_single (at c.objects n) n i (h n)
 
+  reached_single : (x : Option Object) (n i : ℕ) → ((o : Object) → x ≡ Some o → IsNumber types o.ty) → FoundSingle (reached_in x n i)
+  reached_single None n i h = tt
+  reached_single (Some o) n i h = go (nat_lt i (length o.slots))
+    where
+      go : (b : Bool) → FoundSingle (reached_if b n i o)
+      go true = h o refl
+      go false = tt
+
   if_valid_single : (b : Bool) (c : Content) (t : Target) → AreSingle types c → FoundSingle (found_if b c t)
-  if_valid_single true c t h = at_single c t.object t.index h
+  if_valid_single true c t h = reached_single (at c.objects t.object) t.object t.index (h t.object)
   if_valid_single false c t h = tt
+
+  text_single : (text : Option ℕ) (s : Characters) → FoundSingle (found_text text s)
+  text_single None s = tt
+  text_single (Some n) s = tt
 
   behind_single : (c : Content) (p : Pointer) → AreSingle types c → FoundSingle (behind_pointer c p)
   behind_single c Null h = tt
   behind_single c Wild h = tt
   behind_single c (To t) h = if_valid_single (is_valid c t) c t h
-  behind_single c (Static s) h = tt
+  behind_single c (Static s) h = text_single s.text s
 
   behind_cell_single : (c : Content) (o : Option Cell) → AreSingle types c → FoundSingle (behind_cell c o)
   behind_cell_single c None h = tt
@@ -106,12 +121,15 @@ module _ (types : Types) where
   locate_single (Name l) st h = named_single st.world.content (cell st l.local) h
   locate_single (Through p members) st h = behind_cell_single st.world.content (cell st p.local) h
 
+  place_next : (x : Found) (go : ℕ → ℕ → Object → Effect) (fixed : Characters → Effect) → FoundSingle x → ((n i : ℕ) (o : Object) → IsNumber types o.ty → SingleNext (go n i o)) → ((c : Characters) → SingleNext (fixed c)) → SingleNext (on_place x go fixed)
+  place_next (Here n i o) go fixed is h k = h n i o is
+  place_next (Fixed c) go fixed is h k = k c
+  place_next Outside go fixed is h k = tt
+  place_next (Wrong kind) go fixed is h k = tt
+  place_next Astray go fixed is h k = tt
+
   found_next : (x : Found) (go : ℕ → ℕ → Object → Effect) → FoundSingle x → ((n i : ℕ) (o : Object) → IsNumber types o.ty → SingleNext (go n i o)) → SingleNext (on_found x go)
-  found_next (Here n i o) go is h = h n i o is
-  found_next (Fixed c) go is h = tt
-  found_next Outside go is h = tt
-  found_next (Wrong kind) go is h = tt
-  found_next Astray go is h = tt
+  found_next x go is h = place_next x go (λ c. Strays) is h (λ c. tt)
 
   -- ---- births and ends
 
@@ -129,7 +147,7 @@ module _ (types : Types) where
       live_as_single AnObject form x st is h = object_born l.ty x st (object_is_number types l is) h
       live_as_single ANumber form x st is h = tt
       live_as_single APointer form x st is h = h
-      live_as_single AView form x st is h = tt
+      live_as_single AView form x st is h = h
 
       live_over_single : (o : Option Cell) (k : Holding) (form : Form) (x : ℕ) (st : State) → k ≡ held_by types (Some l) → IsSingle st → SingleNext (live_over s o k l.ty form x st)
       live_over_single None k form x st is h = tt
@@ -178,10 +196,11 @@ module _ (types : Types) where
   aimed_single : (s : Setting) (p : ℕ) (x : Source) (st : State) → IsSingle st → SingleNext (aimed s p x st)
   aimed_single s p source.Null st h = h
   aimed_single s p (source.Text n) st h = h
-  aimed_single s p source.Empty st h = tt
+  aimed_single s p source.Empty st h = h
   aimed_single s p (source.Whole o) st h = tt
   aimed_single s p (source.Get l) st h = tt
-  aimed_single s p (source.Place o) st h = found_next (locate o st) _ (locate_single o st h) (λ n i object is. h)
+  aimed_single s p (source.Place o) st h =
+      place_next (locate o st) _ _ (locate_single o st h) (λ n i object is. h) (λ c. on_character_next s.texts c (λ z. Next (put_cell p (Points (at_index 0 c.index (Static c))) st)) IsSingle (λ z. h))
 
   taken_single : (r : ℕ) (input : List ℤ) (st : State) → IsSingle st → SingleNext (input_taken r input st)
   taken_single r [] st h = tt
@@ -196,7 +215,7 @@ module _ (types : Types) where
   does_single s f (Live x form) st h = live_single s f form x st h
   does_single s f (End xs) st h = ends_single xs st h
   does_single s f (Eval r o) st h = evaluated_single f r o st h
-  does_single s f (Load r o) st h = found_next (locate o st) _ (locate_single o st h) (λ n i object is. h)
+  does_single s f (Load r o) st h = place_next (locate o st) _ _ (locate_single o st h) (λ n i object is. h) (λ c. on_character_next s.texts c (λ z. Next (put_cell r (Number z) st)) IsSingle (λ z. h))
   does_single s f (Save o r) st h =
       on_number_next (cell st r) _ IsSingle
       (λ z. found_next (locate o st) _ (locate_single o st h) (λ n i object is. single_with types st.world.content h n st.world.content.births st.world.content.clock (with_word i 0 (word_of_number z) object) is))

@@ -5,8 +5,8 @@ use Rattle.std.proofs.lemmas.Option.{none-some, same_Some, slice_get-map}
 use Rattle.std.specs.Prelude.{ℤ, slice_get, slice_set, option_map}
 use Rattle.life_core.specs.Operands.{Operand, Name, Through}
 use Rattle.life_store.specs.Content.{Content, Object}
-use Rattle.life_store.specs.Doing.{Effect, Strays, Found, named_by, on_found, on_number, on_pointer, put_cell}
-use Rattle.life_interp.specs.SoFar.{behind_cell, locate}
+use Rattle.life_store.specs.Doing.{Effect, Traps, Strays, Found, Fixed, behind_cell, named_by, on_number, on_place, on_pointer, put_cell}
+use Rattle.life_interp.specs.SoFar.{locate}
 use Rattle.life_store.specs.References.{Rows}
 use Rattle.life_store.specs.State as state
 use Rattle.life_store.specs.State.{State}
@@ -15,11 +15,14 @@ use Rattle.life_seen.specs.Kinds.{kinds_of}
 use Rattle.life_seen.specs.Named.{names_of}
 use Rattle.life_seen.specs.Seen.{object_seen}
 use Rattle.life_interp.specs.Fits.{meant}
-use Rattle.life_interp.specs.Cells.{cell_seen, cells_seen, state_of, number_in, pointer_in}
-use Rattle.life_interp.specs.Steps.{IsPosition, TellsMiss, TellsEnd, Leaves, place_in}
+use Rattle.life_interp.specs.Cells.{cell_seen, cells_seen, characters_seen, state_of, number_in, pointer_in}
+use Rattle.life_interp.specs.Steps.{IsLocated, IsPosition, TellsMiss, TellsEnd, Leaves, place_in}
 use Rattle.life_interp.specs.declared.ending.Ending.{Ending}
 use Rattle.life_interp.specs.declared.ending.Ending.TheVariants as ending
+use Rattle.life_interp.specs.declared.places.Located.{Located}
+use Rattle.life_interp.specs.declared.places.Located.TheVariants as located
 use Rattle.life_interp.specs.declared.places.Position.{Position}
+use Rattle.life_interp.specs.declared.value.Characters.{Characters}
 use Rattle.life_interp.specs.declared.value.Cell.{Cell}
 
 -- ---- cells
@@ -76,19 +79,30 @@ pub locate_is : (o : Operand) (c : Content) (cells : List Cell) (output : List �
 locate_is (Name l) c cells output input = ap (named_by c) (slice_get-map cell_seen cells l.local)
 locate_is (Through p members) c cells output input = ap (behind_cell c) (slice_get-map cell_seen cells p.local)
 
-missed : (found : Found) (e : Ending) (go : ℕ → ℕ → Object → Effect) → TellsMiss found e → TellsEnd (on_found found go) e
-missed found (ending.Trap kind) go h = absurd h
-missed found (ending.Fault kind) go h = ap (λ x. on_found x go) h
-missed found ending.Stray go h = ap (λ x. on_found x go) h
-missed found ending.NoMemory go h = absurd h
-missed found ending.WriteFault go h = absurd h
+-- which of both was found
+pub slot_of : (types : Types) (c : Content) (rows : Rows) (found : Found) (l : Located) (p : Position) → l ≡ located.Slot p → IsLocated types c rows found l → IsPosition types c rows found p
+slot_of types c rows found l p is h = subst (IsLocated types c rows found) is h
 
--- what isn't found ends the step
-pub place_missed : (o : Operand) (c : Content) (cells : List Cell) (e : Ending) (go : ℕ → ℕ → Object → Effect) (output : List ℕ) (input : List ℤ) → TellsMiss (place_in c cells o) e
-    → TellsEnd (on_found (locate o (state_of c cells output input)) go) e
-place_missed o c cells e go output input h = subst (λ x. TellsEnd (on_found x go) e) (sym (locate_is o c cells output input)) (missed (place_in c cells o) e go h)
+pub text_of : (types : Types) (c : Content) (rows : Rows) (found : Found) (l : Located) (s : Characters) → l ≡ located.Text s → IsLocated types c rows found l → found ≡ Fixed (characters_seen s)
+text_of types c rows found l s is h = subst (IsLocated types c rows found) is h
 
--- .. and what is found is at hand
-pub place_found : (o : Operand) (types : Types) (c : Content) (rows : Rows) (cells : List Cell) (p : Position) (go : ℕ → ℕ → Object → Effect) (output : List ℕ) (input : List ℤ) → (h : IsPosition types c rows (place_in (meant types c rows) cells o) p)
-    → on_found (locate o (state_of (meant types c rows) cells output input)) go ≡ go p.object.birth p.index (object_seen (kinds_of types) (names_of c rows) h.object)
-place_found o types c rows cells p go output input h = ap (λ x. on_found x go) (locate_is o (meant types c rows) cells output input ∙ h.here)
+module _ (go : ℕ → ℕ → Object → Effect) (fixed : state.Characters → Effect) where
+  missed : (found : Found) (e : Ending) → TellsMiss found e → TellsEnd (on_place found go fixed) e
+  missed found (ending.Trap kind) h = ap (λ x. on_place x go fixed) h.1 ∙ ap Traps (sym h.0)
+  missed found (ending.Fault kind) h = ap (λ x. on_place x go fixed) h
+  missed found ending.Stray h = ap (λ x. on_place x go fixed) h
+  missed found ending.NoMemory h = absurd h
+  missed found ending.WriteFault h = absurd h
+
+  -- what isn't found ends the step
+  pub place_missed : (o : Operand) (c : Content) (cells : List Cell) (e : Ending) (output : List ℕ) (input : List ℤ) → TellsMiss (place_in c cells o) e → TellsEnd (on_place (locate o (state_of c cells output input)) go fixed) e
+  place_missed o c cells e output input h = subst (λ x. TellsEnd (on_place x go fixed) e) (sym (locate_is o c cells output input)) (missed (place_in c cells o) e h)
+
+  -- .. and what is found is at hand
+  pub place_found : (o : Operand) (types : Types) (c : Content) (rows : Rows) (cells : List Cell) (p : Position) (output : List ℕ) (input : List ℤ) → (h : IsPosition types c rows (place_in (meant types c rows) cells o) p)
+      → on_place (locate o (state_of (meant types c rows) cells output input)) go fixed ≡ go p.object.birth p.index (object_seen (kinds_of types) (names_of c rows) h.object)
+  place_found o types c rows cells p output input h = ap (λ x. on_place x go fixed) (locate_is o (meant types c rows) cells output input ∙ h.here)
+
+  -- a character of a text
+  pub place_fixed : (o : Operand) (c : Content) (cells : List Cell) (s : state.Characters) (output : List ℕ) (input : List ℤ) → place_in c cells o ≡ Fixed s → on_place (locate o (state_of c cells output input)) go fixed ≡ fixed s
+  place_fixed o c cells s output input h = ap (λ x. on_place x go fixed) (locate_is o c cells output input ∙ h)

@@ -163,7 +163,7 @@ module _ (s : Setting) (p : Program) (ws : List Waiting) (f : Function) (call : 
     own_agrees : (place : Place) (i : Step) (x : Exits) (n : ℕ) → IsPlain i → IsStepSorted types f p.functions (ready_of st) i → Good x (paid place st.world (doing.does s types f i st) n)
         → Agree x (suc n) (moved (on n x.next) place st.world (so_far.does s types f i st)) (paid place st.world (doing.does s types f i st) n)
     own_agrees place i x n plain ready good =
-        same_agrees place st.world x n (doing.does s types f i st) (so_far.does s types f i st) (does_same s types p.functions f outer st sorted housed first single i plain ready) good (does_first s types f i st first) (does_single types s f i st single)
+        same_agrees place st.world x n (doing.does s types f i st) (so_far.does s types f i st) (does_same s types p.functions f st sorted first single i plain ready) good (does_first s types f i st first) (does_single types s f i st single)
 
     -- behind a call
     back_agrees : (place : Place) (k : Function) (target : Option Location) (xs : List Argument) (x : Exits) (n : ℕ) (c r : Called) → IsCallSorted types f (ready_of st) (Some k) target xs

@@ -15,13 +15,15 @@ use Rattle.life_core.specs.Linked.{Lead, Linked, code_of, enter, no_exits, numbe
 use Rattle.life_core.specs.Holdings.{Holding, Blank, AnObject, ANumber, APointer, AView, sort_of}
 use Rattle.life_core.specs.Step.{Step, Live, End, Eval, Load, Save, Copy, Move, Aim, Repoint, Element, Cursor, Advance, Cut, Size, Same, Changes, Make, Call, Port, Ports, Writes, WritesView, Takes, Test, NonZero, NotNull}
 use Rattle.life_core.specs.Tree.{Node, Action, Question, Return, Stop}
-use Rattle.life_store.specs.Doing.{Setting, put_cell, put_content, with_value_object, Effect, Next, Traps, Faults, Strays, Found, Here, Fixed, Outside, Wrong, Astray, cell, characters_in, found_at, input_taken, number_text, on_found, on_number, on_pointer, born_object, on_next, computed_into, evaluated, type_of}
+use Rattle.life_store.specs.Doing.{Setting, put_cell, put_content, with_value_object, Effect, Next, Traps, Faults, Strays, Found, Here, Fixed, Outside, Wrong, Astray, cell, characters_in, found_at, input_taken, number_text, on_character, on_found, on_place, on_number, on_pointer, born_object, on_next, computed_into, evaluated, type_of}
 use Rattle.life_interp.specs.SoFar.{test_at, all_handed, born_with, given, given_if, given_to, number_given, parameters_given, results, target_given, does, on_view, live_as, live_over, live_local, end_typed, end_cell, end_locals, aimed, port, locate}
 use Rattle.life_store.specs.Cells.{at}
 use Rattle.life_store.specs.Content.{Object, live_words_of}
+use Rattle.life_store.specs.Iterators.{at_index}
 use Rattle.life_store.specs.Meaning.{Verdict, Holds, Fails, Cut, by_number, by_pointer, frame, number_test, pointer_test, Called, Quit, Trapped}
 use Rattle.life_store.specs.Numbers.{Computed, negated, truth, is_zero, combined}
 use Rattle.life_store.specs.State.{Characters, Pointer, Null, Wild, To, Static, Cell, Empty, Named, Number, Points, World, State}
+use Rattle.life_store.specs.Views.{text_size}
 use Rattle.life_store.specs.declared.run.TrapKind.TheVariants as trap
 use Rattle.life_interp.specs.Walk.{Go, Waiting, walk, at_action, at_node, at_point, back, called_in, chosen, entered_in, first_way, let_in, moved, second_way}
 use Rattle.life_interp.specs.Walking.{output_of}
@@ -42,6 +44,20 @@ EffectBegins front (Next st) = Begins front st.world.output
 EffectBegins front (Traps kind) = Unit {0}
 EffectBegins front (Faults kind) = Unit {0}
 EffectBegins front Strays = Unit {0}
+
+character_begins : (front : List ℕ) (texts : List (List ℕ)) (c : Characters) (go : ℤ → Effect) → ((z : ℤ) → EffectBegins front (go z)) → EffectBegins front (on_character texts c go)
+character_begins front texts c go h = inside (nat_lt c.index (text_size texts c)) _
+  where
+    inside : (b : Bool) (z : ℤ) → EffectBegins front (cond b (go z) (Traps trap.Bounds))
+    inside true z = h z
+    inside false z = tt
+
+place_begins : (front : List ℕ) (x : Found) (go : ℕ → ℕ → Object → Effect) (fixed : Characters → Effect) → ((n i : ℕ) (o : Object) → EffectBegins front (go n i o)) → ((c : Characters) → EffectBegins front (fixed c)) → EffectBegins front (on_place x go fixed)
+place_begins front (Here n i o) go fixed h k = h n i o
+place_begins front (Fixed c) go fixed h k = k c
+place_begins front Outside go fixed h k = tt
+place_begins front (Wrong kind) go fixed h k = tt
+place_begins front Astray go fixed h k = tt
 
 found_begins : (front : List ℕ) (x : Found) (go : ℕ → ℕ → Object → Effect) → ((n i : ℕ) (o : Object) → EffectBegins front (go n i o)) → EffectBegins front (on_found x go)
 found_begins front (Here n i o) go h = h n i o
@@ -88,7 +104,7 @@ live_as_begins s Blank ty form x st = tt
 live_as_begins s AnObject ty form x st = object_born_begins s ty x st
 live_as_begins s ANumber ty form x st = tt
 live_as_begins s APointer ty form x st = begins_itself st.world.output
-live_as_begins s AView ty form x st = tt
+live_as_begins s AView ty form x st = begins_itself st.world.output
 
 live_over_begins : (s : Setting) (o : Option Cell) (h : Holding) (ty : TyId) (form : Form) (x : ℕ) (st : State) → EffectBegins st.world.output (live_over s o h ty form x st)
 live_over_begins s None h ty form x st = tt
@@ -142,10 +158,11 @@ evaluated_begins types f r (operation.Binary operator a b) st = number_begins st
 aimed_begins : (s : Setting) (p : ℕ) (x : Source) (st : State) → EffectBegins st.world.output (aimed s p x st)
 aimed_begins s p source.Null st = begins_itself st.world.output
 aimed_begins s p (source.Text n) st = begins_itself st.world.output
-aimed_begins s p source.Empty st = tt
+aimed_begins s p source.Empty st = begins_itself st.world.output
 aimed_begins s p (source.Whole o) st = tt
 aimed_begins s p (source.Get l) st = tt
-aimed_begins s p (source.Place o) st = found_begins st.world.output (locate o st) _ (λ n i object. begins_itself st.world.output)
+aimed_begins s p (source.Place o) st =
+    place_begins st.world.output (locate o st) _ _ (λ n i object. begins_itself st.world.output) (λ c. character_begins st.world.output s.texts c (λ z. Next (put_cell p (Points (at_index 0 c.index (Static c))) st)) (λ z. begins_itself st.world.output))
 
 taken_begins : (r : ℕ) (input : List ℤ) (st : State) → EffectBegins st.world.output (input_taken r input st)
 taken_begins r [] st = tt
@@ -160,7 +177,8 @@ does_begins : (s : Setting) (types : Types) (f : Function) (i : Step) (st : Stat
 does_begins s types f (Live x form) st = live_begins s types f _ form x st
 does_begins s types f (End xs) st = ends_begin types xs st
 does_begins s types f (Eval r o) st = evaluated_begins types f r o st
-does_begins s types f (Load r o) st = found_begins st.world.output (locate o st) _ (λ n i object. begins_itself st.world.output)
+does_begins s types f (Load r o) st =
+    place_begins st.world.output (locate o st) _ _ (λ n i object. begins_itself st.world.output) (λ c. character_begins st.world.output s.texts c (λ z. Next (put_cell r (Number z) st)) (λ z. begins_itself st.world.output))
 does_begins s types f (Save o r) st = number_begins st.world.output (cell st r) _ (λ z. found_begins st.world.output (locate o st) _ (λ n i object. begins_itself st.world.output))
 does_begins s types f (Copy to from) st = tt
 does_begins s types f (Move to y) st = tt

@@ -1,5 +1,5 @@
 -- What the machine does of the meaning so far: it strays where no proper program comes.
-use Rattle.std.specs.Prelude.{ℕ, ℤ, ◌+◌, Bool, true, false, List, [], ◌∷◌, Option, Some, None, slice_get}
+use Rattle.std.specs.Prelude.{ℕ, ℤ, ◌+◌, List, [], ◌∷◌, Option, Some, None, slice_get}
 use Rattle.life_types.specs.Types.{Types}
 use Rattle.life_types.specs.declared.ty.TyId.{TyId}
 use Rattle.life_core.specs.declared.instr.Form.{Form}
@@ -12,31 +12,13 @@ use Rattle.life_core.specs.Step.{Step, Live, End, Eval, Load, Save, Aim, Repoint
 use Rattle.life_store.specs.Calls.{number_handed, pointer_handed, with_handed, number_or_zero, pointer_back}
 use Rattle.life_store.specs.Cells.{at}
 use Rattle.life_store.specs.Content.{Object, Content, with_object, with_word, word_at}
-use Rattle.life_store.specs.Doing.{Setting, Effect, Next, Strays, cell, put_cell, put_content, word_of_number, number_in_word, type_of, on_number, on_pointer, on_next, born_object, born_pointer, end_object, viewed, characters_in, Found, Wrong, Astray, found_at, named_by, is_valid, on_found, evaluated, with_output, number_text, input_taken}
+use Rattle.life_store.specs.Doing.{Setting, Effect, Next, Strays, cell, put_cell, put_content, word_of_number, number_in_word, type_of, on_number, on_pointer, on_next, born_object, born_pointer, end_object, viewed, characters_in, empty_view, Found, behind_cell, found_at, named_by, on_character, on_found, on_place, evaluated, with_output, number_text, input_taken}
+use Rattle.life_store.specs.Iterators.{at_index}
 use Rattle.life_store.specs.Meaning.{Verdict, number_test, pointer_test}
 use Rattle.life_store.specs.Parts.{parts_at}
-use Rattle.life_store.specs.State.{Characters, Target, Pointer, Null, Wild, To, Static, Cell, Empty, Named, Number, Points, State}
-use Rattle.life_store.specs.declared.run.FaultKind.TheVariants as fault
+use Rattle.life_store.specs.State.{Characters, Pointer, Null, To, Static, Cell, Empty, Named, Number, Points, State}
 
 -- ---- places
-
-abbrev pub found_if : Bool → Content → Target → Found
-found_if true c t = found_at c t.object t.index
-found_if false c t = Wrong fault.Dangling
-
--- what is behind a pointer to an object
-abbrev pub behind_pointer : Content → Pointer → Found
-behind_pointer c Null = Wrong fault.Null
-behind_pointer c Wild = Wrong fault.Dangling
-behind_pointer c (To t) = found_if (is_valid c t) c t
-behind_pointer c (Static s) = Astray
-
-abbrev pub behind_cell : Content → Option Cell → Found
-behind_cell c None = Astray
-behind_cell c (Some Empty) = Astray
-behind_cell c (Some (Named n)) = Astray
-behind_cell c (Some (Number z)) = Astray
-behind_cell c (Some (Points p)) = behind_pointer c p
 
 -- no operand that is ready names a member
 abbrev pub locate : Operand → State → Found
@@ -50,7 +32,7 @@ live_as s Blank ty form x st = Strays
 live_as s AnObject ty form x st = born_object s ty x st
 live_as s ANumber ty form x st = Strays
 live_as s APointer ty form x st = Next (put_cell x (Points (born_pointer form)) st)
-live_as s AView ty form x st = Strays
+live_as s AView ty form x st = Next (put_cell x (Points empty_view) st)
 
 -- what is alive isn't born again
 abbrev pub live_over : Setting → Option Cell → Holding → TyId → Form → ℕ → State → Effect
@@ -83,6 +65,12 @@ end_locals types (x ∷ xs) st = on_next (end_cell types (cell st x) x st) (end_
 -- ---- the instructions
 
 -- a value has one word
+abbrev pub loaded : Setting → ℕ → Operand → State → Effect
+loaded s r o st =
+    on_place (locate o st)
+    (λ n i object. Next (put_cell r (Number (number_in_word (word_at object i 0))) st))
+    (λ c. on_character s.texts c (λ z. Next (put_cell r (Number z) st)))
+
 abbrev pub saved : ℤ → ℕ → ℕ → Object → State → State
 saved z n i o st = put_content (with_object n (with_word i 0 (word_of_number z) o) st.world.content) st
 
@@ -93,7 +81,11 @@ pointer_to c n i = To (record { object = n; index = i; word = 0; count = 1; mome
 abbrev pub aimed : Setting → ℕ → Source → State → Effect
 aimed s p source.Null st = Next (put_cell p (Points Null) st)
 aimed s p (source.Text n) st = Next (put_cell p (Points (viewed s.texts n)) st)
-aimed s p (source.Place o) st = on_found (locate o st) (λ n i object. Next (put_cell p (Points (pointer_to st.world.content n i)) st))
+aimed s p source.Empty st = Next (put_cell p (Points empty_view) st)
+aimed s p (source.Place o) st =
+    on_place (locate o st)
+    (λ n i object. Next (put_cell p (Points (pointer_to st.world.content n i)) st))
+    (λ c. on_character s.texts c (λ z. Next (put_cell p (Points (at_index 0 c.index (Static c))) st)))
 aimed s p _ st = Strays
 
 -- characters that never end
@@ -110,7 +102,7 @@ abbrev pub does : Setting → Types → Function → Step → State → Effect
 does s types f (Live x form) st = live_local s types f (slice_get f.locals x) form x st
 does s types f (End xs) st = end_locals types xs st
 does s types f (Eval r operation) st = evaluated types f r operation st
-does s types f (Load r o) st = on_found (locate o st) (λ n i object. Next (put_cell r (Number (number_in_word (word_at object i 0))) st))
+does s types f (Load r o) st = loaded s r o st
 does s types f (Save o r) st = on_number (cell st r) (λ z. on_found (locate o st) (λ n i object. Next (saved z n i object st)))
 does s types f (Aim p s') st = aimed s p.local s' st
 does s types f (Repoint p q) st = on_pointer (cell st q.local) (λ v. Next (put_cell p.local (Points v) st))

@@ -1,19 +1,19 @@
 -- What the machine's functions answer of the steps of the meaning.
-use Rattle.std.specs.Prelude.{◌≡◌, ◌<◌, ◌+◌, ℕ, ℤ, List, Option, Some, None, Result, MatchResult, option_map, slice_get}
+use Rattle.std.specs.Prelude.{◌≡◌, ◌<◌, ◌+◌, ℕ, ℤ, List, Option, Some, None, Result, MatchOption, MatchResult, option_map, slice_get}
 use Rattle.std.specs.declared.alloc.Global.{Global}
 use Rattle.std.specs.declared.vec.Vec.{Vec}
 use Rattle.life_types.specs.Types.{Types}
 use Rattle.life_core.specs.Function.{Function}
 use Rattle.life_core.specs.Operands.{Operand, Name, Through}
-use Rattle.life_store.specs.Doing.{Setting, Effect, Next, Traps, Faults, Strays, Found, Here, Wrong, Astray, named_by, on_found, on_number, on_pointer, put_cell, number_in_word, cell, characters_in, input_taken, with_output}
-use Rattle.life_interp.specs.SoFar.{parameters_given, behind_cell, saved, locate, on_view}
-use Rattle.life_store.specs.Content.{Content, Object, live_words_of, word_at}
+use Rattle.life_store.specs.Doing.{Setting, Effect, Next, Traps, Faults, Strays, Found, Here, Fixed, Outside, Wrong, Astray, behind_cell, named_by, on_character, on_found, on_number, on_pointer, put_cell, cell, characters_in, input_taken, with_output}
+use Rattle.life_interp.specs.SoFar.{parameters_given, saved, locate, on_view}
+use Rattle.life_store.specs.Content.{Content, Object, live_words_of}
 use Rattle.life_store.specs.Meaning.{frame}
 use Rattle.life_store.specs.References.{Rows, HasWord, object_of}
 use Rattle.life_store.specs.State as state
 use Rattle.life_store.specs.State.{State}
 use Rattle.life_store.specs.declared.run.TrapKind.TheVariants as trap
-use Rattle.life_interp.specs.Cells.{cell_seen, cells_seen, state_of, world_of}
+use Rattle.life_interp.specs.Cells.{cell_seen, cells_seen, characters_seen, state_of, world_of}
 use Rattle.life_seen.specs.Housed.{IsRef}
 use Rattle.life_seen.specs.Kinds.{kinds_of}
 use Rattle.life_seen.specs.Named.{names_of}
@@ -21,6 +21,8 @@ use Rattle.life_seen.specs.Seen.{object_seen}
 use Rattle.life_interp.specs.declared.ending.Ending.{Ending}
 use Rattle.life_interp.specs.declared.ending.Ending.TheVariants as ending
 use Rattle.life_interp.specs.declared.value.Cell.{Cell}
+use Rattle.life_interp.specs.declared.places.Located.{Located}
+use Rattle.life_interp.specs.declared.places.Located.TheVariants as located
 use Rattle.life_interp.specs.declared.places.Position.{Position}
 
 -- ---- places
@@ -33,21 +35,33 @@ pub record IsPosition (types : Types) (c : Content) (rows : Rows) (found : Found
   pub word : HasWord p.index 0 object
   pub fits : IsRef c rows p.object
 
--- what is told where no position is found
+-- .. or a character of a text
+abbrev pub IsLocated : Types → Content → Rows → Found → Located → Type 0
+IsLocated types c rows found (located.Slot p) = IsPosition types c rows found p
+IsLocated types c rows found (located.Text characters) = found ≡ Fixed (characters_seen characters)
+
+-- what is told where neither is found
 abbrev pub TellsMiss : Found → Ending → Type 0
-TellsMiss found (ending.Trap kind) = ⊥
+TellsMiss found (ending.Trap kind) = (kind ≡ trap.Bounds) × (found ≡ Outside)
 TellsMiss found (ending.Fault kind) = found ≡ Wrong kind
 TellsMiss found ending.Stray = found ≡ Astray
 TellsMiss found ending.NoMemory = ⊥
 TellsMiss found ending.WriteFault = ⊥
 
-abbrev pub Finds : Types → Content → Rows → Found → Result Position Ending → Type 0
-Finds types c rows found result = MatchResult result (IsPosition types c rows found) (TellsMiss found)
+abbrev pub Finds : Types → Content → Rows → Found → Result Located Ending → Type 0
+Finds types c rows found result = MatchResult result (IsLocated types c rows found) (TellsMiss found)
 
 -- what an operand names in a frame
 abbrev pub place_in : Content → List Cell → Operand → Found
 place_in c cells (Name l) = named_by c (option_map cell_seen (slice_get cells l.local))
 place_in c cells (Through p members) = behind_cell c (option_map cell_seen (slice_get cells p.local))
+
+-- a character of a text, if it is there
+abbrev pub TellsCharacter : List (List ℕ) → state.Characters → Option ℤ → Type 0
+TellsCharacter texts c result =
+    MatchOption result
+    ((go : ℤ → Effect) → on_character texts c go ≡ Traps trap.Bounds)
+    (λ z. (go : ℤ → Effect) → on_character texts c go ≡ go z)
 
 -- ---- steps
 
@@ -65,9 +79,6 @@ Leaves effect next result =
     MatchResult result
     (λ _. (output : List ℕ) (input : List ℤ) → effect output input ≡ Next (next output input))
     (λ e. (output : List ℕ) (input : List ℤ) → TellsEnd (effect output input) e)
-
-abbrev pub loaded : ℕ → Operand → State → Effect
-loaded r o st = on_found (locate o st) (λ n i object. Next (put_cell r (state.Number (number_in_word (word_at object i 0))) st))
 
 abbrev pub stored : Operand → ℕ → State → Effect
 stored o r st = on_number (cell st r) (λ z. on_found (locate o st) (λ n i object. Next (saved z n i object st)))

@@ -16,6 +16,7 @@ ghost use Rattle.life_interp.specs.SoFar.{end_cell, end_locals, live_local};
 use crate::ending::Ending;
 use crate::frame::{cell_at, put_cell};
 use crate::layouts::Layouts;
+use crate::pointers::empty_view;
 use crate::sort::{Sort, sort_of};
 use crate::value::{Cell, Pointer};
 use life_core::{CoreFn, Form};
@@ -53,7 +54,10 @@ pub(crate) fn live<S: Store>(
                 }
                 Sort::Blank => Err(Ending::Stray),
                 Sort::Number => Err(Ending::Stray),
-                Sort::View => Err(Ending::Stray),
+                Sort::View => {
+                    put_cell(cells, local, Cell::Points(empty_view()));
+                    Ok(())
+                }
             },
             Some(Cell::Object(_)) => Err(Ending::Stray),
             Some(Cell::Number(_)) => Err(Ending::Stray),

@@ -2,20 +2,23 @@
 ghost use Rattle.std.specs.Prelude.{◌≡◌, map, slice_get, OnOk};
 ghost use Rattle.life_core.specs.Function.{name_bytes};
 ghost use Rattle.life_core.specs.Operands.{source_of};
-ghost use Rattle.life_interp.specs.Cells.{pointer_seen};
+ghost use Rattle.life_interp.specs.Cells.{characters_seen, pointer_seen};
 ghost use Rattle.life_interp.specs.Fits.{meant, CellsFit, IsFit};
 ghost use Rattle.life_interp.specs.Steps.{repointed, LeavesCells};
 ghost use Rattle.life_store.specs.Content.{Content};
-ghost use Rattle.life_store.specs.Doing.{text_length, viewed, Setting};
+ghost use Rattle.life_store.specs.Doing.{empty_view, text_length, viewed, Setting};
+ghost use Rattle.life_store.specs.Iterators.{at_index};
+ghost use Rattle.life_store.specs.State.{Static};
 ghost use Rattle.life_interp.specs.SoFar.{aimed};
 ghost use Rattle.life_store.specs.References.{Rows};
 
 use crate::ending::Ending;
 use crate::frame::{pointer_at, put_cell};
-use crate::places::locate;
+use crate::places::{Located, locate};
 use crate::value::{Cell, Characters, Pointer};
+use crate::values::character_at;
 use life_core::Source;
-use life_store::Store;
+use life_store::{Store, TrapKind};
 use life_types::TypeTable;
 
 /// Makes a pointer point to something.
@@ -42,7 +45,7 @@ pub(crate) fn aim<S: Store>(
         }
         Source::Place(operand) => match locate(types, store, cells, operand) {
             Err(ending) => Err(ending),
-            Ok(position) => {
+            Ok(Located::Slot(position)) => {
                 let to = Pointer::To {
                     object: position.object,
                     index: position.index,
@@ -51,10 +54,43 @@ pub(crate) fn aim<S: Store>(
                 put_cell(cells, pointer, Cell::Points(to));
                 Ok(())
             }
+            Ok(Located::Text(characters)) => match character_at(texts, characters) {
+                None => Err(Ending::Trap(TrapKind::Bounds)),
+                Some(_) => {
+                    put_cell(cells, pointer, Cell::Points(one_of(characters)));
+                    Ok(())
+                }
+            },
         },
+        Source::Empty => {
+            put_cell(cells, pointer, Cell::Points(empty_view()));
+            Ok(())
+        }
         // No program that is built so far has another.
         _ => Err(Ending::Stray),
     }
+}
+
+/// A view of no characters.
+pub(crate) fn empty_view() -> Pointer
+    ensures { pointer_seen result ≡ empty_view }
+{
+    Pointer::Static(Characters {
+        text: None,
+        index: 0,
+        count: 0,
+    })
+}
+
+// The first of the characters.
+fn one_of(characters: Characters) -> Pointer
+    ensures { pointer_seen result ≡ at_index 0 characters.index (Static (characters_seen characters)) }
+{
+    Pointer::Static(Characters {
+        text: characters.text,
+        index: characters.index,
+        count: 1,
+    })
 }
 
 // The whole of a text of the program.

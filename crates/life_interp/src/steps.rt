@@ -79,7 +79,9 @@ fn act<S: Store>(
         Instr::Live { local, form } => live(&program.types, f, store, cells, *local, *form),
         Instr::End { locals } => end(&program.types, layouts, store, cells, locals),
         Instr::Eval { into, operation } => evaluate(&program.types, f, *into, *operation, cells),
-        Instr::Load { into, from } => load(&program.types, store, cells, *into, from),
+        Instr::Load { into, from } => {
+            load(&program.types, &program.texts, store, cells, *into, from)
+        }
         Instr::Save { to, from } => save(&program.types, store, cells, to, *from),
         Instr::Aim { pointer, source } => {
             aim(

@@ -1,19 +1,21 @@
 // Instructions that compute, read and write values.
-ghost use Rattle.std.specs.Prelude.{◌≡◌, ◌<◌, ◌^◌, pos, OnOk};
-ghost use Rattle.life_core.specs.Function.{function_of};
+ghost use Rattle.std.specs.Prelude.{◌≡◌, ◌<◌, ◌^◌, map, pos, OnOk};
+ghost use Rattle.life_core.specs.Function.{function_of, name_bytes};
 ghost use Rattle.life_core.specs.Operands.{operand_of};
 ghost use Rattle.life_interp.specs.Fits.{meant, CellsFit, IsFit};
-ghost use Rattle.life_interp.specs.Steps.{loaded, stored, LeavesBoth, LeavesCells};
+ghost use Rattle.life_interp.specs.Cells.{characters_seen};
+ghost use Rattle.life_interp.specs.SoFar.{loaded};
+ghost use Rattle.life_interp.specs.Steps.{stored, LeavesBoth, LeavesCells, TellsCharacter};
 ghost use Rattle.life_seen.specs.Housed.{Later};
 ghost use Rattle.life_store.specs.Content.{Content};
 ghost use Rattle.life_store.specs.References.{Rows};
-ghost use Rattle.life_store.specs.Doing.{as_bool, as_char, as_int, computed_into, converted, evaluated, type_of};
+ghost use Rattle.life_store.specs.Doing.{as_bool, as_char, as_int, computed_into, converted, evaluated, type_of, Setting};
 
 use crate::arithmetic::{combined, negated, zero_test};
 use crate::ending::Ending;
 use crate::frame::{number_at, put_cell};
-use crate::places::locate;
-use crate::value::Cell;
+use crate::places::{Located, locate};
+use crate::value::{Cell, Characters};
 use life_core::{CoreFn, Operand, Operation};
 use life_store::{Store, TrapKind};
 use life_types::{Ty, TypeTable};
@@ -131,25 +133,49 @@ fn as_int(value: i64) -> i64
     low.cast_signed() as i64
 }
 
+/// The character with which the characters begin, unless they begin at the end of their text.
+pub(crate) fn character_at(texts: &[Vec<u8>], characters: Characters) -> Option<i64>
+    ensures { TellsCharacter (map name_bytes texts.now) (characters_seen characters) result }
+{
+    match characters.text {
+        None => None,
+        Some(number) => match texts.get(number as usize) {
+            None => None,
+            Some(text) => match text.get(characters.index) {
+                None => None,
+                Some(byte) => Some(as_char(*byte as i64)),
+            },
+        },
+    }
+}
+
 /// Reads a value into a register.
 pub(crate) fn load<S: Store>(
     types: &TypeTable,
+    texts: &[Vec<u8>],
     store: &S,
     cells: &mut Vec<Cell>,
     into: u32,
     from: &Operand,
 ) -> Result<(), Ending>
     requires { IsFit types.now (S.content store.now) (S.rows store.now) cells.old.items }
-    ensures step { LeavesCells (loaded into (operand_of from.now)) (meant types.now (S.content store.now) (S.rows store.now)) cells.old.items cells.new.items result }
+    ensures step { (s : Setting) → s.texts ≡ map name_bytes texts.now → LeavesCells (loaded s into (operand_of from.now)) (meant types.now (S.content store.now) (S.rows store.now)) cells.old.items cells.new.items result }
     ensures fits { OnOk result (IsFit types.now (S.content store.now) (S.rows store.now) cells.new.items) }
 {
     match locate(types, store, cells, from) {
         Err(ending) => Err(ending),
-        Ok(position) => {
+        Ok(Located::Slot(position)) => {
             let word = number(store, position.object, position.index, 0);
             put_cell(cells, into, Cell::Number(word.cast_signed()));
             Ok(())
         }
+        Ok(Located::Text(characters)) => match character_at(texts, characters) {
+            None => Err(Ending::Trap(TrapKind::Bounds)),
+            Some(value) => {
+                put_cell(cells, into, Cell::Number(value));
+                Ok(())
+            }
+        },
     }
 }
 
@@ -173,11 +199,13 @@ pub(crate) fn save<S: Store>(
         None => Err(Ending::Stray),
         Some(value) => match locate(types, store, cells, to) {
             Err(ending) => Err(ending),
-            Ok(position) => {
+            Ok(Located::Slot(position)) => {
                 let word = value.cast_unsigned();
                 put_number(store, position.object, position.index, 0, word);
                 Ok(())
             }
+            // A character of a text isn't written.
+            Ok(Located::Text(_)) => Err(Ending::Stray),
         },
     }
 }

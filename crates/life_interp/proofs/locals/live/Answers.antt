@@ -10,7 +10,7 @@ use Rattle.life_interp.specs.declared.value.Cell.{Cell}
 use Rattle.life_interp.specs.declared.value.Cell.TheVariants as held
 use Rattle.life_interp.specs.Fits.{meant}
 use Rattle.life_interp.proofs.FitLemmas.{set_fits}
-use Rattle.life_interp.proofs.LocalLemmas.{born_fits, leaves_as, live_is, live_strays, none_strays}
+use Rattle.life_interp.proofs.LocalLemmas.{born_fits, leaves_as, live_is, live_strays, none_strays, static_fits}
 use Rattle.life_interp.proofs.Single.{object_is_number}
 use Rattle.life_interp.proofs.StepLemmas.{seen, put_now}
 use Rattle.life_interp.proofs.locals.live.Goals as goal
@@ -50,6 +50,13 @@ returns-in-Number-clause-step g c = λ s e output input.
     let content = meant c.args.types.now (g.S.Store.content c.args.store.now) (g.S.Store.rows c.args.store.now) in
     live_is s c.args.types.now (function_of c.args.f.now) c.args.local local ANumber c.args.form (state_of content c.args.cells.now.items output input) there cell_is (sym (ap sort_seen c.in-Number.is) ∙ c.sort_of.ensures)
 
+pub returns-in-View-clause-fits : goal.returns-in-View-clause-fits
+returns-in-View-clause-fits g c =
+    let content = g.S.Store.content c.args.store.now in
+    let rows = g.S.Store.rows c.args.store.now in
+    rw c.put_cell-in-View.ensures
+    (record { store = c.requires.fits.store; held = set_fits content rows c.args.cells.now.items c.args.local (held.Points c.empty_view.result) c.requires.fits.held (static_fits c.empty_view.result _ content rows c.empty_view.ensures) })
+
 pub returns-in-View-clause-step : goal.returns-in-View-clause-step
 returns-in-View-clause-step g c = λ s e output input.
     let locals = c.args.f.now.locals in
@@ -58,7 +65,10 @@ returns-in-View-clause-step g c = λ s e output input.
     let at_cell = ap (λ (cells : List Cell). slice_get cells c.args.local) (sym c.deref.ensures.value) ∙ sym c.cell_at.ensures ∙ c.in-Some-Empty.is ∙ ap (λ (v : Cell). Some v) c.in-Some-Empty.field-0-is in
     let cell_is = seen c.args.cells.now.items c.args.local (Some held.Empty) (sym at_cell) in
     let content = meant c.args.types.now (g.S.Store.content c.args.store.now) (g.S.Store.rows c.args.store.now) in
-    live_is s c.args.types.now (function_of c.args.f.now) c.args.local local AView c.args.form (state_of content c.args.cells.now.items output input) there cell_is (sym (ap sort_seen c.in-View.is) ∙ c.sort_of.ensures)
+    let st = state_of content c.args.cells.now.items output input in
+    live_is s c.args.types.now (function_of c.args.f.now) c.args.local local AView c.args.form st there cell_is (sym (ap sort_seen c.in-View.is) ∙ c.sort_of.ensures)
+    ∙ ap (λ p. Next (put_cell c.args.local (state.Points p) st)) (sym c.empty_view.ensures)
+    ∙ ap Next (put_now content c.args.cells.now.items c.put_cell-in-View.new.cells.items c.args.local (held.Points c.empty_view.result) output input c.put_cell-in-View.ensures)
 
 pub returns-in-Pointer-clause-step : goal.returns-in-Pointer-clause-step
 returns-in-Pointer-clause-step g c = λ s e output input.

@@ -37,7 +37,7 @@ returns-in-Eval-clause-fits g c =
 pub returns-in-Load-clause-step : goal.returns-in-Load-clause-step
 returns-in-Load-clause-step g c = λ s e.
     subst (λ (i : Instr). LeavesBoth (does s (program_of c.args.program.now).types (function_of c.args.f.now) (step_of i)) (meant (program_of c.args.program.now).types (g.S.Store.content c.args.store.now) (g.S.Store.rows c.args.store.now)) c.args.cells.now.items (meant (program_of c.args.program.now).types (g.S.Store.content c.args.store.now) (g.S.Store.rows c.args.store.now)) c.load.new.cells.items c.load.result) (sym c.in-Load.is)
-    c.load.ensures.step
+    (c.load.ensures.step s (e.texts ∙ ap (λ (ts : List (Vec ℕ Global)). map name_bytes ts) (sym c.deref-in-Load.ensures.value)))
 
 pub returns-in-Save-clause-step : goal.returns-in-Save-clause-step
 returns-in-Save-clause-step g c = λ s e.

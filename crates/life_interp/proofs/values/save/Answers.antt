@@ -13,22 +13,24 @@ use Rattle.life_interp.specs.Cells.{state_of}
 use Rattle.life_interp.specs.Fits.{meant}
 use Rattle.life_interp.proofs.FitLemmas.{cells_later, later_rows}
 use Rattle.life_interp.proofs.NumberLemmas.{holds_written, plain_here}
-use Rattle.life_interp.proofs.StepLemmas.{a_number, place_found}
+use Rattle.life_interp.proofs.StepLemmas.{a_number, place_found, slot_of}
 use Rattle.life_interp.proofs.values.save.Goals as goal
 
 pub put_number-requires : goal.put_number-requires
-put_number-requires g c = subst (λ (o : Option Object). IfSome o (HasWord c.in-Ok.position.index 0)) (sym c.in-Ok.ensures.lives) c.in-Ok.ensures.word
+put_number-requires g c =
+    let here = slot_of c.args.types.now (g.S.Store.content c.args.store.now) (g.S.Store.rows c.args.store.now) _ c.in-Ok-Slot.field-0 c.in-Ok-Slot.position c.in-Ok-Slot.field-0-is c.in-Ok-Slot.ensures in
+    subst (λ (o : Option Object). IfSome o (HasWord c.in-Ok-Slot.position.index 0)) (sym here.lives) here.word
 
-pub returns-in-Ok : goal.returns-in-Ok
-returns-in-Ok g c =
+pub returns-in-Ok-Slot : goal.returns-in-Ok-Slot
+returns-in-Ok-Slot g c =
     let types = c.args.types.now in
     let content = g.S.Store.content c.args.store.now in
     let rows = g.S.Store.rows c.args.store.now in
     let m = meant types content rows in
     let d = g.S.Store.content c.put_number.new.store in
     let new = g.S.Store.rows c.put_number.new.store in
-    let p = c.in-Ok.position in
-    let here = c.in-Ok.ensures in
+    let p = c.in-Ok-Slot.position in
+    let here = slot_of types content rows _ c.in-Ok-Slot.field-0 p c.in-Ok-Slot.field-0-is c.in-Ok-Slot.ensures in
     let shows = c.put_number.ensures.shows (kinds_of types) here.object (plain_here types content rows c.requires.store p.object here.object here.lives 0) in
     let births = ap (λ (x : Content). x.births) shows.is in
     let later = later_rows content d rows new (omega (arith, births)) c.put_number.ensures.rows in
@@ -38,7 +40,7 @@ returns-in-Ok g c =
           let fits : SFits w64 c.in-Some.value = search rules in
           let word : c.cast_unsigned-word.result ≡ cast_unsigned w64 c.in-Some.value = c.cast_unsigned-word.ensures ∙ ap (cast_unsigned w64) (to_z-of_z w64 c.in-Some.value fits) in
           a_number _ _ c.in-Some.value c.in-Some.ensures
-          ∙ place_found (operand_of c.args.to.now) types content rows c.args.cells.now p _ output input here
+          ∙ place_found _ _ (operand_of c.args.to.now) types content rows c.args.cells.now p output input here
           ∙ ap (λ w. Next (put_content (with_object p.object.birth (with_word p.index 0 w (object_seen (kinds_of types) (names_of content rows) here.object)) m) st)) (sym word)
           ∙ ap (λ (x : Content). Next (state_of x c.args.cells.now output input)) (sym shows.is);
       fits = record {
