@@ -19,6 +19,7 @@ use Rattle.life_core.specs.Tree.{Action}
 use Rattle.life_core.specs.declared.exits.Exits.{Exits}
 use Rattle.life_core.specs.declared.program.FnId.{FnId}
 use Rattle.life_core.proofs.ReadyLemmas.{bits_left}
+use Rattle.life_proper.specs.GivenOver.{all_keep_given}
 use Rattle.life_proper.specs.Placed.{object_at, slot_at, type_at, type_in}
 use Rattle.life_proper.specs.WellFormed.{are_arguments_for, goes_to, have_own_slots, is_call, types_taken}
 use Rattle.life_proper.specs.WellFormedPrograms.{is_well_formed_function}
@@ -47,6 +48,7 @@ use Rattle.life_forest.proofs.HeldPoints.{IsSound, poised}
 use Rattle.life_forest.proofs.HeldPointers.{pointers_aim, pointers_fit}
 use Rattle.life_forest.proofs.Holding.{KeepsWaiting, variable_holds}
 use Rattle.life_forest.proofs.Keeping.{Keeps, keeps_more, keeps_then}
+use Rattle.life_forest.proofs.KeptSlots.{slots_kept}
 use Rattle.life_forest.proofs.SeenTypes.{pointer_parts, pointer_solid}
 use Rattle.life_forest.proofs.SettledPoints.{kinds_fit}
 use Rattle.life_forest.proofs.SettlingLives.{HaveMembers}
@@ -70,12 +72,10 @@ abbrev pub GoodCallee : Types → List Function → Callee → Type 0
 GoodCallee types fs call = (k : ℕ) (g : Function) (rest : ℕ → ℕ) (xs : List Cell) (n : ℕ) (w : World) → slice_get fs k ≡ Some g → AreHandedTo types w.content (types_held types g) xs → IsStore types (λ k. times (named_in xs) k + rest k) w.content
     → GoodCalled types g rest w.content (call k xs n w)
 
--- what a call writes isn't given over by it: the object of which a member is given the result, and what is handed over as a slot
-pub record KeepsTargets (types : Types) (f : Function) : Type 0 where
-  pub target : (b : ℕ) (bits : Ready) (place : Place) (l : Location) (g : FnId) (xs : List Argument) (to : Option ℕ) → Reaches types f b bits → numbered (code_of f) b ≡ Some (record { spot = spot_at place (Action (Call (Some l) g xs)); leads = goes to })
-      → (m : ℕ) (ms : List ℕ) → l.members ≡ m ∷ ms → IsThere (set_bits false (flat_map (argument_leaves f) xs) bits) l.local
-  pub slots : (b : ℕ) (bits : Ready) (place : Place) (target : Option Location) (g : FnId) (xs : List Argument) (to : Option ℕ) → Reaches types f b bits → numbered (code_of f) b ≡ Some (record { spot = spot_at place (Action (Call target g xs)); leads = goes to })
-      → AreSlotsThere (set_bits false (flat_map (argument_leaves f) xs) bits) xs
+-- the object of which a member is given a call's result isn't given over by the call
+abbrev pub KeepsTargets : Types → Function → Type 0
+KeepsTargets types f = (b : ℕ) (bits : Ready) (place : Place) (l : Location) (g : FnId) (xs : List Argument) (to : Option ℕ) → Reaches types f b bits → numbered (code_of f) b ≡ Some (record { spot = spot_at place (Action (Call (Some l) g xs)); leads = goes to })
+    → (m : ℕ) (ms : List ℕ) → l.members ≡ m ∷ ms → IsThere (set_bits false (flat_map (argument_leaves f) xs) bits) l.local
 
 -- ---- bits and lists
 
@@ -146,7 +146,7 @@ module _ (types : Types) (f : Function) (rest : ℕ → ℕ) (st : State) (sound
       sorted_less x (Points p) e = sound.sorted x (Points p) (less x (Points p) refl e)
 
 module _ (types : Types) (ordered : IsOrdered types) (once : HasEachOnce types) (some : HaveMembers types) (names texts : ℕ) (fs : List Function) (f : Function) (formed : is_well_formed_function types names texts fs f ≡ true) (points : ArePointsFormed types texts fs f)
-    (ready : HasReadyWays types f) (rest : ℕ → ℕ) (before : Content) (s : Setting) (call : Callee) (callees : GoodCallee types fs call) (free : (k : ℕ) (g : Function) → slice_get fs k ≡ Some g → ArePointerSlots types (types_taken g)) (kept : KeepsTargets types f) where
+    (ready : HasReadyWays types f) (rest : ℕ → ℕ) (before : Content) (s : Setting) (call : Callee) (callees : GoodCallee types fs call) (free : (k : ℕ) (g : Function) → slice_get fs k ≡ Some g → ArePointerSlots types (types_taken g)) (given : all_keep_given types f ≡ true) (kept : KeepsTargets types f) where
   shaped : IsShaped types f
   shaped = locals_shaped types ordered names f (formed_parts types names texts fs f formed).locals
 
@@ -188,7 +188,7 @@ module _ (types : Types) (ordered : IsOrdered types) (once : HasEachOnce types) 
       target_ready st3 same = record {
         births = subst (λ (bits : Ready). AreBits false bits (target_births f target)) (sym (same ∙ loan.bits)) (still_all (ready_of st) (flat_map (argument_leaves f) xs) (target_births f target) are.births);
         object = λ l at_l m ms k. subst (λ (bits : Ready). IsThere bits l.local) (sym (same ∙ loan.bits))
-            (kept.target b (ready_of st) place l g xs x.next inv.reached (subst (λ (t : Option Location). numbered (code_of f) b ≡ Some (record { spot = spot_at place (Action (Call t g xs)); leads = goes x.next })) at_l here) m ms k);
+            (kept b (ready_of st) place l g xs x.next inv.reached (subst (λ (t : Option Location). numbered (code_of f) b ≡ Some (record { spot = spot_at place (Action (Call t g xs)); leads = goes x.next })) at_l here) m ms k);
         slots = λ l at_l whole object. not_there l at_l whole object (slot_at types f l.local) refl;
       }
         where
@@ -217,7 +217,7 @@ module _ (types : Types) (ordered : IsOrdered types) (once : HasEachOnce types) 
           (subst (λ (ws : List Cell). GivesOn types f rest w.content (set_bits true (target_births f target ++ target_writes f target) (ready_of st2)) (on_next (slots_returned types f xs ws st2) (target_given s types f target vs))) (sym drops)
           (on_given_next types ordered f shaped (kinds_fit types ordered once some names texts fs f formed points ready) rest s hand w.content (ready_of st2) (set_bits true (target_births f target ++ target_writes f target) (ready_of st2)) (slots_returned types f xs back.others st2) (target_given s types f target vs) (λ k. omega arith)
           (slots_give types ordered once texts fs f shaped (kinds_fit types ordered once some names texts fs f formed points ready) hand s (types_taken gf) xs back.others st2 free_g args back.suit sound2
-          (subst (λ (bits : Ready). AreSlotsThere bits xs) (sym loan.bits) (kept.slots b (ready_of st) place target g xs x.next inv.reached here)))
+          (subst (λ (bits : Ready). AreSlotsThere bits xs) (sym loan.bits) (slots_kept types f given b (ready_of st) place target g xs x.next here (bits_left true (ready_of st) (flat_map (argument_uses f) xs) (target_uses target) are.uses))))
           (λ st3 next. subst (λ (bits : Ready). GivesOn types f rest st3.world.content (set_bits true (target_births f target ++ target_writes f target) bits) (target_given s types f target vs st3)) next.bits
           (subst (λ (ws : List Cell). GivesOn types f rest st3.world.content (set_bits true (target_births f target ++ target_writes f target) (ready_of st3)) (target_given s types f target ws st3)) (sym back.are)
           (target_gives types ordered once texts fs f shaped (kinds_fit types ordered once some names texts fs f formed points ready) rest s st3 target gf.result back.first back.others (pointers_fit types ordered f st3 next.sound.held once texts fs shaped next.sound.sorted) into next.sound

@@ -7,6 +7,7 @@ use Rattle.life_core.specs.Function.{Function, Program}
 use Rattle.life_core.specs.Linked.{no_exits}
 use Rattle.life_core.specs.Proper.{HasReadyWays}
 use Rattle.life_core.specs.Ready.{entry_ready}
+use Rattle.life_proper.specs.GivenOver.{all_keep_given}
 use Rattle.life_proper.specs.WellFormed.{types_taken}
 use Rattle.life_proper.specs.WellFormedPrograms.{is_well_formed_function}
 use Rattle.life_proper.proofs.SortedNodes.{formed_parts}
@@ -38,6 +39,7 @@ pub record GoesWell (types : Types) (names texts : ℕ) (fs : List Function) (f 
   pub points : ArePointsFormed types texts fs f
   pub ready : HasReadyWays types f
   pub free : ArePointerSlots types (types_taken f)
+  pub given : all_keep_given types f ≡ true
   pub kept : KeepsTargets types f
 
 module _ (types : Types) (ordered : IsOrdered types) (once : HasEachOnce types) (some : HaveMembers types) (names texts : ℕ) (fs : List Function) (all : (k : ℕ) (g : Function) → slice_get fs k ≡ Some g → GoesWell types names texts fs g) (s : Setting) where
@@ -74,7 +76,7 @@ module _ (types : Types) (ordered : IsOrdered types) (once : HasEachOnce types) 
         (taking_all types names f shaped (formed_at types ordered once some names texts fs f well.formed well.points well.ready) well.free) store suits)
         (λ st next. finish_good w.content (exec s types f call f.body n st)
         (body_goes types ordered once some names texts fs f well.formed well.points well.ready rest w.content s call
-        (calls_sound types ordered once some names texts fs f well.formed well.points well.ready rest w.content s call callees (λ k g is. (all k g is).free) well.kept)
+        (calls_sound types ordered once some names texts fs f well.formed well.points well.ready rest w.content s call callees (λ k g is. (all k g is).free) well.given well.kept)
         n st next.bits next.sound next.waits))
 
 -- ---- all calls of a program

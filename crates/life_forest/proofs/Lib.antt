@@ -52,6 +52,7 @@ pub mod HoldingSteps
 pub mod HoldingWrites
 pub mod Keeping
 pub mod KeepingEdits
+pub mod KeptSlots
 pub mod Knowing
 pub mod Laying
 pub mod Listed

@@ -16,6 +16,7 @@ use Rattle.life_core.specs.declared.program.LocalKind.{LocalKind}
 use Rattle.life_core.specs.Function.{Function, Program}
 use Rattle.life_core.specs.Holdings.{APointer, AView, AnObject, Blank, held_if, sort_of_local}
 use Rattle.life_core.specs.Proper.{HasReadyWays, HaveReadyWays, IsReadyProgram}
+use Rattle.life_proper.specs.GivenOver.{all_keep_given, keeps_all_given}
 use Rattle.life_proper.specs.WellFormed.{is_well_formed_spot, types_taken}
 use Rattle.life_proper.specs.WellFormed as formed
 use Rattle.life_proper.specs.WellFormedPrograms.{IsWellFormedProgram, have_names, is_name, is_well_formed_function}
@@ -139,14 +140,14 @@ called_found types f entry before c (Quit (Faulted kind place) w) g = tt
 called_found types f entry before c (Quit Stray w) g = g
 called_found types f entry before c (Quit Exhausted w) g = tt
 
--- a program in which each slot is one of a pointer, and no call gives over what it writes
+-- a program in which each slot is one of a pointer, and no call gives over of what it writes a member
 pub record HandsPointerSlots (p : Program) : Type 0 where
   pub free : (k : ℕ) (g : Function) → slice_get p.functions k ≡ Some g → ArePointerSlots p.types (types_taken g)
   pub kept : (k : ℕ) (g : Function) → slice_get p.functions k ≡ Some g → KeepsTargets p.types g
 
-pub never_strays : (p : Program) (given : Given) (entry : ℕ) (f : Function) (input : List ℤ) (n : ℕ) → IsWellFormedProgram p → HasEachOnce p.types → IsReadyProgram p → HandsPointerSlots p → slice_get p.functions entry ≡ Some f → IsAdmitted p f input
+pub never_strays : (p : Program) (given : Given) (entry : ℕ) (f : Function) (input : List ℤ) (n : ℕ) → IsWellFormedProgram p → HasEachOnce p.types → IsReadyProgram p → keeps_all_given p ≡ true → HandsPointerSlots p → slice_get p.functions entry ≡ Some f → IsAdmitted p f input
     → IsFound (run_of given p entry f input n).outcome
-never_strays p given entry f input n well once ready hands is admitted =
+never_strays p given entry f input n well once ready apart hands is admitted =
     called_found p.types f f.place (first_world f input) empty_content (first_called given p entry f input n)
     (calls_good (setting_of given p) p well.table once (have_members p.types (length p.names) p.members well.members) (length p.names) (length p.texts) each given.depth entry f (λ k. 0) (entry_arguments p.types f 0 f.parameters input) n (first_world f input) is
     (numbers_handed p.types f empty_content f.parameters f.locals 0 input admitted.values admitted.room admitted.enough solid)
@@ -161,6 +162,7 @@ never_strays p given entry f input n well once ready hands is admitted =
       points = points_formed p.types (length p.names) (length p.texts) p.functions g (formed_function k g at);
       ready = ways_at p.types p.functions k g ready at;
       free = hands.free k g at;
+      given = all_at (all_keep_given p.types) p.functions k g apart at;
       kept = hands.kept k g at;
     }
 
