@@ -1,0 +1,4 @@
+pub mod Attempts
+pub mod Choices
+pub mod Pointers
+pub mod Valid

@@ -1,0 +1,12 @@
+//! Pointers into a store: whether one may be used, where it leads, and how it lies in a slot.
+#![tactic(auto)]
+
+mod choosing;
+mod pointer;
+mod stop;
+mod valid;
+
+pub use choosing::{Choice, chosen};
+pub use pointer::{Characters, Pointer, at_index, element_of, part_of, seen_count};
+pub use stop::Stop;
+pub use valid::{length, standing, usable};
