@@ -3,7 +3,7 @@ use Rattle.std.proofs.Common.{◌≡◌, ◌≢◌, ℕ, zero, suc, ◌+◌, ◌
 use Rattle.std.proofs.lemmas.List.{length-set}
 use Rattle.std.specs.Prelude.{slice_get, slice_index, slice_set, option_map}
 use Rattle.life_store.specs.Content.{Slot, Object, Content, set_slot, with_word, written}
-use Rattle.life_store.specs.Held.{pointer_words, with_words}
+use Rattle.life_store.specs.Held.{owner_word, pointer_words, with_words}
 use Rattle.life_store.specs.References.{Rows}
 use Rattle.life_store.specs.State.{Pointer, Null, Wild, To, Static}
 use Rattle.life_store.proofs.MapLemmas.{one_or_apart}
@@ -11,9 +11,9 @@ use Rattle.life_seen.specs.Housed.{WordLives, WordsLive, IsRef}
 use Rattle.life_seen.specs.Kinds.{AreWhole}
 use Rattle.life_store.specs.Kinds.{Kind, Pointing}
 use Rattle.life_seen.specs.Named.{Names}
-use Rattle.life_seen.specs.Rowed.{stored_words, HasRow, WordsRowed, SlotsRowed}
+use Rattle.life_seen.specs.Rowed.{stored_words, IsReadable, IsStorable, WordsRowed, SlotsRowed}
 use Rattle.life_seen.specs.Seen.{word_seen, words_seen}
-use Rattle.life_seen.proofs.Rowed.{index_other}
+use Rattle.life_seen.proofs.Rowed.{index_other, readable_as}
 use Rattle.life_seen.proofs.Views.{live_alike}
 
 -- ---- what is seen
@@ -90,30 +90,33 @@ puts_here (x ∷ xs) ws u (suc j) le lt =
     let l = length-set ws u x in
     ap (slice_index (puts (slice_set ws u x) (u + 1) xs)) z ∙ puts_here xs (slice_set ws u x) (u + 1) j (omega (arith, l, le)) (omega arith)
 
--- ---- .. and a pointer has its row
-
-abbrev pub IsRefOf : Content → Rows → ℕ → Pointer → Type 0
-IsRefOf c rows row Null = Unit {0}
-IsRefOf c rows row Wild = Unit {0}
-IsRefOf c rows row (To t) = (t.word < 2 ^ 32) × IsRef c rows (record { row = row; birth = t.object })
-IsRefOf c rows row (Static s) = Unit {0}
+-- ---- .. and a pointer can be read
 
 abbrev stored_at : ℕ → Pointer → ℕ → ℕ
 stored_at row p j = slice_index (stored_words row p) j
 
-has_row : (c : Content) (rows : Rows) (row : ℕ) (p : Pointer) → IsRefOf c rows row p → HasRow c rows (stored_at row p 0) (stored_at row p 3) (stored_at row p 4)
-has_row c rows row Null h n moment first last = absurd (omega (arith, first))
-has_row c rows row Wild h n moment first last = absurd (omega (arith, first))
-has_row c rows row (Static s) h n moment first last = absurd (omega (arith, last))
-has_row c rows row (To t) h n moment first last =
-    let same : t.object ≡ n = omega (arith, first) in
-    subst (λ k. IsRef c rows (record { row = (t.word + row * 2 ^ 32) / 2 ^ 32; birth = k })) same
-    (subst (λ k. IsRef c rows (record { row = k; birth = t.object })) (sym (above_word t.word row h.0)) h.1)
+stored_readable : (c : Content) (rows : Rows) (row : ℕ) (p : Pointer) → IsStorable c rows row p → IsReadable c rows (stored_at row p)
+stored_readable c rows row Null h = record { object = λ n moment first last. absurd (omega (arith, first)); characters = λ n first last. absurd (omega (arith, first)) }
+stored_readable c rows row Wild h = record { object = λ n moment first last. absurd (omega (arith, first)); characters = λ n first last. absurd (omega (arith, first)) }
+stored_readable c rows row (Static s) h = record {
+  object = λ n moment first last. absurd (omega (arith, last));
+  characters = λ n first last. (let text : owner_word s.text ≤ 2 ^ 32 = h.0 in omega (arith, first, text), h.1);
+}
+stored_readable c rows row (To t) h = record {
+  object = λ n moment first last.
+      let same : t.object ≡ n = omega (arith, first) in (
+        subst (λ k. IsRef c rows (record { row = (t.word + row * 2 ^ 32) / 2 ^ 32; birth = k })) same
+            (subst (λ k. IsRef c rows (record { row = k; birth = t.object })) (sym (above_word t.word row h.1)) h.0),
+        h.2,
+        h.3,
+      );
+  characters = λ n first last. absurd (omega (arith, last));
+}
 
 pointing_same : (i j : ℕ) → Pointing i ≡ Pointing j → i ≡ j
 pointing_same i j e = cc
 
-module _ (c : Content) (rows : Rows) (f : ℕ → Kind) (whole : AreWhole f) (row : ℕ) (p : Pointer) (fits : IsRefOf c rows row p) (u : ℕ) (begins : f u ≡ Pointing 0) where
+module _ (c : Content) (rows : Rows) (f : ℕ → Kind) (whole : AreWhole f) (row : ℕ) (p : Pointer) (fits : IsStorable c rows row p) (u : ℕ) (begins : f u ≡ Pointing 0) where
   -- a word of another pointer is none of these
   other : (v k : ℕ) → v ≢ u → k ≤ 4 → f v ≡ Pointing 0 → (j : ℕ) → j < length (stored_words row p) → v + k ≢ u + j
   other v k ne le at_v j lt e =
@@ -122,25 +125,15 @@ module _ (c : Content) (rows : Rows) (f : ℕ → Kind) (whole : AreWhole f) (ro
       ne (omega (arith, e, s))
 
   pub pointer_rowed : (ws : List ℕ) → u + 5 ≤ length ws → WordsRowed c rows f ws → WordsRowed c rows f (puts ws u (stored_words row p))
-  pointer_rowed ws le h v at_v n moment first last =
+  pointer_rowed ws le h v at_v =
+      let new : List ℕ = puts ws u (stored_words row p) in
+      let l = stored_length row p in
       one_or_apart v u
       (λ e.
-      let l = stored_length row p in
-      let wide : u + length (stored_words row p) ≤ length ws = omega (arith, l, le) in
-      let z : v ≡ u + 0 = omega (arith, e) in
-      let a = puts_here (stored_words row p) ws u 0 wide (omega (arith, l)) in
-      let b = puts_here (stored_words row p) ws u 3 wide (omega (arith, l)) in
-      let d = puts_here (stored_words row p) ws u 4 wide (omega (arith, l)) in
-      let new : List ℕ = puts ws u (stored_words row p) in
-      let there : slice_index new (v + 3) ≡ stored_at row p 3 = ap (λ k. slice_index new (k + 3)) e ∙ b in
-      subst (λ k. IsRef c rows (record { row = k / 2 ^ 32; birth = n })) (sym there)
-      (has_row c rows row p fits n moment (sym a ∙ ap (slice_index new) (sym z) ∙ first) (sym d ∙ ap (λ k. slice_index new (k + 4)) (sym e) ∙ last)))
-      (λ ne.
-      let z : v ≡ v + 0 = omega arith in
-      let a = puts_other (stored_words row p) ws u v (λ j lt e. other v 0 ne (omega arith) at_v j lt (omega (arith, e))) in
-      let b = puts_other (stored_words row p) ws u (v + 3) (other v 3 ne (omega arith) at_v) in
-      let d = puts_other (stored_words row p) ws u (v + 4) (other v 4 ne (omega arith) at_v) in
-      subst (λ k. IsRef c rows (record { row = k / 2 ^ 32; birth = n })) (sym b) (h v at_v n moment (sym a ∙ first) (sym d ∙ last)))
+      readable_as c rows (stored_at row p) (λ j. slice_index new (v + j))
+      (λ j le'. sym (puts_here (stored_words row p) ws u j (omega (arith, l, le)) (omega (arith, l, le'))) ∙ ap (λ k. slice_index new (k + j)) (sym e))
+      (stored_readable c rows row p fits))
+      (λ ne. readable_as c rows (λ j. slice_index ws (v + j)) (λ j. slice_index new (v + j)) (λ j le'. sym (puts_other (stored_words row p) ws u (v + j) (other v j ne le' at_v))) (h v at_v))
 
 -- ---- by the slots of an object
 
@@ -181,8 +174,8 @@ change_rowed c rows f i g [] keep h = tt
 change_rowed c rows f zero g (s ∷ ss) keep h = (keep s refl h.0, h.1)
 change_rowed c rows f (suc i) g (s ∷ ss) keep h = (h.0, change_rowed c rows f i g ss keep h.1)
 
--- a pointer that is written has its row
-pub point_rowed : (c : Content) (rows : Rows) (f : ℕ → Kind) → AreWhole f → (row : ℕ) (p : Pointer) → IsRefOf c rows row p → (i u : ℕ) → f u ≡ Pointing 0 → (o : Object)
+-- a pointer that is written can be read
+pub point_rowed : (c : Content) (rows : Rows) (f : ℕ → Kind) → AreWhole f → (row : ℕ) (p : Pointer) → IsStorable c rows row p → (i u : ℕ) → f u ≡ Pointing 0 → (o : Object)
     → ((s : Slot) → slice_get o.slots i ≡ Some s → u + 5 ≤ length s.words) → SlotsRowed c rows f o.slots → SlotsRowed c rows f (with_words i u (stored_words row p) o).slots
 point_rowed c rows f whole row p fits i u begins o wide h =
     subst (λ (x : Object). SlotsRowed c rows f x.slots) (sym (with_words_is i u (stored_words row p) o))

@@ -1,4 +1,4 @@
--- A pointer is written: the content has it, and its row lies beside it.
+-- A pointer is written: the content has it, and it can be read again.
 use Rattle.std.proofs.Common.{◌≡◌, ℕ, ◌+◌, ◌≤◌, List, length, Some, sym, ap, subst, arith}
 use Rattle.std.specs.Prelude.{slice_get}
 use Rattle.life_store.specs.Cells.{at}
@@ -11,10 +11,10 @@ use Rattle.life_seen.specs.Housed.{IsHoused, Shows, Later}
 use Rattle.life_seen.specs.Kinds.{AreWhole, Kinds}
 use Rattle.life_store.specs.Kinds.{Pointing}
 use Rattle.life_seen.specs.Named.{names_of}
-use Rattle.life_seen.specs.Rowed.{stored_words, SlotsRowed, AreRowed}
+use Rattle.life_seen.specs.Rowed.{stored_words, IsStorable, SlotsRowed, AreRowed}
 use Rattle.life_seen.specs.Seen.{object_seen, seen}
 use Rattle.life_seen.proofs.PlainWords.{shows_words}
-use Rattle.life_seen.proofs.PointerWords.{point_lives, point_rowed, point_seen, with_words_is, IsNear, IsRefOf}
+use Rattle.life_seen.proofs.PointerWords.{point_lives, point_rowed, point_seen, with_words_is, IsNear}
 use Rattle.life_seen.proofs.References.{found}
 use Rattle.life_seen.proofs.Rowed.{rowed_born, slots_rowed_later}
 
@@ -31,7 +31,7 @@ module _ (kinds : Kinds) (c : Content) (rows : Rows) (r : ObjRef) (i u row : ℕ
     row = λ n k lt t. subst (λ (x : Rows). at x n ≡ Some k) placed t;
   }
 
-  pub pointer_has_row : AreRowed kinds c rows → IsRefOf c rows row p → ((s : Slot) → slice_get o.slots i ≡ Some s → u + 5 ≤ length s.words) → AreRowed kinds d new
+  pub pointer_has_row : AreRowed kinds c rows → IsStorable c rows row p → ((s : Slot) → slice_get o.slots i ≡ Some s → u + 5 ≤ length s.words) → AreRowed kinds d new
   pointer_has_row rowed fits wide =
       let changed : Object = with_words i u (stored_words row p) o in
       let ty : o.ty ≡ changed.ty = sym (ap (λ (x : Object). x.ty) (with_words_is i u (stored_words row p) o)) in

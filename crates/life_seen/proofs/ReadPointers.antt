@@ -11,7 +11,7 @@ use Rattle.life_seen.specs.Housed.{IsHoused}
 use Rattle.life_seen.specs.Kinds.{AreWhole, Kinds}
 use Rattle.life_store.specs.Kinds.{Kind, Pointing}
 use Rattle.life_seen.specs.Named.{names_of}
-use Rattle.life_seen.specs.Rowed.{HasRow, SlotsRowed, AreRowed}
+use Rattle.life_seen.specs.Rowed.{IsReadable, SlotsRowed, AreRowed}
 use Rattle.life_seen.specs.Seen.{pointing_seen, word_seen, object_seen, seen}
 use Rattle.life_seen.proofs.References.{found, found_seen}
 use Rattle.life_seen.proofs.Views.{object_read}
@@ -44,11 +44,11 @@ module _ (kinds : Kinds) (c : Content) (rows : Rows) (r : ObjRef) (i u : ℕ) (o
   pointer_read h =
       (λ k. pointer_of (one_word h 0 (omega arith) k) (one_word h 1 (omega arith) k) (one_word h 2 (omega arith) k) (one_word h 3 (omega arith) k) (one_word h 4 (omega arith) k))
 
-  slot_rowed : (ss : List Slot) (f : ℕ → Kind) (j : ℕ) → f u ≡ Pointing 0 → SlotsRowed c rows f ss → HasRow c rows (word_in (slice_get ss j) u) (word_in (slice_get ss j) (u + 3)) (word_in (slice_get ss j) (u + 4))
-  slot_rowed [] f j e h = λ n moment first last. absurd (omega (arith, first))
+  slot_rowed : (ss : List Slot) (f : ℕ → Kind) (j : ℕ) → f u ≡ Pointing 0 → SlotsRowed c rows f ss → IsReadable c rows (λ k. word_in (slice_get ss j) (u + k))
+  slot_rowed [] f j e h = record { object = λ n moment first last. absurd (omega (arith, first)); characters = λ n first last. absurd (omega (arith, first)) }
   slot_rowed (s ∷ ss) f zero e h = h.0 u e
   slot_rowed (s ∷ ss) f (suc j) e h = slot_rowed ss f j e h.1
 
   -- what leads to an object has its row above the 32 lower bits of the fourth word
-  pub pointer_fits : AreRowed kinds c rows → HasRow c rows (word_at o i u) (word_at o i (u + 3)) (word_at o i (u + 4))
+  pub pointer_fits : AreRowed kinds c rows → IsReadable c rows (λ j. word_at o i (u + j))
   pointer_fits rowed = slot_rowed o.slots (kinds o.ty) i begins (rowed r.birth o (found c rows r o there).there)

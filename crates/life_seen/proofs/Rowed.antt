@@ -1,5 +1,5 @@
 -- Pointers in a store keep the rows of their objects: over births and ends, where slots are resized, and where words are written.
-use Rattle.std.proofs.Common.{◌≡◌, ◌≢◌, ℕ, zero, suc, ◌+◌, ◌-◌, ◌^◌, List, [], ◌∷◌, ◌++◌, length, map, replicate, take, drop, Option, Some, None, refl, sym, ap, subst, ◌∙◌, arith}
+use Rattle.std.proofs.Common.{◌≡◌, ◌≢◌, ℕ, zero, suc, ◌+◌, ◌-◌, ◌^◌, ◌<◌, ◌≤◌, List, [], ◌∷◌, ◌++◌, length, map, replicate, take, drop, Option, Some, None, refl, sym, ap, subst, ◌∙◌, arith}
 use Rattle.std.specs.Prelude.{slice_get, slice_index, slice_set, option_map, ◌/◌}
 use Rattle.life_store.specs.Cells.{Cells, at, set, unset}
 use Rattle.life_store.specs.Content.{Slot, Object, Content, blank_slot, resized_slots, set_slot, stamped, written}
@@ -7,7 +7,7 @@ use Rattle.life_store.specs.References.{Rows}
 use Rattle.life_seen.specs.Kinds.{Kinds, AreWhole}
 use Rattle.life_store.specs.Kinds.{Kind, Pointing}
 use Rattle.life_seen.specs.Housed.{IsRef, Later}
-use Rattle.life_seen.specs.Rowed.{WordsRowed, SlotsRowed, AreRowed}
+use Rattle.life_seen.specs.Rowed.{IsReadable, WordsRowed, SlotsRowed, AreRowed}
 use Rattle.life_seen.proofs.MapViews.{set_cases, unset_there}
 use Rattle.life_seen.proofs.References.{ref_later}
 
@@ -22,9 +22,15 @@ index_other (w ∷ ws) (suc u) (suc v) x ne = index_other ws u v x (λ e. ne (ap
 -- ---- later
 
 module _ (c d : Content) (rows new : Rows) (l : Later c d rows new) where
+  readable_later : (word : ℕ → ℕ) → IsReadable c rows word → IsReadable d new word
+  readable_later word r = record {
+    object = λ n moment first last. let a = r.object n moment first last in (ref_later c d rows new (record { row = word 3 / 2 ^ 32; birth = n }) l a.0, a.1, a.2);
+    characters = r.characters;
+  }
+
   pub slots_rowed_later : (f : ℕ → Kind) (ss : List Slot) → SlotsRowed c rows f ss → SlotsRowed d new f ss
   slots_rowed_later f [] h = tt
-  slots_rowed_later f (s ∷ ss) h = (λ u e n moment a b. ref_later c d rows new (record { row = slice_index s.words (u + 3) / 2 ^ 32; birth = n }) l (h.0 u e n moment a b), slots_rowed_later f ss h.1)
+  slots_rowed_later f (s ∷ ss) h = (λ u e. readable_later (λ j. slice_index s.words (u + j)) (h.0 u e), slots_rowed_later f ss h.1)
 
   -- what is there then was there, but for an object that fits by itself
   pub rowed_born : (kinds : Kinds) (b : ℕ) (o : Object) → AreRowed kinds c rows → SlotsRowed d new (kinds o.ty) o.slots → d.objects ≡ set c.objects b o → AreRowed kinds d new
@@ -44,6 +50,29 @@ module _ (c d : Content) (rows new : Rows) (l : Later c d rows new) where
       (λ ne old. slots_rowed_later (kinds p.ty) p.slots (h q p (unset_there c.objects n q p old).1))
 
 module _ (c : Content) (rows : Rows) where
+  -- ---- words that are the same
+
+  pub readable_as : (v w : ℕ → ℕ) → ((j : ℕ) → j ≤ 4 → v j ≡ w j) → IsReadable c rows v → IsReadable c rows w
+  readable_as v w same r =
+      let zeroth : v 0 ≡ w 0 = same 0 (omega arith) in
+      let first : v 1 ≡ w 1 = same 1 (omega arith) in
+      let second : v 2 ≡ w 2 = same 2 (omega arith) in
+      let last : v 4 ≡ w 4 = same 4 (omega arith) in
+      record {
+        object = λ n moment a b.
+            let is = r.object n moment (zeroth ∙ a) (last ∙ b) in
+            let index : v 1 < 2 ^ 32 = is.1 in
+            let count : v 2 < 2 ^ 32 = is.2 in
+            (subst (λ k. IsRef c rows (record { row = k / 2 ^ 32; birth = n })) (same 3 (omega arith)) is.0, omega (arith, index, first), omega (arith, count, second));
+        characters = λ n a b.
+            let is = r.characters n (zeroth ∙ a) (last ∙ b) in
+            let ends : v 1 + v 2 ≤ 2 ^ 63 = is.1 in
+            (is.0, omega (arith, ends, first, second));
+      }
+
+  blank_readable : (word : ℕ → ℕ) → word 0 ≡ 0 → IsReadable c rows word
+  blank_readable word z = record { object = λ n moment first last. absurd (omega (arith, z, first)); characters = λ n first last. absurd (omega (arith, z, first)) }
+
   -- ---- slots that are cut, filled up and stamped
 
   index_blank : (n u : ℕ) → slice_index (replicate n 0) u ≡ 0
@@ -53,7 +82,7 @@ module _ (c : Content) (rows : Rows) where
 
   blanks_rowed : (f : ℕ → Kind) (w moment n : ℕ) → SlotsRowed c rows f (replicate n (blank_slot w moment))
   blanks_rowed f w moment zero = tt
-  blanks_rowed f w moment (suc n) = (λ u e m t first last. let z = index_blank w u in absurd (omega (arith, z, first)), blanks_rowed f w moment n)
+  blanks_rowed f w moment (suc n) = (λ u e. blank_readable (λ j. slice_index (replicate w 0) (u + j)) (index_blank w (u + 0)), blanks_rowed f w moment n)
 
   append_rowed : (f : ℕ → Kind) (ss rr : List Slot) → SlotsRowed c rows f ss → SlotsRowed c rows f rr → SlotsRowed c rows f (ss ++ rr)
   append_rowed f [] rr h k = k
@@ -88,11 +117,10 @@ module _ (c : Content) (rows : Rows) where
   IsApart f u = (i : ℕ) → f u ≡ Pointing i → ⊥
 
   word_rowed : (f : ℕ → Kind) → AreWhole f → (ws : List ℕ) (u x : ℕ) → IsApart f u → WordsRowed c rows f ws → WordsRowed c rows f (slice_set ws u x)
-  word_rowed f whole ws u x apart h v e n moment first last =
-      let a = index_other ws u v x (λ s. apart 0 (ap f s ∙ e)) in
-      let b = index_other ws u (v + 3) x (λ s. apart 3 (ap f s ∙ whole v 3 (omega arith) e)) in
-      let d = index_other ws u (v + 4) x (λ s. apart 4 (ap f s ∙ whole v 4 (omega arith) e)) in
-      subst (λ k. IsRef c rows (record { row = k / 2 ^ 32; birth = n })) (sym b) (h v e n moment (sym a ∙ first) (sym d ∙ last))
+  word_rowed f whole ws u x apart h v e =
+      readable_as (λ j. slice_index ws (v + j)) (λ j. slice_index (slice_set ws u x) (v + j))
+      (λ j le. sym (index_other ws u (v + j) x (λ s. apart j (ap f s ∙ whole v j le e))))
+      (h v e)
 
   pub put_rowed : (f : ℕ → Kind) → AreWhole f → (ss : List Slot) (i u x : ℕ) → IsApart f u → SlotsRowed c rows f ss → SlotsRowed c rows f (set_slot ss i (option_map (written u x) (slice_get ss i)))
   put_rowed f whole [] i u x apart h = tt

@@ -1,8 +1,8 @@
--- Pointers that lie in a store have the rows of their objects beside the numbers.
-use Rattle.std.specs.Prelude.{◌≡◌, ℕ, suc, ◌+◌, ◌/◌, ◌^◌, ◌*◌, List, [], ◌∷◌, Some, slice_index}
+-- Pointers that lie in a store can be read: they have the rows of their objects beside the numbers.
+use Rattle.std.specs.Prelude.{◌≡◌, ◌<◌, ◌≤◌, ℕ, suc, ◌+◌, ◌/◌, ◌^◌, ◌*◌, List, [], ◌∷◌, Some, slice_index}
 use Rattle.life_store.specs.Cells.{at}
 use Rattle.life_store.specs.Content.{Slot, Object, Content}
-use Rattle.life_store.specs.Held.{pointer_words}
+use Rattle.life_store.specs.Held.{owner_word, pointer_words}
 use Rattle.life_store.specs.References.{Rows}
 use Rattle.life_store.specs.State.{Pointer, Null, Wild, To, Static}
 use Rattle.life_seen.specs.Kinds.{Kinds}
@@ -16,12 +16,22 @@ stored_words row Wild = pointer_words Wild
 stored_words row (To t) = suc (suc t.object) ∷ t.index ∷ t.count ∷ (t.word + row * 2 ^ 32) ∷ suc t.moment ∷ []
 stored_words row (Static c) = pointer_words (Static c)
 
--- by the first, the fourth and the last word: what leads to an object has its row
-abbrev pub HasRow : Content → Rows → (first fourth last : ℕ) → Type 0
-HasRow c rows first fourth last = (n moment : ℕ) → first ≡ suc (suc n) → last ≡ suc moment → IsRef c rows (record { row = fourth / 2 ^ 32; birth = n })
+-- five words, one behind the other, that can be read as a pointer
+pub record IsReadable (c : Content) (rows : Rows) (word : ℕ → ℕ) : Type 0 where
+  -- what leads to an object has its row, and an index and a count of 32 bits
+  pub object : (n moment : ℕ) → word 0 ≡ suc (suc n) → word 4 ≡ suc moment → IsRef c rows (record { row = word 3 / 2 ^ 32; birth = n }) × (word 1 < 2 ^ 32) × (word 2 < 2 ^ 32)
+  -- what leads to characters has the number of a text in 32 bits, if it has one, and ends before 2^63
+  pub characters : (n : ℕ) → word 0 ≡ suc (suc n) → word 4 ≡ 0 → (n ≤ 2 ^ 32) × (word 1 + word 2 ≤ 2 ^ 63)
+
+-- a pointer whose words can be read again
+abbrev pub IsStorable : Content → Rows → (row : ℕ) → Pointer → Type 0
+IsStorable c rows row Null = Unit {0}
+IsStorable c rows row Wild = Unit {0}
+IsStorable c rows row (To t) = IsRef c rows (record { row = row; birth = t.object }) × (t.word < 2 ^ 32) × (t.index < 2 ^ 32) × (t.count < 2 ^ 32)
+IsStorable c rows row (Static s) = (owner_word s.text ≤ 2 ^ 32) × (s.index + s.count ≤ 2 ^ 63)
 
 abbrev pub WordsRowed : Content → Rows → (ℕ → Kind) → List ℕ → Type 0
-WordsRowed c rows f ws = (u : ℕ) → f u ≡ Pointing 0 → HasRow c rows (slice_index ws u) (slice_index ws (u + 3)) (slice_index ws (u + 4))
+WordsRowed c rows f ws = (u : ℕ) → f u ≡ Pointing 0 → IsReadable c rows (λ j. slice_index ws (u + j))
 
 abbrev pub SlotsRowed : Content → Rows → (ℕ → Kind) → List Slot → Type 0
 SlotsRowed c rows f [] = Unit {0}
