@@ -18,12 +18,19 @@ pointer_seen leads.Wild = state.Wild
 pointer_seen (leads.To index count word object moment) = state.To (record { object = object.birth; index = index; word = word; count = count; moment = moment })
 pointer_seen (leads.Static c) = state.Static (characters_seen c)
 
--- what it leads to was born, and has the row while it lives
+-- what it leads to was born, and has the row while it lives. Characters end before 2^63
 abbrev pub PointerFits : Content → Rows → Pointer → Type 0
 PointerFits c rows leads.Null = Unit {0}
 PointerFits c rows leads.Wild = Unit {0}
-PointerFits c rows (leads.To index count word object moment) = IsRef c rows object
-PointerFits c rows (leads.Static characters) = Unit {0}
+PointerFits c rows (leads.To index count word object moment) = IsRef c rows object × (moment + 1 < 2 ^ 64)
+PointerFits c rows (leads.Static s) = s.index + s.count ≤ 2 ^ 63
+
+-- its numbers can be written in words
+abbrev pub CanStore : Pointer → Type 0
+CanStore leads.Null = Unit {0}
+CanStore leads.Wild = Unit {0}
+CanStore (leads.To index count word object moment) = (object.birth + 2 < 2 ^ 64) × (moment + 1 < 2 ^ 64)
+CanStore (leads.Static s) = Unit {0}
 
 -- ---- sizes
 
@@ -47,10 +54,3 @@ IsThere leads.Null = Unit {0}
 IsThere leads.Wild = Unit {0}
 IsThere (leads.To index count word object moment) = index + count < 2 ^ 32
 IsThere (leads.Static c) = Unit {0}
-
--- characters end before
-abbrev pub EndsBy : ℕ → Pointer → Type 0
-EndsBy n leads.Null = Unit {0}
-EndsBy n leads.Wild = Unit {0}
-EndsBy n (leads.To index count word object moment) = Unit {0}
-EndsBy n (leads.Static c) = c.index + c.count ≤ n

@@ -20,7 +20,7 @@ returns-then-valid-clause-is g c = λ kinds housed fits.
     let to : Pointer = leads.To c.in-To.index c.in-To.count c.in-To.word c.in-To.object c.in-To.moment in
     let ref = subst (λ (p : Pointer). PointerFits content rows p) c.in-To.is fits in
     let lives : true ≡ is_valid_in c.in-To.index 1 c.in-To.moment (at m.objects c.in-To.object.birth) =
-    sym c.if-valid.true ∙ c.valid.ensures ∙ valid_meant kinds content rows c.in-To.object housed ref c.in-To.index 1 c.in-To.moment in
+    sym c.if-valid.true ∙ c.valid.ensures ∙ valid_meant kinds content rows c.in-To.object housed ref.0 c.in-To.index 1 c.in-To.moment in
     let is : standing m (pointer_seen to) ≡ standing m (pointer_seen c.args.pointer) = ap (λ (p : Pointer). standing m (pointer_seen p)) (sym c.in-To.is) in
     ap (λ (b : Bool). cond {A = Attempt Meant} b (Got (pointer_seen to)) (GotFault fault.Dangling)) lives ∙ is
 
@@ -32,6 +32,6 @@ returns-else-valid-clause-is g c = λ kinds housed fits.
     let to : Pointer = leads.To c.in-To.index c.in-To.count c.in-To.word c.in-To.object c.in-To.moment in
     let ref = subst (λ (p : Pointer). PointerFits content rows p) c.in-To.is fits in
     let ends : false ≡ is_valid_in c.in-To.index 1 c.in-To.moment (at m.objects c.in-To.object.birth) =
-    sym c.if-valid.false ∙ c.valid.ensures ∙ valid_meant kinds content rows c.in-To.object housed ref c.in-To.index 1 c.in-To.moment in
+    sym c.if-valid.false ∙ c.valid.ensures ∙ valid_meant kinds content rows c.in-To.object housed ref.0 c.in-To.index 1 c.in-To.moment in
     let is : standing m (pointer_seen to) ≡ standing m (pointer_seen c.args.pointer) = ap (λ (p : Pointer). standing m (pointer_seen p)) (sym c.in-To.is) in
     ap (λ (b : Bool). cond {A = Attempt Meant} b (Got (pointer_seen to)) (GotFault fault.Dangling)) ends ∙ is
