@@ -41,7 +41,7 @@ read_to (suc (suc k)) index count word (suc m) i n w le lt a b c =
     λ j. To (record { object = object j; index = a j; word = c j; count = b j; moment = moment j })
 
 module _ (c : Content) (rows : Rows) (first index count fourth last : ℕ) (r : IsReadable c rows (five first index count fourth last)) where
-  pub text_fits : 2 ≤ first → last ≡ 0 → (first - 2 ≤ 2 ^ 32) × (index + count ≤ 2 ^ 63)
+  pub text_fits : 2 ≤ first → last ≡ 0 → (first - 2 ≤ 2 ^ 32) × (count < 2 ^ 63) × (index + count ≤ 2 ^ 63)
   text_fits le e = r.characters (first - 2) (omega arith) e
 
   pub object_fits : 2 ≤ first → 1 ≤ last → IsRef c rows (record { row = fourth / 2 ^ 32; birth = first - 2 }) × (index < 2 ^ 32) × (count < 2 ^ 32)
@@ -91,7 +91,7 @@ module _ (kinds : Kinds) (c : Content) (rows : Rows) (r : ObjRef) (i u : ℕ) (o
     storable leads.Null h fits = tt
     storable leads.Wild h fits = tt
     storable (leads.To index count word object moment) h fits = (fits.0, h.0, h.1, h.2)
-    storable (leads.Static s) h fits = (text_small s.text h, fits)
+    storable (leads.Static s) h fits = (text_small s.text h, fits.0, fits.1)
 
     pub shows_written : Shows kinds d new (wrote r.birth i u (pointer_words (pointer_seen p)) (seen kinds c rows))
     shows_written =

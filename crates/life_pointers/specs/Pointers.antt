@@ -18,12 +18,12 @@ pointer_seen leads.Wild = state.Wild
 pointer_seen (leads.To index count word object moment) = state.To (record { object = object.birth; index = index; word = word; count = count; moment = moment })
 pointer_seen (leads.Static c) = state.Static (characters_seen c)
 
--- what it leads to was born, and has the row while it lives. Characters end before 2^63
+-- what it leads to was born, and has the row while it lives. Of characters it sees fewer than 2^63, which end before that
 abbrev pub PointerFits : Content → Rows → Pointer → Type 0
 PointerFits c rows leads.Null = Unit {0}
 PointerFits c rows leads.Wild = Unit {0}
 PointerFits c rows (leads.To index count word object moment) = IsRef c rows object × (moment + 1 < 2 ^ 64)
-PointerFits c rows (leads.Static s) = s.index + s.count ≤ 2 ^ 63
+PointerFits c rows (leads.Static s) = (s.count < 2 ^ 63) × (s.index + s.count ≤ 2 ^ 63)
 
 -- its numbers can be written in words
 abbrev pub CanStore : Pointer → Type 0
@@ -54,3 +54,10 @@ IsThere leads.Null = Unit {0}
 IsThere leads.Wild = Unit {0}
 IsThere (leads.To index count word object moment) = index + count < 2 ^ 32
 IsThere (leads.Static c) = Unit {0}
+
+-- .. and so many characters can be passed
+abbrev pub IsShort : ℕ → Pointer → Type 0
+IsShort n leads.Null = Unit {0}
+IsShort n leads.Wild = Unit {0}
+IsShort n (leads.To index count word object moment) = Unit {0}
+IsShort n (leads.Static c) = n ≤ 2 ^ 63

@@ -1,5 +1,5 @@
 // Which element of how many.
-ghost use Rattle.std.specs.Prelude.{◌≡◌};
+ghost use Rattle.std.specs.Prelude.{◌≡◌, ◌<◌, IfOk};
 ghost use Rattle.life_store.specs.Iterators as spec;
 ghost use Rattle.life_pointers.specs.Attempts.{itself, tried};
 ghost use Rattle.life_pointers.specs.Choices.{chosen_by};
@@ -18,7 +18,8 @@ pub enum Choice {
 
 /// The index of the element, of so many.
 pub fn chosen(choice: Choice, size: u64) -> Result<u64, Stop>
-    ensures { tried itself result ≡ chosen_by choice size }
+    ensures is { tried itself result ≡ chosen_by choice size }
+    ensures within { IfOk result (λ index. index < size) }
 {
     match choice {
         Choice::At(number) => below(number.cast_unsigned(), size),
@@ -28,7 +29,8 @@ pub fn chosen(choice: Choice, size: u64) -> Result<u64, Stop>
 }
 
 fn below(index: u64, size: u64) -> Result<u64, Stop>
-    ensures { tried itself result ≡ spec.below index size }
+    ensures is { tried itself result ≡ spec.below index size }
+    ensures within { IfOk result (λ index. index < size) }
 {
     if index < size {
         Ok(index)
@@ -38,7 +40,8 @@ fn below(index: u64, size: u64) -> Result<u64, Stop>
 }
 
 fn last_of(size: u64) -> Result<u64, Stop>
-    ensures { tried itself result ≡ spec.last_of size }
+    ensures is { tried itself result ≡ spec.last_of size }
+    ensures within { IfOk result (λ index. index < size) }
 {
     if size == 0 {
         Err(Stop::Trap(TrapKind::Bounds))

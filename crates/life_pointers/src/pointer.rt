@@ -1,8 +1,10 @@
 // Where pointers, iterators, spans and views lead.
 ghost use Rattle.std.specs.Prelude.{◌≡◌, ◌+◌, ◌<◌, ◌^◌, ◌≤◌};
+ghost use Rattle.life_store.specs.Content.{Content};
 ghost use Rattle.life_store.specs.Iterators as spec;
+ghost use Rattle.life_store.specs.References.{Rows};
 ghost use Rattle.life_store.specs.Views as views;
-ghost use Rattle.life_pointers.specs.Pointers.{pointer_seen, starts_at, IsNarrow};
+ghost use Rattle.life_pointers.specs.Pointers.{pointer_seen, starts_at, IsNarrow, IsShort, PointerFits};
 
 use life_store::ObjRef;
 
@@ -49,7 +51,8 @@ pub fn seen_count(pointer: Pointer) -> u64
 /// A pointer of this moment to one position of the same object.
 pub fn at_index(now: u64, index: u64, pointer: Pointer) -> Pointer
     requires { IsNarrow index pointer }
-    ensures { pointer_seen result ≡ spec.at_index now index (pointer_seen pointer) }
+    ensures is { pointer_seen result ≡ spec.at_index now index (pointer_seen pointer) }
+    ensures fits { (c : Content) (rows : Rows) → PointerFits c rows pointer → now + 1 < 2 ^ 64 → IsShort (index + 1) pointer → PointerFits c rows result }
 {
     match pointer {
         Pointer::Null => Pointer::Null,
@@ -73,7 +76,8 @@ pub fn at_index(now: u64, index: u64, pointer: Pointer) -> Pointer
 pub fn element_of(now: u64, index: u64, pointer: Pointer) -> Pointer
     requires wide { starts_at pointer + index < 2 ^ 64 }
     requires narrow { IsNarrow (starts_at pointer + index) pointer }
-    ensures { pointer_seen result ≡ spec.element_of now index (pointer_seen pointer) }
+    ensures is { pointer_seen result ≡ spec.element_of now index (pointer_seen pointer) }
+    ensures fits { (c : Content) (rows : Rows) → PointerFits c rows pointer → now + 1 < 2 ^ 64 → IsShort (starts_at pointer + index + 1) pointer → PointerFits c rows result }
 {
     at_index(now, start_of(pointer) + index, pointer)
 }
@@ -95,7 +99,8 @@ pub fn part_of(now: u64, index: u64, count: u64, pointer: Pointer) -> Pointer
     requires wide { starts_at pointer + index < 2 ^ 64 }
     requires first { IsNarrow (starts_at pointer + index) pointer }
     requires narrow { IsNarrow count pointer }
-    ensures { pointer_seen result ≡ views.part_of now index count (pointer_seen pointer) }
+    ensures is { pointer_seen result ≡ views.part_of now index count (pointer_seen pointer) }
+    ensures fits { (c : Content) (rows : Rows) → PointerFits c rows pointer → now + 1 < 2 ^ 64 → IsShort (count + 1) pointer → IsShort (starts_at pointer + index + count) pointer → PointerFits c rows result }
 {
     match pointer {
         Pointer::Null => Pointer::Null,

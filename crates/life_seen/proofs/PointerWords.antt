@@ -100,7 +100,7 @@ stored_readable c rows row Null h = record { object = λ n moment first last. ab
 stored_readable c rows row Wild h = record { object = λ n moment first last. absurd (omega (arith, first)); characters = λ n first last. absurd (omega (arith, first)) }
 stored_readable c rows row (Static s) h = record {
   object = λ n moment first last. absurd (omega (arith, last));
-  characters = λ n first last. (let text : owner_word s.text ≤ 2 ^ 32 = h.0 in omega (arith, first, text), h.1);
+  characters = λ n first last. (let text : owner_word s.text ≤ 2 ^ 32 = h.0 in omega (arith, first, text), h.1, h.2);
 }
 stored_readable c rows row (To t) h = record {
   object = λ n moment first last.

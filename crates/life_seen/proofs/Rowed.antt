@@ -66,8 +66,9 @@ module _ (c : Content) (rows : Rows) where
             (subst (λ k. IsRef c rows (record { row = k / 2 ^ 32; birth = n })) (same 3 (omega arith)) is.0, omega (arith, index, first), omega (arith, count, second));
         characters = λ n a b.
             let is = r.characters n (zeroth ∙ a) (last ∙ b) in
-            let ends : v 1 + v 2 ≤ 2 ^ 63 = is.1 in
-            (is.0, omega (arith, ends, first, second));
+            let sees : v 2 < 2 ^ 63 = is.1 in
+            let ends : v 1 + v 2 ≤ 2 ^ 63 = is.2 in
+            (is.0, omega (arith, sees, second), omega (arith, ends, first, second));
       }
 
   blank_readable : (word : ℕ → ℕ) → word 0 ≡ 0 → IsReadable c rows word

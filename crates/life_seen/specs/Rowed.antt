@@ -20,15 +20,15 @@ stored_words row (Static c) = pointer_words (Static c)
 pub record IsReadable (c : Content) (rows : Rows) (word : ℕ → ℕ) : Type 0 where
   -- what leads to an object has its row, and an index and a count of 32 bits
   pub object : (n moment : ℕ) → word 0 ≡ suc (suc n) → word 4 ≡ suc moment → IsRef c rows (record { row = word 3 / 2 ^ 32; birth = n }) × (word 1 < 2 ^ 32) × (word 2 < 2 ^ 32)
-  -- what leads to characters has the number of a text in 32 bits, if it has one, and ends before 2^63
-  pub characters : (n : ℕ) → word 0 ≡ suc (suc n) → word 4 ≡ 0 → (n ≤ 2 ^ 32) × (word 1 + word 2 ≤ 2 ^ 63)
+  -- what leads to characters has the number of a text in 32 bits, if it has one, sees fewer than 2^63 and ends before that
+  pub characters : (n : ℕ) → word 0 ≡ suc (suc n) → word 4 ≡ 0 → (n ≤ 2 ^ 32) × (word 2 < 2 ^ 63) × (word 1 + word 2 ≤ 2 ^ 63)
 
 -- a pointer whose words can be read again
 abbrev pub IsStorable : Content → Rows → (row : ℕ) → Pointer → Type 0
 IsStorable c rows row Null = Unit {0}
 IsStorable c rows row Wild = Unit {0}
 IsStorable c rows row (To t) = IsRef c rows (record { row = row; birth = t.object }) × (t.word < 2 ^ 32) × (t.index < 2 ^ 32) × (t.count < 2 ^ 32)
-IsStorable c rows row (Static s) = (owner_word s.text ≤ 2 ^ 32) × (s.index + s.count ≤ 2 ^ 63)
+IsStorable c rows row (Static s) = (owner_word s.text ≤ 2 ^ 32) × (s.count < 2 ^ 63) × (s.index + s.count ≤ 2 ^ 63)
 
 abbrev pub WordsRowed : Content → Rows → (ℕ → Kind) → List ℕ → Type 0
 WordsRowed c rows f ws = (u : ℕ) → f u ≡ Pointing 0 → IsReadable c rows (λ j. slice_index ws (u + j))

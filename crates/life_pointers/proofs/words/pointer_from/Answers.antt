@@ -12,7 +12,8 @@ returns-then-last-eq0-clause-is c = λ content rows readable.
 
 pub returns-then-last-eq0-clause-fits : goal.returns-then-last-eq0-clause-fits
 returns-then-last-eq0-clause-fits c = λ content rows readable.
-    (text_fits content rows c.args.first c.args.index c.args.count c.args.fourth c.args.last readable (omega arith) (omega arith)).1
+    let fits = text_fits content rows c.args.first c.args.index c.args.count c.args.fourth c.args.last readable (omega arith) (omega arith) in
+    (fits.1, fits.2)
 
 pub returns-clause-is : goal.returns-clause-is
 returns-clause-is c = λ content rows readable.
