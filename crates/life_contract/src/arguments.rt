@@ -1,19 +1,18 @@
 // The arguments of a call, and the inputs for which they are given.
 ghost use Rattle.std.specs.List.{list_any};
 ghost use Rattle.std.specs.Option.{option_copied};
-ghost use Rattle.std.specs.Prelude.{◌≡◌, ◌&&◌, map, option_map, IfOk, Some};
+ghost use Rattle.std.specs.Prelude.{◌≡◌, ◌&&◌, map, option_map, Some};
 ghost use Rattle.life_core.specs.Operands.{argument_of};
 ghost use Rattle.life_pset.specs.Inputs.{input_seen};
-ghost use Rattle.life_contract.specs.Arguments.{is_argument_of, is_given, is_in_argument, is_in_arguments, is_mutating_argument};
+ghost use Rattle.life_contract.specs.Arguments.{is_argument_of, is_given, is_in_argument, is_in_arguments};
 ghost use Rattle.life_contract.specs.Inputs.{is_mutating};
 
-use crate::inputs::{inputs_of, is_mutating, parameter_number};
+use crate::inputs::{is_mutating, parameter_number};
 use crate::locating::{is_location, is_rooted};
 use crate::signature::Signature;
 use life_core::Argument;
 use life_pset::{AbsPlace, InputPointer};
-use life_types::{NoMemory, TypeTable};
-use std::alloc::Global;
+use life_types::TypeTable;
 
 fn is_given(argument: Option<&Argument>, input: InputPointer, location: &AbsPlace) -> bool
     ensures { result ≡ is_given (option_map argument_of (option_copied argument.entry)) (input_seen input) location.now }
@@ -50,7 +49,8 @@ pub fn is_argument_of(arguments: &[Argument], input: InputPointer, location: &Ab
     )
 }
 
-fn is_argument_of_some(
+/// Whether the location is the argument that is given for some of these inputs that is mutating.
+pub(crate) fn is_argument_of_some(
     sig: &Signature,
     types: &TypeTable,
     arguments: &[Argument],
@@ -65,22 +65,6 @@ fn is_argument_of_some(
         }
     }
     false
-}
-
-/// Whether the location is the argument that is given for some mutating input. The only error is the
-/// want of memory.
-pub fn is_mutating_argument(
-    alloc: Global,
-    sig: &Signature,
-    types: &TypeTable,
-    arguments: &[Argument],
-    location: &AbsPlace,
-) -> Result<bool, NoMemory>
-    ensures { IfOk result (λ answer.
-        answer ≡ is_mutating_argument types.now sig.now (map argument_of arguments.now) location.now) }
-{
-    let inputs = inputs_of(alloc, sig, types)?;
-    Ok(is_argument_of_some(sig, types, arguments, location, &inputs))
 }
 
 // ---- without a signature

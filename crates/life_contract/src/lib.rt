@@ -3,6 +3,7 @@
 
 mod arguments;
 mod breaking;
+mod callee;
 mod inputs;
 mod locating;
 mod param;
@@ -10,8 +11,9 @@ mod positions;
 mod promises;
 mod signature;
 
-pub use arguments::{is_argument_of, is_in_arguments, is_mutating_argument};
+pub use arguments::{is_argument_of, is_in_arguments};
 pub use breaking::breaks_apart;
+pub use callee::Callee;
 pub use inputs::{admits_null, input_parameter, inputs_of, is_mutating, may_be_null, parameter_in};
 pub use locating::{is_location, is_rooted, located};
 pub use param::Param;

@@ -7,7 +7,6 @@ ghost use Rattle.life_core.specs.Linked.{points_of};
 ghost use Rattle.life_core.specs.Node.{spot_seen};
 ghost use Rattle.life_pset.specs.Causes.{AreSpotsOf};
 ghost use Rattle.life_pset.specs.Elements.{IsWithinLimits};
-ghost use Rattle.life_rules.specs.Along.{node_tells_first};
 ghost use Rattle.life_rules.specs.Diagnosing.{diags_at, diags_of_two, IsDiagnosed};
 ghost use Rattle.life_rules.specs.Lines.{line_of};
 ghost use Rattle.life_rules.specs.Listing.{AreDiagnostics, HaveLines, listed_diag};
@@ -22,7 +21,9 @@ use crate::told::told_facts;
 use life_contract::Signatures;
 use life_core::{CoreFn, FnId, Names, Point, SpotRef, spots};
 use life_pset::{ElementTable, Fact};
-use life_rules::{Diag, ListedDiag, push_diags, push_diags_of_two, tells_first, tells_some};
+use life_rules::{
+    Diag, ListedDiag, PointContext, push_diags, push_diags_of_two, tells_first, tells_some,
+};
 use life_sets::{NumberSet, Rows};
 use life_types::{NoMemory, TypeTable};
 use std::alloc::Global;
@@ -147,100 +148,64 @@ fn push_wrong_by<R: Rows>(
         ↔ (Contains out.old.items d ⊎ IsWrongBy sigs.now types.now function (function_of f.now) table.now (R.has row.now) (spot_seen spot.entry) d)) }
 {
     let facts = told_facts(alloc, types, f, spot, table, row, elements)?;
-    push_all_wrong(alloc, sigs, types, function, f, spot, &facts, out)?;
+    let at = PointContext::of(alloc, sigs, types, function, f, spot)?;
+    push_all_wrong(&at, &facts, out)?;
     Ok(())
 }
 
 // Adds what each fact makes wrong, and each two.
 #[tactic(auto, using(std::proofs::Common::append_assoc))]
 fn push_all_wrong(
-    alloc: Global,
-    sigs: &Signatures,
-    types: &TypeTable,
-    function: u32,
-    f: &CoreFn,
-    spot: SpotRef,
+    at: &PointContext<'_>,
     facts: &[Fact],
     out: &mut Vec<Diag>,
 ) -> Result<(), NoMemory>
     ensures { OnOk result
-        (out.new.items ≡ out.old.items ++ all_wrong sigs.now types.now function (function_of f.now) (spot_seen spot.entry) facts.now) }
+        (out.new.items
+        ≡ out.old.items ++ all_wrong at.now.sigs.now at.now.types.now at.now.function (function_of at.now.f.now) (spot_seen at.now.spot) facts.now) }
 {
-    push_facts(alloc, sigs, types, function, f, spot, facts, out)?;
-    push_pairs(alloc, sigs, types, function, f, spot, facts, out)
+    push_facts(at, facts, out)?;
+    push_pairs(at, facts, out)
 }
 
-fn push_facts(
-    alloc: Global,
-    sigs: &Signatures,
-    types: &TypeTable,
-    function: u32,
-    f: &CoreFn,
-    spot: SpotRef,
-    facts: &[Fact],
-    out: &mut Vec<Diag>,
-) -> Result<(), NoMemory>
+fn push_facts(at: &PointContext<'_>, facts: &[Fact], out: &mut Vec<Diag>) -> Result<(), NoMemory>
     ensures { OnOk result
-        (out.new.items ≡ out.old.items ++ flat_map (diags_at sigs.now types.now function (function_of f.now) (Some (spot_seen spot.entry))) facts.now) }
+        (out.new.items
+        ≡ out.old.items ++ flat_map (diags_at at.now.sigs.now at.now.types.now at.now.function (function_of at.now.f.now) (Some (spot_seen at.now.spot))) facts.now) }
 {
     for fact in facts {
-        push_diags(alloc, sigs, types, function, f, spot, fact, out)?;
+        push_diags(at, fact, out)?;
     }
     Ok(())
 }
 
-fn push_pairs(
-    alloc: Global,
-    sigs: &Signatures,
-    types: &TypeTable,
-    function: u32,
-    f: &CoreFn,
-    spot: SpotRef,
-    facts: &[Fact],
-    out: &mut Vec<Diag>,
-) -> Result<(), NoMemory>
+fn push_pairs(at: &PointContext<'_>, facts: &[Fact], out: &mut Vec<Diag>) -> Result<(), NoMemory>
     ensures { OnOk result
-        (out.new.items ≡ out.old.items ++ flat_map (λ first. flat_map (diags_of_two sigs.now types.now function (function_of f.now) (Some (spot_seen spot.entry)) first) facts.now) facts.now) }
+        (out.new.items
+        ≡ out.old.items ++ flat_map (λ first. flat_map (diags_of_two at.now.sigs.now at.now.types.now at.now.function (function_of at.now.f.now) (Some (spot_seen at.now.spot)) first) facts.now) facts.now) }
 {
     for first in facts {
-        push_seconds(
-            alloc,
-            tells_first(spot, first),
-            sigs,
-            types,
-            function,
-            f,
-            spot,
-            first,
-            facts,
-            out,
-        )?;
+        push_seconds(at, first, facts, out)?;
     }
     Ok(())
 }
 
 // Adds what the first fact and each other make wrong, if they may.
 fn push_seconds(
-    alloc: Global,
-    tells: bool,
-    sigs: &Signatures,
-    types: &TypeTable,
-    function: u32,
-    f: &CoreFn,
-    spot: SpotRef,
+    at: &PointContext<'_>,
     first: &Fact,
     facts: &[Fact],
     out: &mut Vec<Diag>,
 ) -> Result<(), NoMemory>
-    requires { tells ≡ node_tells_first (spot_seen spot).node first.now }
     ensures { OnOk result
-        (out.new.items ≡ out.old.items ++ flat_map (diags_of_two sigs.now types.now function (function_of f.now) (Some (spot_seen spot.entry)) first.now) facts.now) }
+        (out.new.items
+        ≡ out.old.items ++ flat_map (diags_of_two at.now.sigs.now at.now.types.now at.now.function (function_of at.now.f.now) (Some (spot_seen at.now.spot)) first.now) facts.now) }
 {
-    if !tells {
+    if !tells_first(at.spot, first) {
         return Ok(());
     }
     for second in facts {
-        push_diags_of_two(alloc, sigs, types, function, f, spot, first, second, out)?;
+        push_diags_of_two(at, first, second, out)?;
     }
     Ok(())
 }

@@ -1,5 +1,6 @@
 pub mod Along
 pub mod Arguing
+pub mod Callees
 pub mod Calling
 pub mod CallsAt
 pub mod Carrying

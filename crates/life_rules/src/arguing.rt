@@ -3,33 +3,29 @@ ghost use Rattle.std.specs.List.{flat_map};
 ghost use Rattle.std.specs.Option.{option_copied};
 ghost use Rattle.std.specs.Prelude.{◌≡◌, ◌++◌, map, OnOk};
 ghost use Rattle.life_core.specs.Function.{function_of};
-ghost use Rattle.life_core.specs.Operands.{argument_of};
+ghost use Rattle.life_core.specs.Node.{node_seen};
 ghost use Rattle.life_core.specs.Step.{step_of};
+ghost use Rattle.life_core.specs.Tree.{Action};
 ghost use Rattle.life_pset.specs.Inputs.{input_seen};
 ghost use Rattle.life_contract.specs.Breaking.{breaks_at, of_pairs};
-ghost use Rattle.life_rules.specs.Arguing.{argument_diags, argument_diags_of_two, broken_by, broken_by_two, known_name, moved_argument, moved_behind, told_break};
+ghost use Rattle.life_rules.specs.Arguing.{argument_diags, argument_diags_of_two, known_name, moved_argument, moved_behind, told_break};
 ghost use Rattle.life_rules.specs.CallsAt.{broken_in, moved_in, overlapping_in};
 ghost use Rattle.life_rules.specs.Telling.{told_of};
 
+use crate::context::PointContext;
 use crate::diag::{Diag, DiagKind, Why};
 use crate::telling::push_told_of;
-use life_contract::{
-    Param, Signature, Signatures, admits_null, breaks_apart, input_parameter, inputs_of,
-    is_argument_of,
-};
-use life_core::{Argument, CoreFn, Instr};
+use life_contract::{Callee, Param, admits_null, breaks_apart, input_parameter, is_argument_of};
+use life_core::{Argument, Instr};
 use life_pset::{Element, Fact, InputPointer, is_variable_place};
-use life_types::{NameId, NoMemory, Place, TypeTable};
-use std::alloc::Global;
+use life_types::{NameId, NoMemory};
 
-/// A call at a point of a function, by the signature of what is called.
+/// A call at a point of a function: what is called, with its number, and what is handed over.
 #[derive(Drop)]
 pub struct CallAt<'a> {
-    types: &'a TypeTable,
-    function: u32,
-    place: Place,
-    callee: u32,
-    sig: &'a Signature,
+    at: &'a PointContext<'a>,
+    callee: &'a Callee<'a>,
+    number: u32,
     arguments: &'a [Argument],
 }
 
@@ -43,12 +39,13 @@ fn push_told_of_call(
 ) -> Result<(), NoMemory>
     ensures { OnOk result
         (out.new.items
-        ≡ out.old.items ++ told_of call.now.function call.now.place call.now.callee kind (input_seen input).pointer why) }
+        ≡ out.old.items ++ told_of call.now.at.now.function call.now.at.now.spot.place call.now.number kind (input_seen input).pointer why) }
 {
+    let at = call.at;
     push_told_of(
-        call.function,
-        call.place,
-        call.callee,
+        at.function,
+        at.spot.place,
+        call.number,
         kind,
         input.pointer,
         why,
@@ -58,74 +55,41 @@ fn push_told_of_call(
 
 // ---- one fact
 
-/// Adds what is wrong with the fact, if it is about an argument: null where the input doesn't admit it,
-/// or invalid.
+/// Adds what is wrong with the fact, if it is about an argument of the instruction at the point: null
+/// where the input doesn't admit it, or invalid.
 pub fn push_argument_diags(
-    alloc: Global,
-    sigs: &Signatures,
-    types: &TypeTable,
-    function: u32,
-    place: Place,
+    at: &PointContext<'_>,
     instr: &Instr,
     fact: &Fact,
     out: &mut Vec<Diag>,
 ) -> Result<(), NoMemory>
+    requires { node_seen at.now.spot.node ≡ Action (step_of instr.now) }
     ensures { OnOk result
-        (out.new.items ≡ out.old.items ++ argument_diags sigs.now types.now function place (step_of instr.now) fact.now) }
+        (out.new.items
+        ≡ out.old.items ++ argument_diags at.now.sigs.now at.now.types.now at.now.function at.now.spot.place (step_of instr.now) fact.now) }
 {
     match instr {
         Instr::Call {
-            function: callee,
+            function,
             arguments,
             ..
-        } => push_broken_by(
-            alloc,
-            types,
-            function,
-            place,
-            callee.0,
-            sigs.get(*callee),
-            arguments,
-            fact,
-            out,
-        ),
+        } => match &at.callee {
+            None => Ok(()),
+            Some(callee) => {
+                let call = CallAt {
+                    at,
+                    callee,
+                    number: function.0,
+                    arguments,
+                };
+                push_broken(&call, fact, callee.inputs(), out)
+            }
+        },
         _ => Ok(()),
     }
 }
 
-fn push_broken_by(
-    alloc: Global,
-    types: &TypeTable,
-    function: u32,
-    place: Place,
-    callee: u32,
-    sig: Option<&Signature>,
-    arguments: &[Argument],
-    fact: &Fact,
-    out: &mut Vec<Diag>,
-) -> Result<(), NoMemory>
-    ensures { OnOk result
-        (out.new.items
-        ≡ out.old.items ++ broken_by types.now function place callee (option_copied sig.entry) (map argument_of arguments.now) fact.now) }
-{
-    match sig {
-        None => Ok(()),
-        Some(sig) => {
-            let inputs = inputs_of(alloc, sig, types)?;
-            let call = CallAt {
-                types,
-                function,
-                place,
-                callee,
-                sig,
-                arguments,
-            };
-            push_broken_at_all(&call, fact, &inputs, out)
-        }
-    }
-}
-
-fn push_broken_at_all(
+fn push_broken(
     call: &CallAt<'_>,
     fact: &Fact,
     inputs: &[InputPointer],
@@ -163,11 +127,12 @@ fn push_breaks(
 ) -> Result<(), NoMemory>
     ensures { OnOk result
         (out.new.items
-        ≡ out.old.items ++ flat_map (told_break call.now.function call.now.place call.now.callee (input_seen input)) (breaks_at call.now.types.now call.now.sig.now (input_seen input) element)) }
+        ≡ out.old.items ++ flat_map (told_break call.now.at.now.function call.now.at.now.spot.place call.now.number (input_seen input)) (breaks_at call.now.callee.now.types.now call.now.callee.now.sig.now (input_seen input) element)) }
 {
+    let callee = call.callee;
     match element {
         Element::Null => {
-            if !admits_null(call.sig, call.types, input) {
+            if !admits_null(callee.sig, callee.types, input) {
                 push_told_of_call(call, DiagKind::ArgNull, input, Why::Null, out)?;
             }
         }
@@ -181,84 +146,45 @@ fn push_breaks(
 
 // ---- two facts
 
-/// Adds what is wrong with two facts, the first about an argument: a whole vector or string to which it
-/// points may be moved from, by the second, or that is about another argument and they overlap.
+/// Adds what is wrong with two facts, the first about an argument of the instruction at the point: a
+/// whole vector or string to which it points may be moved from, by the second, or that is about another
+/// argument and they overlap.
 pub fn push_argument_diags_of_two(
-    alloc: Global,
-    sigs: &Signatures,
-    types: &TypeTable,
-    function: u32,
-    f: &CoreFn,
-    place: Place,
+    at: &PointContext<'_>,
     instr: &Instr,
     first: &Fact,
     second: &Fact,
     out: &mut Vec<Diag>,
 ) -> Result<(), NoMemory>
+    requires { node_seen at.now.spot.node ≡ Action (step_of instr.now) }
     ensures { OnOk result
         (out.new.items
-        ≡ out.old.items ++ argument_diags_of_two sigs.now types.now function (function_of f.now) place (step_of instr.now) first.now second.now) }
+        ≡ out.old.items ++ argument_diags_of_two at.now.sigs.now at.now.types.now at.now.function (function_of at.now.f.now) at.now.spot.place (step_of instr.now) first.now second.now) }
 {
     match instr {
         Instr::Call {
-            function: callee,
+            function,
             arguments,
             ..
-        } => push_broken_by_two(
-            alloc,
-            types,
-            function,
-            f,
-            place,
-            callee.0,
-            sigs.get(*callee),
-            arguments,
-            first,
-            second,
-            out,
-        ),
+        } => match &at.callee {
+            None => Ok(()),
+            Some(callee) => {
+                let call = CallAt {
+                    at,
+                    callee,
+                    number: function.0,
+                    arguments,
+                };
+                push_broken_by_two(&call, first, second, callee.inputs(), out)
+            }
+        },
         _ => Ok(()),
     }
 }
 
-fn push_broken_by_two(
-    alloc: Global,
-    types: &TypeTable,
-    function: u32,
-    f: &CoreFn,
-    place: Place,
-    callee: u32,
-    sig: Option<&Signature>,
-    arguments: &[Argument],
-    first: &Fact,
-    second: &Fact,
-    out: &mut Vec<Diag>,
-) -> Result<(), NoMemory>
-    ensures { OnOk result
-        (out.new.items
-        ≡ out.old.items ++ broken_by_two types.now function (function_of f.now) place callee (option_copied sig.entry) (map argument_of arguments.now) first.now second.now) }
-{
-    match sig {
-        None => Ok(()),
-        Some(sig) => {
-            let inputs = inputs_of(alloc, sig, types)?;
-            let call = CallAt {
-                types,
-                function,
-                place,
-                callee,
-                sig,
-                arguments,
-            };
-            push_broken_at_two(&call, f, first, second, &inputs, out)
-        }
-    }
-}
-
 #[tactic(auto, using(std::proofs::Common::append_assoc))]
-fn push_broken_at_two(
+fn push_broken_by_two(
     call: &CallAt<'_>,
-    f: &CoreFn,
     first: &Fact,
     second: &Fact,
     inputs: &[InputPointer],
@@ -266,17 +192,16 @@ fn push_broken_at_two(
 ) -> Result<(), NoMemory>
     ensures { OnOk result
         (out.new.items
-        ≡ out.old.items ++ (flat_map (moved_in call.now (function_of f.now) first.now second.now) (map input_seen inputs.now) ++ of_pairs (overlapping_in call.now first.now second.now) (map input_seen inputs.now))) }
+        ≡ out.old.items ++ (flat_map (moved_in call.now first.now second.now) (map input_seen inputs.now) ++ of_pairs (overlapping_in call.now first.now second.now) (map input_seen inputs.now))) }
 {
-    push_moved_at_all(call, f, first, second, inputs, out)?;
+    push_moved(call, first, second, inputs, out)?;
     push_overlapping(call, first, second, inputs, out)
 }
 
 // ---- an owner that is moved from
 
-fn push_moved_at_all(
+fn push_moved(
     call: &CallAt<'_>,
-    f: &CoreFn,
     argument: &Fact,
     owner: &Fact,
     inputs: &[InputPointer],
@@ -284,17 +209,16 @@ fn push_moved_at_all(
 ) -> Result<(), NoMemory>
     ensures { OnOk result
         (out.new.items
-        ≡ out.old.items ++ flat_map (moved_in call.now (function_of f.now) argument.now owner.now) (map input_seen inputs.now)) }
+        ≡ out.old.items ++ flat_map (moved_in call.now argument.now owner.now) (map input_seen inputs.now)) }
 {
     for input in inputs {
-        push_moved_at(call, f, argument, owner, *input, out)?;
+        push_moved_at(call, argument, owner, *input, out)?;
     }
     Ok(())
 }
 
 fn push_moved_at(
     call: &CallAt<'_>,
-    f: &CoreFn,
     argument: &Fact,
     owner: &Fact,
     input: InputPointer,
@@ -302,17 +226,16 @@ fn push_moved_at(
 ) -> Result<(), NoMemory>
     ensures { OnOk result
         (out.new.items
-        ≡ out.old.items ++ moved_in call.now (function_of f.now) argument.now owner.now (input_seen input)) }
+        ≡ out.old.items ++ moved_in call.now argument.now owner.now (input_seen input)) }
 {
     if is_argument_of(call.arguments, input, &argument.location) {
-        push_moved_behind(call, f, input, argument.element, owner, out)?;
+        push_moved_behind(call, input, argument.element, owner, out)?;
     }
     Ok(())
 }
 
 fn push_moved_behind(
     call: &CallAt<'_>,
-    f: &CoreFn,
     input: InputPointer,
     argument: Element,
     owner: &Fact,
@@ -320,11 +243,12 @@ fn push_moved_behind(
 ) -> Result<(), NoMemory>
     ensures { OnOk result
         (out.new.items
-        ≡ out.old.items ++ moved_behind call.now.types.now call.now.function (function_of f.now) call.now.place call.now.callee (input_seen input) argument owner.now) }
+        ≡ out.old.items ++ moved_behind call.now.callee.now.types.now call.now.at.now.function (function_of call.now.at.now.f.now) call.now.at.now.spot.place call.now.number (input_seen input) argument owner.now) }
 {
+    let types = call.callee.types;
     match argument {
         Element::At(target) => {
-            if owner.location == target && is_variable_place(call.types, f, &owner.location) {
+            if owner.location == target && is_variable_place(types, call.at.f, &owner.location) {
                 push_moved_argument(call, input, owner.element, out)?;
             }
         }
@@ -341,7 +265,7 @@ fn push_moved_argument(
 ) -> Result<(), NoMemory>
     ensures { OnOk result
         (out.new.items
-        ≡ out.old.items ++ moved_argument call.now.function call.now.place call.now.callee (input_seen input) element) }
+        ≡ out.old.items ++ moved_argument call.now.at.now.function call.now.at.now.spot.place call.now.number (input_seen input) element) }
 {
     match element {
         Element::Moved(cause) => {
@@ -401,10 +325,11 @@ fn push_overlapping_at(
         (out.new.items
         ≡ out.old.items ++ overlapping_in call.now first.now second.now (input_seen input) (input_seen other)) }
 {
-    let sig = call.sig;
+    let sig = call.callee.sig;
+    let types = call.callee.types;
     if is_argument_of(call.arguments, input, &first.location)
         && is_argument_of(call.arguments, other, &second.location)
-        && breaks_apart(sig, call.types, input, other, first.element, second.element)
+        && breaks_apart(sig, types, input, other, first.element, second.element)
     {
         let name = known_name(sig.name, input_parameter(sig, other));
         push_told_of_call(call, DiagKind::ArgOverlap, input, Why::Overlap(name), out)?;

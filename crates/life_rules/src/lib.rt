@@ -4,6 +4,7 @@
 mod arguing;
 mod branch;
 mod calling;
+mod context;
 mod diag;
 mod entry;
 mod keeping;
@@ -26,6 +27,7 @@ mod writes;
 mod wrong;
 mod wrong_two;
 
+pub use context::PointContext;
 pub use diag::{Diag, DiagKind, ListedDiag, PrintedLine, Why};
 pub use entry::entry_facts;
 pub use laws::{

@@ -9,7 +9,7 @@ ghost use Rattle.life_rules.specs.Staying.{mark_through, mutates, points_behind,
 
 use crate::matching::points_under;
 use crate::reads::goes_through;
-use life_contract::{Signature, Signatures, is_mutating_argument};
+use life_contract::{Callee, Signature, Signatures};
 use life_core::{Argument, CoreFn, Instr, Operand};
 use life_pset::{AbsPlace, Element, called, holds_owner_if, operand_type, owner_changed};
 use life_types::{NoMemory, Place, TypeTable};
@@ -29,7 +29,10 @@ fn mutates(
 {
     match sig {
         None => Ok(false),
-        Some(sig) => is_mutating_argument(alloc, sig, types, arguments, location),
+        Some(sig) => {
+            let callee = Callee::of(alloc, sig, types)?;
+            Ok(callee.is_mutating_argument(arguments, location))
+        }
     }
 }
 

@@ -2,94 +2,85 @@
 ghost use Rattle.std.specs.List.{flat_map};
 ghost use Rattle.std.specs.Prelude.{◌≡◌, ◌++◌, ◌∷◌, [], OnOk, Some};
 ghost use Rattle.life_core.specs.Function.{function_of};
-ghost use Rattle.life_core.specs.Node.{spot_seen};
+ghost use Rattle.life_core.specs.Node.{node_seen, spot_seen};
 ghost use Rattle.life_core.specs.Operands.{base_of, characters_of, location_of, operand_of, source_of, whole, Name};
 ghost use Rattle.life_core.specs.Step.{change_of, port_of, step_of};
+ghost use Rattle.life_core.specs.Tree.{Action};
 ghost use Rattle.life_rules.specs.Diagnosing.{diags_at, misopened, misopened_as, misread, misread_as, misused, misused_as, moved_as, moved_use, opened_by_base, opened_if, opened_in, opens, owner_of_base, owner_of_source, owners, read_by_base, read_by_change, read_by_characters, read_by_port, reads, step_diags, use_diags, used_by_base, used_by_source, used_in, uses};
 
 use crate::arguing::push_argument_diags;
+use crate::context::PointContext;
 use crate::diag::{Diag, DiagKind, Why};
 use crate::keeping::push_keeping_diags;
 use crate::matching::is_location;
 use crate::returning::push_return_diags;
 use crate::telling::push_told;
 use crate::writes::is_whole;
-use life_contract::Signatures;
-use life_core::{
-    Base, Change, Characters, CoreFn, Instr, Location, NodeRef, Operand, Port, Source, SpotRef,
-    Which,
-};
+use life_core::{Base, Change, Characters, Instr, Location, NodeRef, Operand, Port, Source, Which};
 use life_pset::{AbsPlace, Element, Fact, is_variable_place};
-use life_types::{NoMemory, Place, TypeTable};
-use std::alloc::Global;
+use life_types::{NoMemory, Place};
 
-/// Adds what one fact makes wrong at a point before which it holds, in the function with this number,
-/// in the manner of WG21 P1179R1: nothing may go through a pointer that may be null or invalid, use a
-/// view, a span or an iterator that may be invalid, take what a `std::unique_ptr` owns that may be
-/// null, or use a vector or a string that may be moved from; no argument may be invalid, or null where
-/// the parameter doesn't admit it; no owner may change that a parameter keeps; and no result may be
-/// invalid, or what its function doesn't promise. The only error is the want of memory.
-pub fn push_diags(
-    alloc: Global,
-    sigs: &Signatures,
-    types: &TypeTable,
-    function: u32,
-    f: &CoreFn,
-    spot: SpotRef,
-    fact: &Fact,
-    out: &mut Vec<Diag>,
-) -> Result<(), NoMemory>
+/// Adds what one fact makes wrong at a point before which it holds, in the manner of WG21 P1179R1:
+/// nothing may go through a pointer that may be null or invalid, use a view, a span or an iterator that
+/// may be invalid, take what a `std::unique_ptr` owns that may be null, or use a vector or a string that
+/// may be moved from; no argument may be invalid, or null where the parameter doesn't admit it; no owner
+/// may change that a parameter keeps; and no result may be invalid, or what its function doesn't promise.
+/// The only error is the want of memory.
+pub fn push_diags(at: &PointContext<'_>, fact: &Fact, out: &mut Vec<Diag>) -> Result<(), NoMemory>
     ensures { OnOk result
-        (out.new.items ≡ out.old.items ++ diags_at sigs.now types.now function (function_of f.now) (Some (spot_seen spot.entry)) fact.now) }
+        (out.new.items
+        ≡ out.old.items ++ diags_at at.now.sigs.now at.now.types.now at.now.function (function_of at.now.f.now) (Some (spot_seen at.now.spot)) fact.now) }
 {
-    match spot.node {
-        NodeRef::Action(instr) => push_step_diags(
-            alloc, sigs, types, function, f, spot.place, instr, fact, out,
-        ),
+    match at.spot.node {
+        NodeRef::Action(instr) => push_step_diags(at, instr, fact, out),
         NodeRef::Question(_) => Ok(()),
-        NodeRef::Return => push_return_diags(alloc, types, function, f, spot.place, fact, out),
+        NodeRef::Return => push_return_diags(
+            at.alloc,
+            at.types,
+            at.function,
+            at.f,
+            at.spot.place,
+            fact,
+            out,
+        ),
         NodeRef::Stop => Ok(()),
     }
 }
 
 #[tactic(auto, using(std::proofs::Common::append_assoc))]
 fn push_step_diags(
-    alloc: Global,
-    sigs: &Signatures,
-    types: &TypeTable,
-    function: u32,
-    f: &CoreFn,
-    place: Place,
+    at: &PointContext<'_>,
     instr: &Instr,
     fact: &Fact,
     out: &mut Vec<Diag>,
 ) -> Result<(), NoMemory>
+    requires { node_seen at.now.spot.node ≡ Action (step_of instr.now) }
     ensures { OnOk result
-        (out.new.items ≡ out.old.items ++ step_diags sigs.now types.now function (function_of f.now) place (step_of instr.now) fact.now) }
+        (out.new.items
+        ≡ out.old.items ++ step_diags at.now.sigs.now at.now.types.now at.now.function (function_of at.now.f.now) at.now.spot.place (step_of instr.now) fact.now) }
 {
-    push_use_diags(types, function, f, place, instr, fact, out)?;
-    push_argument_diags(alloc, sigs, types, function, place, instr, fact, out)?;
-    push_keeping_diags(alloc, sigs, types, function, f, place, instr, fact, out)
+    push_use_diags(at, instr, fact, out)?;
+    push_argument_diags(at, instr, fact, out)?;
+    push_keeping_diags(at, instr, fact, out)
 }
 
 // Adds what is wrong with what an instruction uses.
 #[tactic(auto, using(std::proofs::Common::append_assoc))]
 fn push_use_diags(
-    types: &TypeTable,
-    function: u32,
-    f: &CoreFn,
-    place: Place,
+    at: &PointContext<'_>,
     instr: &Instr,
     fact: &Fact,
     out: &mut Vec<Diag>,
 ) -> Result<(), NoMemory>
     ensures { OnOk result
-        (out.new.items ≡ out.old.items ++ use_diags types.now function (function_of f.now) place (step_of instr.now) fact.now) }
+        (out.new.items
+        ≡ out.old.items ++ use_diags at.now.types.now at.now.function (function_of at.now.f.now) at.now.spot.place (step_of instr.now) fact.now) }
 {
-    push_misuses(function, place, instr, fact, out)?;
-    push_misreads(function, place, instr, fact, out)?;
-    push_misopened_by(function, place, instr, fact, out)?;
-    push_moved_uses(types, function, f, place, instr, fact, out)
+    let place = at.spot.place;
+    push_misuses(at.function, place, instr, fact, out)?;
+    push_misreads(at.function, place, instr, fact, out)?;
+    push_misopened_by(at.function, place, instr, fact, out)?;
+    push_moved_uses(at, instr, fact, out)
 }
 
 // ---- pointers through which an instruction goes
@@ -499,91 +490,75 @@ fn push_misopened_fact(
 // ---- owners that are moved from
 
 fn push_moved_uses(
-    types: &TypeTable,
-    function: u32,
-    f: &CoreFn,
-    place: Place,
+    at: &PointContext<'_>,
     instr: &Instr,
     fact: &Fact,
     out: &mut Vec<Diag>,
 ) -> Result<(), NoMemory>
     ensures { OnOk result
-        (out.new.items ≡ out.old.items ++ flat_map (moved_as types.now function (function_of f.now) place fact.now) (owners (step_of instr.now))) }
+        (out.new.items
+        ≡ out.old.items ++ flat_map (moved_as at.now.types.now at.now.function (function_of at.now.f.now) at.now.spot.place fact.now) (owners (step_of instr.now))) }
 {
     match instr {
-        Instr::Copy { from, .. } => push_moved_as(types, function, f, place, from, fact, out),
-        Instr::Move { from, .. } => push_moved_local(types, function, f, place, *from, fact, out),
-        Instr::Aim { source, .. } => {
-            push_moved_by_source(types, function, f, place, source, fact, out)
-        }
-        Instr::Element { base, .. } => {
-            push_moved_by_base(types, function, f, place, base, fact, out)
-        }
-        Instr::Cursor { base, .. } => {
-            push_moved_by_base(types, function, f, place, base, fact, out)
-        }
-        Instr::Size { base, .. } => push_moved_by_base(types, function, f, place, base, fact, out),
-        Instr::Change { place: operand, .. } => push_moved_as(
-            types, function, f, place, operand, fact, out,
-        ),
+        Instr::Copy { from, .. } => push_moved_as(at, from, fact, out),
+        Instr::Move { from, .. } => push_moved_local(at, *from, fact, out),
+        Instr::Aim { source, .. } => push_moved_by_source(at, source, fact, out),
+        Instr::Element { base, .. } => push_moved_by_base(at, base, fact, out),
+        Instr::Cursor { base, .. } => push_moved_by_base(at, base, fact, out),
+        Instr::Size { base, .. } => push_moved_by_base(at, base, fact, out),
+        Instr::Change { place: operand, .. } => push_moved_as(at, operand, fact, out),
         _ => Ok(()),
     }
 }
 
 fn push_moved_by_source(
-    types: &TypeTable,
-    function: u32,
-    f: &CoreFn,
-    place: Place,
+    at: &PointContext<'_>,
     source: &Source,
     fact: &Fact,
     out: &mut Vec<Diag>,
 ) -> Result<(), NoMemory>
     ensures { OnOk result
-        (out.new.items ≡ out.old.items ++ flat_map (moved_as types.now function (function_of f.now) place fact.now) (owner_of_source (source_of source.now))) }
+        (out.new.items
+        ≡ out.old.items ++ flat_map (moved_as at.now.types.now at.now.function (function_of at.now.f.now) at.now.spot.place fact.now) (owner_of_source (source_of source.now))) }
 {
     match source {
-        Source::Whole(operand) => push_moved_as(types, function, f, place, operand, fact, out),
+        Source::Whole(operand) => push_moved_as(at, operand, fact, out),
         _ => Ok(()),
     }
 }
 
 fn push_moved_by_base(
-    types: &TypeTable,
-    function: u32,
-    f: &CoreFn,
-    place: Place,
+    at: &PointContext<'_>,
     base: &Base,
     fact: &Fact,
     out: &mut Vec<Diag>,
 ) -> Result<(), NoMemory>
     ensures { OnOk result
-        (out.new.items ≡ out.old.items ++ flat_map (moved_as types.now function (function_of f.now) place fact.now) (owner_of_base (base_of base.now))) }
+        (out.new.items
+        ≡ out.old.items ++ flat_map (moved_as at.now.types.now at.now.function (function_of at.now.f.now) at.now.spot.place fact.now) (owner_of_base (base_of base.now))) }
 {
     match base {
-        Base::Owner(operand) => push_moved_as(types, function, f, place, operand, fact, out),
+        Base::Owner(operand) => push_moved_as(at, operand, fact, out),
         Base::Pointer(_) => Ok(()),
     }
 }
 
 fn push_moved_as(
-    types: &TypeTable,
-    function: u32,
-    f: &CoreFn,
-    place: Place,
+    at: &PointContext<'_>,
     operand: &Operand,
     fact: &Fact,
     out: &mut Vec<Diag>,
 ) -> Result<(), NoMemory>
     ensures { OnOk result
-        (out.new.items ≡ out.old.items ++ moved_as types.now function (function_of f.now) place fact.now (operand_of operand.now)) }
+        (out.new.items
+        ≡ out.old.items ++ moved_as at.now.types.now at.now.function (function_of at.now.f.now) at.now.spot.place fact.now (operand_of operand.now)) }
 {
     match operand {
         Operand::Name(location) => {
             if is_location(location, &fact.location)
-                && is_variable_place(types, f, &fact.location)
+                && is_variable_place(at.types, at.f, &fact.location)
             {
-                push_moved_use(function, place, fact.location, fact.element, out)?;
+                push_moved_use(at.function, at.spot.place, fact.location, fact.element, out)?;
             }
         }
         Operand::Through { .. } => {}
@@ -592,19 +567,17 @@ fn push_moved_as(
 }
 
 fn push_moved_local(
-    types: &TypeTable,
-    function: u32,
-    f: &CoreFn,
-    place: Place,
+    at: &PointContext<'_>,
     local: u32,
     fact: &Fact,
     out: &mut Vec<Diag>,
 ) -> Result<(), NoMemory>
     ensures { OnOk result
-        (out.new.items ≡ out.old.items ++ moved_as types.now function (function_of f.now) place fact.now (Name (whole local))) }
+        (out.new.items
+        ≡ out.old.items ++ moved_as at.now.types.now at.now.function (function_of at.now.f.now) at.now.spot.place fact.now (Name (whole local))) }
 {
-    if is_whole(local, &fact.location) && is_variable_place(types, f, &fact.location) {
-        push_moved_use(function, place, fact.location, fact.element, out)?;
+    if is_whole(local, &fact.location) && is_variable_place(at.types, at.f, &fact.location) {
+        push_moved_use(at.function, at.spot.place, fact.location, fact.element, out)?;
     }
     Ok(())
 }

@@ -2,46 +2,39 @@
 ghost use Rattle.std.specs.List.{flat_map};
 ghost use Rattle.std.specs.Prelude.{◌≡◌, ◌++◌, OnOk, Some};
 ghost use Rattle.life_core.specs.Function.{function_of};
-ghost use Rattle.life_core.specs.Node.{spot_seen};
+ghost use Rattle.life_core.specs.Node.{node_seen, spot_seen};
 ghost use Rattle.life_core.specs.Operands.{base_of, location_of, operand_of, source_of};
 ghost use Rattle.life_core.specs.Step.{step_of};
+ghost use Rattle.life_core.specs.Tree.{Action};
 ghost use Rattle.life_rules.specs.Along.{base_tells_first, is_target_of, node_tells_first, source_tells_first, tells_first};
 ghost use Rattle.life_rules.specs.Diagnosing.{diags_of_two, moved_target, moved_through, owner_of_base, owner_of_source, owners, step_diags_of_two};
 
 use crate::arguing::push_argument_diags_of_two;
+use crate::context::PointContext;
 use crate::diag::Diag;
 use crate::matching::{is_location, located};
 use crate::wrong::push_moved_use;
-use life_contract::{Signatures, is_in_arguments};
-use life_core::{Base, CoreFn, Instr, Location, NodeRef, Operand, Source, SpotRef};
+use life_contract::is_in_arguments;
+use life_core::{Base, Instr, Location, NodeRef, Operand, Source, SpotRef};
 use life_pset::{Element, Fact, is_variable_place};
-use life_types::{NoMemory, Place, TypeTable};
-use std::alloc::Global;
+use life_types::NoMemory;
 
 /// Adds what two facts make wrong at a point before which both hold: a vector or a string that a pointer
 /// points to may not be used, or handed over, where it may be moved from, and two arguments may not
 /// overlap where the callee may change an owner behind one of them. The only error is the want of
 /// memory.
 pub fn push_diags_of_two(
-    alloc: Global,
-    sigs: &Signatures,
-    types: &TypeTable,
-    function: u32,
-    f: &CoreFn,
-    spot: SpotRef,
+    at: &PointContext<'_>,
     target: &Fact,
     owner: &Fact,
     out: &mut Vec<Diag>,
 ) -> Result<(), NoMemory>
     ensures { OnOk result
-        (out.new.items ≡ out.old.items ++ diags_of_two sigs.now types.now function (function_of f.now) (Some (spot_seen spot.entry)) target.now owner.now) }
+        (out.new.items
+        ≡ out.old.items ++ diags_of_two at.now.sigs.now at.now.types.now at.now.function (function_of at.now.f.now) (Some (spot_seen at.now.spot)) target.now owner.now) }
 {
-    match spot.node {
-        NodeRef::Action(instr) => {
-            push_step_of_two(
-                alloc, sigs, types, function, f, spot.place, instr, target, owner, out,
-            )
-        }
+    match at.spot.node {
+        NodeRef::Action(instr) => push_step_of_two(at, instr, target, owner, out),
         NodeRef::Question(_) => Ok(()),
         NodeRef::Return => Ok(()),
         NodeRef::Stop => Ok(()),
@@ -50,132 +43,93 @@ pub fn push_diags_of_two(
 
 #[tactic(auto, using(std::proofs::Common::append_assoc))]
 fn push_step_of_two(
-    alloc: Global,
-    sigs: &Signatures,
-    types: &TypeTable,
-    function: u32,
-    f: &CoreFn,
-    place: Place,
+    at: &PointContext<'_>,
     instr: &Instr,
     target: &Fact,
     owner: &Fact,
     out: &mut Vec<Diag>,
 ) -> Result<(), NoMemory>
+    requires { node_seen at.now.spot.node ≡ Action (step_of instr.now) }
     ensures { OnOk result
-        (out.new.items ≡ out.old.items ++ step_diags_of_two sigs.now types.now function (function_of f.now) place (step_of instr.now) target.now owner.now) }
+        (out.new.items
+        ≡ out.old.items ++ step_diags_of_two at.now.sigs.now at.now.types.now at.now.function (function_of at.now.f.now) at.now.spot.place (step_of instr.now) target.now owner.now) }
 {
-    push_moved_uses_of_two(types, function, f, place, instr, target, owner, out)?;
-    push_argument_diags_of_two(
-        alloc, sigs, types, function, f, place, instr, target, owner, out,
-    )
+    push_moved_uses_of_two(at, instr, target, owner, out)?;
+    push_argument_diags_of_two(at, instr, target, owner, out)
 }
 
 fn push_moved_uses_of_two(
-    types: &TypeTable,
-    function: u32,
-    f: &CoreFn,
-    place: Place,
+    at: &PointContext<'_>,
     instr: &Instr,
     target: &Fact,
     owner: &Fact,
     out: &mut Vec<Diag>,
 ) -> Result<(), NoMemory>
     ensures { OnOk result
-        (out.new.items ≡ out.old.items ++ flat_map (moved_through types.now function (function_of f.now) place target.now owner.now) (owners (step_of instr.now))) }
+        (out.new.items
+        ≡ out.old.items ++ flat_map (moved_through at.now.types.now at.now.function (function_of at.now.f.now) at.now.spot.place target.now owner.now) (owners (step_of instr.now))) }
 {
     match instr {
-        Instr::Copy { from, .. } => {
-            push_moved_through(types, function, f, place, from, target, owner, out)
-        }
-        Instr::Aim { source, .. } => {
-            push_moved_by_source(types, function, f, place, source, target, owner, out)
-        }
-        Instr::Element { base, .. } => {
-            push_moved_by_base(types, function, f, place, base, target, owner, out)
-        }
-        Instr::Cursor { base, .. } => {
-            push_moved_by_base(types, function, f, place, base, target, owner, out)
-        }
-        Instr::Size { base, .. } => {
-            push_moved_by_base(types, function, f, place, base, target, owner, out)
-        }
-        Instr::Change { place: operand, .. } => push_moved_through(
-            types, function, f, place, operand, target, owner, out,
-        ),
+        Instr::Copy { from, .. } => push_moved_through(at, from, target, owner, out),
+        Instr::Aim { source, .. } => push_moved_by_source(at, source, target, owner, out),
+        Instr::Element { base, .. } => push_moved_by_base(at, base, target, owner, out),
+        Instr::Cursor { base, .. } => push_moved_by_base(at, base, target, owner, out),
+        Instr::Size { base, .. } => push_moved_by_base(at, base, target, owner, out),
+        Instr::Change { place: operand, .. } => push_moved_through(at, operand, target, owner, out),
         _ => Ok(()),
     }
 }
 
 fn push_moved_by_source(
-    types: &TypeTable,
-    function: u32,
-    f: &CoreFn,
-    place: Place,
+    at: &PointContext<'_>,
     source: &Source,
     target: &Fact,
     owner: &Fact,
     out: &mut Vec<Diag>,
 ) -> Result<(), NoMemory>
     ensures { OnOk result
-        (out.new.items ≡ out.old.items ++ flat_map (moved_through types.now function (function_of f.now) place target.now owner.now) (owner_of_source (source_of source.now))) }
+        (out.new.items
+        ≡ out.old.items ++ flat_map (moved_through at.now.types.now at.now.function (function_of at.now.f.now) at.now.spot.place target.now owner.now) (owner_of_source (source_of source.now))) }
 {
     match source {
-        Source::Whole(operand) => {
-            push_moved_through(types, function, f, place, operand, target, owner, out)
-        }
+        Source::Whole(operand) => push_moved_through(at, operand, target, owner, out),
         _ => Ok(()),
     }
 }
 
 fn push_moved_by_base(
-    types: &TypeTable,
-    function: u32,
-    f: &CoreFn,
-    place: Place,
+    at: &PointContext<'_>,
     base: &Base,
     target: &Fact,
     owner: &Fact,
     out: &mut Vec<Diag>,
 ) -> Result<(), NoMemory>
     ensures { OnOk result
-        (out.new.items ≡ out.old.items ++ flat_map (moved_through types.now function (function_of f.now) place target.now owner.now) (owner_of_base (base_of base.now))) }
+        (out.new.items
+        ≡ out.old.items ++ flat_map (moved_through at.now.types.now at.now.function (function_of at.now.f.now) at.now.spot.place target.now owner.now) (owner_of_base (base_of base.now))) }
 {
     match base {
-        Base::Owner(operand) => {
-            push_moved_through(types, function, f, place, operand, target, owner, out)
-        }
+        Base::Owner(operand) => push_moved_through(at, operand, target, owner, out),
         Base::Pointer(_) => Ok(()),
     }
 }
 
 fn push_moved_through(
-    types: &TypeTable,
-    function: u32,
-    f: &CoreFn,
-    place: Place,
+    at: &PointContext<'_>,
     operand: &Operand,
     target: &Fact,
     owner: &Fact,
     out: &mut Vec<Diag>,
 ) -> Result<(), NoMemory>
     ensures { OnOk result
-        (out.new.items ≡ out.old.items ++ moved_through types.now function (function_of f.now) place target.now owner.now (operand_of operand.now)) }
+        (out.new.items
+        ≡ out.old.items ++ moved_through at.now.types.now at.now.function (function_of at.now.f.now) at.now.spot.place target.now owner.now (operand_of operand.now)) }
 {
     match operand {
         Operand::Name(_) => {}
         Operand::Through { pointer, members } => {
             if is_location(pointer, &target.location) {
-                push_moved_target(
-                    types,
-                    function,
-                    f,
-                    place,
-                    pointer,
-                    members,
-                    target.element,
-                    owner,
-                    out,
-                )?;
+                push_moved_target(at, pointer, members, target.element, owner, out)?;
             }
         }
     }
@@ -183,10 +137,7 @@ fn push_moved_through(
 }
 
 fn push_moved_target(
-    types: &TypeTable,
-    function: u32,
-    f: &CoreFn,
-    place: Place,
+    at: &PointContext<'_>,
     pointer: &Location,
     members: &[u32],
     target: Element,
@@ -194,14 +145,21 @@ fn push_moved_target(
     out: &mut Vec<Diag>,
 ) -> Result<(), NoMemory>
     ensures { OnOk result
-        (out.new.items ≡ out.old.items ++ moved_target types.now function (function_of f.now) place (location_of pointer.now) members.now target owner.now) }
+        (out.new.items
+        ≡ out.old.items ++ moved_target at.now.types.now at.now.function (function_of at.now.f.now) at.now.spot.place (location_of pointer.now) members.now target owner.now) }
 {
     match target {
         Element::At(named) => {
             if owner.location == named.members(members)
-                && is_variable_place(types, f, &owner.location)
+                && is_variable_place(at.types, at.f, &owner.location)
             {
-                push_moved_use(function, place, located(pointer), owner.element, out)?;
+                push_moved_use(
+                    at.function,
+                    at.spot.place,
+                    located(pointer),
+                    owner.element,
+                    out,
+                )?;
             }
         }
         _ => {}

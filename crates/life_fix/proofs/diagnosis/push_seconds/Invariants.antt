@@ -8,5 +8,5 @@ use Rattle.life_fix.proofs.diagnosis.push_seconds.Given as goal
 -- what was added, and what is left to add
 abbrev pub invariant-loop-second : goal.invariant-loop-second
 invariant-loop-second l =
-    let wrong = diags_of_two l.sigs l.types l.function (function_of l.f) (Some (spot_seen l.spot)) l.first in
+    let wrong = diags_of_two l.at.sigs.now l.at.types.now l.at.function (function_of l.at.f.now) (Some (spot_seen l.at.spot)) l.first in
     l.out.items ++ flat_map wrong (drop l.second-index l.facts) ≡ l.fn.out.items ++ flat_map wrong l.facts

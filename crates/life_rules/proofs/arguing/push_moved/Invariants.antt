@@ -1,12 +1,11 @@
-use Rattle.life_core.specs.Function.{function_of}
 use Rattle.life_pset.specs.Inputs.{input_seen}
 use Rattle.life_rules.specs.CallsAt.{moved_in}
 use Rattle.std.proofs.Common.{◌≡◌, ◌++◌, drop, map}
 use Rattle.std.specs.List.{flat_map}
-use Rattle.life_rules.proofs.arguing.push_moved_at_all.Given as goal
+use Rattle.life_rules.proofs.arguing.push_moved.Given as goal
 
 -- what was added, and what is left to add
 abbrev pub invariant-loop-input : goal.invariant-loop-input
 invariant-loop-input l =
-    let diags = moved_in l.call (function_of l.f) l.argument l.owner in
+    let diags = moved_in l.call l.argument l.owner in
     l.out.items ++ flat_map diags (map input_seen (drop l.input-index l.inputs)) ≡ l.fn.out.items ++ flat_map diags (map input_seen l.inputs)

@@ -2,7 +2,7 @@ use Rattle.life_pset.specs.Inputs.{input_seen}
 use Rattle.life_rules.specs.CallsAt.{broken_in}
 use Rattle.std.proofs.Common.{◌≡◌, ◌++◌, drop, map}
 use Rattle.std.specs.List.{flat_map}
-use Rattle.life_rules.proofs.arguing.push_broken_at_all.Given as goal
+use Rattle.life_rules.proofs.arguing.push_broken.Given as goal
 
 -- what was added, and what is left to add
 abbrev pub invariant-loop-input : goal.invariant-loop-input

@@ -1,0 +1,26 @@
+-- What is called at a point.
+use Rattle.std.specs.Prelude.{◌≡◌, List, Option, None, option_map, slice_get}
+use Rattle.life_types.specs.Types.{Types}
+use Rattle.life_core.specs.Step.{Step, Call}
+use Rattle.life_core.specs.Tree.{Node, Action}
+use Rattle.life_contract.specs.Signatures.{Signature}
+use Rattle.life_contract.specs.declared.callee.Callee.{Callee}
+
+-- the signature of what an instruction calls, if it calls a function of the program
+abbrev pub callee_of : List Signature → Step → Option Signature
+callee_of sigs (Call target g xs) = slice_get sigs g.0
+callee_of sigs _ = None
+
+abbrev pub callee_at : List Signature → Node → Option Signature
+callee_at sigs (Action i) = callee_of sigs i
+callee_at sigs _ = None
+
+-- it is the one with this signature, in a program with these types
+abbrev pub with_types : Types → Signature → Signature × Types
+with_types types sig = (sig, types)
+
+abbrev pub callee_seen : Callee → Signature × Types
+callee_seen c = with_types c.types.now c.sig.now
+
+abbrev pub IsCallee : Types → Option Signature → Option Callee → Type 0
+IsCallee types sig callee = option_map callee_seen callee ≡ option_map (with_types types) sig
