@@ -295,6 +295,7 @@ fn push_overlapping(
     Ok(())
 }
 
+// .. where the first fact is about what is given for the input, for each other input.
 fn push_overlapping_with(
     call: &CallAt<'_>,
     first: &Fact,
@@ -307,6 +308,9 @@ fn push_overlapping_with(
         (out.new.items
         ≡ out.old.items ++ flat_map (overlapping_in call.now first.now second.now (input_seen input)) (map input_seen others.now)) }
 {
+    if !is_argument_of(call.arguments, input, &first.location) {
+        return Ok(());
+    }
     for other in others {
         push_overlapping_at(call, first, second, input, *other, out)?;
     }
