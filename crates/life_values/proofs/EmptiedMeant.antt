@@ -158,6 +158,18 @@ module _ (kind : Kinds) (depth n i : ℕ) where
       ∙ emptied_apart hand w us (ended_if end (owned_in (word_at o i (w + u))) d) (with_word i (w + u) 0 o) one.still deep (words_behind w u us o are)
       ∙ ap (with_object n (zeroed i w us (with_word i (w + u) 0 o))) (sym (ended_listed end x (held i w us (with_word i (w + u) 0 o)) d))
 
+  -- .. and the forest stays
+  pub emptied_forest : (hand : ℕ → ℕ) (w : ℕ) (us : List ℕ) (d : Content) (o : Object) → IsForest kind hand (with_object n o d) → kind.rank o.ty ≤ depth → AreWords w us o
+      → IsForest kind hand (with_object n (zeroed i w us o) (ended_each end (held i w us o) d))
+  emptied_forest hand w [] d o forest deep are = forest
+  emptied_forest hand w (u ∷ us) d o forest deep are =
+      let has = word_here w u us o are in
+      let owner = (are.own 0 u refl).0 in
+      let x : Option ℕ = owned_in (word_at o i (w + u)) in
+      let one = is_out hand d o (w + u) forest has owner deep (owned_in (word_at o i (w + u))) refl in
+      subst (λ (e : Content). IsForest kind hand (with_object n (zeroed i w us (with_word i (w + u) 0 o)) e)) (sym (ended_listed end x (held i w us (with_word i (w + u) 0 o)) d))
+      (emptied_forest hand w us (ended_if end (owned_in (word_at o i (w + u))) d) (with_word i (w + u) 0 o) one.still deep (words_behind w u us o are))
+
   -- .. all that they own is in the hand, where none has ended
   pub zeroed_forest : (hand : ℕ → ℕ) (w : ℕ) (us : List ℕ) (d : Content) (o : Object) → IsForest kind hand (with_object n o d) → AreWords w us o
       → IsForest kind (λ k. times (held i w us o) k + hand k) (with_object n (zeroed i w us o) d) × AreBelow kind (kind.rank o.ty) (held i w us o) (with_object n (zeroed i w us o) d)

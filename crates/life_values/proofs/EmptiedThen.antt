@@ -1,5 +1,5 @@
 -- The object of which some words own nothing any more is where it was.
-use Rattle.std.proofs.Common.{◌≡◌, ℕ, zero, suc, ◌+◌, List, [], ◌∷◌, Option, Some, None, refl, sym, ap, subst, ◌∙◌}
+use Rattle.std.proofs.Common.{◌≡◌, ℕ, zero, suc, ◌+◌, List, [], ◌∷◌, Option, Some, None, refl, sym, ap, subst, ◌∙◌, arith}
 use Rattle.std.proofs.lemmas.Option.{same_Some}
 use Rattle.life_store.specs.Cells.{Cells, at, at-set_same}
 use Rattle.life_store.specs.Content.{Object, Content, with_object, with_word, word_at, without}
@@ -11,6 +11,7 @@ use Rattle.life_store.proofs.MapLemmas.{set-unset, set_back}
 use Rattle.life_forest.specs.Kinds.{Kinds}
 use Rattle.life_forest.specs.Forest.{IsForest}
 use Rattle.life_forest.specs.Owned.{owned_list}
+use Rattle.life_forest.proofs.Steps.{was_there}
 use Rattle.life_seen.specs.Housed.{IsHoused, Shows, Later}
 use Rattle.life_seen.specs.Kinds.{Kinds as Seen}
 use Rattle.life_seen.specs.Named.{names_of}
@@ -19,10 +20,14 @@ use Rattle.life_seen.proofs.Contents.{seen_at}
 use Rattle.life_seen.proofs.References.{of_found, placed_lives}
 use Rattle.life_values.specs.Emptied.{ended_if, emptied, emptied_if, emptied_each, CanEmpty}
 use Rattle.life_values.specs.Ended.{ended_each, ended_number, AreAlike}
+use Rattle.life_values.specs.Ending.{AreSized, IsSized}
+use Rattle.life_values.specs.Popped.{IsGiving}
 use Rattle.life_values.specs.Zeroed.{held, zeroed}
 use Rattle.life_values.specs.declared.spot.Spot.{Spot}
-use Rattle.life_values.proofs.EmptiedMeant.{emptied_apart, AreWords}
+use Rattle.life_values.proofs.EmptiedMeant.{emptied_apart, emptied_forest, AreWords}
+use Rattle.life_values.proofs.Deep.{sized_with, sized_word}
 use Rattle.life_values.proofs.Filling.{still_placed}
+use Rattle.life_values.proofs.Zeroing.{zeroed_like, IsLike}
 
 -- an object as it lies in the store
 pub record IsSeenAs (kinds : Seen) (c : Content) (rows : Rows) (r : ObjRef) (o : Object) : Type 0 where
@@ -38,6 +43,22 @@ seen_as kinds c rows r o housed placed there =
       found = of_found c rows r l.0 (record { there = l.1; placed = placed });
       same = same_Some _ _ (sym (seen_at kinds (names_of c rows) c r.birth l.0 l.1) ∙ there);
     }
+
+-- ---- what lives still was there
+
+each_was : (kind : Kinds) (end : ℕ → Content → Content) → ((n : ℕ) (c : Content) (k : ℕ) (x : Object) → at (end n c).objects k ≡ Some x → at c.objects k ≡ Some x) → (ns : List ℕ) (c : Content) (k : ℕ) (x : Object)
+    → at (ended_each end ns c).objects k ≡ Some x → at c.objects k ≡ Some x
+each_was kind end was [] c k x e = e
+each_was kind end was (n ∷ ns) c k x e = was n c k x (each_was kind end was ns (end n c) k x e)
+
+number_was : (kind : Kinds) (depth n : ℕ) (c : Content) (k : ℕ) (x : Object) → at (ended_number kind depth n c).objects k ≡ Some x → at c.objects k ≡ Some x
+number_was kind zero n c k x e = e
+number_was kind (suc depth) n c k x e =
+    was_there kind (n ∷ []) c k x (each_was kind (ended_number kind depth) (number_was kind depth) (owned_list kind (at c.objects n)) (without n c) k x e)
+
+zeroed_sized : (kinds : Seen) (i w : ℕ) (us : List ℕ) (o : Object) → IsSized kinds o → IsSized kinds (zeroed i w us o)
+zeroed_sized kinds i w [] o h = h
+zeroed_sized kinds i w (u ∷ us) o h = zeroed_sized kinds i w us (with_word i (w + u) 0 o) (sized_word kinds o i (w + u) 0 h)
 
 module _ (kinds : Seen) (kind : Kinds) (alike : AreAlike kinds kind) (depth : ℕ) (spot : Spot) (owners : List ℕ) (c : Content) (rows : Rows) (can : CanEmpty kinds kind depth spot owners c rows) where
   abbrev m : Content
@@ -73,6 +94,29 @@ module _ (kinds : Seen) (kind : Kinds) (alike : AreAlike kinds kind) (depth : �
     then_seen =
         seen_as kinds d new spot.object (zeroed spot.slot spot.word owners can.object) shows.housed
         (still_placed kinds c d rows new shows.housed later spot.object.birth spot.object.row (zeroed spot.slot spot.word owners can.object) (can.housed.below spot.object.birth spot.object.row can.placed) can.placed there_then) there_then
+
+    sized_then : AreSized kinds (seen kinds d new)
+    sized_then = subst (AreSized kinds) (sym (shows.is ∙ apart))
+        (sized_with kinds (ended_each (ended_number kind depth) (held spot.slot spot.word owners can.object) (seen kinds c rows)) spot.object.birth (zeroed spot.slot spot.word owners can.object)
+        (λ k x at_k. can.sized k x (each_was kind (ended_number kind depth) (number_was kind depth) (held spot.slot spot.word owners can.object) (seen kinds c rows) k x at_k))
+        (zeroed_sized kinds spot.slot spot.word owners can.object (can.sized spot.object.birth can.object can.there)))
+
+    -- .. and can give up more
+    pub still_giving : IsGiving kinds kind depth spot.object d new
+    still_giving = record {
+      housed = shows.housed;
+      placed = still_placed kinds c d rows new shows.housed later spot.object.birth spot.object.row (zeroed spot.slot spot.word owners can.object) (can.housed.below spot.object.birth spot.object.row can.placed) can.placed there_then;
+      sized = sized_then;
+      hand = can.hand;
+      forest = subst (IsForest kind can.hand) (sym (shows.is ∙ apart)) (emptied_forest kind depth spot.object.birth spot.slot can.hand spot.word owners (seen kinds c rows) can.object here can.deep words);
+      object = zeroed spot.slot spot.word owners can.object;
+      there = there_then;
+      deep = let t = ap kind.rank (zeroed_like spot.slot spot.word owners can.object).ty in let k = can.deep in omega (arith, t, k);
+    }
+
+    pub still_like : IsLike still_giving.object can.object
+    unfolding still_giving
+    still_like = zeroed_like spot.slot spot.word owners can.object
 
 -- ---- nothing comes to life
 

@@ -25,6 +25,7 @@ pub mod ReadWords
 pub mod Recopying
 pub mod Renewed
 pub mod Renewing
+pub mod SlotsCleared
 pub mod TakenLeaves
 pub mod TakenMeant
 pub mod WordsCopied

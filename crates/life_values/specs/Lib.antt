@@ -1,3 +1,4 @@
+pub mod Cleared
 pub mod Copied
 pub mod Emptied
 pub mod Ended

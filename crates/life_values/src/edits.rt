@@ -6,6 +6,7 @@ ghost use Rattle.life_forest.specs.Kinds.{kinds_of as forest_kinds};
 ghost use Rattle.life_seen.specs.Housed.{Later, Shows};
 ghost use Rattle.life_seen.specs.Kinds.{kinds_of};
 ghost use Rattle.life_seen.specs.Seen.{seen};
+ghost use Rattle.life_values.specs.Cleared.{cleared_words, CanClear};
 ghost use Rattle.life_values.specs.Emptied.{emptied_each};
 ghost use Rattle.life_values.specs.Ended.{ended_number};
 ghost use Rattle.life_values.specs.Layouts.{owners_at, AreLaid, AreLayouts};
@@ -49,6 +50,38 @@ pub fn pop<S: Store>(
     end_slot(types, layouts, store, buffer, last, width, owners, depth);
     match store.resize(buffer, last, last) {
         Ok(()) => true,
+        Err(_) => unreachable!(),
+    }
+}
+
+/// Ends all elements of a buffer, with all beneath them, and takes their slots away.
+pub fn clear<S: Store>(
+    types: &TypeTable,
+    layouts: &[Layout],
+    store: &mut S,
+    buffer: ObjRef,
+    depth: u32,
+)
+    requires layouts { AreLaid types.now layouts.now }
+    requires can { CanClear (kinds_of types.now) (forest_kinds types.now) depth buffer (S.content store.old) (S.rows store.old) }
+    requires countable { CanCount (S.content store.old) }
+    ensures cleared { (o : Object) → at (seen (kinds_of types.now) (S.content store.old) (S.rows store.old)).objects buffer.birth ≡ Some o
+        → Shows (kinds_of types.now) (S.content store.new) (S.rows store.new)
+        (cleared_words (ended_number (forest_kinds types.now) depth) (owners_at layouts.now o.ty) buffer.birth (length o.slots) (seen (kinds_of types.now) (S.content store.old) (S.rows store.old))) }
+    ensures later { Later (S.content store.old) (S.content store.new) (S.rows store.old) (S.rows store.new) }
+    ensures limit { S.limit store.new ≡ S.limit store.old }
+{
+    let shape = match store.shape(buffer) {
+        Ok(shape) => shape,
+        Err(_) => unreachable!(),
+    };
+    let owners = owners_of(layouts, shape.ty);
+    let width = width_of(layouts, shape.ty);
+    for slot in 0..shape.length {
+        end_slot(types, layouts, store, buffer, slot, width, owners, depth);
+    }
+    match store.resize(buffer, 0, 0) {
+        Ok(()) => {}
         Err(_) => unreachable!(),
     }
 }

@@ -13,7 +13,7 @@ mod value_end;
 
 pub use copying::{CopyFault, copy_deep};
 pub use deep_end::end_deep;
-pub use edits::pop;
+pub use edits::{clear, pop};
 pub use fresh_value::fresh;
 pub use layout::{Holds, Layout, Leaf};
 pub use layouts::layouts_of;
