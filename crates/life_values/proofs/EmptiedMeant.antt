@@ -31,7 +31,7 @@ use Rattle.life_values.proofs.Owners.{count_put, hit_times, wide_put, wide_word,
 use Rattle.life_values.proofs.Zeroing.{zeroed_like}
 
 -- what is beneath some is of types as low as theirs
-low_below : (kind : Kinds) (hand : ℕ → ℕ) (c : Content) (ns : List ℕ) (top : ℕ) → IsForest kind hand c → AreBelow kind top ns c → (k : ℕ) (x : Object) → Below kind c ns k → at c.objects k ≡ Some x → kind.rank x.ty < top
+pub low_below : (kind : Kinds) (hand : ℕ → ℕ) (c : Content) (ns : List ℕ) (top : ℕ) → IsForest kind hand c → AreBelow kind top ns c → (k : ℕ) (x : Object) → Below kind c ns k → at c.objects k ≡ Some x → kind.rank x.ty < top
 low_below kind hand c ns top forest low k x (whole _ e) at_k = low k x (positive_is (times ns k) e) at_k
 low_below kind hand c ns top forest low k x (part m _ own) at_k = let z = no_part kind (at c.objects m) k in absurd (omega (arith, z, own))
 low_below kind hand c ns top forest low k x (under m _ b own) at_k =

@@ -1,5 +1,6 @@
 pub mod AlikeKinds
 pub mod Beginning
+pub mod ClearedMeant
 pub mod Clearing
 pub mod CopiedGood
 pub mod CopyingDeep

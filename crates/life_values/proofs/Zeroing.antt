@@ -34,11 +34,11 @@ zeroed_front : (i w : ℕ) (us : List ℕ) (o : Object) → take i (zeroed i w u
 zeroed_front i w [] o = refl
 zeroed_front i w (u ∷ us) o = zeroed_front i w us (with_word i (w + u) 0 o) ∙ ap (λ (x : Object). take i x.slots) (with_word_is i (w + u) 0 o) ∙ put_front o.slots i (w + u) 0
 
-take_none : (ss : List Slot) → take 0 ss ≡ []
+pub take_none : (ss : List Slot) → take 0 ss ≡ []
 take_none [] = refl
 take_none (s ∷ ss) = refl
 
-cut_slots : (w t i : ℕ) (ss : List Slot) → resized_slots w t i i ss ≡ take i ss ++ []
+pub cut_slots : (w t i : ℕ) (ss : List Slot) → resized_slots w t i i ss ≡ take i ss ++ []
 cut_slots w t i ss =
     let z : i - i ≡ 0 = omega arith in
     let rest : List Slot = drop i ss ++ replicate (i - length ss) (blank_slot w t) in
