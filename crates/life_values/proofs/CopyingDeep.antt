@@ -35,12 +35,12 @@ use Rattle.life_values.specs.declared.copying.CopyFault.TheVariants as copy_faul
 use Rattle.life_values.specs.declared.layout.Layout.{Layout}
 use Rattle.life_values.proofs.Beginning.{birth_full, birth_room, width_of_type}
 use Rattle.life_values.proofs.CopiedGood.{got_is, slots_grew, Grew}
-use Rattle.life_values.proofs.EmptiedThen.{seen_as, IsSeenAs}
 use Rattle.life_values.proofs.Filling.{some_setting, still_placed}
 use Rattle.life_values.proofs.Flat.{are_owners, layouts_own, owner_words_own}
 use Rattle.life_values.proofs.GoodSteps.{sized_is, Sized}
 use Rattle.life_values.proofs.Popping.{ok_shape}
 use Rattle.life_values.proofs.Recopying.{copies_good}
+use Rattle.life_values.proofs.SeenAs.{seen_as, IsSeenAs}
 
 -- a word that owns is one of the value's
 kind_within : (p : Parts) (u w : ℕ) → w ≡ parts_width p → kind_in p u ≡ Owner → u < w

@@ -1,7 +1,7 @@
 -- A store goes the way of the meaning where what a value owns ends, one word after the other.
 use Rattle.std.proofs.Common.{◌≡◌, ℕ, suc, ◌+◌, ◌<◌, ◌≤◌, true, List, [], ◌∷◌, length, drop, Option, Some, None, MatchOption, IfSome, refl, sym, ap, subst, ◌∙◌, arith}
 use Rattle.std.proofs.lemmas.List.{drop_all}
-use Rattle.std.proofs.lemmas.Option.{none-some, same_Some}
+use Rattle.std.proofs.lemmas.Option.{none-some}
 use Rattle.std.specs.Prelude.{slice_get, option_map, ◌&&◌}
 use Rattle.life_store.specs.Cells.{at, at-set_same}
 use Rattle.life_store.specs.Content.{Object, Content, with_object, with_word, word_at}
@@ -24,9 +24,8 @@ use Rattle.life_seen.specs.Housed.{Shows, Later}
 use Rattle.life_seen.specs.Kinds.{Kinds as Seen}
 use Rattle.life_seen.specs.Named.{names_of}
 use Rattle.life_seen.specs.Seen.{object_seen, seen}
-use Rattle.life_seen.proofs.Contents.{seen_at}
 use Rattle.life_seen.proofs.MapViews.{at-mapped, set_cases}
-use Rattle.life_seen.proofs.References.{of_found, lives_placed, placed_lives, later_same, later_then}
+use Rattle.life_seen.proofs.References.{lives_placed, later_same, later_then}
 use Rattle.life_seen.proofs.Resizing.{count_seen}
 use Rattle.life_words.specs.Owning.{with_owner, Holds, IsOwner}
 use Rattle.life_values.specs.Emptied.{ended_if, emptied_if, emptied, emptied_each, CanEmpty}
@@ -37,6 +36,7 @@ use Rattle.life_values.proofs.Deep.{sized_less, sized_with, sized_word}
 use Rattle.life_values.proofs.Ends.{AreBelow, number_end}
 use Rattle.life_values.proofs.Flat.{drop_here}
 use Rattle.life_values.proofs.Owners.{count_put, hit_times, wide_word, with_word_is, word_of_is}
+use Rattle.life_values.proofs.SeenAs.{seen_as, IsSeenAs}
 
 -- what is beneath an object is of types as low as its own
 pub below_rank : (kind : Kinds) (hand : ℕ → ℕ) (c : Content) (q top : ℕ) → IsForest kind hand c → ((y : Object) → at c.objects q ≡ Some y → kind.rank y.ty < top)
@@ -55,20 +55,8 @@ below_rank kind hand c q top forest high k x (under m _ b own) at_k =
 
 module _ (kinds : Seen) (kind : Kinds) (alike : AreAlike kinds kind) (depth : ℕ) (spot : Spot) (owners : List ℕ) where
   module _ (c : Content) (rows : Rows) (can : CanEmpty kinds kind depth spot owners c rows) where
-    -- the object as it lies in the store
-    pub record IsNow : Type 0 where
-      pub object : Object
-      pub found : object_of c rows spot.object ≡ Some object
-      pub same : object_seen kinds (names_of c rows) object ≡ can.object
-
-    pub now : IsNow
-    now =
-        let l = placed_lives kinds c rows can.housed spot.object.birth spot.object.row can.placed in
-        record {
-          object = l.0;
-          found = of_found c rows spot.object l.0 (record { there = l.1; placed = can.placed });
-          same = same_Some _ _ (sym (seen_at kinds (names_of c rows) c spot.object.birth l.0 l.1) ∙ can.there);
-        }
+    pub now : IsSeenAs kinds c rows spot.object can.object
+    now = seen_as kinds c rows spot.object can.object can.housed can.placed can.there
 
     size : IsSized kinds can.object
     size = can.sized spot.object.birth can.object can.there

@@ -1,23 +1,18 @@
 -- The object of which some words own nothing any more is where it was.
 use Rattle.std.proofs.Common.{◌≡◌, ℕ, zero, suc, ◌+◌, List, [], ◌∷◌, Option, Some, None, refl, sym, ap, subst, ◌∙◌, arith}
-use Rattle.std.proofs.lemmas.Option.{same_Some}
 use Rattle.life_store.specs.Cells.{Cells, at, at-set_same}
 use Rattle.life_store.specs.Content.{Object, Content, with_object, with_word, word_at, without}
 use Rattle.life_store.specs.Held.{owned_in}
 use Rattle.life_store.specs.Kinds.{is_owner}
-use Rattle.life_store.specs.References.{Rows, object_of}
-use Rattle.life_store.specs.declared.object.ObjRef.{ObjRef}
+use Rattle.life_store.specs.References.{Rows}
 use Rattle.life_store.proofs.MapLemmas.{set-unset, set_back}
 use Rattle.life_forest.specs.Kinds.{Kinds}
 use Rattle.life_forest.specs.Forest.{IsForest}
 use Rattle.life_forest.specs.Owned.{owned_list}
 use Rattle.life_forest.proofs.Steps.{was_there}
-use Rattle.life_seen.specs.Housed.{IsHoused, Shows, Later}
+use Rattle.life_seen.specs.Housed.{Shows, Later}
 use Rattle.life_seen.specs.Kinds.{Kinds as Seen}
-use Rattle.life_seen.specs.Named.{names_of}
-use Rattle.life_seen.specs.Seen.{object_seen, seen}
-use Rattle.life_seen.proofs.Contents.{seen_at}
-use Rattle.life_seen.proofs.References.{of_found, placed_lives}
+use Rattle.life_seen.specs.Seen.{seen}
 use Rattle.life_values.specs.Emptied.{ended_if, emptied, emptied_if, emptied_each, CanEmpty}
 use Rattle.life_values.specs.Ended.{ended_each, ended_number, AreAlike}
 use Rattle.life_values.specs.Ending.{AreSized, IsSized}
@@ -27,22 +22,8 @@ use Rattle.life_values.specs.declared.spot.Spot.{Spot}
 use Rattle.life_values.proofs.EmptiedMeant.{emptied_apart, emptied_forest, AreWords}
 use Rattle.life_values.proofs.Deep.{sized_with, sized_word}
 use Rattle.life_values.proofs.Filling.{still_placed}
+use Rattle.life_values.proofs.SeenAs.{seen_as, IsSeenAs}
 use Rattle.life_values.proofs.Zeroing.{zeroed_like, IsLike}
-
--- an object as it lies in the store
-pub record IsSeenAs (kinds : Seen) (c : Content) (rows : Rows) (r : ObjRef) (o : Object) : Type 0 where
-  pub object : Object
-  pub found : object_of c rows r ≡ Some object
-  pub same : object_seen kinds (names_of c rows) object ≡ o
-
-pub seen_as : (kinds : Seen) (c : Content) (rows : Rows) (r : ObjRef) (o : Object) → IsHoused kinds c rows → at rows r.birth ≡ Some r.row → at (seen kinds c rows).objects r.birth ≡ Some o → IsSeenAs kinds c rows r o
-seen_as kinds c rows r o housed placed there =
-    let l = placed_lives kinds c rows housed r.birth r.row placed in
-    record {
-      object = l.0;
-      found = of_found c rows r l.0 (record { there = l.1; placed = placed });
-      same = same_Some _ _ (sym (seen_at kinds (names_of c rows) c r.birth l.0 l.1) ∙ there);
-    }
 
 -- ---- what lives still was there
 

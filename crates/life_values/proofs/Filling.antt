@@ -1,7 +1,7 @@
 -- A store goes the way of the meaning where a slot is given a fresh value.
 use Rattle.std.proofs.Common.{◌≡◌, ℕ, ◌+◌, ◌*◌, ◌≤◌, ◌<◌, Bool, true, false, cond, List, [], ◌∷◌, length, drop, Option, Some, None, Ok, Err, IfSome, refl, sym, ap, subst, ◌∙◌, arith}
 use Rattle.std.proofs.lemmas.List.{drop_all}
-use Rattle.std.proofs.lemmas.Option.{none-some, same_Some}
+use Rattle.std.proofs.lemmas.Option.{none-some}
 use Rattle.std.specs.Prelude.{nat_lt, option_map, slice_get}
 use Rattle.life_types.specs.Types.{Types}
 use Rattle.life_types.specs.declared.ty.TyId.{TyId}
@@ -21,9 +21,8 @@ use Rattle.life_seen.specs.Kinds.{Kinds}
 use Rattle.life_seen.specs.Named.{names_of}
 use Rattle.life_seen.specs.Seen.{object_seen, seen, word_seen}
 use Rattle.life_seen.proofs.Calls.{shows_put}
-use Rattle.life_seen.proofs.Contents.{seen_at}
 use Rattle.life_seen.proofs.MapViews.{at-mapped}
-use Rattle.life_seen.proofs.References.{later_same, later_then, lives_placed, of_found, placed_lives}
+use Rattle.life_seen.proofs.References.{later_same, later_then, lives_placed}
 use Rattle.life_seen.proofs.Resizing.{count_seen}
 use Rattle.life_values.specs.Fresh.{kind_of, leaf_born, leaf_wrote, leaves_wrote, CanFill, Comes, IsFirst}
 use Rattle.life_values.specs.declared.layout.Holds.{Holds}
@@ -33,6 +32,7 @@ use Rattle.life_values.specs.declared.spot.Spot.{Spot}
 use Rattle.life_values.proofs.Beginning.{by_word}
 use Rattle.life_values.proofs.Flat.{drop_here}
 use Rattle.life_values.proofs.Owners.{count_put, with_word_is}
+use Rattle.life_values.proofs.SeenAs.{seen_as, IsSeenAs}
 
 -- what lives still has its row
 pub still_placed : (kinds : Kinds) (c d : Content) (rows new : Rows) → IsHoused kinds d new → Later c d rows new → (n k : ℕ) (x : Object) → n < c.births → at rows n ≡ Some k → at (seen kinds d new).objects n ≡ Some x → at new n ≡ Some k
@@ -120,19 +120,8 @@ module _ (kinds : Kinds) (types : Types) (f : Form) (limit : ℕ) (spot : Spot) 
       placed_e : at after spot.object.birth ≡ Some spot.object.row
       placed_e = still_placed kinds d e new after housed_e later spot.object.birth spot.object.row p.can.object born_before p.can.placed there_e
 
-      pub record IsNow : Type 0 where
-        pub object : Object
-        pub found : object_of e after spot.object ≡ Some object
-        pub same : object_seen kinds (names_of e after) object ≡ p.can.object
-
-      pub now : IsNow
-      now =
-          let x = placed_lives kinds e after housed_e spot.object.birth spot.object.row placed_e in
-          record {
-            object = x.0;
-            found = of_found e after spot.object x.0 (record { there = x.1; placed = placed_e });
-            same = same_Some _ _ (sym (seen_at kinds (names_of e after) e spot.object.birth x.0 x.1) ∙ there_e);
-          }
+      pub now : IsSeenAs kinds e after spot.object p.can.object
+      now = seen_as kinds e after spot.object p.can.object housed_e placed_e there_e
 
       pub word_there : IfSome (object_of e after spot.object) (HasWord spot.slot (spot.word + l.word))
       word_there =

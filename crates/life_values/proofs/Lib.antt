@@ -26,6 +26,7 @@ pub mod ReadWords
 pub mod Recopying
 pub mod Renewed
 pub mod Renewing
+pub mod SeenAs
 pub mod SlotsCleared
 pub mod TakenLeaves
 pub mod TakenMeant

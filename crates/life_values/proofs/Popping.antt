@@ -26,9 +26,10 @@ use Rattle.life_values.specs.declared.layout.Layout.{Layout}
 use Rattle.life_values.specs.declared.spot.Spot.{Spot}
 use Rattle.life_values.proofs.AlikeKinds.{alike_kinds}
 use Rattle.life_values.proofs.Beginning.{width_of_type}
-use Rattle.life_values.proofs.EmptiedThen.{emptied_births, emptied_clock, seen_as, then_seen, IsSeenAs}
+use Rattle.life_values.proofs.EmptiedThen.{emptied_births, emptied_clock, then_seen}
 use Rattle.life_values.proofs.Flat.{layouts_own}
 use Rattle.life_values.proofs.Zeroing.{zeroed_like, IsLike}
+use Rattle.life_values.proofs.SeenAs.{seen_as, IsSeenAs}
 
 abbrev pub spot_of : ObjRef → ℕ → Spot
 spot_of r slot = record { object = r; slot = slot; word = 0 }

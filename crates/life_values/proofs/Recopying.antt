@@ -33,9 +33,9 @@ use Rattle.life_values.specs.declared.copying.CopyFault.{CopyFault}
 use Rattle.life_values.specs.declared.copying.CopyFault.TheVariants as copy_fault
 use Rattle.life_values.specs.declared.layout.Layout.{Layout}
 use Rattle.life_values.proofs.CopiedGood.{got_is, number_grew, word_grew, Copied, Grew}
-use Rattle.life_values.proofs.EmptiedThen.{seen_as, IsSeenAs}
 use Rattle.life_values.proofs.Filling.{some_setting, still_placed}
 use Rattle.life_values.proofs.Flat.{drop_here, layouts_own}
+use Rattle.life_values.proofs.SeenAs.{seen_as, IsSeenAs}
 
 -- ---- what is owned has a lesser type
 

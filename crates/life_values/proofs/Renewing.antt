@@ -21,10 +21,10 @@ use Rattle.life_seen.proofs.Resizing.{count_seen}
 use Rattle.life_words.specs.Owning.{number_of, with_owner, CanOwn, Holds, IsOwner}
 use Rattle.life_values.specs.Ended.{AreAlike}
 use Rattle.life_values.specs.Taken.{renewed, CanRenew}
-use Rattle.life_values.proofs.EmptiedThen.{seen_as, IsSeenAs}
 use Rattle.life_values.proofs.Filling.{still_placed}
 use Rattle.life_values.proofs.Owners.{unowned_in_hand}
 use Rattle.life_values.proofs.Renewed.{one_held, owned_there, renewed_none, renewed_some, there_moved, word_like}
+use Rattle.life_values.proofs.SeenAs.{seen_as, IsSeenAs}
 
 module _ (kinds : Seen) (kind : Kinds) (alike : AreAlike kinds kind) (r : ObjRef) (i u : ℕ) (c : Content) (rows : Rows) (can : CanRenew kinds kind r i u c rows) where
   abbrev m : Content

@@ -25,11 +25,12 @@ use Rattle.life_values.specs.Popped.{CanGive, IsGiving}
 use Rattle.life_values.specs.declared.layout.Layout.{Layout}
 use Rattle.life_values.proofs.AlikeKinds.{alike_kinds}
 use Rattle.life_values.proofs.Beginning.{width_of_type}
-use Rattle.life_values.proofs.EmptiedThen.{emptied_births, emptied_clock, seen_as, still_giving, still_like, IsSeenAs}
+use Rattle.life_values.proofs.EmptiedThen.{emptied_births, emptied_clock, still_giving, still_like}
 use Rattle.life_values.proofs.Flat.{layouts_own}
 use Rattle.life_values.proofs.Popping.{ok_shape, slot_can, spot_of}
 use Rattle.life_values.proofs.Renewed.{like_then}
 use Rattle.life_values.proofs.Zeroing.{IsLike}
+use Rattle.life_values.proofs.SeenAs.{seen_as, IsSeenAs}
 
 pub same_length : (a b : Shape) → ◌≡◌ {A = Result Shape Dead} (Ok a) (Ok b) → a.length ≡ b.length
 same_length a b e = ap (λ (s : Shape). s.length) (same e)

@@ -18,11 +18,11 @@ use Rattle.life_seen.proofs.References.{found, later_same, later_then}
 use Rattle.life_seen.proofs.Resizing.{count_seen}
 use Rattle.life_seen.proofs.Views.{object_read, slot_lives}
 use Rattle.life_values.specs.Copied.{CanCopyWords}
-use Rattle.life_values.proofs.EmptiedThen.{seen_as, IsSeenAs}
 use Rattle.life_values.proofs.PoppedMeant.{wide_slot}
 use Rattle.life_values.proofs.ReadWords.{cut, in_slot}
 use Rattle.life_values.proofs.Renewed.{word_like}
 use Rattle.life_values.proofs.Zeros.{wrote_with}
+use Rattle.life_values.proofs.SeenAs.{seen_as, IsSeenAs}
 
 ok_word : {o : Option Object} {y : ℕ} (i k : ℕ) (x : Object) → o ≡ Some x → asked_of o (λ (z : Object). word_at z i k) ≡ Ok y → y ≡ word_at x i k
 ok_word {o = o} {y = y} i k x e asked = same (sym (ap (λ (z : Option Object). asked_of z (λ (v : Object). word_at v i k)) e) ∙ asked)
