@@ -18,7 +18,6 @@ use life_types::NoMemory;
 use std::alloc::Global;
 
 /// A program, its points each with its ways on, the layouts of its types, and the limits of its runs.
-#[derive(Drop)]
 pub struct Machine<'p> {
     pub program: &'p CoreProgram,
     pub limits: Limits,
@@ -27,6 +26,18 @@ pub struct Machine<'p> {
     layouts: Layouts,
     ghost laid: { AreReady (program_of program.now).types layouts },
     ghost linked: { map links_seen code.items ≡ map code_of (program_of program.now).functions },
+}
+
+impl<'p> Drop for Machine<'p> {
+    fn drop(self) {
+        let Machine {
+            program: _,
+            limits: _,
+            alloc: _,
+            code: _code,
+            layouts: _layouts,
+        } = self;
+    }
 }
 
 impl<'p> Machine<'p> {
