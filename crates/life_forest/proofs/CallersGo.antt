@@ -20,35 +20,33 @@ use Rattle.life_core.specs.declared.exits.Exits.{Exits}
 use Rattle.life_core.specs.declared.program.FnId.{FnId}
 use Rattle.life_core.proofs.ReadyLemmas.{bits_left}
 use Rattle.life_proper.specs.GivenOver.{all_keep_given}
-use Rattle.life_proper.specs.Placed.{object_at, slot_at, type_at, type_in}
+use Rattle.life_proper.specs.Placed.{object_at, slot_at, type_in}
 use Rattle.life_proper.specs.WellFormed.{are_arguments_for, goes_to, have_own_slots, is_call, types_taken}
 use Rattle.life_proper.specs.WellFormedPrograms.{is_well_formed_function}
 use Rattle.life_proper.proofs.SortedNodes.{formed_parts}
 use Rattle.life_store.specs.Calls.{lent, slot_count, slots_returned, taken_back, target_given}
 use Rattle.life_store.specs.Content.{Content}
-use Rattle.life_store.specs.Doing.{Setting, Effect, Next, Traps, Faults, Strays, cell, on_next}
+use Rattle.life_store.specs.Doing.{Setting, Effect, Next, Traps, Faults, Strays, on_next}
 use Rattle.life_store.specs.Meaning.{Back, Barred, Callee, Called, Quit, act, call_with, came_back}
 use Rattle.life_store.specs.Parts.{location_parts, parts_if}
-use Rattle.life_store.specs.State.{Cell, Empty, Named, Number, Points, State, World, is_there, ready_of}
+use Rattle.life_store.specs.State.{Cell, State, World, ready_of}
 use Rattle.life_store.proofs.CellLemmas.{some_same}
 use Rattle.life_store.proofs.Going.{GoodEffect, paid_good}
-use Rattle.life_forest.specs.FrameTypes.{IsFrame, IsVariable}
 use Rattle.life_forest.specs.Frames.{named_in}
 use Rattle.life_forest.specs.Owned.{alive, times}
-use Rattle.life_forest.specs.Sorted.{Fits, sort_at}
 use Rattle.life_forest.specs.Typed.{IsStore}
 use Rattle.life_forest.proofs.BodiesGo.{CallsAreSound, IsLeft, IsNoStray, IsSoundAt, SoundAnswer, leads}
 use Rattle.life_forest.proofs.EnteredFrames.{GivesOn, later, less_sound, on_given_next}
 use Rattle.life_forest.proofs.EntryFrames.{as_many, types_held}
-use Rattle.life_forest.proofs.Following.{in_hand, waiting_stays}
 use Rattle.life_forest.proofs.Frames.{first_named, less_in_hand}
 use Rattle.life_forest.proofs.GivenResults.{IsBack, IsResult, slot_types}
 use Rattle.life_forest.proofs.HandedOver.{AreHanded, AreHandedTo, ArePointerSlots, IsLent, hands_all, leaves_are, lent_less}
-use Rattle.life_forest.proofs.HeldPoints.{IsSound, poised}
+use Rattle.life_forest.proofs.HeldPoints.{poised}
 use Rattle.life_forest.proofs.HeldPointers.{pointers_aim, pointers_fit}
-use Rattle.life_forest.proofs.Holding.{KeepsWaiting, variable_holds}
+use Rattle.life_forest.proofs.Holding.{KeepsWaiting}
 use Rattle.life_forest.proofs.Keeping.{Keeps, keeps_more, keeps_then}
 use Rattle.life_forest.proofs.KeptSlots.{slots_kept}
+use Rattle.life_forest.proofs.LaterFrames.{behind_sound}
 use Rattle.life_forest.proofs.SeenTypes.{pointer_parts, pointer_solid}
 use Rattle.life_forest.proofs.SettledPoints.{kinds_fit}
 use Rattle.life_forest.proofs.SettlingLives.{HaveMembers}
@@ -114,37 +112,6 @@ result_later types loose hand c d store keeps id vs waits (inl none) = inl none
 result_later types loose hand c d store keeps id vs waits (inr r) =
     inr (r.0, r.1, (later types loose hand c d store keeps (id ∷ []) (r.0 ∷ []) (λ n lt. waits n (let a = ap (λ (ws : List Cell). times (named_in ws) n) r.1 in omega (arith, a, lt))) (r.2, tt)).0)
 
--- ---- the caller's frame behind the call
-
-module _ (types : Types) (f : Function) (rest : ℕ → ℕ) (st : State) (sound : IsSound types f rest st) (cells : List Cell) (less : (x : ℕ) (v : Cell) → is_there v ≡ true → slice_get cells x ≡ Some v → cell st x ≡ Some v) (w : World) (vs : List Cell)
-    (store : IsStore types (λ k. times (named_in vs) k + (times (named_in cells) k + rest k)) w.content) (keeps : KeepsWaiting types (λ k. times (named_in cells) k + rest k) st.world.content w.content) where
-  abbrev Loose : ℕ → Type 0
-  Loose k = times (named_in cells) k + rest k ≡ 0
-
-  fixed : (x n : ℕ) → slice_get cells x ≡ Some (Named n) → times (named_in cells) n + rest n ≡ 0 → ⊥
-  fixed x n e z = let i = in_hand cells x n e in omega (arith, i, z)
-
-  frame_less : IsFrame types f st.world.content cells
-  frame_less = record { objects = λ x n e. sound.stands.frame.objects x n (less x (Named n) refl e); pointers = λ x p e. sound.stands.frame.pointers x p (less x (Points p) refl e) }
-
-  pub behind_sound : IsSound types f (λ k. times (named_in vs) k + rest k) (record { world = w; cells = cells })
-  behind_sound = record {
-    stands = record {
-      store = less_in_hand types (λ k. times (named_in vs) k + (times (named_in cells) k + rest k)) (λ k. times (named_in cells) k + (times (named_in vs) k + rest k)) w.content (λ k. omega arith) store;
-      frame = waiting_stays types Loose st.world.content w.content keeps.stays f cells (λ k. times (named_in st.cells) k + rest k) (λ k. times (named_in vs) k + (times (named_in cells) k + rest k)) sound.stands.store store fixed (λ k. omega arith) frame_less;
-    };
-    sorted = λ x v e. sorted_less x v e;
-    held = λ x n id e typed.
-        let v = frame_less.objects x n e in
-        variable_holds types Loose st.world.content w.content keeps n id (subst (λ (y : Option TyId). IsVariable st.world.content y n) typed v) (sound.stands.store.forest.births n v.object v.there) (fixed x n e) (sound.held x n id (less x (Named n) refl e) typed);
-  }
-    where
-      sorted_less : (x : ℕ) (v : Cell) → slice_get cells x ≡ Some v → Fits (sort_at types f x) (type_at types f x) v
-      sorted_less x Empty e = tt
-      sorted_less x (Named n) e = sound.sorted x (Named n) (less x (Named n) refl e)
-      sorted_less x (Number z) e = sound.sorted x (Number z) (less x (Number z) refl e)
-      sorted_less x (Points p) e = sound.sorted x (Points p) (less x (Points p) refl e)
-
 module _ (types : Types) (ordered : IsOrdered types) (once : HasEachOnce types) (some : HaveMembers types) (names texts : ℕ) (fs : List Function) (f : Function) (formed : is_well_formed_function types names texts fs f ≡ true) (points : ArePointsFormed types texts fs f)
     (ready : HasReadyWays types f) (rest : ℕ → ℕ) (before : Content) (s : Setting) (call : Callee) (callees : GoodCallee types fs call) (free : (k : ℕ) (g : Function) → slice_get fs k ≡ Some g → ArePointerSlots types (types_taken g)) (given : all_keep_given types f ≡ true) (kept : KeepsTargets types f) where
   shaped : IsShaped types f
@@ -208,7 +175,7 @@ module _ (types : Types) (ordered : IsOrdered types) (once : HasEachOnce types) 
           let st2 : State = record { world = w; cells = left } in
           let hand : ℕ → ℕ = λ k. times (named_in back.first) k + rest k in
           let sound2 = less_sound types f (λ k. times (named_in vs) k + rest k) hand st2
-          (λ k. let a = ap (λ (ws : List Cell). times (named_in ws) k) back.are in let b = named_append back.first back.others k in omega (arith, a, b)) (behind_sound types f rest st inv.sound left (λ y v there e. loan.less.cells y v there e) w vs h.0 h.1) in
+          (λ k. let a = ap (λ (ws : List Cell). times (named_in ws) k) back.are in let b = named_append back.first back.others k in omega (arith, a, b)) (behind_sound types f rest st inv.sound left (λ y v there e. loan.less.cells y v there e) w (λ k. times (named_in vs) k) h.0 h.1) in
           let free_g = free g.0 gf is in
           let drops : drop (length vs - slot_count xs) vs ≡ back.others =
           ap (λ (ws : List Cell). drop (length ws - slot_count xs) ws) back.are

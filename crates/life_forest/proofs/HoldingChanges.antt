@@ -47,7 +47,7 @@ use Rattle.life_forest.proofs.WrittenPointers.{IsNoPointer}
 -- ---- words that are no pointer's
 
 -- a value of less than five words has no pointer
-narrow_free : (p : Parts) (u : ℕ) → width p < 5 → u < width p → IsNoPointer (kind_in p u)
+pub narrow_free : (p : Parts) (u : ℕ) → width p < 5 → u < width p → IsNoPointer (kind_in p u)
 narrow_free Single u small lt = tt
 narrow_free Raw u small lt = absurd (omega (arith, small))
 narrow_free Iterates u small lt = absurd (omega (arith, small))

@@ -91,7 +91,7 @@ module _ (types : Types) (ordered : IsOrdered types) (f : Function) (rest : ℕ 
   Loose n = IsOwned types st.world.content n
 
   -- a cell names an object that holds well
-  object_lives : (x : ℕ) (ty : TyId) (d : Content) (n : ℕ) → local_type types f x ≡ Some ty → KeepsOn types f st d → HoldsWell types d n ty → Holds types f rest st (put_cell x (Named n) (put_content d st))
+  pub object_lives : (x : ℕ) (ty : TyId) (d : Content) (n : ℕ) → local_type types f x ≡ Some ty → KeepsOn types f st d → HoldsWell types d n ty → Holds types f rest st (put_cell x (Named n) (put_content d st))
   object_lives x ty d n typed keeps well = record { well = λ y m id named typed_y. names y m id named typed_y; waits = keeps_waiting types f rest st stands d keeps }
     where
       one : (a b : ℕ) → Named a ≡ Named b → a ≡ b

@@ -54,6 +54,7 @@ pub mod Keeping
 pub mod KeepingEdits
 pub mod KeptSlots
 pub mod Knowing
+pub mod LaterFrames
 pub mod Laying
 pub mod Listed
 pub mod Lists
@@ -93,7 +94,9 @@ pub mod Shaped
 pub mod Shortening
 pub mod Single
 pub mod Slots
+pub mod SlotsBorn
 pub mod SlotsGo
+pub mod SlotsOwned
 pub mod Sparing
 pub mod Spots
 pub mod StandingChanges
