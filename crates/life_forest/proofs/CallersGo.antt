@@ -38,8 +38,9 @@ use Rattle.life_forest.specs.Typed.{IsStore}
 use Rattle.life_forest.proofs.BodiesGo.{CallsAreSound, IsLeft, IsNoStray, IsSoundAt, SoundAnswer, leads}
 use Rattle.life_forest.proofs.EnteredFrames.{GivesOn, later, less_sound, on_given_next}
 use Rattle.life_forest.proofs.EntryFrames.{as_many, types_held}
-use Rattle.life_forest.proofs.Frames.{first_named, less_in_hand}
-use Rattle.life_forest.proofs.GivenResults.{IsBack, IsResult, slot_types}
+use Rattle.life_forest.proofs.Frames.{less_in_hand}
+use Rattle.life_forest.proofs.GivenResults.{IsBack, IsResult}
+use Rattle.life_forest.proofs.GivenSlots.{named_append, slot_types}
 use Rattle.life_forest.proofs.HandedOver.{AreHanded, AreHandedTo, ArePointerSlots, IsLent, hands_all, leaves_are, lent_less}
 use Rattle.life_forest.proofs.HeldPoints.{poised}
 use Rattle.life_forest.proofs.HeldPointers.{pointers_aim, pointers_fit}
@@ -101,10 +102,6 @@ still_false bits (y ∷ ys) x e = still_false (slice_set bits y false) ys x (onc
 still_all : (bits : Ready) (ys xs : List ℕ) → AreBits false bits xs → AreBits false (set_bits false ys bits) xs
 still_all bits ys [] e = tt
 still_all bits ys (x ∷ xs) e = (still_false bits ys x e.0, still_all bits ys xs e.1)
-
-named_append : (xs ys : List Cell) (k : ℕ) → times (named_in (xs ++ ys)) k ≡ times (named_in xs) k + times (named_in ys) k
-named_append [] ys k = omega arith
-named_append (v ∷ xs) ys k = let a = first_named v (xs ++ ys) k in let b = first_named v xs k in let h = named_append xs ys k in omega (arith, a, b, h)
 
 -- a result stays while slots have their values back
 result_later : (types : Types) (loose : ℕ → Type 0) (hand : ℕ → ℕ) (c d : Content) → IsStore types hand c → Keeps types loose c d → (id : TyId) (vs : List Cell) → ((n : ℕ) → 0 < times (named_in vs) n → (loose n → ⊥) × (0 < alive d n)) → IsResult types c id vs → IsResult types d id vs
@@ -174,21 +171,20 @@ module _ (types : Types) (ordered : IsOrdered types) (once : HasEachOnce types) 
           let back = h.2 in
           let st2 : State = record { world = w; cells = left } in
           let hand : ℕ → ℕ = λ k. times (named_in back.first) k + rest k in
-          let sound2 = less_sound types f (λ k. times (named_in vs) k + rest k) hand st2
+          let sound2 = less_sound types f (λ k. times (named_in vs) k + rest k) (λ k. times (named_in back.others) k + hand k) st2
           (λ k. let a = ap (λ (ws : List Cell). times (named_in ws) k) back.are in let b = named_append back.first back.others k in omega (arith, a, b)) (behind_sound types f rest st inv.sound left (λ y v there e. loan.less.cells y v there e) w (λ k. times (named_in vs) k) h.0 h.1) in
-          let free_g = free g.0 gf is in
           let drops : drop (length vs - slot_count xs) vs ≡ back.others =
           ap (λ (ws : List Cell). drop (length ws - slot_count xs) ws) back.are
           ∙ back_of back.first back.others (slot_count xs) (as_many types w.content (slot_types types (types_taken gf)) back.others back.suit ∙ slots_counted types texts fs f (types_taken gf) xs args) in
           subst (λ (bits : Ready). GivesOn types f rest w.content (set_bits true (target_births f target ++ target_writes f target) bits) (taken_back s types f target xs vs st2)) loan.bits
           (subst (λ (ws : List Cell). GivesOn types f rest w.content (set_bits true (target_births f target ++ target_writes f target) (ready_of st2)) (on_next (slots_returned types f xs ws st2) (target_given s types f target vs))) (sym drops)
           (on_given_next types ordered f shaped (kinds_fit types ordered once some names texts fs f formed points ready) rest s hand w.content (ready_of st2) (set_bits true (target_births f target ++ target_writes f target) (ready_of st2)) (slots_returned types f xs back.others st2) (target_given s types f target vs) (λ k. omega arith)
-          (slots_give types ordered once texts fs f shaped (kinds_fit types ordered once some names texts fs f formed points ready) hand s (types_taken gf) xs back.others st2 free_g args back.suit sound2
+          (slots_give types ordered once texts fs f shaped (kinds_fit types ordered once some names texts fs f formed points ready) hand s (types_taken gf) xs back.others st2 args back.suit sound2
           (subst (λ (bits : Ready). AreSlotsThere bits xs) (sym loan.bits) (slots_kept types f given b (ready_of st) place target g xs x.next here (bits_left true (ready_of st) (flat_map (argument_uses f) xs) (target_uses target) are.uses))))
           (λ st3 next. subst (λ (bits : Ready). GivesOn types f rest st3.world.content (set_bits true (target_births f target ++ target_writes f target) bits) (target_given s types f target vs st3)) next.bits
           (subst (λ (ws : List Cell). GivesOn types f rest st3.world.content (set_bits true (target_births f target ++ target_writes f target) (ready_of st3)) (target_given s types f target ws st3)) (sym back.are)
           (target_gives types ordered once texts fs f shaped (kinds_fit types ordered once some names texts fs f formed points ready) rest s st3 target gf.result back.first back.others (pointers_fit types ordered f st3 next.sound.held once texts fs shaped next.sound.sorted) into next.sound
-          (result_later types (λ k. times (named_in back.first) k + rest k ≡ 0) (λ k. times (named_in left) k + (times (named_in back.first) k + rest k)) w.content st3.world.content sound2.stands.store next.waits gf.result back.first
+          (result_later types (λ k. times (named_in back.first) k + rest k ≡ 0) (λ k. times (named_in left) k + (times (named_in back.others) k + (times (named_in back.first) k + rest k))) w.content st3.world.content sound2.stands.store next.waits gf.result back.first
           (λ n lt. ((λ z. omega (arith, z, lt)), let i = next.sound.stands.store.forest.held n in omega (arith, i, lt))) back.given)
           (target_ready st3 next.bits))))))
 

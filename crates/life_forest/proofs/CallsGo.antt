@@ -23,7 +23,8 @@ use Rattle.life_forest.proofs.BodiesGo.{IsLeft, SoundAnswer, body_goes}
 use Rattle.life_forest.proofs.CallersGo.{GoodCalled, GoodCallee, KeepsTargets, calls_sound}
 use Rattle.life_forest.proofs.EnteredFrames.{GivesOn}
 use Rattle.life_forest.proofs.EntryFrames.{entry_gives, taking_all, types_held}
-use Rattle.life_forest.proofs.GivenResults.{no_names, results_given, slots_given}
+use Rattle.life_forest.proofs.GivenResults.{results_given}
+use Rattle.life_forest.proofs.GivenSlots.{slots_given, slots_named}
 use Rattle.life_forest.proofs.HandedOver.{AreHandedTo, ArePointerSlots}
 use Rattle.life_forest.proofs.HeldPoints.{IsNext, poised}
 use Rattle.life_forest.proofs.SettledPoints.{formed_at, kinds_fit}
@@ -51,8 +52,8 @@ module _ (types : Types) (ordered : IsOrdered types) (once : HasEachOnce types) 
     left_gives : (before : Content) (n : ℕ) (st : State) → IsLeft types f rest before st → GoodCalled types f rest before (finish types f (Returned n st))
     left_gives before n st left =
         let at_point = poised types ordered once some names texts fs f well.formed well.points well.ready rest st left.sound in
-        let suits = slots_given types f shaped st at_point left.slots well.free in
-        let given = results_given types ordered f shaped rest st left.sound at_point (slots_back types f 0 f.parameters st) refl suits (no_names types st.world.content (types_taken f) (slots_back types f 0 f.parameters st) well.free suits)
+        let suits = slots_given types f shaped st at_point left.sound.held left.slots in
+        let given = results_given types ordered f shaped rest st left.sound at_point (slots_back types f 0 f.parameters st) refl suits (λ k. slots_named types f st k)
         (formed_parts types names texts fs f well.formed).result left.ready.uses in
         (given.store, left.waits, given.back)
 

@@ -1,12 +1,12 @@
--- What a function gives back where it is left that has no slot with a unique_ptr: nothing or what its result's type takes, and a pointer for each slot.
-use Rattle.std.proofs.Common.{◌≡◌, ◌⊎◌, inl, inr, ⊎_elim, ℕ, zero, suc, ◌+◌, ◌≤◌, ◌<◌, Bool, true, false, ◌&&◌, ◌||◌, cond, List, [], ◌∷◌, ◌++◌, Option, Some, None, refl, sym, ap, subst, ◌∙◌, arith}
+-- What a function gives back where it is left: nothing or what its result's type takes, and what stands in each slot.
+use Rattle.std.proofs.Common.{◌≡◌, ◌⊎◌, inl, inr, ⊎_elim, ℕ, ◌+◌, ◌≤◌, ◌<◌, Bool, true, false, ◌&&◌, ◌||◌, cond, List, [], ◌∷◌, ◌++◌, Option, Some, None, refl, sym, ap, subst, ◌∙◌, arith}
 use Rattle.std.proofs.lemmas.Bool.{and_parts, false≢true}
 use Rattle.std.proofs.lemmas.Bool.Decides.{nat_tests}
-use Rattle.std.specs.Prelude.{ℤ, pos, is_none, map, nat_eq, nat_lt, slice_get, take}
+use Rattle.std.specs.Prelude.{ℤ, pos, is_none, nat_eq, nat_lt, drop, slice_get, take}
 use Rattle.life_types.specs.Pointees.{or_void, ty_of}
 use Rattle.life_types.specs.Trees.{IsOrdered}
 use Rattle.life_types.specs.TypeTests.{is_pointer, is_value, is_void}
-use Rattle.life_types.specs.Types.{Types, class, class_at, is_slot_at}
+use Rattle.life_types.specs.Types.{Types, class, class_at}
 use Rattle.life_types.specs.declared.ty.Ty.{Ty}
 use Rattle.life_types.specs.declared.ty.Ty.TheVariants as ty
 use Rattle.life_types.specs.declared.ty.TyId.{TyId}
@@ -16,18 +16,17 @@ use Rattle.life_core.specs.declared.program.LocalKind.TheVariants as kind
 use Rattle.life_core.specs.Function.{Function}
 use Rattle.life_core.specs.Holdings.{held_by, held_if, result_if, result_sort, sort_of}
 use Rattle.life_core.specs.Kinds.{is_register}
-use Rattle.life_core.specs.Ready.{AreBits, IsThere}
+use Rattle.life_core.specs.Ready.{AreBits}
 use Rattle.life_core.specs.Touched.{result_uses}
 use Rattle.life_pset.specs.Shapes.{shape_if, shape_of, ty_if}
 use Rattle.life_proper.specs.OperandTypes.{is_composed}
-use Rattle.life_proper.specs.Placed.{is_slot_local, slot_at, type_at}
+use Rattle.life_proper.specs.Placed.{type_at}
 use Rattle.life_proper.specs.WellFormed.{types_taken}
-use Rattle.life_proper.specs.WellFormed as formed
 use Rattle.life_proper.specs.WellFormedPrograms.{is_result_local, is_result_of}
-use Rattle.life_store.specs.Calls.{given_back, number_or_zero, results, slot_back, slot_cell, slots_back}
+use Rattle.life_store.specs.Calls.{given_back, number_or_zero, results, slots_back}
 use Rattle.life_store.specs.Content.{Content}
 use Rattle.life_store.specs.Effects.{cell}
-use Rattle.life_store.specs.Parts.{held_type_if, local_type}
+use Rattle.life_store.specs.Parts.{local_type}
 use Rattle.life_store.specs.State.{Cell, Empty, Named, Number, Pointer, Points, State, ready_of}
 use Rattle.life_store.proofs.MapLemmas.{one_or_apart}
 use Rattle.life_forest.specs.FrameTypes.{IsVariable, PointsWell, seen_type}
@@ -37,10 +36,10 @@ use Rattle.life_forest.specs.Settled.{IsPoised}
 use Rattle.life_forest.specs.Sorted.{PointerFits}
 use Rattle.life_forest.specs.Typed.{IsStore}
 use Rattle.life_forest.proofs.Counting.{one_apart}
-use Rattle.life_forest.proofs.EnteredFrames.{composed_points}
 use Rattle.life_forest.proofs.Following.{in_hand}
 use Rattle.life_forest.proofs.Frames.{first_named, less_in_hand}
-use Rattle.life_forest.proofs.HandedOver.{AreHandedTo, ArePointerSlots, IsHandedTo, taken_type}
+use Rattle.life_forest.proofs.GivenSlots.{dropped_first, named_parts, slot_types}
+use Rattle.life_forest.proofs.HandedOver.{AreHandedTo, IsHandedTo}
 use Rattle.life_forest.proofs.HeldPoints.{IsSound}
 use Rattle.life_forest.proofs.ReadyCells.{composed_is_object, object_cell, pointer_cell}
 use Rattle.life_forest.proofs.Shaped.{IsShaped}
@@ -49,13 +48,6 @@ use Rattle.life_forest.proofs.Shaped.{IsShaped}
 abbrev pub IsResult : Types → Content → TyId → List Cell → Type 0
 IsResult types c id values = ((is_void (ty_of types id) ≡ true) × (values ≡ [])) ⊎ ((v : Cell) × (values ≡ v ∷ []) × IsHandedTo types c id v)
 
--- ---- the slots
-
--- of these parameters, the types of what the slots are of
-abbrev pub slot_types : Types → List TyId → List TyId
-slot_types types [] = []
-slot_types types (id ∷ ids) = cond (is_slot_at types id) (taken_type types id ∷ slot_types types ids) (slot_types types ids)
-
 -- what is given back: the result, and what stands in each slot
 pub record IsBack (types : Types) (c : Content) (result : TyId) (slots : List TyId) (values : List Cell) : Type 0 where
   pub first : List Cell
@@ -63,60 +55,6 @@ pub record IsBack (types : Types) (c : Content) (result : TyId) (slots : List Ty
   pub are : values ≡ first ++ others
   pub given : IsResult types c result first
   pub suit : AreHandedTo types c slots others
-
--- no slot's value names an object
-pub no_names : (types : Types) (c : Content) (ids : List TyId) (vs : List Cell) → ArePointerSlots types ids → AreHandedTo types c (slot_types types ids) vs → (k : ℕ) → times (named_in vs) k ≡ 0
-no_names types c [] [] free suits k = refl
-no_names types c [] (v ∷ vs) free suits k = absurd suits
-no_names types c (id ∷ ids) vs free suits k = go (is_slot_at types id) refl vs suits (λ ws h. no_names types c ids ws free.1 h k)
-  where
-    named : (v : Cell) (ws : List Cell) → is_pointer (ty_of types (taken_type types id)) ≡ true → IsHandedTo types c (taken_type types id) v → times (named_in (v ∷ ws)) k ≡ times (named_in ws) k
-    named Empty ws pointer h = refl
-    named (Number z) ws pointer h = refl
-    named (Points p) ws pointer h = refl
-    named (Named n) ws pointer h = absurd (false≢true (sym (composed_points (ty_of types (taken_type types id)) h.2) ∙ pointer))
-
-    go : (b : Bool) → is_slot_at types id ≡ b → (ws : List Cell) → AreHandedTo types c (cond b (taken_type types id ∷ slot_types types ids) (slot_types types ids)) ws
-        → ((us : List Cell) → AreHandedTo types c (slot_types types ids) us → times (named_in us) k ≡ 0) → times (named_in ws) k ≡ 0
-    go false is ws h more = more ws h
-    go true is [] h more = absurd h
-    go true is (v ∷ ws) h more = named v ws (free.0 is) h.0 ∙ more ws h.1
-
-module _ (types : Types) (f : Function) (shaped : IsShaped types f) (st : State) (at_point : IsPoised types f st) (there : (x : ℕ) → slot_at types f x ≡ true → IsThere (ready_of st) x) where
-  none_from : (n x : ℕ) → ((i : ℕ) → slice_get f.locals (x + i) ≡ None) → slots_back types f x n st ≡ []
-  none_from zero x none = refl
-  none_from (suc n) x none =
-      let k : x + 0 ≡ x = omega arith in
-      ap (λ (o : Option Local). slot_back types o (cell st x) ++ slots_back types f (x + 1) n st) (ap (slice_get f.locals) (sym k) ∙ none 0)
-      ∙ none_from n (x + 1) (λ i. let j : x + 1 + i ≡ x + suc i = omega arith in ap (slice_get f.locals) j ∙ none (suc i))
-
-  slots_from : (n : ℕ) (ls : List Local) (x : ℕ) → ((i : ℕ) → slice_get ls i ≡ slice_get f.locals (x + i)) → ArePointerSlots types (map formed.local_type (take n ls)) → AreHandedTo types st.world.content (slot_types types (map formed.local_type (take n ls))) (slots_back types f x n st)
-  slots_from zero ls x same free = tt
-  slots_from (suc n) [] x same free = subst (λ (vs : List Cell). AreHandedTo types st.world.content [] vs) (sym (none_from (suc n) x (λ i. sym (same i)))) tt
-  slots_from (suc n) (l ∷ ls) x same free =
-      let none : x + 0 ≡ x = omega arith in
-      let local : slice_get f.locals x ≡ Some l = ap (slice_get f.locals) (sym none) ∙ sym (same 0) in
-      subst (λ (o : Option Local). AreHandedTo types st.world.content (slot_types types (map formed.local_type (take (suc n) (l ∷ ls)))) (slot_back types o (cell st x) ++ slots_back types f (x + 1) n st)) (sym local)
-      (one l local free.0 (is_slot_at types l.ty) refl (slots_from n ls (x + 1) (λ i. let k : x + suc i ≡ x + 1 + i = omega arith in same (suc i) ∙ ap (slice_get f.locals) k) free.1))
-    where
-      one : (l : Local) → slice_get f.locals x ≡ Some l → (is_slot_at types l.ty ≡ true → is_pointer (ty_of types (taken_type types l.ty)) ≡ true) → (b : Bool) → is_slot_at types l.ty ≡ b → AreHandedTo types st.world.content (slot_types types (map formed.local_type (take n ls))) (slots_back types f (x + 1) n st)
-          → AreHandedTo types st.world.content (cond b (taken_type types l.ty ∷ slot_types types (map formed.local_type (take n ls))) (slot_types types (map formed.local_type (take n ls)))) (cond b (slot_cell (cell st x) ∷ []) [] ++ slots_back types f (x + 1) n st)
-      one l local pointers false is more = more
-      one l local pointers true is more =
-          let typed : local_type types f x ≡ Some (taken_type types l.ty) = ap (held_type_if types) local in
-          let own : type_at types f x ≡ ty_of types (taken_type types l.ty) = ap (ty_if types) (shaped x ∙ typed) in
-          let pointer : is_pointer (type_at types f x) ≡ true = ap is_pointer own ∙ pointers is in
-          let p = pointer_cell types f st at_point x pointer (there x (ap (is_slot_local types f) local ∙ is)) in (
-            subst (λ (o : Option Cell). IsHandedTo types st.world.content (taken_type types l.ty) (slot_cell o)) (sym p.1) (
-              pointers is,
-              subst (λ (id : Option TyId). PointsWell types st.world.content (seen_type types id) p.0) typed (at_point.frame.pointers x p.0 p.1),
-              subst (λ (u : Ty). PointerFits u p.0) own (at_point.sorted x (Points p.0) p.1).1,
-            ),
-            more,
-          )
-
-  pub slots_given : ArePointerSlots types (types_taken f) → AreHandedTo types st.world.content (slot_types types (types_taken f)) (slots_back types f 0 f.parameters st)
-  slots_given free = slots_from f.parameters f.locals 0 (λ i. let k : i ≡ 0 + i = omega arith in ap (slice_get f.locals) k) free
 
 -- ---- what comes of each sort
 
@@ -204,18 +142,18 @@ named_once cells x n k e = one_or_apart n k
         go false = omega arith
 
 module _ (types : Types) (ordered : IsOrdered types) (f : Function) (shaped : IsShaped types f) (rest : ℕ → ℕ) (st : State) (sound : IsSound types f rest st) (at_point : IsPoised types f st)
-    (others : List Cell) (slots : slots_back types f 0 f.parameters st ≡ others) (suits : AreHandedTo types st.world.content (slot_types types (types_taken f)) others) (nameless : (k : ℕ) → times (named_in others) k ≡ 0)
+    (others : List Cell) (slots : slots_back types f 0 f.parameters st ≡ others) (suits : AreHandedTo types st.world.content (slot_types types (types_taken f)) others) (under : (k : ℕ) → times (named_in others) k ≤ times (named_in (take f.parameters st.cells)) k)
     (formed_result : is_result_of types f.result (slice_get types.types f.result.0) (slice_get f.locals f.parameters) ≡ true) (ready : AreBits true (ready_of st) (result_uses (class_at types f.result) f.parameters)) where
   pub record IsGiven : Type 0 where
     pub back : IsBack types st.world.content f.result (slot_types types (types_taken f)) (results types f st)
     pub store : IsStore types (λ k. times (named_in (results types f st)) k + rest k) st.world.content
 
   -- one value, which is in the hand
-  one_given : (v : Cell) → results types f st ≡ v ∷ others → IsHandedTo types st.world.content f.result v → ((k : ℕ) → times (named_in (v ∷ [])) k ≤ times (named_in st.cells) k) → IsGiven
+  one_given : (v : Cell) → results types f st ≡ v ∷ others → IsHandedTo types st.world.content f.result v → ((k : ℕ) → times (named_in (v ∷ [])) k ≤ times (named_in (drop f.parameters st.cells)) k) → IsGiven
   one_given v is well le = record {
     back = record { first = v ∷ []; others = others; are = is; given = inr (v, refl, well); suit = suits };
     store = less_in_hand types (λ k. times (named_in st.cells) k + rest k) (λ k. times (named_in (results types f st)) k + rest k) st.world.content
-        (λ k. let a = ap (λ (vs : List Cell). times (named_in vs) k) is in let b = first_named v others k in let n = nameless k in let l = le k in omega (arith, a, b, n, l)) sound.stands.store;
+        (λ k. let a = ap (λ (vs : List Cell). times (named_in vs) k) is in let b = first_named v others k in let n = under k in let l = le k in let t = named_parts f.parameters st.cells k in omega (arith, a, b, n, l, t)) sound.stands.store;
   }
 
   module _ (t : Ty) (there : slice_get types.types f.result.0 ≡ Some t) (l : Local) (local : slice_get f.locals f.parameters ≡ Some l) (same : l.ty ≡ f.result) where
@@ -273,7 +211,7 @@ module _ (types : Types) (ordered : IsOrdered types) (f : Function) (shaped : Is
           sound.held f.parameters n.0 f.result n.1 typed,
           ap is_composed result_type ∙ composed,
         )
-        (λ k. named_once st.cells f.parameters n.0 k n.1)
+        (λ k. named_once (drop f.parameters st.cells) 0 n.0 k (dropped_first f.parameters st.cells ∙ n.1))
 
     by_kind : (is_register l.kind || is_composed t) ≡ true → (is_value t ≡ true) ⊎ ((is_pointer t ≡ true) ⊎ (is_composed t ≡ true)) → IsGiven
     by_kind kept (inl value) = number_given value kept
@@ -287,7 +225,7 @@ module _ (types : Types) (ordered : IsOrdered types) (f : Function) (shaped : Is
       ∙ ap (λ (o : Option Ty). given_back o (result_if o (sort_of types f f.parameters)) (cell st f.parameters) ++ others) there in
       record {
         back = record { first = []; others = others; are = none; given = inl (ap is_void (ap or_void there), refl); suit = suits };
-        store = less_in_hand types (λ k. times (named_in st.cells) k + rest k) (λ k. times (named_in (results types f st)) k + rest k) st.world.content (λ k. let a = ap (λ (vs : List Cell). times (named_in vs) k) none in let n = nameless k in omega (arith, a, n)) sound.stands.store;
+        store = less_in_hand types (λ k. times (named_in st.cells) k + rest k) (λ k. times (named_in (results types f st)) k + rest k) st.world.content (λ k. let a = ap (λ (vs : List Cell). times (named_in vs) k) none in let n = under k in let t = named_parts f.parameters st.cells k in omega (arith, a, n, t)) sound.stands.store;
       }
 
   pub results_given : IsGiven

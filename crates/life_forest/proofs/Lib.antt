@@ -39,6 +39,7 @@ pub mod FromTypes
 pub mod Given
 pub mod GivenPointers
 pub mod GivenResults
+pub mod GivenSlots
 pub mod Growing
 pub mod HandedOver
 pub mod HeldPointers
