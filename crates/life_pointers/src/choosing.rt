@@ -8,7 +8,7 @@ use crate::stop::Stop;
 use life_store::TrapKind;
 
 /// Which element.
-#[derive(Clone, Copy, Debug)]
+#[derive(Clone, Copy)]
 pub enum Choice {
     /// By an index that was read from a register, and is taken without a sign.
     At(i64),

@@ -2,6 +2,8 @@
 #![tactic(auto)]
 
 mod choosing;
+mod iterators;
+mod owned;
 mod pointer;
 mod stop;
 mod valid;
@@ -9,8 +11,13 @@ mod views;
 mod words;
 
 pub use choosing::{Choice, chosen};
+pub use iterators::{Step, alike, moved, step_of};
+pub use owned::{
+    Spot, buffer, owned_by, owned_element, owned_end, owned_pointer, owned_size, owned_target,
+    owned_whole,
+};
 pub use pointer::{Characters, Pointer, at_index, element_of, part_of, seen_count};
 pub use stop::Stop;
 pub use valid::{length, standing, usable};
-pub use views::{element, end, part, size};
+pub use views::{viewed_element, viewed_end, viewed_part, viewed_size};
 pub use words::{read_pointer, write_pointer};

@@ -9,7 +9,7 @@ ghost use Rattle.life_pointers.specs.Pointers.{pointer_seen, starts_at, IsNarrow
 use life_store::ObjRef;
 
 /// Characters that never end: of a text of the program, or of none, from an index on.
-#[derive(Clone, Copy, Debug)]
+#[derive(Clone, Copy)]
 pub struct Characters {
     pub text: Option<u32>,
     pub index: u64,
@@ -17,7 +17,7 @@ pub struct Characters {
 }
 
 /// Where a pointer leads.
-#[derive(Clone, Copy, Debug)]
+#[derive(Clone, Copy)]
 pub enum Pointer {
     Null,
     /// It never pointed to anything.

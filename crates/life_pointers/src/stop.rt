@@ -2,7 +2,7 @@
 use life_store::{FaultKind, TrapKind};
 
 /// Why a part of an instruction has no answer.
-#[derive(Clone, Copy, Debug)]
+#[derive(Clone, Copy)]
 pub enum Stop {
     /// The run is stopped there.
     Trap(TrapKind),

@@ -18,7 +18,7 @@ use life_core::RangeEnd;
 use life_store::{Store, TrapKind};
 
 /// An element that the view sees.
-pub fn element<S: Store>(store: &S, view: Pointer, choice: Choice) -> Result<Pointer, Stop>
+pub fn viewed_element<S: Store>(store: &S, view: Pointer, choice: Choice) -> Result<Pointer, Stop>
     requires { PointerFits (S.content store.now) (S.rows store.now) view }
     ensures is { (kinds : Kinds) → IsHoused kinds (S.content store.now) (S.rows store.now)
         → tried pointer_seen result ≡ viewed_element (seen kinds (S.content store.now) (S.rows store.now)) choice (pointer_seen view) }
@@ -30,7 +30,7 @@ pub fn element<S: Store>(store: &S, view: Pointer, choice: Choice) -> Result<Poi
 }
 
 /// An iterator at an end of what the view sees.
-pub fn end<S: Store>(store: &S, view: Pointer, end: RangeEnd) -> Result<Pointer, Stop>
+pub fn viewed_end<S: Store>(store: &S, view: Pointer, end: RangeEnd) -> Result<Pointer, Stop>
     requires { PointerFits (S.content store.now) (S.rows store.now) view }
     ensures is { (kinds : Kinds) → IsHoused kinds (S.content store.now) (S.rows store.now)
         → tried pointer_seen result ≡ viewed_end (seen kinds (S.content store.now) (S.rows store.now)) end (pointer_seen view) }
@@ -42,7 +42,7 @@ pub fn end<S: Store>(store: &S, view: Pointer, end: RangeEnd) -> Result<Pointer,
 }
 
 /// How many the view sees.
-pub fn size<S: Store>(store: &S, view: Pointer) -> Result<u64, Stop>
+pub fn viewed_size<S: Store>(store: &S, view: Pointer) -> Result<u64, Stop>
     requires { PointerFits (S.content store.now) (S.rows store.now) view }
     ensures is { (kinds : Kinds) → IsHoused kinds (S.content store.now) (S.rows store.now)
         → tried itself result ≡ viewed_size (seen kinds (S.content store.now) (S.rows store.now)) (pointer_seen view) }
@@ -54,7 +54,7 @@ pub fn size<S: Store>(store: &S, view: Pointer) -> Result<u64, Stop>
 
 /// So many that the view sees from an index on, or all that are left. A span has as many as are
 /// asked for, and a view at most those that are left.
-pub fn part<S: Store>(
+pub fn viewed_part<S: Store>(
     store: &S,
     view: Pointer,
     is_span: bool,

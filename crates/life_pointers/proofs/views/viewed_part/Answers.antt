@@ -1,6 +1,6 @@
 use Rattle.std.proofs.Common.{◌+◌, ◌≤◌, ℕ, subst}
 use Rattle.life_pointers.proofs.Short.{clock_fits, same_fits, short_count, short_part}
-use Rattle.life_pointers.proofs.views.part.Goals as goal
+use Rattle.life_pointers.proofs.views.viewed_part.Goals as goal
 
 pub returns-clause-fits : goal.returns-clause-fits
 returns-clause-fits g c = λ can.

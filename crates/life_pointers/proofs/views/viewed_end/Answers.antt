@@ -3,7 +3,7 @@ use Rattle.life_store.specs.Views.{seen_count}
 use Rattle.life_pointers.specs.Pointers.{pointer_seen, starts_at, IsShort}
 use Rattle.life_pointers.specs.declared.pointer.Pointer.{Pointer}
 use Rattle.life_pointers.proofs.Short.{clock_fits, same_fits, shorter}
-use Rattle.life_pointers.proofs.views.end.Goals as goal
+use Rattle.life_pointers.proofs.views.viewed_end.Goals as goal
 
 pub returns-clause-fits : goal.returns-clause-fits
 returns-clause-fits g c = λ can short.

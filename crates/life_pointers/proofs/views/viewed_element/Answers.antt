@@ -1,6 +1,6 @@
 use Rattle.std.proofs.Common.{◌<◌, ℕ, subst}
 use Rattle.life_pointers.proofs.Short.{clock_fits, same_fits, short_element}
-use Rattle.life_pointers.proofs.views.element.Goals as goal
+use Rattle.life_pointers.proofs.views.viewed_element.Goals as goal
 
 pub returns-clause-fits : goal.returns-clause-fits
 returns-clause-fits g c = λ can.
