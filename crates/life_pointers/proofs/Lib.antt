@@ -2,3 +2,4 @@ pub mod Owning
 pub mod Reading
 pub mod Short
 pub mod Validity
+pub mod ViewedBytes

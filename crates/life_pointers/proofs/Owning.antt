@@ -5,7 +5,7 @@ use Rattle.std.proofs.lemmas.Option.{same_Some}
 use Rattle.std.specs.Prelude.{option_map, slice_get, slice_index}
 use Rattle.life_store.specs.Cells.{at}
 use Rattle.life_store.specs.Content.{Slot, Content, Object, word_at, word_in}
-use Rattle.life_store.specs.Doing.{pointer_to}
+use Rattle.life_store.specs.Doing.{pointer_to, whole_of}
 use Rattle.life_store.specs.Edits.{owned_at, size_of}
 use Rattle.life_store.specs.Effects.{Attempt, Got, then_get}
 use Rattle.life_store.specs.Held.{owned_in, slots_if, words_at, words_if}
@@ -54,3 +54,11 @@ element_there m which b size i now p is same clock e =
     ap Got e
     ∙ (λ j. Got (To (record { object = b; index = begins j; word = 0; count = 1; moment = clock j })))
     ∙ ap (λ (a : Attempt ℕ). then_get a go) (is ∙ ap (chosen_by which) same)
+
+pub whole_there : (m : Content) (a : Attempt ℕ) (b size now : ℕ) (p : Pointer) → Got b ≡ a → size ≡ size_of m b → now ≡ m.clock
+    → p ≡ To (record { object = b; index = 0; word = 0; count = size; moment = now }) → Got p ≡ then_get a (λ n. Got (whole_of m n))
+whole_there m a b size now p is same clock e =
+    let go : ℕ → Attempt Pointer = λ n. Got (whole_of m n) in
+    ap Got e
+    ∙ (λ j. Got (To (record { object = b; index = 0; word = 0; count = same j; moment = clock j })))
+    ∙ ap (λ (x : Attempt ℕ). then_get x go) is

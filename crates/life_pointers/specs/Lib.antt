@@ -1,4 +1,5 @@
 pub mod Attempts
+pub mod Bytes
 pub mod Choices
 pub mod Made
 pub mod Owned

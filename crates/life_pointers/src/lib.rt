@@ -1,6 +1,7 @@
 //! Pointers into a store: whether one may be used, where it leads, and how it lies in a slot.
 #![tactic(auto)]
 
+mod bytes;
 mod choosing;
 mod iterators;
 mod owned;
@@ -10,6 +11,7 @@ mod valid;
 mod views;
 mod words;
 
+pub use bytes::{byte_at, byte_count, viewed_alike};
 pub use choosing::{Choice, chosen};
 pub use iterators::{Step, alike, moved, step_of};
 pub use owned::{

@@ -1,12 +1,14 @@
 // Whether a pointer may be used.
-ghost use Rattle.std.specs.Prelude.{◌≡◌, ◌+◌, ◌<◌, ◌^◌, IfOk, IsTrue};
+ghost use Rattle.std.specs.Prelude.{◌≡◌, ◌+◌, ◌<◌, ◌≤◌, ◌^◌, length, IfOk, IfSome, IsTrue};
 ghost use Rattle.life_store.specs.Edits.{size_of};
 ghost use Rattle.life_store.specs.Iterators as spec;
+ghost use Rattle.life_store.specs.References.{object_of};
 ghost use Rattle.life_store.specs.Views as views;
 ghost use Rattle.life_seen.specs.Housed.{IsHoused, IsRef};
 ghost use Rattle.life_seen.specs.Kinds.{Kinds};
 ghost use Rattle.life_seen.specs.Seen.{seen};
 ghost use Rattle.life_pointers.specs.Attempts.{tried};
+ghost use Rattle.life_pointers.specs.Bytes.{HasPositions, IsInside};
 ghost use Rattle.life_pointers.specs.Pointers.{pointer_seen, IsThere, PointerFits};
 ghost use Rattle.life_pointers.specs.Valid.{sees_there};
 
@@ -16,8 +18,10 @@ use life_store::{FaultKind, ObjRef, Store};
 
 /// How many slots the object has, and 0 where it doesn't live.
 pub fn length<S: Store>(store: &S, object: ObjRef) -> u32
-    ensures { (kinds : Kinds) → IsHoused kinds (S.content store.now) (S.rows store.now) → IsRef (S.content store.now) (S.rows store.now) object
+    ensures is { (kinds : Kinds) → IsHoused kinds (S.content store.now) (S.rows store.now) → IsRef (S.content store.now) (S.rows store.now) object
         → result ≡ size_of (seen kinds (S.content store.now) (S.rows store.now)) object.birth }
+    ensures slots { IfSome (object_of (S.content store.now) (S.rows store.now) object) (λ o. result ≡ length o.slots) }
+    ensures wide { IfSome (object_of (S.content store.now) (S.rows store.now) object) (λ o. 1 ≤ o.width) }
 {
     match store.shape(object) {
         Ok(shape) => shape.length,
@@ -56,6 +60,7 @@ pub fn usable<S: Store>(store: &S, pointer: Pointer) -> Result<Pointer, Stop>
         → tried pointer_seen result ≡ views.usable (seen kinds (S.content store.now) (S.rows store.now)) (pointer_seen pointer) }
     ensures same { IfOk result (λ p. p ≡ pointer) }
     ensures there { IfOk result IsThere }
+    ensures inside { IfOk result (IsInside (S.content store.now) (S.rows store.now)) }
 {
     match pointer {
         Pointer::Null => Err(Stop::Lost),
@@ -82,6 +87,7 @@ fn has_positions<S: Store>(store: &S, object: ObjRef, index: u32, count: u32, mo
     ensures is { (kinds : Kinds) → IsHoused kinds (S.content store.now) (S.rows store.now) → IsRef (S.content store.now) (S.rows store.now) object
         → result ≡ views.is_valid_range (seen kinds (S.content store.now) (S.rows store.now)) (record { object = object.birth; index = index; word = 0; count = count; moment = moment }) }
     ensures there { IsTrue result → index + count < 2 ^ 32 }
+    ensures inside { IsTrue result → HasPositions (S.content store.now) (S.rows store.now) object index count }
 {
     store.valid(object, index, count, moment) && is_within(index, count, length(store, object))
 }

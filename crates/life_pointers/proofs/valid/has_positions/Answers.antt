@@ -15,7 +15,7 @@ returns-then-valid-clause-is g c = λ kinds housed fits.
     let m = seen kinds content rows in
     let lives : true ≡ is_valid_in c.args.index c.args.count c.args.moment (at m.objects c.args.object.birth) =
     sym c.if-valid.true ∙ c.valid.ensures ∙ valid_meant kinds content rows c.args.object housed fits c.args.index c.args.count c.args.moment in
-    let size : c.length.result ≡ size_of m c.args.object.birth = c.length.ensures kinds housed fits in
+    let size : c.length.result ≡ size_of m c.args.object.birth = c.length.ensures.is kinds housed fits in
     c.is_within.ensures.is ∙ (λ i. lives i && sees_there c.args.index c.args.count (size i))
 
 pub returns-else-valid-clause-is : goal.returns-else-valid-clause-is
