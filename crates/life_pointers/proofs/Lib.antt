@@ -1,3 +1,4 @@
+pub mod MeantSteps
 pub mod Owning
 pub mod Reading
 pub mod Short

@@ -14,6 +14,7 @@ ghost use Rattle.life_pointers.specs.Steps.{step_seen};
 
 use crate::pointer::{Characters, Pointer, at_index, start_of};
 use crate::stop::Stop;
+use crate::texts::text_length;
 use crate::valid::{length, standing};
 use life_core::Direction;
 use life_store::{Store, TrapKind};
@@ -139,10 +140,7 @@ fn text_size(texts: &[Vec<u8>], characters: Characters) -> u64
 {
     match characters.text {
         None => 0,
-        Some(number) => match texts.get(number as usize) {
-            None => 0,
-            Some(text) => text.len() as u64,
-        },
+        Some(number) => text_length(texts, number),
     }
 }
 

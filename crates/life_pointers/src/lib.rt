@@ -7,6 +7,7 @@ mod iterators;
 mod owned;
 mod pointer;
 mod stop;
+mod texts;
 mod valid;
 mod views;
 mod words;
@@ -20,6 +21,7 @@ pub use owned::{
 };
 pub use pointer::{Characters, Pointer, at_index, element_of, part_of, seen_count};
 pub use stop::Stop;
+pub use texts::{character, empty_view, text_view};
 pub use valid::{length, standing, usable};
 pub use views::{viewed_element, viewed_end, viewed_part, viewed_size};
 pub use words::{read_pointer, write_pointer};
