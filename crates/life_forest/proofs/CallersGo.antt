@@ -41,13 +41,14 @@ use Rattle.life_forest.proofs.EntryFrames.{as_many, types_held}
 use Rattle.life_forest.proofs.Frames.{less_in_hand}
 use Rattle.life_forest.proofs.GivenResults.{IsBack, IsResult}
 use Rattle.life_forest.proofs.GivenSlots.{named_append, slot_types}
-use Rattle.life_forest.proofs.HandedOver.{AreHanded, AreHandedTo, ArePointerSlots, IsLent, hands_all, leaves_are, lent_less}
+use Rattle.life_forest.proofs.HandedOver.{AreHanded, AreHandedTo, ArePointerSlots, hands_all, leaves_are}
 use Rattle.life_forest.proofs.HeldPoints.{poised}
 use Rattle.life_forest.proofs.HeldPointers.{pointers_aim, pointers_fit}
 use Rattle.life_forest.proofs.Holding.{KeepsWaiting}
 use Rattle.life_forest.proofs.Keeping.{Keeps, keeps_more, keeps_then}
 use Rattle.life_forest.proofs.KeptSlots.{slots_kept}
 use Rattle.life_forest.proofs.LaterFrames.{behind_sound}
+use Rattle.life_forest.proofs.LentFrames.{IsLent, lent_less}
 use Rattle.life_forest.proofs.SeenTypes.{pointer_parts, pointer_solid}
 use Rattle.life_forest.proofs.SettledPoints.{kinds_fit}
 use Rattle.life_forest.proofs.SettlingLives.{HaveMembers}

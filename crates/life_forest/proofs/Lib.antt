@@ -57,6 +57,7 @@ pub mod KeptSlots
 pub mod Knowing
 pub mod LaterFrames
 pub mod Laying
+pub mod LentFrames
 pub mod Listed
 pub mod Lists
 pub mod Lives
@@ -70,6 +71,7 @@ pub mod OneNumber
 pub mod Operands
 pub mod OwnedAims
 pub mod Owners
+pub mod PathsApart
 pub mod Placed
 pub mod PlainTypes
 pub mod Pushing
