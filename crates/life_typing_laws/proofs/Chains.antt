@@ -8,7 +8,7 @@ use Rattle.life_typed.specs.Operators.{combined, takes_literals}
 use Rattle.life_typed.specs.TypedForm.{Typed, binary, whole}
 use Rattle.life_typed.specs.declared.misfit.Misfit.{Misfit}
 use Rattle.life_typed.specs.declared.typed_expr.BinaryOperator.{BinaryOperator}
-use Rattle.life_built.specs.Built.{is_built_form}
+use Rattle.life_typing_laws.specs.Served.{is_served_form}
 use Rattle.life_names.specs.Checked.{Checked, ◌>>=◌}
 use Rattle.life_names.specs.Environment.{Scope}
 use Rattle.life_names.specs.Found.{found_in, given}
@@ -22,10 +22,10 @@ use Rattle.life_typing_laws.proofs.Typed.{Good, GoodBehind, IsGoodBehind, IsType
 
 -- ---- operands behind the first
 
-chained_good : (qs : List PartMeaning) (scope : Scope) (x y : Typed × Types) → EachHolds GoodBehind qs → chained qs scope x ≡ Ok y → is_built_form y.0.form ≡ true → IsGoodBehind x.0 scope x.1 y
+chained_good : (qs : List PartMeaning) (scope : Scope) (x y : Typed × Types) → EachHolds GoodBehind qs → chained qs scope x ≡ Ok y → is_served_form y.0.form ≡ true → IsGoodBehind x.0 scope x.1 y
 chained_good [] scope x y good e served =
     let same : x ≡ y = cc in
-    subst (IsGoodBehind x.0 scope x.1) same (record { back = subst (λ (z : Typed × Types). is_built_form z.0.form ≡ true) (sym same) served; same = refl; is = λ p locals v sound final left. left })
+    subst (IsGoodBehind x.0 scope x.1) same (record { back = subst (λ (z : Typed × Types). is_served_form z.0.form ≡ true) (sym same) served; same = refl; is = λ p locals v sound final left. left })
 chained_good (q ∷ qs) scope x y good e served =
     let step : Bound (q x.0 scope x.1) (chained qs scope) y = bound (q x.0 scope x.1) (chained qs scope) y e in
     let rest = chained_good qs scope step.value y good.1 step.behind served in
@@ -78,7 +78,7 @@ pub operand_good : (operator : BinaryOperator) (place : Place) (operand : Meanin
 operand_good operator place operand good left scope types x e served =
     let c = combines_of operator place operand left scope types x e in
     let made = combination_is operator place left c.right.0 x.0 c.combines in
-    let both = and_parts (is_built_form left.form) (is_built_form c.right.0.form) (subst (λ (y : Typed). is_built_form y.form ≡ true) (sym made.is) served) in
+    let both = and_parts (is_served_form left.form) (is_served_form c.right.0.form) (subst (λ (y : Typed). is_served_form y.form ≡ true) (sym made.is) served) in
     let right = good scope types c.right c.reads both.1 in
     record {
       back = both.0;

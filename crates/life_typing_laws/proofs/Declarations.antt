@@ -49,8 +49,7 @@ use Rattle.life_typing_laws.proofs.Fitting.{given_later, lower_none, misfit_none
 use Rattle.life_typing_laws.proofs.Growing.{IsAdded, added, grows_not, grows_on, same_type_at, type_is}
 use Rattle.life_typing_laws.proofs.Scopes.{IsDeclared, IsFree, Moves, behind_declared, declared_is, declared_moves, declared_sound, declared_there, final_before, moves_on, sound_grown, table_moves}
 use Rattle.life_typing_laws.specs.Sound.{Grows, IsFinal, IsSound}
-use Rattle.life_built.specs.Built.{is_built_value}
-use Rattle.life_typing_laws.specs.Served.{is_served_first}
+use Rattle.life_typing_laws.specs.Served.{is_served_first, is_served_value}
 use Rattle.life_typing_laws.proofs.Steps.{allowed_ok, bound, given_ok, same_value}
 use Rattle.life_typing_laws.proofs.Values.{FirstRead, IsOne, Nothing, Value, first_is, none_read, one_read, several_never, some_read}
 use Rattle.life_typing_laws.proofs.Written.{written_finds}
@@ -195,13 +194,13 @@ module _ (name : Identifier) (scope : Scope) where
 
 -- ---- with `auto`
 
-lone_never : {P : Type 0} (l : InitList) (scope : Scope) (types : Types) (x : InitialForm × Types) → lone_list l scope types ≡ Ok x → is_built_value x.0 ≡ true → P
+lone_never : {P : Type 0} (l : InitList) (scope : Scope) (types : Types) (x : InitialForm × Types) → lone_list l scope types ≡ Ok x → is_served_value x.0 ≡ true → P
 lone_never l scope types x h served =
     let step = bound (lone_elements (out-InitList l).list.items scope types)
     (λ y. Ok (several (record { opening = (out-InitList l).opening; elements = y.0; delimiters = record { commas = (out-InitList l).commas.items; closing = (out-InitList l).closing } }), y.1)) x h in
     several_never (record { opening = (out-InitList l).opening; elements = step.value.0; delimiters = record { commas = (out-InitList l).commas.items; closing = (out-InitList l).closing } }) step.value.1 x step.behind served
 
-auto_value_is : (i : InitialValue) (scope : Scope) (types : Types) (x : InitialForm × Types) → auto_value i scope types ≡ Ok x → is_built_value x.0 ≡ true → IsOne scope types x
+auto_value_is : (i : InitialValue) (scope : Scope) (types : Types) (x : InitialForm × Types) → auto_value i scope types ≡ Ok x → is_served_value x.0 ≡ true → IsOne scope types x
 auto_value_is (initial_value.Expr e) scope types x h served =
     let step = bound (expr_meaning e.value scope types) (λ y. Ok (one y.0, y.1)) x h in
     one_read e.value scope types step.value x step.gave step.behind served

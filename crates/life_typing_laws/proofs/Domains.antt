@@ -1,5 +1,6 @@
 -- Types whose names the crates below keep to themselves, by the definitions that take their values.
 use Rattle.std.proofs.Common.{List}
+use Rattle.life_type_expr.specs.Members.{answered}
 use Rattle.life_type_stmt.specs.Statements.{in_loop}
 use Rattle.life_typing.specs.Attributes.{parameter_points}
 use Rattle.life_typing.specs.Functions.{sound_header}
@@ -11,6 +12,10 @@ DomainOf {A = A} f = A
 
 abbrev ElementOf : {A B : Type 0} → (List A → B) → Type 0
 ElementOf {A = A} f = A
+
+-- the member function that is called
+abbrev pub Called : Type 0
+Called = DomainOf answered
 
 -- what stands around a statement: the function's result, and whether that is in a loop
 abbrev pub Around : Type 0

@@ -14,13 +14,13 @@ use Rattle.life_typed.specs.Programs.{FunctionForm, ProgramForm}
 use Rattle.life_typed.specs.Delimiters.{DelimitersForm}
 use Rattle.life_typed.specs.TypedForm.{Form, Typed, call, forms, local}
 use Rattle.life_typed.specs.declared.typed_program.TypedLocal.{TypedLocal}
-use Rattle.life_built.specs.Built.{is_built_form}
+use Rattle.life_typing_laws.specs.Served.{is_served_form}
 use Rattle.life_names.specs.Checked.{Checked}
 use Rattle.life_names.specs.Environment.{Scope, SignatureView}
 use Rattle.life_names.specs.Found.{given}
 use Rattle.life_names.specs.declared.fault.IllKind.{IllKind}
 use Rattle.life_names.specs.declared.fault.IllKind.TheVariants as kinds
-use Rattle.life_type_expr.specs.Expressions.{PartMeaning, called}
+use Rattle.life_type_expr.specs.Expressions.{called}
 use Rattle.life_type_expr.specs.Lists.{ListMeaning, Meaning, count_fault, lower_kind, misfits, parameters, passed}
 use Rattle.life_type_expr.specs.Named.{function_named, local_named}
 use Rattle.life_type_expr.specs.Operands.{answer_of, variable, variable_of}
@@ -31,7 +31,7 @@ use Rattle.life_typing_laws.proofs.Growing.{parts_there}
 use Rattle.life_typing_laws.proofs.Operands.{answer_form, answer_stays, function_is, local_is, variable_stays}
 use Rattle.life_typing_laws.proofs.Reading.{IsPassed, passed_is}
 use Rattle.life_typing_laws.proofs.Steps.{bound, given_ok}
-use Rattle.life_typing_laws.proofs.Typed.{Good, GoodBehind, GoodList, IsTyped, PartsThere, PlaceThere, not_served}
+use Rattle.life_typing_laws.proofs.Typed.{Good, GoodList, IsTyped, PartsThere, PlaceThere, not_served}
 
 pub ok_parts : (e : Typed) (types : Types) (x : Typed × Types) → ◌≡◌ {A = Checked Typed} (Ok (e, types)) (Ok x) → (e ≡ x.0) × (types ≡ x.1)
 ok_parts e types x h = let same : ◌≡◌ {A = Typed × Types} (e, types) x = cc in (ap (λ (y : Typed × Types). y.0) same, ap (λ (y : Typed × Types). y.1) same)
@@ -67,11 +67,8 @@ module _ (m : Meaning) (e : Typed) (gives : (scope : Scope) (types : Types) → 
       record { same = sym parts.1; is = λ p locals v sound final. subst (IsTyped p locals v types) parts.0 (is p locals v types) }
 
 -- what is never served
-pub never_good : (m : Meaning) → ((scope : Scope) (types : Types) (x : Typed × Types) → m scope types ≡ Ok x → is_built_form x.0.form ≡ false) → Good m
+pub never_good : (m : Meaning) → ((scope : Scope) (types : Types) (x : Typed × Types) → m scope types ≡ Ok x → is_served_form x.0.form ≡ false) → Good m
 never_good m never scope types x h served = not_served x.0.form (never scope types x h) served
-
-pub never_good_behind : (q : PartMeaning) → ((left : Typed) (scope : Scope) (types : Types) (x : Typed × Types) → q left scope types ≡ Ok x → is_built_form x.0.form ≡ false) → GoodBehind q
-never_good_behind q never left scope types x h served = not_served x.0.form (never left scope types x h) served
 
 -- ---- variables
 
@@ -152,8 +149,8 @@ call_good name arguments good scope types x e served =
     let c = called_is name arguments scope types x good e in
     let form_is : x.0.form ≡ call c.f.0 (forms c.y.0) arguments.delimiters =
     subst (λ (z : Typed). z.form ≡ call c.f.0 (forms c.y.0) arguments.delimiters) c.is (answer_form c.y.1 (type_at c.y.1 c.f.1.result) name.place (call c.f.0 (forms c.y.0) arguments.delimiters)) in
-    let served_all : is_built_form (forms c.passed.read.more) ≡ true =
-    subst (λ (es : List Typed). is_built_form (forms es) ≡ true) c.passed.read.all (subst (λ (f : Form). is_built_form f ≡ true) form_is served) in
+    let served_all : is_served_form (forms c.passed.read.more) ≡ true =
+    subst (λ (es : List Typed). is_served_form (forms es) ≡ true) c.passed.read.all (subst (λ (f : Form). is_served_form f ≡ true) form_is served) in
     let table : c.y.1 ≡ types = c.passed.read.same served_all in
     record {
       same = sym c.table ∙ table;

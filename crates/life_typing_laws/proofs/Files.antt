@@ -1,5 +1,5 @@
 -- Whole files: what is resolved and built is well typed.
-use Rattle.std.proofs.Common.{◌≡◌, inr, ⊎_elim, ℕ, zero, suc, Bool, true, false, ◌&&◌, Option, Some, Ok, Err, List, [], ◌∷◌, length, slice_get, refl, sym, ap, subst, ◌∙◌, arith}
+use Rattle.std.proofs.Common.{◌≡◌, inr, ⊎_elim, ℕ, zero, suc, Bool, true, false, Option, Some, Ok, Err, List, [], ◌∷◌, length, slice_get, refl, sym, ap, subst, ◌∙◌, arith}
 use Rattle.std.specs.Prelude.{unwrap_or}
 use Rattle.std.proofs.lemmas.Bool.{and_parts}
 use Rattle.std.proofs.lemmas.Option.{slice_get_within}
@@ -16,7 +16,7 @@ use Rattle.life_typed.specs.BaseTypes.{base_types, type_at}
 use Rattle.life_typed.specs.Programs.{FunctionForm, ProgramForm, StructForm, is_main}
 use Rattle.life_names.specs.Environment.{SignatureView, unseen_names}
 use Rattle.life_names.specs.declared.environment.Entity.TheVariants as entity
-use Rattle.life_built.specs.Built.{are_built_functions, has_built_types, has_no_structs, is_built}
+use Rattle.life_built.specs.Built.{has_no_structs, is_built}
 use Rattle.life_typing.specs.Answers.{Answer, ◌>>◌}
 use Rattle.life_typing.specs.Functions.{with_function}
 use Rattle.life_typing.specs.Names.{DeclaredView}
@@ -29,7 +29,8 @@ use Rattle.life_well_typed.specs.Results.{HasResults, HasTable, HaveResults}
 use Rattle.life_typing_laws.proofs.BodiesCome.{BodiesCome, all_flags_size, bodies_come_on, flag_comes, no_flag}
 use Rattle.life_typing_laws.proofs.Counted.{Goes, IsCounted, definitions_go, struct_adds}
 use Rattle.life_typing_laws.proofs.Each.{EachHolds}
-use Rattle.life_typing_laws.proofs.FromBuilt.{served_functions}
+use Rattle.life_typing_laws.specs.Served.{are_served_functions, is_served}
+use Rattle.life_typing_laws.proofs.FromBuilt.{body_served, served_program}
 use Rattle.life_typing_laws.proofs.Growing.{grows_not}
 use Rattle.life_typing_laws.proofs.Known.{HasBody, HasInEnd, KnownAt}
 use Rattle.life_typing_laws.proofs.Steps.{answered, same_some, same_answer}
@@ -202,15 +203,17 @@ module _ (tree : Program) (q : ProgressView) (ends : Ends (bodies_of tree) (text
   all_well : IsWhole p
   all_well = (each_well p q.functions function_well, (each_gives q.types q.functions function_gives, (each_int p.names q.types q.functions int_main, table_well)))
 
-pub resolved_well_typed : (tree : Program) (p : ProgramForm) → resolved tree ≡ Ok p → is_built p ≡ true → IsWhole p
-resolved_well_typed tree p e built =
+pub served_well_typed : (tree : Program) (p : ProgramForm) → resolved tree ≡ Ok p → is_served p ≡ true → IsWhole p
+served_well_typed tree p e served =
     let step = answered (with_definitions (bodies_of tree) tree.definitions.items (nothing_defined (texts_of tree))) (λ q. Ok (finished tree q)) p e in
     let same : finished tree step.value ≡ p = same_answer (finished tree step.value) p step.behind in
-    subst IsWhole same (all_well tree step.value (of step.value step.gave (subst (λ (r : ProgramForm). is_built r ≡ true) (sym same) built)))
+    subst IsWhole same (all_well tree step.value (of step.value step.gave (subst (λ (r : ProgramForm). is_served r ≡ true) (sym same) served)))
   where
-    of : (q : ProgressView) → with_definitions (bodies_of tree) tree.definitions.items (nothing_defined (texts_of tree)) ≡ Ok q → is_built (finished tree q) ≡ true → Ends (bodies_of tree) (texts_of tree) q
-    of q gave built =
-        let parts = and_parts (has_built_types q.types) (has_no_structs q.structs && are_built_functions q.types q.functions) built in
-        let more = and_parts (has_no_structs q.structs) (are_built_functions q.types q.functions) parts.1 in
+    of : (q : ProgressView) → with_definitions (bodies_of tree) tree.definitions.items (nothing_defined (texts_of tree)) ≡ Ok q → is_served (finished tree q) ≡ true → Ends (bodies_of tree) (texts_of tree) q
+    of q gave served =
+        let parts = and_parts (has_no_structs q.structs) (are_served_functions q.functions) served in
         goes_on (bodies_of tree) (texts_of tree) tree.definitions.items (nothing_defined (texts_of tree)) q refl (begins tree) (all_come tree) gave
-        (λ n form d there noted has. served_functions q.types q.functions n form more.1 there) (no_structs_there q.structs more.0)
+        (λ n form d there noted has. body_served q.functions n form parts.1 there) (no_structs_there q.structs parts.0)
+
+pub resolved_well_typed : (tree : Program) (p : ProgramForm) → resolved tree ≡ Ok p → is_built p ≡ true → IsWhole p
+resolved_well_typed tree p e built = served_well_typed tree p e (served_program p built)

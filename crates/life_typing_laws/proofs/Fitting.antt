@@ -1,23 +1,29 @@
 -- What fits a type, and breaks no rule, is what is given to it.
-use Rattle.std.proofs.Common.{◌≡◌, ℕ, suc, ◌+◌, Bool, true, false, ◌||◌, Option, None, Some, Ok, Err, List, [], ◌∷◌, length, slice_get, unwrap_or, if◌then◌else◌, refl, sym, subst, ◌∙◌, arith}
+use Rattle.std.proofs.Common.{◌≡◌, ℕ, suc, ◌+◌, Bool, true, false, ◌||◌, Option, None, Some, Ok, Err, List, [], ◌∷◌, length, slice_get, unwrap_or, if◌then◌else◌, refl, sym, ap, subst, ◌∙◌, arith}
 use Rattle.std.proofs.lemmas.Bool.{and_from}
+use Rattle.std.specs.Prelude.{nat_eq}
+use Rattle.life_types.proofs.TreeLemmas.{tree_stays}
+use Rattle.life_types.specs.Trees.{IsOrdered, TypeTree, holds_unique, tree_at}
 use Rattle.life_types.specs.TypeTests.{is_raw, is_value}
-use Rattle.life_types.specs.Types.{Types, HasTypes}
+use Rattle.life_types.specs.Types.{Types, HasParts, HasType, HasTypes}
 use Rattle.life_types.specs.declared.ty.Ty.{Ty}
 use Rattle.life_types.specs.declared.ty.Ty.TheVariants as ty
 use Rattle.life_types.specs.declared.ty.TyId.{TyId}
 use Rattle.life_typing_laws.specs.Sound.{Grows}
 use Rattle.life_typed.specs.BaseTypes.{type_at}
-use Rattle.life_typed.specs.Conversions.{Fit, bound, bound_const, fits, fitting, initialised, is_place_of}
+use Rattle.life_typed.specs.Conversions.{Fit, bound, bound_const, converted, copied, fits, fitting, initialised, is_place_of, struct_from, unless}
 use Rattle.life_typed.specs.TypedForm.{Typed, forms}
+use Rattle.life_typed.specs.declared.misfit.Misfit.TheVariants.{General, Copy}
 use Rattle.life_typed.specs.declared.typed_expr.Category.{Category}
+use Rattle.life_typed.specs.declared.typed_expr.Category.TheVariants as category
 use Rattle.life_typed.specs.declared.typed_expr.ExprType.{ExprType}
 use Rattle.life_typed.specs.declared.typed_expr.ExprType.TheVariants.{Of, NullPointer, TextLiteral}
 use Rattle.life_names.specs.declared.fault.IllKind.{IllKind}
-use Rattle.life_type_expr.specs.Lists.{Targets, fits_at_all, lower_kind, misfit_of, misfits, one_misfit, parameters}
+use Rattle.life_type_expr.specs.Lists.{Targets, fits_at_all, is_taken, lower_kind, misfit_of, misfits, one_misfit, parameters}
 use Rattle.life_well_typed.specs.Expressions.{are_given}
 use Rattle.life_well_typed.specs.Given.{is_asked, is_given}
 use Rattle.life_typing_laws.proofs.Growing.{same_type_at, type_is}
+use Rattle.life_typing_laws.proofs.Typed.{PlaceThere}
 
 -- ---- one expression
 
@@ -78,6 +84,43 @@ module _ (few more : Types) (grows : Grows few more) where
 pub misfit_none : (general : IllKind) (fit : Fit) → misfit_of general fit ≡ None → fit ≡ Ok tt
 misfit_none general (Ok u) e = refl
 misfit_none general (Err m) e = absurd (cc)
+
+-- ---- whatever is given
+
+-- a type's tree stays, so what fits in a table fits in each that it grows to
+module _ (few more : Types) (ordered : IsOrdered few) (grows : Grows few more) where
+  pub same_tree_at : (id : TyId) → HasType few id → tree_at more id ≡ tree_at few id
+  same_tree_at id there = tree_stays few more ordered (record { types = grows.types; structs = λ n ids e. subst (λ (ss : List (List TyId)). slice_get ss n ≡ Some ids) (sym grows.structs) e }) id there
+
+  same_copied : (c : Category) → PlaceThere few c → copied more c ≡ copied few c
+  same_copied category.Value there = refl
+  same_copied (category.Place id constant) there = ap (λ (t : TypeTree). unless (holds_unique t) Copy) (same_tree_at id there)
+
+  same_struct : (number : ℕ) (s : Ty) (c : Category) → PlaceThere few c → struct_from more number s c ≡ struct_from few number s c
+  same_struct number (ty.Struct found) c there = ap (λ (f : Fit). if nat_eq found number then f else Err General) (same_copied c there)
+  same_struct number _ c there = refl
+
+  same_converted : (t s : Ty) (c : Category) → PlaceThere few c → converted more t s c ≡ converted few t s c
+  same_converted (ty.Struct number) s c there = same_struct number s c there
+  same_converted _ s c there = refl
+
+  same_from : (t : Ty) (e : ExprType) (c : Category) → PlaceThere few c → initialised more t e c ≡ initialised few t e c
+  same_from t (Of s) c there = same_converted t s c there
+  same_from t NullPointer c there = refl
+  same_from t TextLiteral c there = refl
+
+  same_bound : (target : TyId) (e : ExprType) (c : Category) → HasType few target → PlaceThere few c → bound_const more target e c ≡ bound_const few target e c
+  same_bound target e c target_there there =
+      ap (λ (f : Fit). if is_place_of c target then fitting else f)
+      (same_from (type_at more target) e c there ∙ ap (λ (t : Ty). initialised few t e c) (same_type_at few more target grows target_there))
+
+  pub same_fits : (t : Ty) (e : ExprType) (c : Category) → HasParts few t → PlaceThere few c → fits more t e c ≡ fits few t e c
+  same_fits (ty.Reference target false) e c parts there = refl
+  same_fits (ty.Reference target true) e c parts there = same_bound target e c parts there
+  same_fits t e c parts there = same_from t e c there
+
+  pub taken_later : (t : Ty) (e : Typed) → HasParts few t → PlaceThere few e.category → fits few t e.ty e.category ≡ Ok tt → is_taken more (Some t) e ≡ true
+  taken_later t e parts there fine = fit_at_all (fits more t e.ty e.category) (same_fits t e.ty e.category parts there ∙ fine)
 
 -- ---- the lowest of several rules
 

@@ -5,6 +5,7 @@ pub mod Bodies
 pub mod BodiesCome
 pub mod Chains
 pub mod Combining
+pub mod Constructing
 pub mod Counted
 pub mod DeclarationLaws
 pub mod Declarations
@@ -22,8 +23,13 @@ pub mod Growing
 pub mod HeaderTypes
 pub mod Headers
 pub mod HeadersStay
+pub mod Indexing
 pub mod Known
 pub mod Loops
+pub mod Members
+pub mod MethodTables
+pub mod Methods
+pub mod Moving
 pub mod NamedTrees
 pub mod Operands
 pub mod OwnNames
@@ -39,6 +45,7 @@ pub mod Statements
 pub mod Staying
 pub mod Steps
 pub mod Targets
+pub mod Texts
 pub mod Turns
 pub mod Typed
 pub mod Unserved

@@ -42,8 +42,7 @@ use Rattle.life_typing_laws.proofs.Growing.{same_type_at, stays_there}
 use Rattle.life_typing_laws.proofs.Reading.{append_none}
 use Rattle.life_typing_laws.proofs.Scopes.{Moves, final_before, final_remembered, forgotten_locals, moves_not, moves_on, moves_behind, sound_behind}
 use Rattle.life_typing_laws.specs.Sound.{Grows, IsFinal, IsSound}
-use Rattle.life_built.specs.Built.{is_built_form, is_built_if_any, is_built_step}
-use Rattle.life_typing_laws.specs.Served.{is_served_start, is_served_statement}
+use Rattle.life_typing_laws.specs.Served.{is_served_form, is_served_if_any, is_served_start, is_served_statement, is_served_step}
 use Rattle.life_typing_laws.proofs.Simples.{optional_simple_is, simple_is}
 use Rattle.life_typing_laws.proofs.Statements.{Alone, GoodPart, IsPart, condition_is, items_are, optional_condition_is, served_still, still}
 use Rattle.life_typing_laws.proofs.Steps.{allowed_ok, bound, given_ok, same_value}
@@ -140,7 +139,7 @@ abbrev behind_returned : TyId → Place → Scope → Types → Typed × Types �
 behind_returned result keyword scope types x =
     given (allowed (result_fault (is_void (type_at types result)) (moves_out (type_at types result) result (named_local scope (named_in x.0.form))) x.1 (type_at types result) x.0) keyword) (λ _. Ok (Some x.0, x.1))
 
-returned_is : (result : TyId) (keyword : Place) (e : Option (Box Expr Global)) (scope : Scope) (types : Types) (x : Option Typed × Types) → returned result keyword e scope types ≡ Ok x → is_built_if_any x.0 ≡ true
+returned_is : (result : TyId) (keyword : Place) (e : Option (Box Expr Global)) (scope : Scope) (types : Types) (x : Option Typed × Types) → returned result keyword e scope types ≡ Ok x → is_served_if_any x.0 ≡ true
     → IsGivenBack result scope types x
 returned_is result keyword None scope types x h served =
     let fine = allowed_ok {B = Option Typed} (unless (is_void (type_at types result)) kinds.WrongType) keyword (λ _. Ok (None, types)) x h in
@@ -154,7 +153,7 @@ returned_is result keyword (Some e) scope types x h served =
     let fine = allowed_ok (result_fault (is_void (type_at types result)) (moves_out (type_at types result) result named) step.value.1 (type_at types result) step.value.0) keyword
     (λ _. Ok (Some step.value.0, step.value.1)) x step.behind in
     let same = same_value {A = Option Typed} (Some step.value.0, step.value.1) x fine.1 in
-    let served_value : is_built_form step.value.0.form ≡ true = subst (λ (z : Option Typed × Types). is_built_if_any z.0 ≡ true) (sym same) served in
+    let served_value : is_served_form step.value.0.form ≡ true = subst (λ (z : Option Typed × Types). is_served_if_any z.0 ≡ true) (sym same) served in
     let reads = given_expr_reads (type_at types result) e.value scope types step.value step.gave in
     let table : step.value.1 ≡ types = (expr_good e.value scope types step.value reads served_value).same in
     subst (IsGivenBack result scope types) same (record {
@@ -192,7 +191,7 @@ while_good keyword decides closing body good one around v scope types x h served
     let first = bound (condition decides scope types) (behind_decided keyword closing body around scope) x h in
     let second = bound (body (in_loop around) scope first.value.1) (looped keyword first.value.0 closing) x first.behind in
     let same = same_value {A = StmtForm × Scope} ((typed.while_loop keyword first.value.0 closing second.value.0.0, second.value.0.1), second.value.1) x second.behind in
-    let parts = and_parts (is_built_form first.value.0.form) (is_served_statement second.value.0.0)
+    let parts = and_parts (is_served_form first.value.0.form) (is_served_statement second.value.0.0)
     (served_still (typed.while_loop keyword first.value.0 closing second.value.0.0) second.value.0.1 second.value.1 x second.behind served) in
     let decided = condition_is decides scope types first.value first.gave parts.0 in
     let gave : body (in_loop around) scope types ≡ Ok second.value = subst (λ (s : Types). body (in_loop around) scope s ≡ Ok second.value) decided.same second.gave in
@@ -224,7 +223,7 @@ branch_good keyword decides closing body good one around v scope types x h serve
     let first = bound (condition decides scope types) (behind_condition keyword closing body around scope) x h in
     let second = bound (body around scope first.value.1) (branched keyword first.value.0 closing) x first.behind in
     let same = same_value {A = StmtForm × Scope} ((typed.branch keyword first.value.0 closing second.value.0.0, second.value.0.1), second.value.1) x second.behind in
-    let parts = and_parts (is_built_form first.value.0.form) (is_served_statement second.value.0.0)
+    let parts = and_parts (is_served_form first.value.0.form) (is_served_statement second.value.0.0)
     (served_still (typed.branch keyword first.value.0 closing second.value.0.0) second.value.0.1 second.value.1 x second.behind served) in
     let decided = condition_is decides scope types first.value first.gave parts.0 in
     let gave : body around scope types ≡ Ok second.value = subst (λ (s : Types). body around scope s ≡ Ok second.value) decided.same second.gave in
@@ -329,9 +328,9 @@ module _ (keyword first_semicolon second_semicolon closing : Place) (start : Opt
       let form : StmtForm = typed.for_loop keyword a.value.0.0 first_semicolon b.value.0 second_semicolon c.value.0 closing d.value.0.0 in
       let out : Scope = forgotten (start_names start) d.value.0.1 in
       let same = same_value {A = StmtForm × Scope} ((form, out), d.value.1) x d.behind in
-      let s1 = and_parts (is_served_start a.value.0.0) (is_built_if_any b.value.0 && (is_built_step c.value.0 && is_served_statement d.value.0.0)) (served_still form out d.value.1 x d.behind served) in
-      let s2 = and_parts (is_built_if_any b.value.0) (is_built_step c.value.0 && is_served_statement d.value.0.0) s1.1 in
-      let s3 = and_parts (is_built_step c.value.0) (is_served_statement d.value.0.0) s2.1 in
+      let s1 = and_parts (is_served_start a.value.0.0) (is_served_if_any b.value.0 && (is_served_step c.value.0 && is_served_statement d.value.0.0)) (served_still form out d.value.1 x d.behind served) in
+      let s2 = and_parts (is_served_if_any b.value.0) (is_served_step c.value.0 && is_served_statement d.value.0.0) s1.1 in
+      let s3 = and_parts (is_served_step c.value.0) (is_served_statement d.value.0.0) s2.1 in
       let started : IsStarted (start_names start) v scope types a.value = start_is start v scope types a.value a.gave s1.0 sound in
       let w : Visible = after_start a.value.0.0 v in
       let decided = optional_condition_is decides a.value.0.1 a.value.1 b.value b.gave s2.0 in

@@ -10,10 +10,10 @@ use Rattle.life_tree.specs.declared.identifier.Identifier.{Identifier}
 use Rattle.life_typed.specs.BaseTypes.{type_at}
 use Rattle.life_typed.specs.TypedForm.{Form, Typed, local}
 use Rattle.life_typed.specs.declared.typed_program.TypedLocal.{TypedLocal}
-use Rattle.life_names.specs.Environment.{Scope, SignatureView, meaning}
+use Rattle.life_names.specs.Environment.{Scope, SignatureView, StructureView, meaning}
 use Rattle.life_names.specs.declared.environment.Entity.{Entity}
 use Rattle.life_names.specs.declared.environment.Entity.TheVariants as entity
-use Rattle.life_type_expr.specs.Named.{function_meant, function_named, local_meant, local_named, numbered_as}
+use Rattle.life_type_expr.specs.Named.{function_meant, function_named, local_meant, local_named, numbered_as, structure_meant, structure_named}
 use Rattle.life_type_expr.specs.Operands.{answer_of, variable, variable_of}
 use Rattle.life_typing_laws.proofs.Growing.{same_type_at}
 
@@ -58,6 +58,15 @@ function_is name scope x e = of (meaning scope name.id) e
     of entity.Unseen e = absurd (cc)
     of (entity.Structure number) e = absurd (cc)
     of (entity.Function number) e = (numbered_there scope.functions number name.place (slice_get scope.functions number) x refl e).1
+    of (entity.Local number) e = absurd (cc)
+
+pub structure_is : (name : Identifier) (scope : Scope) (x : ℕ × StructureView) → structure_named name scope ≡ Ok x → slice_get scope.structs x.0 ≡ Some x.1
+structure_is name scope x e = of (meaning scope name.id) e
+  where
+    of : (m : Entity) → structure_meant m name.place scope ≡ Ok x → slice_get scope.structs x.0 ≡ Some x.1
+    of entity.Unseen e = absurd (cc)
+    of (entity.Structure number) e = (numbered_there scope.structs number name.place (slice_get scope.structs number) x refl e).1
+    of (entity.Function number) e = absurd (cc)
     of (entity.Local number) e = absurd (cc)
 
 -- ---- what they name

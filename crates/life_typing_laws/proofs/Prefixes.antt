@@ -30,7 +30,7 @@ use Rattle.life_well_typed.specs.Visible.{Visible}
 use Rattle.life_typing_laws.proofs.Combining.{negated_parts}
 use Rattle.life_typing_laws.proofs.Growing.{parts_there, same_type_at}
 use Rattle.life_typing_laws.specs.Sound.{IsFinal, IsSound}
-use Rattle.life_built.specs.Built.{is_built_form}
+use Rattle.life_typing_laws.specs.Served.{is_served_form}
 use Rattle.life_typing_laws.proofs.Steps.{bound, found_ok, given_ok}
 use Rattle.life_typing_laws.proofs.Typed.{Good, IsTyped, PartsThere, PlaceThere}
 
@@ -51,7 +51,7 @@ plain_no_pointer types id plain = go (slice_get types.types id.0) refl plain
 
 -- ---- what a pointer points to is there
 
-target_there : (types : Types) (e : ExprType) (target : TyId × Bool) → PartsThere types e → dereferenced e ≡ Some target → HasType types target.0
+pub target_there : (types : Types) (e : ExprType) (target : TyId × Bool) → PartsThere types e → dereferenced e ≡ Some target → HasType types target.0
 target_there types (Of (ty.Raw id constant)) target parts e = let same : ◌≡◌ {A = TyId × Bool} (id, constant) target = cc in subst (λ (y : TyId × Bool). HasType types y.0) same parts
 target_there types (Of (ty.Iterator id constant)) target parts e = let same : ◌≡◌ {A = TyId × Bool} (id, constant) target = cc in subst (λ (y : TyId × Bool). HasType types y.0) same parts
 target_there types (Of (ty.Unique id)) target parts e = let same : ◌≡◌ {A = TyId × Bool} (id, false) target = cc in subst (λ (y : TyId × Bool). HasType types y.0) same parts
@@ -62,7 +62,7 @@ target_there types TextLiteral target parts e = absurd (cc)
 -- ---- what an operator makes of an operand
 
 module _ (p : ProgramForm) (locals : List TypedLocal) (v : Visible) (scope : Scope) (types : Types) (sound : IsSound v scope types) (final : IsFinal p locals scope types) where
-  prefixed_typed : (operator : PrefixOperator) (place : Place) (inner e : Typed) → prefixed_by operator types place inner ≡ Ok e → IsTyped p locals v types inner → IsTyped p locals v types e
+  pub prefixed_typed : (operator : PrefixOperator) (place : Place) (inner e : Typed) → prefixed_by operator types place inner ≡ Ok e → IsTyped p locals v types inner → IsTyped p locals v types e
   prefixed_typed prefix.Not place inner e h is = go (is_condition inner.ty) refl h
     where
       go : (b : Bool) → is_condition inner.ty ≡ b → ◌≡◌ {A = Found Typed} (if b then Ok (value place ty.Bool (negation (whole inner))) else not_found kinds.WrongType place) (Ok e) → IsTyped p locals v types e
@@ -109,30 +109,30 @@ module _ (p : ProgramForm) (locals : List TypedLocal) (v : Visible) (scope : Sco
       go (category.Place id constant) cat there h = plain id constant cat (subst (PlaceThere types) cat there) (is_plain (tree_at types id)) refl h
 
 -- .. has an operand that is served, if it is served itself
-prefixed_served : (operator : PrefixOperator) (types : Types) (place : Place) (inner e : Typed) → prefixed_by operator types place inner ≡ Ok e → is_built_form e.form ≡ true → is_built_form inner.form ≡ true
+pub prefixed_served : (operator : PrefixOperator) (types : Types) (place : Place) (inner e : Typed) → prefixed_by operator types place inner ≡ Ok e → is_served_form e.form ≡ true → is_served_form inner.form ≡ true
 prefixed_served prefix.Not types place inner e h served = go (is_condition inner.ty) h
   where
-    go : (b : Bool) → ◌≡◌ {A = Found Typed} (if b then Ok (value place ty.Bool (negation (whole inner))) else not_found kinds.WrongType place) (Ok e) → is_built_form inner.form ≡ true
-    go true h = let same : value place ty.Bool (negation (whole inner)) ≡ e = cc in subst (λ (y : Typed). is_built_form y.form ≡ true) (sym same) served
+    go : (b : Bool) → ◌≡◌ {A = Found Typed} (if b then Ok (value place ty.Bool (negation (whole inner))) else not_found kinds.WrongType place) (Ok e) → is_served_form inner.form ≡ true
+    go true h = let same : value place ty.Bool (negation (whole inner)) ≡ e = cc in subst (λ (y : Typed). is_served_form y.form ≡ true) (sym same) served
     go false h = absurd (cc)
 prefixed_served prefix.Negate types place inner e h served = go (negated inner.ty) h
   where
-    go : (r : Result Ty Misfit) → negated_to r place inner ≡ Ok e → is_built_form inner.form ≡ true
-    go (Ok t) h = let same : value place t (negate (whole inner)) ≡ e = cc in subst (λ (y : Typed). is_built_form y.form ≡ true) (sym same) served
+    go : (r : Result Ty Misfit) → negated_to r place inner ≡ Ok e → is_served_form inner.form ≡ true
+    go (Ok t) h = let same : value place t (negate (whole inner)) ≡ e = cc in subst (λ (y : Typed). is_served_form y.form ≡ true) (sym same) served
     go (Err m) h = absurd (cc)
 prefixed_served prefix.Dereference types place inner e h served = go (dereferenced inner.ty) h
   where
-    go : (o : Option (TyId × Bool)) → dereferenced_to o types place inner ≡ Ok e → is_built_form inner.form ≡ true
+    go : (o : Option (TyId × Bool)) → dereferenced_to o types place inner ≡ Ok e → is_served_form inner.form ≡ true
     go None h = absurd (cc)
-    go (Some target) h = let same : place_of types target.0 target.1 place (dereference (whole inner)) ≡ e = cc in subst (λ (y : Typed). is_built_form y.form ≡ true) (sym same) served
+    go (Some target) h = let same : place_of types target.0 target.1 place (dereference (whole inner)) ≡ e = cc in subst (λ (y : Typed). is_served_form y.form ≡ true) (sym same) served
 prefixed_served prefix.AddressOf types place inner e h served = go inner.category h
   where
     plain : (id : TyId) (constant : Bool) (b : Bool)
-        → ◌≡◌ {A = Found Typed} (if b then Ok (value place (ty.Raw id constant) (address_of (whole inner))) else not_found kinds.NotPlain place) (Ok e) → is_built_form inner.form ≡ true
-    plain id constant true h = let same : value place (ty.Raw id constant) (address_of (whole inner)) ≡ e = cc in subst (λ (y : Typed). is_built_form y.form ≡ true) (sym same) served
+        → ◌≡◌ {A = Found Typed} (if b then Ok (value place (ty.Raw id constant) (address_of (whole inner))) else not_found kinds.NotPlain place) (Ok e) → is_served_form inner.form ≡ true
+    plain id constant true h = let same : value place (ty.Raw id constant) (address_of (whole inner)) ≡ e = cc in subst (λ (y : Typed). is_served_form y.form ≡ true) (sym same) served
     plain id constant false h = absurd (cc)
 
-    go : (c : Category) → address_to c types place inner ≡ Ok e → is_built_form inner.form ≡ true
+    go : (c : Category) → address_to c types place inner ≡ Ok e → is_served_form inner.form ≡ true
     go category.Value h = absurd (cc)
     go (category.Place id constant) h = plain id constant (is_plain (tree_at types id)) h
 
@@ -190,7 +190,7 @@ paren_is closing operand scope types x e =
 pub paren_good : (closing : Place) (operand : Meaning) → Good operand → Good (paren_of closing operand)
 paren_good closing operand good scope types x e served =
     let q = paren_is closing operand scope types x e in
-    let inner = good scope types q.inner q.reads (subst (λ (y : Typed). is_built_form y.form ≡ true) (sym q.is) served) in
+    let inner = good scope types q.inner q.reads (subst (λ (y : Typed). is_served_form y.form ≡ true) (sym q.is) served) in
     record {
       same = sym q.table ∙ inner.same;
       is = λ p locals v sound final.

@@ -15,17 +15,22 @@ use Rattle.life_type_expr.specs.Operands.{literal_allowed}
 use Rattle.life_well_typed.specs.Expressions.{AreExpressions}
 use Rattle.life_well_typed.specs.Visible.{Visible}
 use Rattle.life_typing_laws.proofs.Each.{EachHolds}
-use Rattle.life_built.specs.Built.{is_built_form}
+use Rattle.life_typing_laws.specs.Served.{is_served_form}
 use Rattle.life_typing_laws.specs.Sound.{IsFinal, IsSound}
 use Rattle.life_typing_laws.proofs.Steps.{allowed_ok, bound, given_ok, same_value}
-use Rattle.life_typing_laws.proofs.Typed.{Good}
+use Rattle.life_typing_laws.proofs.Typed.{Good, PlaceThere}
+
+-- the type of each is there that is a place
+abbrev pub PlacesThere : Types → List Typed → Type 0
+PlacesThere types es = EachHolds (λ (e : Typed). PlaceThere types e.category) es
 
 -- what was read behind those that were there: the table is the same, and each is well typed, if all are served
 pub record IsRead (done : List Typed) (scope : Scope) (types : Types) (x : List Typed × Types) : Type 0 where
   pub more : List Typed
   pub all : x.0 ≡ done ++ more
-  pub same : is_built_form (forms more) ≡ true → x.1 ≡ types
-  pub are : (p : ProgramForm) (locals : List TypedLocal) (v : Visible) → is_built_form (forms more) ≡ true → IsSound v scope types → IsFinal p locals scope types → AreExpressions p locals v.visible (forms more)
+  pub same : is_served_form (forms more) ≡ true → x.1 ≡ types
+  pub are : (p : ProgramForm) (locals : List TypedLocal) (v : Visible) → is_served_form (forms more) ≡ true → IsSound v scope types → IsFinal p locals scope types → AreExpressions p locals v.visible (forms more)
+  pub places : (p : ProgramForm) (locals : List TypedLocal) (v : Visible) → is_served_form (forms more) ≡ true → IsSound v scope types → IsFinal p locals scope types → PlacesThere types more
 
 pub append_none : {A : Type 0} (xs : List A) → xs ++ [] ≡ xs
 append_none [] = refl
@@ -44,7 +49,7 @@ all_read targets done [] scope types x good e =
     let whole : ◌≡◌ {A = List Typed × Types} (done, types) x = same_value {A = List Typed} (done, types) x e in
     let all : done ≡ x.0 = ap (λ (y : List Typed × Types). y.0) whole in
     let table : types ≡ x.1 = ap (λ (y : List Typed × Types). y.1) whole in
-    record { more = []; all = sym all ∙ sym (append_none done); same = λ served. sym table; are = λ p locals v served sound final. tt }
+    record { more = []; all = sym all ∙ sym (append_none done); same = λ served. sym table; are = λ p locals v served sound final. tt; places = λ p locals v served sound final. tt }
 all_read targets done (m ∷ ms) scope types x good e =
     let step = bound (m scope types) (behind_one targets done ms scope) x e in
     let literal = given_ok (taken targets done step.value) (λ _. read_onto targets (done ++ step.value.0 ∷ []) ms scope step.value.1) x step.behind in
@@ -52,12 +57,18 @@ all_read targets done (m ∷ ms) scope types x good e =
     record {
       more = step.value.0 ∷ rest.more;
       all = rest.all ∙ append_assoc done (step.value.0 ∷ []) rest.more;
-      same = λ served. let parts = and_parts (is_built_form step.value.0.form) (is_built_form (forms rest.more)) served in rest.same parts.1 ∙ (good.0 scope types step.value step.gave parts.0).same;
+      same = λ served. let parts = and_parts (is_served_form step.value.0.form) (is_served_form (forms rest.more)) served in rest.same parts.1 ∙ (good.0 scope types step.value step.gave parts.0).same;
       are = λ p locals v served sound final.
-          let parts = and_parts (is_built_form step.value.0.form) (is_built_form (forms rest.more)) served in
+          let parts = and_parts (is_served_form step.value.0.form) (is_served_form (forms rest.more)) served in
           let table : step.value.1 ≡ types = (good.0 scope types step.value step.gave parts.0).same in (
             ((good.0 scope types step.value step.gave parts.0).is p locals v sound final).is,
             rest.are p locals v parts.1 (subst (IsSound v scope) (sym table) sound) (subst (IsFinal p locals scope) (sym table) final),
+          );
+      places = λ p locals v served sound final.
+          let parts = and_parts (is_served_form step.value.0.form) (is_served_form (forms rest.more)) served in
+          let table : step.value.1 ≡ types = (good.0 scope types step.value step.gave parts.0).same in (
+            ((good.0 scope types step.value step.gave parts.0).is p locals v sound final).place,
+            subst (λ (t : Types). PlacesThere t rest.more) table (rest.places p locals v parts.1 (subst (IsSound v scope) (sym table) sound) (subst (IsFinal p locals scope) (sym table) final)),
           );
     }
 

@@ -34,7 +34,7 @@ use Rattle.life_well_typed.specs.Statements.{IsGiven, IsSimple, IsSimpleIfAny}
 use Rattle.life_well_typed.specs.Visible.{Visible}
 use Rattle.life_typing_laws.proofs.Fitting.{fit_at_all, given_later, lower_none, misfit_none}
 use Rattle.life_typing_laws.specs.Sound.{Grows, IsFinal, IsSound}
-use Rattle.life_built.specs.Built.{is_built_form, is_built_simple, is_built_step, is_built_value, is_call}
+use Rattle.life_typing_laws.specs.Served.{is_served_form, is_served_simple, is_served_step, is_served_value}
 use Rattle.life_typing_laws.proofs.Steps.{allowed_ok, bound, given_ok, same_value}
 use Rattle.life_typing_laws.proofs.Typed.{Good}
 use Rattle.life_typing_laws.proofs.Values.{operand_reads, target_reads, unless_none, value_is}
@@ -50,8 +50,8 @@ pub record IsDone (scope : Scope) (types : Types) (x : SimpleForm × Types) : Ty
 done_as : (scope : Scope) (types : Types) (y x : SimpleForm × Types) → ◌≡◌ {A = Checked SimpleForm} (Ok y) (Ok x) → IsDone scope types y → IsDone scope types x
 done_as scope types y x h done = subst (IsDone scope types) (same_value y x h) done
 
-served_as : (y x : SimpleForm × Types) → ◌≡◌ {A = Checked SimpleForm} (Ok y) (Ok x) → is_built_simple x.0 ≡ true → is_built_simple y.0 ≡ true
-served_as y x h served = subst (λ (z : SimpleForm × Types). is_built_simple z.0 ≡ true) (sym (same_value y x h)) served
+served_as : (y x : SimpleForm × Types) → ◌≡◌ {A = Checked SimpleForm} (Ok y) (Ok x) → is_served_simple x.0 ≡ true → is_served_simple y.0 ≡ true
+served_as y x h served = subst (λ (z : SimpleForm × Types). is_served_simple z.0 ≡ true) (sym (same_value y x h)) served
 
 -- ---- targets
 
@@ -76,13 +76,13 @@ behind_value equals t y = given (allowed (assignment_fault y.1 t y.0) equals) (�
 abbrev behind_target : Place → InitialValue → Scope → Typed × Types → Checked SimpleForm
 behind_target equals i scope x = given_value (type_of x.0.ty) i scope x.1 >>= behind_value equals x.0
 
-assignment_is : (t : Target) (equals : Place) (i : InitialValue) (scope : Scope) (types : Types) (x : SimpleForm × Types) → assignment t equals i scope types ≡ Ok x → is_built_simple x.0 ≡ true
+assignment_is : (t : Target) (equals : Place) (i : InitialValue) (scope : Scope) (types : Types) (x : SimpleForm × Types) → assignment t equals i scope types ≡ Ok x → is_served_simple x.0 ≡ true
     → IsDone scope types x
 assignment_is t equals i scope types x h served =
     let first = bound (target t scope types) (behind_target equals i scope) x h in
     let second = bound (given_value (type_of first.value.0.ty) i scope first.value.1) (behind_value equals first.value.0) x first.behind in
     let fine = allowed_ok (assignment_fault second.value.1 first.value.0 second.value.0) equals (λ _. Ok (typed.assign first.value.0 equals second.value.0, second.value.1)) x second.behind in
-    let parts = and_parts (is_built_form first.value.0.form) (is_built_value second.value.0) (served_as (typed.assign first.value.0 equals second.value.0, second.value.1) x fine.1 served) in
+    let parts = and_parts (is_served_form first.value.0.form) (is_served_value second.value.0) (served_as (typed.assign first.value.0 equals second.value.0, second.value.1) x fine.1 served) in
     let reads = target_reads t scope types first.value first.gave in
     let table : first.value.1 ≡ types = (target_good t scope types first.value reads parts.0).same in
     let gave : given_value (type_of first.value.0.ty) i scope types ≡ Ok second.value = subst (λ (s : Types). given_value (type_of first.value.0.ty) i scope s ≡ Ok second.value) table second.gave in
@@ -115,7 +115,7 @@ behind_sum operator place t y =
     given (literal_allowed (fits_at_all (fit_of operator t y.0)) y.0) (λ _. given (allowed (compound_fault (fit_of operator t y.0) t) place) (λ _. Ok (typed.compound t operator place y.0, y.1)))
 
 compound_is : (t : Target) (operator : CompoundOperator) (place : Place) (e : Expr) (scope : Scope) (types : Types) (x : SimpleForm × Types) → compound t operator place e scope types ≡ Ok x
-    → is_built_simple x.0 ≡ true → IsDone scope types x
+    → is_served_simple x.0 ≡ true → IsDone scope types x
 compound_is t operator place e scope types x h served =
     let first = bound (target t scope types) (λ y. expr_meaning e scope y.1 >>= behind_sum operator place y.0) x h in
     let second = bound (expr_meaning e scope first.value.1) (behind_sum operator place first.value.0) x first.behind in
@@ -123,7 +123,7 @@ compound_is t operator place e scope types x h served =
     let literal = given_ok (literal_allowed (fits_at_all fit) second.value.0)
     (λ _. given (allowed (compound_fault fit first.value.0) place) (λ _. Ok (typed.compound first.value.0 operator place second.value.0, second.value.1))) x second.behind in
     let fine = allowed_ok (compound_fault fit first.value.0) place (λ _. Ok (typed.compound first.value.0 operator place second.value.0, second.value.1)) x literal.behind in
-    let parts = and_parts (is_built_form first.value.0.form) (is_built_form second.value.0.form) (served_as (typed.compound first.value.0 operator place second.value.0, second.value.1) x fine.1 served) in
+    let parts = and_parts (is_served_form first.value.0.form) (is_served_form second.value.0.form) (served_as (typed.compound first.value.0 operator place second.value.0, second.value.1) x fine.1 served) in
     let reads = target_reads t scope types first.value first.gave in
     let table : first.value.1 ≡ types = (target_good t scope types first.value reads parts.0).same in
     let gave : expr_meaning e scope types ≡ Ok second.value = subst (λ (s : Types). expr_meaning e scope s ≡ Ok second.value) table second.gave in
@@ -155,12 +155,12 @@ stepped_is operator place t s h = go (step_fault t) refl h
     go (Some kind) fine h = absurd (cc)
 
 step_is : (m : Meaning) (good : Good m) (operator : StepOperator) (place : Place) (scope : Scope) (types : Types) (y : Typed × Types) (x : SimpleForm × Types) → m scope types ≡ Ok y
-    → step_taken operator place y ≡ Ok x → is_built_simple x.0 ≡ true → IsDone scope types x
+    → step_taken operator place y ≡ Ok x → is_served_simple x.0 ≡ true → IsDone scope types x
 step_is m good operator place scope types y x reads h served =
     let found = given_ok (stepped operator place y.0) (λ s. Ok (s, y.1)) x h in
     let step = stepped_is operator place y.0 found.value found.gave in
     let whole : ◌≡◌ {A = Checked SimpleForm} (Ok (typed.step y.0 operator place, y.1)) (Ok x) = ap (λ (s : SimpleForm). Ok (s, y.1)) step.is ∙ found.behind in
-    let served_target : is_built_form y.0.form ≡ true = served_as (typed.step y.0 operator place, y.1) x whole served in
+    let served_target : is_served_form y.0.form ≡ true = served_as (typed.step y.0 operator place, y.1) x whole served in
     let no_step = lower_none (unless (is_place y.0.ty y.0.category && can_step (type_of y.0.ty)) kinds.WrongType) (const_or (is_constant y.0.category) None) step.fine in
     let tests = and_parts (is_place y.0.ty y.0.category) (can_step (type_of y.0.ty)) (unless_none (is_place y.0.ty y.0.category && can_step (type_of y.0.ty)) kinds.WrongType no_step.0) in
     done_as scope types (typed.step y.0 operator place, y.1) x whole (record {
@@ -170,7 +170,7 @@ step_is m good operator place scope types y x reads h served =
 
 -- ---- all of them
 
-pub simple_is : (s : Simple) (scope : Scope) (types : Types) (x : SimpleForm × Types) → simple_statement s scope types ≡ Ok x → is_built_simple x.0 ≡ true → IsDone scope types x
+pub simple_is : (s : Simple) (scope : Scope) (types : Types) (x : SimpleForm × Types) → simple_statement s scope types ≡ Ok x → is_served_simple x.0 ≡ true → IsDone scope types x
 simple_is (simple.Assign t equals i) scope types x h served = assignment_is t equals i scope types x h served
 simple_is (simple.Compound t operator place e) scope types x h served = compound_is t operator place e.value scope types x h served
 simple_is (simple.PrefixStep operator place t) scope types x h served =
@@ -182,10 +182,10 @@ simple_is (simple.PostfixStep t operator place) scope types x h served =
 simple_is (simple.Call c) scope types x h served =
     let first = bound (operand c scope types) (λ y. Ok (typed.discarded y.0, y.1)) x h in
     let reads = operand_reads c scope types first.value first.gave in
-    let parts = and_parts (is_call first.value.0.form) (is_built_form first.value.0.form) (served_as (typed.discarded first.value.0, first.value.1) x first.behind served) in
+    let alone : is_served_form first.value.0.form ≡ true = served_as (typed.discarded first.value.0, first.value.1) x first.behind served in
     done_as scope types (typed.discarded first.value.0, first.value.1) x first.behind (record {
-      same = (postfix_good c scope types first.value reads parts.1).same;
-      is = λ p locals result v sound final. ((postfix_good c scope types first.value reads parts.1).is p locals v sound final).is;
+      same = (postfix_good c scope types first.value reads alone).same;
+      is = λ p locals result v sound final. ((postfix_good c scope types first.value reads alone).is p locals v sound final).is;
     })
 
 -- .. where it may be left out
@@ -193,12 +193,12 @@ pub record IsDoneIfAny (scope : Scope) (types : Types) (x : Option SimpleForm ×
   pub same : x.1 ≡ types
   pub is : (p : ProgramForm) (locals : List TypedLocal) (result : TyId) (v : Visible) → IsSound v scope types → IsFinal p locals scope types → IsSimpleIfAny p locals result v.visible x.0
 
-pub optional_simple_is : (s : Option (Box Simple Global)) (scope : Scope) (types : Types) (x : Option SimpleForm × Types) → optional_simple s scope types ≡ Ok x → is_built_step x.0 ≡ true
+pub optional_simple_is : (s : Option (Box Simple Global)) (scope : Scope) (types : Types) (x : Option SimpleForm × Types) → optional_simple s scope types ≡ Ok x → is_served_step x.0 ≡ true
     → IsDoneIfAny scope types x
 optional_simple_is None scope types x h served =
     subst (IsDoneIfAny scope types) (same_value {A = Option SimpleForm} (None, types) x h) (record { same = refl; is = λ p locals result v sound final. tt })
 optional_simple_is (Some s) scope types x h served =
     let step = bound (simple_statement s.value scope types) (λ y. Ok (Some y.0, y.1)) x h in
     let same : ◌≡◌ {A = Option SimpleForm × Types} (Some step.value.0, step.value.1) x = same_value {A = Option SimpleForm} (Some step.value.0, step.value.1) x step.behind in
-    let done = simple_is s.value scope types step.value step.gave (subst (λ (z : Option SimpleForm × Types). is_built_step z.0 ≡ true) (sym same) served) in
+    let done = simple_is s.value scope types step.value step.gave (subst (λ (z : Option SimpleForm × Types). is_served_step z.0 ≡ true) (sym same) served) in
     subst (IsDoneIfAny scope types) same (record { same = done.same; is = done.is })

@@ -28,8 +28,7 @@ use Rattle.life_well_typed.specs.Visible.{Visible, after}
 use Rattle.life_typing_laws.proofs.Domains.{Around}
 use Rattle.life_typing_laws.proofs.Scopes.{Moves, moves_not}
 use Rattle.life_typing_laws.specs.Sound.{IsFinal, IsSound}
-use Rattle.life_built.specs.Built.{are_built_items, is_built_form, is_built_if_any, is_built_item}
-use Rattle.life_typing_laws.specs.Served.{is_served_statement}
+use Rattle.life_typing_laws.specs.Served.{are_served_items, is_served_form, is_served_if_any, is_served_item, is_served_statement}
 use Rattle.life_typing_laws.proofs.Steps.{allowed_ok, bound, same_value}
 use Rattle.life_typing_laws.proofs.Values.{condition_reads, unless_none}
 use Rattle.life_typing_laws.proofs.Wholes.{additive_good, expr_good}
@@ -92,7 +91,7 @@ pub record IsDecided (scope : Scope) (types : Types) (x : Typed × Types) : Type
   pub same : x.1 ≡ types
   pub is : (p : ProgramForm) (locals : List TypedLocal) (result : TyId) (v : Visible) → IsSound v scope types → IsFinal p locals scope types → Decides p locals result v.visible x.0
 
-pub condition_is : (e : Expr) (scope : Scope) (types : Types) (x : Typed × Types) → condition e scope types ≡ Ok x → is_built_form x.0.form ≡ true → IsDecided scope types x
+pub condition_is : (e : Expr) (scope : Scope) (types : Types) (x : Typed × Types) → condition e scope types ≡ Ok x → is_served_form x.0.form ≡ true → IsDecided scope types x
 condition_is e scope types x h served =
     let reads = condition_reads e scope types x h in
     record {
@@ -104,14 +103,14 @@ pub record IsDecidedIfAny (scope : Scope) (types : Types) (x : Option Typed × T
   pub same : x.1 ≡ types
   pub is : (p : ProgramForm) (locals : List TypedLocal) (result : TyId) (v : Visible) → IsSound v scope types → IsFinal p locals scope types → DecidesIfAny p locals result v.visible x.0
 
-pub optional_condition_is : (e : Option (Box Expr Global)) (scope : Scope) (types : Types) (x : Option Typed × Types) → optional_condition e scope types ≡ Ok x → is_built_if_any x.0 ≡ true
+pub optional_condition_is : (e : Option (Box Expr Global)) (scope : Scope) (types : Types) (x : Option Typed × Types) → optional_condition e scope types ≡ Ok x → is_served_if_any x.0 ≡ true
     → IsDecidedIfAny scope types x
 optional_condition_is None scope types x h served =
     subst (IsDecidedIfAny scope types) (same_value {A = Option Typed} (None, types) x h) (record { same = refl; is = λ p locals result v sound final. tt })
 optional_condition_is (Some e) scope types x h served =
     let step = bound (condition e.value scope types) (λ y. Ok (Some y.0, y.1)) x h in
     let same = same_value {A = Option Typed} (Some step.value.0, step.value.1) x step.behind in
-    let decided = condition_is e.value scope types step.value step.gave (subst (λ (z : Option Typed × Types). is_built_if_any z.0 ≡ true) (sym same) served) in
+    let decided = condition_is e.value scope types step.value step.gave (subst (λ (z : Option Typed × Types). is_served_if_any z.0 ≡ true) (sym same) served) in
     subst (IsDecidedIfAny scope types) same (record { same = decided.same; is = decided.is })
 
 -- ---- what is printed
@@ -127,12 +126,12 @@ pub record IsPrinted (scope : Scope) (types : Types) (x : ItemForm × Types) : T
   pub same : x.1 ≡ types
   pub is : (p : ProgramForm) (locals : List TypedLocal) (result : TyId) (v : Visible) → IsSound v scope types → IsFinal p locals scope types → IsItem p locals result v.visible x.0
 
-item_is : (i : PrintItem) (scope : Scope) (types : Types) (x : ItemForm × Types) → item i scope types ≡ Ok x → is_built_item x.0 ≡ true → IsPrinted scope types x
+item_is : (i : PrintItem) (scope : Scope) (types : Types) (x : ItemForm × Types) → item i scope types ≡ Ok x → is_served_item x.0 ≡ true → IsPrinted scope types x
 item_is (print_item.Value e) scope types x h served =
     let step = bound (additive_meaning e scope types) printed_with x h in
     let fine = allowed_ok (unless (is_printed step.value.0.ty) kinds.WrongType) step.value.0.place (λ _. Ok (typed.printed step.value.0, step.value.1)) x step.behind in
     let same = same_value {A = ItemForm} (typed.printed step.value.0, step.value.1) x fine.1 in
-    let served_value : is_built_form step.value.0.form ≡ true = subst (λ (z : ItemForm × Types). is_built_item z.0 ≡ true) (sym same) served in
+    let served_value : is_served_form step.value.0.form ≡ true = subst (λ (z : ItemForm × Types). is_served_item z.0 ≡ true) (sym same) served in
     subst (IsPrinted scope types) same (record {
       same = (additive_good e scope types step.value step.gave served_value).same;
       is = λ p locals result v sound final.
@@ -144,14 +143,14 @@ item_is (print_item.EndLine name) scope types x h served =
 abbrev more_items : List PrintPart → Scope → ItemForm × Types → Checked (List ItemForm)
 more_items ps scope y = each part_item ps scope y.1 >>= (λ ys. Ok (y.0 ∷ ys.0, ys.1))
 
-pub items_are : (ps : List PrintPart) (scope : Scope) (types : Types) (x : List ItemForm × Types) → items ps scope types ≡ Ok x → are_built_items x.0 ≡ true → ArePrinted scope types x
+pub items_are : (ps : List PrintPart) (scope : Scope) (types : Types) (x : List ItemForm × Types) → items ps scope types ≡ Ok x → are_served_items x.0 ≡ true → ArePrinted scope types x
 items_are [] scope types x h served =
     subst (ArePrinted scope types) (same_value {A = List ItemForm} ([], types) x h) (record { same = refl; are = λ p locals result v sound final. tt })
 items_are (i ∷ ps) scope types x h served =
     let first = bound (part_item i scope types) (more_items ps scope) x h in
     let rest = bound (each part_item ps scope first.value.1) (λ ys. Ok (first.value.0 ∷ ys.0, ys.1)) x first.behind in
     let same = same_value {A = List ItemForm} (first.value.0 ∷ rest.value.0, rest.value.1) x rest.behind in
-    let parts = and_parts (is_built_item first.value.0) (are_built_items rest.value.0) (subst (λ (z : List ItemForm × Types). are_built_items z.0 ≡ true) (sym same) served) in
+    let parts = and_parts (is_served_item first.value.0) (are_served_items rest.value.0) (subst (λ (z : List ItemForm × Types). are_served_items z.0 ≡ true) (sym same) served) in
     let one = item_is i.item scope types first.value first.gave parts.0 in
     let gave : each part_item ps scope types ≡ Ok rest.value = subst (λ (s : Types). each part_item ps scope s ≡ Ok rest.value) one.same rest.gave in
     let others = items_are ps scope types rest.value gave parts.1 in

@@ -14,7 +14,7 @@ use Rattle.life_type_expr.specs.Lists.{ListMeaning, Meaning}
 use Rattle.life_well_typed.specs.Expressions.{IsExpression}
 use Rattle.life_well_typed.specs.Visible.{Visible}
 use Rattle.life_typing_laws.proofs.Each.{EachHolds}
-use Rattle.life_built.specs.Built.{is_built_form}
+use Rattle.life_typing_laws.specs.Served.{is_served_form}
 use Rattle.life_typing_laws.specs.Sound.{IsFinal, IsSound}
 
 -- ---- an expression
@@ -43,16 +43,16 @@ pub record IsGood (scope : Scope) (types : Types) (x : Typed × Types) : Type 0 
   pub is : (p : ProgramForm) (locals : List TypedLocal) (v : Visible) → IsSound v scope types → IsFinal p locals scope types → IsTyped p locals v types x.0
 
 abbrev pub Good : Meaning → Type 0
-Good m = (scope : Scope) (types : Types) (x : Typed × Types) → m scope types ≡ Ok x → is_built_form x.0.form ≡ true → IsGood scope types x
+Good m = (scope : Scope) (types : Types) (x : Typed × Types) → m scope types ≡ Ok x → is_served_form x.0.form ≡ true → IsGood scope types x
 
 -- .. behind an operand: what is served has a served operand
 pub record IsGoodBehind (left : Typed) (scope : Scope) (types : Types) (x : Typed × Types) : Type 0 where
-  pub back : is_built_form left.form ≡ true
+  pub back : is_served_form left.form ≡ true
   pub same : x.1 ≡ types
   pub is : (p : ProgramForm) (locals : List TypedLocal) (v : Visible) → IsSound v scope types → IsFinal p locals scope types → IsTyped p locals v types left → IsTyped p locals v types x.0
 
 abbrev pub GoodBehind : PartMeaning → Type 0
-GoodBehind q = (left : Typed) (scope : Scope) (types : Types) (x : Typed × Types) → q left scope types ≡ Ok x → is_built_form x.0.form ≡ true → IsGoodBehind left scope types x
+GoodBehind q = (left : Typed) (scope : Scope) (types : Types) (x : Typed × Types) → q left scope types ≡ Ok x → is_served_form x.0.form ≡ true → IsGoodBehind left scope types x
 
 -- .. each of a list
 abbrev pub GoodList : ListMeaning → Type 0
@@ -63,5 +63,5 @@ GoodList l = EachHolds Good l.list
 both : true ≡ false → ⊥
 both e = cc
 
-pub not_served : {P : Type 0} (f : Form) → is_built_form f ≡ false → is_built_form f ≡ true → P
+pub not_served : {P : Type 0} (f : Form) → is_served_form f ≡ false → is_served_form f ≡ true → P
 not_served f no_form e = absurd (both (sym e ∙ no_form))

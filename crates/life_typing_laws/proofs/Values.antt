@@ -28,8 +28,7 @@ use Rattle.life_type_stmt.specs.Given.{given_expr, given_first, given_list, give
 use Rattle.life_type_stmt.specs.Simples.{operand, target}
 use Rattle.life_well_typed.specs.Visible.{Visible}
 use Rattle.life_typing_laws.specs.Sound.{IsFinal, IsSound}
-use Rattle.life_built.specs.Built.{is_built_form, is_built_value}
-use Rattle.life_typing_laws.specs.Served.{is_served_first}
+use Rattle.life_typing_laws.specs.Served.{is_served_first, is_served_form, is_served_value}
 use Rattle.life_typing_laws.proofs.Steps.{allowed_ok, bound, given_ok, same_value}
 use Rattle.life_typing_laws.proofs.Typed.{IsTyped}
 use Rattle.life_typing_laws.proofs.Wholes.{expr_good}
@@ -88,11 +87,11 @@ pub record IsOne (scope : Scope) (types : Types) (x : InitialForm × Types) : Ty
 
 -- an expression that was read
 pub one_read : (e : Expr) (scope : Scope) (types : Types) (y : Typed × Types) (x : InitialForm × Types) → expr_meaning e scope types ≡ Ok y → ◌≡◌ {A = Checked InitialForm} (Ok (one y.0, y.1)) (Ok x)
-    → is_built_value x.0 ≡ true → IsOne scope types x
+    → is_served_value x.0 ≡ true → IsOne scope types x
 one_read e scope types y x read h served =
     let same : ◌≡◌ {A = InitialForm × Types} (one y.0, y.1) x = same_value (one y.0, y.1) x h in
     let form : one y.0 ≡ x.0 = ap (λ (z : InitialForm × Types). z.0) same in
-    let served_value : is_built_form y.0.form ≡ true = subst (λ (i : InitialForm). is_built_value i ≡ true) (sym form) served in
+    let served_value : is_served_form y.0.form ≡ true = subst (λ (i : InitialForm). is_served_value i ≡ true) (sym form) served in
     record {
       value = y.0;
       is = form;
@@ -101,17 +100,17 @@ one_read e scope types y x read h served =
     }
 
 -- a list isn't served
-pub several_never : {P : Type 0} (l : ListForm) (types : Types) (x : InitialForm × Types) → ◌≡◌ {A = Checked InitialForm} (Ok (several l, types)) (Ok x) → is_built_value x.0 ≡ true → P
+pub several_never : {P : Type 0} (l : ListForm) (types : Types) (x : InitialForm × Types) → ◌≡◌ {A = Checked InitialForm} (Ok (several l, types)) (Ok x) → is_served_value x.0 ≡ true → P
 several_never l types x h served =
     let form : several l ≡ x.0 = ap (λ (z : InitialForm × Types). z.0) (same_value (several l, types) x h) in
-    absurd (true≢false (sym (subst (λ (i : InitialForm). is_built_value i ≡ true) (sym form) served)))
+    absurd (true≢false (sym (subst (λ (i : InitialForm). is_served_value i ≡ true) (sym form) served)))
 
-list_never : {P : Type 0} (t : Ty) (l : InitList) (scope : Scope) (types : Types) (x : InitialForm × Types) → given_list t l scope types ≡ Ok x → is_built_value x.0 ≡ true → P
+list_never : {P : Type 0} (t : Ty) (l : InitList) (scope : Scope) (types : Types) (x : InitialForm × Types) → given_list t l scope types ≡ Ok x → is_served_value x.0 ≡ true → P
 list_never t l scope types x h served =
     let step = bound (list_checked t l scope types) (λ y. Ok (several y.0, y.1)) x h in
     several_never step.value.0 step.value.1 x step.behind served
 
-pub value_is : (t : Ty) (i : InitialValue) (scope : Scope) (types : Types) (x : InitialForm × Types) → given_value t i scope types ≡ Ok x → is_built_value x.0 ≡ true → IsOne scope types x
+pub value_is : (t : Ty) (i : InitialValue) (scope : Scope) (types : Types) (x : InitialForm × Types) → given_value t i scope types ≡ Ok x → is_served_value x.0 ≡ true → IsOne scope types x
 value_is t (initial_value.Expr e) scope types x h served =
     let step = bound (given_expr t e.value scope types) (λ y. Ok (one y.0, y.1)) x h in
     one_read e.value scope types step.value x (given_expr_reads t e.value scope types step.value step.gave) step.behind served
@@ -127,7 +126,7 @@ pub data FirstRead (scope : Scope) (types : Types) (x : Option InitialForm × Ty
   Value : (value : InitialForm) → IsFirst scope types value x → FirstRead scope types x
 
 pub some_read : (scope : Scope) (types : Types) (y : InitialForm × Types) (x : Option InitialForm × Types) → ◌≡◌ {A = Checked (Option InitialForm)} (Ok (Some y.0, y.1)) (Ok x)
-    → (is_built_value y.0 ≡ true → IsOne scope types y) → is_served_first x.0 ≡ true → FirstRead scope types x
+    → (is_served_value y.0 ≡ true → IsOne scope types y) → is_served_first x.0 ≡ true → FirstRead scope types x
 some_read scope types y x h read served =
     let same : ◌≡◌ {A = Option InitialForm × Types} (Some y.0, y.1) x = same_value (Some y.0, y.1) x h in
     let first : Some y.0 ≡ x.0 = ap (λ (z : Option InitialForm × Types). z.0) same in

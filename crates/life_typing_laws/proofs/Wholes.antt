@@ -25,7 +25,7 @@ use Rattle.life_tree.specs.declared.primary.PostfixPart.TheFolds.{fold-roll-Post
 use Rattle.life_tree.specs.declared.primary.PostfixPart.TheFolds.{ind-Additive, ind-Expr, ind-Postfix}
 use Rattle.life_tree.specs.declared.primary.PostfixPart.TheFolds.{map-PostfixPart, map-Primary, map-Unary}
 use Rattle.life_tree.specs.declared.primary.PostfixPart.TheOpen as open_expr
-use Rattle.life_typed.specs.TypedForm.{Typed, boolean, character, input, null, number, text}
+use Rattle.life_typed.specs.TypedForm.{boolean, character, input, null, number, text}
 use Rattle.life_typed.specs.declared.typed_expr.BinaryOperator.TheVariants as operators
 use Rattle.life_typed.specs.declared.typed_expr.Category.TheVariants as category
 use Rattle.life_typed.specs.declared.typed_expr.ExprType.TheVariants as expr_type
@@ -33,18 +33,21 @@ use Rattle.life_type_expr.specs.Expressions.{PartMeaning, additive_operator, equ
 use Rattle.life_type_expr.specs.Expressions.{part_step, primary_step, unary_step, additive_step, additive_part, multiplicative_step, multiplicative_part, equality_step, equality_part, relational_step, relational_part, and_part, arguments_step, expr_step, init_list_step, logical_and_step, or_part, postfix_step}
 use Rattle.life_type_expr.specs.Expressions.{part_meaning, primary_meaning, unary_meaning, additive_meaning, additive_part_meaning, multiplicative_meaning, multiplicative_part_meaning, equality_meaning, equality_part_meaning, relational_meaning, relational_part_meaning, and_part_meaning, arguments_meaning, expr_meaning, init_list_meaning, logical_and_meaning, or_part_meaning, postfix_meaning}
 use Rattle.life_type_expr.specs.Lists.{ListMeaning, Meaning}
-use Rattle.life_type_expr.specs.Members.{arrow_part, dot_part}
 use Rattle.life_type_expr.specs.Operands.{number_type, value}
 use Rattle.life_unique.proofs.ExpressionLayers.{Claims, Layer-PostfixPart, Layer-Primary, Layer-Unary, Layer-Additive, Layer-AdditivePart, Layer-Multiplicative, Layer-MultiplicativePart, Layer-Equality, Layer-EqualityPart, Layer-Relational, Layer-RelationalPart, Layer-AndPart, Layer-Arguments, Layer-Expr, Layer-InitList, Layer-LogicalAnd, Layer-OrPart, Layer-Postfix}
 use Rattle.life_unique.proofs.ExpressionLayers.{parts_part, parts_primary, parts_unary, parts_additive, parts_additive_part, parts_multiplicative, parts_multiplicative_part, parts_equality, parts_equality_part, parts_relational, parts_relational_part, parts_and_part, parts_arguments, parts_expr, parts_init_list, parts_logical_and, parts_or_part, parts_postfix}
 use Rattle.life_unique.specs.SettledExpressions.{Opened-PostfixPart, Opened-Primary, Opened-Unary, Opened-Additive, Opened-AdditivePart, Opened-Multiplicative, Opened-MultiplicativePart, Opened-Equality, Opened-EqualityPart, Opened-Relational, Opened-RelationalPart, Opened-AndPart, Opened-Arguments, Opened-Expr, Opened-InitList, Opened-LogicalAnd, Opened-OrPart, Opened-Postfix}
 use Rattle.life_typing_laws.proofs.Chains.{chain_good, operand_good}
-use Rattle.life_typing_laws.proofs.Expressions.{alone_good, call_good, name_good, never_good, never_good_behind}
+use Rattle.life_typing_laws.proofs.Constructing.{construct_good}
+use Rattle.life_typing_laws.proofs.Expressions.{alone_good, call_good, name_good, never_good}
+use Rattle.life_typing_laws.proofs.Indexing.{index_good}
+use Rattle.life_typing_laws.proofs.Members.{arrow_good, dot_good}
+use Rattle.life_typing_laws.proofs.Moving.{move_good}
+use Rattle.life_typing_laws.proofs.Texts.{text_good}
 use Rattle.life_typing_laws.proofs.Each.{each_of, made_alone}
 use Rattle.life_typing_laws.proofs.Prefixes.{paren_good, prefix_good}
 use Rattle.life_typing_laws.proofs.Typed.{Good, GoodBehind, GoodList}
-use Rattle.life_typing_laws.proofs.Unserved.{IsUnserved, arrow_none, construct_none, dot_none, index_none, move_none, text_none, unique_none}
-use Rattle.life_typing_laws.proofs.Yields.{yields_ok}
+use Rattle.life_typing_laws.proofs.Unserved.{unique_none}
 
 -- an int or a long has no parts
 number_parts : (types : Types) (n : ℕ) → HasParts types (number_type n)
@@ -98,11 +101,11 @@ of_parts_unary = map-Unary PostfixPart Primary Unary Additive AdditivePart Multi
     relational_part_meaning and_part_meaning arguments_meaning expr_meaning init_list_meaning logical_and_meaning or_part_meaning postfix_meaning
 
 part_layer : (l : Layer-PostfixPart claims) → GoodBehind (part_step (of_parts_part (parts_part claims l)))
-part_layer (open_expr.Member mark name None) = never_good_behind (dot_part name None) (dot_none name None)
-part_layer (open_expr.Member mark name (Some l)) = let given = Some (arguments_meaning l.0) in never_good_behind (dot_part name given) (dot_none name given)
-part_layer (open_expr.Arrow mark name None) = never_good_behind (arrow_part name None) (arrow_none name None)
-part_layer (open_expr.Arrow mark name (Some l)) = let given = Some (arguments_meaning l.0) in never_good_behind (arrow_part name given) (arrow_none name given)
-part_layer (open_expr.Index opening position closing) = never_good_behind _ (index_none opening (expr_meaning position.value.0) closing)
+part_layer (open_expr.Member mark name None) = dot_good name None tt
+part_layer (open_expr.Member mark name (Some l)) = dot_good name (Some (arguments_meaning l.0)) l.1
+part_layer (open_expr.Arrow mark name None) = arrow_good name None tt
+part_layer (open_expr.Arrow mark name (Some l)) = arrow_good name (Some (arguments_meaning l.0)) l.1
+part_layer (open_expr.Index opening position closing) = index_good opening (expr_meaning position.value.0) closing position.value.1
 
 primary_layer : (l : Layer-Primary claims) → Good (primary_step (of_parts_primary (parts_primary claims l)))
 primary_layer (open_expr.Number n place) =
@@ -110,7 +113,7 @@ primary_layer (open_expr.Number n place) =
 primary_layer (open_expr.Char c place) =
     alone_good (primary_step (open_expr.Char c place)) (value place ty.Char (character c)) (λ scope types. refl) (λ p locals v types. record { is = refl; parts = tt; place = tt })
 primary_layer (open_expr.Text n place) =
-    let it : Typed = record { place = place; ty = expr_type.TextLiteral; category = category.Value; form = text n } in never_good _ (λ scope types. yields_ok IsUnserved it types refl)
+    alone_good (primary_step (open_expr.Text n place)) (record { place = place; ty = expr_type.TextLiteral; category = category.Value; form = text n }) (λ scope types. refl) (λ p locals v types. record { is = (refl, refl); parts = tt; place = tt })
 primary_layer (open_expr.True place) =
     alone_good (primary_step (open_expr.True place)) (value place ty.Bool (boolean true)) (λ scope types. refl) (λ p locals v types. record { is = refl; parts = tt; place = tt })
 primary_layer (open_expr.False place) =
@@ -119,11 +122,11 @@ primary_layer (open_expr.Null place) =
     alone_good (primary_step (open_expr.Null place)) (record { place = place; ty = expr_type.NullPointer; category = category.Value; form = null }) (λ scope types. refl) (λ p locals v types. record { is = (refl, refl); parts = tt; place = tt })
 primary_layer (open_expr.Name name) = name_good name
 primary_layer (open_expr.Call name l) = call_good name (arguments_meaning l.0) l.1
-primary_layer (open_expr.Construct name l) = never_good _ (construct_none name (init_list_meaning l.0))
+primary_layer (open_expr.Construct name l) = construct_good name (init_list_meaning l.0) l.1
 primary_layer (open_expr.Paren opening inner closing) = paren_good closing (expr_meaning inner.value.0) inner.value.1
-primary_layer (open_expr.Move name opening moved closing) = never_good _ (move_none name.word moved)
+primary_layer (open_expr.Move name opening moved closing) = move_good name.word moved
 primary_layer (open_expr.MakeUnique name element l) = never_good _ (unique_none name.word element (arguments_meaning l.0))
-primary_layer (open_expr.TextOf name opening inner closing) = never_good _ (text_none name.word closing (expr_meaning inner.value.0))
+primary_layer (open_expr.TextOf name opening inner closing) = text_good name.word closing (expr_meaning inner.value.0) inner.value.1
 primary_layer (open_expr.Input name opening closing) =
     alone_good (primary_step (open_expr.Input name opening closing)) (value name.word ty.Long input) (λ scope types. refl) (λ p locals v types. record { is = refl; parts = tt; place = tt })
 

@@ -1,5 +1,6 @@
--- Expressions that are well typed: each is what the tables of types give from its operands. Nothing is said of forms that aren't built so far.
+-- Expressions that are well typed: each is what the tables of types give from its operands.
 use Rattle.std.specs.Prelude.{◌≡◌, ℕ, Bool, true, false, ◌&&◌, List, [], ◌∷◌, Contains, Ok, length, map, slice_get, take, Option, None, Some}
+use Rattle.life_types.specs.Trees.{is_plain, members_at, tree_at}
 use Rattle.life_types.specs.TypeTests.{is_raw}
 use Rattle.life_types.specs.Types.{Types}
 use Rattle.life_types.specs.declared.ty.Ty.TheVariants as ty
@@ -12,15 +13,11 @@ use Rattle.life_typed.specs.declared.typed_expr.Category.{Category}
 use Rattle.life_typed.specs.declared.typed_expr.Category.TheVariants as category
 use Rattle.life_typed.specs.declared.typed_expr.ExprType.TheVariants as expr_type
 use Rattle.life_typed.specs.declared.typed_program.TypedLocal.{TypedLocal}
-use Rattle.life_type_expr.specs.Operands.{answer_of, combination, inverted, negated_to, number_type, parenthesized, pointed_to, value, variable}
+use Rattle.life_type_expr.specs.Members.{indexed_at}
+use Rattle.life_type_expr.specs.Operands.{answer_of, combination, inverted, moved, negated_to, number_type, parenthesized, pointed_to, text_made, value, variable}
 use Rattle.life_well_typed.specs.Given.{is_given}
-
--- ---- parts
-
--- an operand as an expression; what is no expression counts as nullptr
-abbrev pub typed_in : Form → Typed
-typed_in (typed place t c form) = record { place = place; ty = t; category = c; form = form }
-typed_in other = record { place = record { line = 0; column = 0 }; ty = expr_type.NullPointer; category = category.Value; form = other }
+use Rattle.life_well_typed.specs.Members.{IsCalled, IsMember, are_members, is_optional}
+pub use Rattle.life_well_typed.specs.Members.{typed_in}
 
 -- ---- calls
 
@@ -49,6 +46,11 @@ HasResult types (Some f) e = e ≡ answer_of (type_at types f.result) types e.pl
 abbrev pub IsVariable : Types → ℕ → Option TypedLocal → Typed → Type 0
 IsVariable types x None e = ⊥
 IsVariable types x (Some l) e = e ≡ variable types e.place (x, l)
+
+-- .. what is moved out of it
+abbrev pub IsMoved : Types → ℕ → Option TypedLocal → Typed → Type 0
+IsMoved types x None e = ⊥
+IsMoved types x (Some l) e = moved types e.place (x, l) ≡ Ok e
 
 -- ---- addresses
 
@@ -84,17 +86,32 @@ module _ (p : ProgramForm) (locals : List TypedLocal) (visible : List ℕ) where
     IsMadeOf e (not inner) = (inverted e.place (typed_in inner) ≡ Ok e) × IsExpression inner
     IsMadeOf e (address_of inner) = IsAddress p.types (typed_in inner).category e × IsExpression inner
     IsMadeOf e (binary o left right) = (combination o e.place (typed_in left) (typed_in right) ≡ Ok e) × IsExpression left × IsExpression right
-    IsMadeOf e (text id) = Unit {0}
-    IsMadeOf e (construct structure elements delimiters) = Unit {0}
-    IsMadeOf e (move x) = Unit {0}
-    IsMadeOf e (make_unique id argument closing) = Unit {0}
-    IsMadeOf e (text_of inner closing) = Unit {0}
-    IsMadeOf e (member base which) = Unit {0}
-    IsMadeOf e (index base position closing) = Unit {0}
-    IsMadeOf e (method base called arguments delimiters) = Unit {0}
+    IsMadeOf e (text id) = (e.ty ≡ expr_type.TextLiteral) × (e.category ≡ category.Value)
+    IsMadeOf e (construct structure elements delimiters) =
+        (e ≡ value e.place (ty.Struct structure) e.form)
+        × (are_members p.types (members_at p.types structure) elements ≡ true)
+        × AreExpressions elements
+    IsMadeOf e (move x) = Contains visible x × IsMoved p.types x (slice_get locals x) e
+    IsMadeOf e (make_unique id argument closing) =
+        (e ≡ value e.place (ty.Unique id) e.form)
+        × (is_plain (tree_at p.types id) ≡ true)
+        × (is_optional p.types id argument ≡ true)
+        × IsExpressionIfAny argument
+    IsMadeOf e (text_of inner closing) = (text_made e.place closing (typed_in inner) ≡ Ok e) × IsExpression inner
+    IsMadeOf e (member base which) = IsMember p.types (typed_in base).ty (typed_in base).category which e × IsExpression base
+    IsMadeOf e (index base position closing) =
+        (indexed_at p.types e.place (typed_in base) (typed_in position) closing ≡ Ok e) × IsExpression base × IsExpression position
+    IsMadeOf e (method base called arguments delimiters) =
+        IsCalled p.types (typed_in base).ty (typed_in base).category called arguments e × IsExpression base × AreExpressions arguments
     IsMadeOf e _ = ⊥
 
-    -- .. of several
+    -- .. or none
+    pub IsExpressionIfAny : Form → Type 0
+    IsExpressionIfAny (typed place t c form) = IsMadeOf (record { place = place; ty = t; category = c; form = form }) form
+    IsExpressionIfAny nothing = Unit {0}
+    IsExpressionIfAny _ = ⊥
+
+    -- .. several
     pub AreExpressions : Form → Type 0
     AreExpressions (e ⨟ es) = IsExpression e × AreExpressions es
     AreExpressions nothing = Unit {0}

@@ -2,6 +2,7 @@ pub mod Expressions
 pub mod Functions
 pub mod Given
 pub mod Mains
+pub mod Members
 pub mod Names
 pub mod Results
 pub mod Statements

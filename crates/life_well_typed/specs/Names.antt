@@ -1,5 +1,5 @@
 -- What reading and typing give of names: each is in the table of names, and no two functions have one.
-use Rattle.std.specs.Prelude.{◌≡◌, ℕ, Bool, true, false, ◌&&◌, not, nat_eq, nat_lt, List, [], ◌∷◌, length}
+use Rattle.std.specs.Prelude.{◌≡◌, ℕ, Bool, true, ◌&&◌, not, nat_eq, nat_lt, List, [], ◌∷◌, length}
 use Rattle.std.specs.List.{list_all, list_any}
 use Rattle.life_types.specs.declared.ty.NameId.{NameId}
 use Rattle.life_typed.specs.Programs.{FunctionForm, ProgramForm}

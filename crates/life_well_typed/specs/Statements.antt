@@ -1,22 +1,25 @@
--- Statements that are well typed, in the order of their text. Nothing is said of forms that aren't built so far.
+-- Statements that are well typed, in the order of their text.
 use Rattle.std.specs.Prelude.{◌≡◌, ℕ, Bool, true, false, ◌&&◌, not, List, [], ◌∷◌, Option, None, Some, slice_get}
 use Rattle.life_types.specs.TypeTests.{is_void}
 use Rattle.life_types.specs.declared.ty.Ty.{Ty}
 use Rattle.life_types.specs.declared.ty.TyId.{TyId}
 use Rattle.life_typed.specs.BaseTypes.{type_at}
+use Rattle.life_typed.specs.Conversions.{fits}
 use Rattle.life_typed.specs.Operators.{is_condition}
 use Rattle.life_typed.specs.Programs.{ProgramForm}
-use Rattle.life_typed.specs.Statements.{can_step, compounded, is_printed}
-use Rattle.life_typed.specs.TypedForm.{Typed, whole}
+use Rattle.life_typed.specs.Statements.{can_step, compounded, is_printed, range_element}
+use Rattle.life_typed.specs.TypedForm.{Typed, forms, whole}
 use Rattle.life_typed.specs.TypedStatement.{StmtForm, DeclarationForm, ForStartForm, InitialForm, ItemForm, SimpleForm, one, several, assign, compound, step, discarded, declared_first, done_first, printed, line_end, block, empty, sentence, branching, while_loop, for_loop, range_loop, loop_break, loop_continue, returned, print, assertion, branch, declaration, no_more, chain}
 use Rattle.life_typed.specs.declared.typed_program.TypedLocal.{TypedLocal}
 use Rattle.life_type_expr.specs.Lists.{fits_at_all}
 use Rattle.life_type_expr.specs.Operands.{is_constant}
 use Rattle.life_type_stmt.specs.Declarations.{default_fault}
+use Rattle.life_type_stmt.specs.Ranges.{element_place, element_type}
 use Rattle.life_type_stmt.specs.Simples.{is_place, type_of}
-use Rattle.life_well_typed.specs.Expressions.{IsExpression}
+use Rattle.life_well_typed.specs.Expressions.{AreExpressions, IsExpression}
 use Rattle.life_well_typed.specs.Given.{is_given}
-use Rattle.life_well_typed.specs.Visible.{Visible, after, after_start}
+use Rattle.life_well_typed.specs.Members.{is_listed}
+use Rattle.life_well_typed.specs.Visible.{Visible, after, after_start, with_next}
 
 -- it declares nothing that is visible behind it
 abbrev pub is_one : StmtForm → Bool
@@ -42,7 +45,7 @@ module _ (p : ProgramForm) (locals : List TypedLocal) (result : TyId) where
   -- what is given to an object of a type
   abbrev pub IsGiven : List ℕ → Ty → InitialForm → Type 0
   IsGiven visible t (one e) = (is_given p.types t e ≡ true) × IsWhole visible e
-  IsGiven visible t (several list) = Unit {0}
+  IsGiven visible t (several list) = (is_listed p.types t (forms list.elements) ≡ true) × AreExpressions p locals visible (forms list.elements)
 
   -- a place that isn't const
   abbrev pub IsTarget : List ℕ → Typed → Type 0
@@ -89,6 +92,17 @@ module _ (p : ProgramForm) (locals : List TypedLocal) (result : TyId) where
   IsStart (Some (declared_first d)) v = IsDeclaration d v
   IsStart (Some (done_first it)) v = IsSimple v.visible it
 
+  -- each element is given to the variable of a loop over a range
+  abbrev pub TakesElements : Option TypedLocal → Option (TyId × Bool) → Type 0
+  TakesElements None element = ⊥
+  TakesElements (Some v) None = ⊥
+  TakesElements (Some v) (Some element) = fits_at_all (fits p.types (type_at p.types v.ty) (element_type p.types element) (element_place element)) ≡ true
+
+  -- the variable has the next number, and isn't visible in the range
+  abbrev pub IsRange : ℕ → Typed → Visible → Type 0
+  IsRange x range v =
+      (x ≡ v.declared) × TakesElements (slice_get locals x) (range_element range.ty (is_constant range.category)) × IsWhole v.visible range
+
   -- ---- any statement
 
   -- .. which stands in a loop or not
@@ -107,7 +121,8 @@ module _ (p : ProgramForm) (locals : List TypedLocal) (result : TyId) where
         × IsSimpleIfAny (after_start start v).visible stepping
         × (is_one body ≡ true)
         × IsStatement body true (after_start start v)
-    IsStatement (range_loop keyword x name colon range closing body) in_loop v = Unit {0}
+    IsStatement (range_loop keyword x name colon range closing body) in_loop v =
+        IsRange x range v × (is_one body ≡ true) × IsStatement body true (with_next v)
     IsStatement (loop_break keyword semicolon) in_loop v = in_loop ≡ true
     IsStatement (loop_continue keyword semicolon) in_loop v = in_loop ≡ true
     IsStatement (returned keyword value semicolon) in_loop v = IsReturned v.visible value
