@@ -205,7 +205,7 @@ for_layer l = record {
 
 range_for_layer : (l : Layer-RangeFor claims) → PartLaws (parts.range_for_step (of_parts_range_for (parts_range_for claims l))) (views.range_for_step (trees_range_for (parts_range_for claims l))) false
 range_for_layer l = record {
-  good = range_good (of_parts_range_for (parts_range_for claims l));
+  good = range_good (of_parts_range_for (parts_range_for claims l)) l.body.value.1.good (alone_by l.body.value.1.says);
   says = λ around scope types.
       let whole : Tree = views.range_for_step (trees_range_for (parts_range_for claims l)) in
       yields_then (HeadBehind l.name scope) (Said (λ n. IsNamedTree n whole) false [] scope) (range_head l.ty l.name l.colon l.range.value scope types) _

@@ -1,9 +1,9 @@
 -- Declarations of variables.
-use Rattle.std.proofs.Common.{◌≡◌, ℕ, Bool, true, false, Option, None, Some, Result, Ok, Err, List, [], ◌∷◌, length, slice_get, refl, sym, ap, subst, ◌∙◌}
+use Rattle.std.proofs.Common.{◌≡◌, ℕ, Bool, true, false, Option, None, Some, Result, Ok, Err, List, [], ◌∷◌, length, slice_get, refl, sym, ap, subst, ◌∙◌, true≢false}
 use Rattle.std.specs.Prelude.{is_some}
 use Rattle.std.proofs.lemmas.Option.{slice_get_within}
 use Rattle.life_types.specs.Trees.{IsOrdered, is_plain, tree_at}
-use Rattle.life_types.specs.Types.{Types, HasType}
+use Rattle.life_types.specs.Types.{Types, HasParts, HasType}
 use Rattle.life_types.specs.declared.place.Place.{Place}
 use Rattle.life_types.specs.declared.ty.NameId.{NameId}
 use Rattle.life_types.specs.declared.ty.Ty.{Ty}
@@ -23,7 +23,8 @@ use Rattle.life_tree.specs.declared.type_name.TypeName.{TypeName}
 use Rattle.life_typed.specs.BaseTypes.{base_types, type_at}
 use Rattle.life_typed.specs.Conversions.{fits}
 use Rattle.life_typed.specs.Programs.{ProgramForm}
-use Rattle.life_typed.specs.TypedStatement.{DeclarationForm, InitialForm, one, several}
+use Rattle.life_typed.specs.TypedStatement.{DeclarationForm, InitialForm, ListForm, one, several}
+use Rattle.life_typed.specs.TypedForm.{forms}
 use Rattle.life_typed.specs.declared.typed_expr.Category.{Category}
 use Rattle.life_typed.specs.declared.typed_expr.ExprType.{ExprType}
 use Rattle.life_typed.specs.declared.typed_program.TypedLocal.{TypedLocal}
@@ -43,15 +44,16 @@ use Rattle.life_type_stmt.specs.Conditions.{unless as plainly}
 use Rattle.life_type_stmt.specs.Declarations.{auto_declaration, declaration, declaration_by, default_fault, local_of, redeclared, variable_fault, visible_fault, written_declaration}
 use Rattle.life_type_stmt.specs.Given.{given_first, value_fault}
 use Rattle.life_well_typed.specs.Given.{is_given}
+use Rattle.life_well_typed.specs.Members.{is_listed}
 use Rattle.life_well_typed.specs.Statements.{IsDeclaration, IsInitialised}
 use Rattle.life_well_typed.specs.Visible.{Visible, with_next}
 use Rattle.life_typing_laws.proofs.Fitting.{given_later, lower_none, misfit_none}
-use Rattle.life_typing_laws.proofs.Growing.{IsAdded, added, grows_not, grows_on, same_type_at, type_is}
+use Rattle.life_typing_laws.proofs.Growing.{IsAdded, added, grows_not, grows_on, parts_there, same_type_at, type_is}
 use Rattle.life_typing_laws.proofs.Scopes.{IsDeclared, IsFree, Moves, behind_declared, declared_is, declared_moves, declared_sound, declared_there, final_before, moves_on, sound_grown, table_moves}
 use Rattle.life_typing_laws.specs.Sound.{Grows, IsFinal, IsSound}
 use Rattle.life_typing_laws.specs.Served.{is_served_first, is_served_value}
 use Rattle.life_typing_laws.proofs.Steps.{allowed_ok, bound, given_ok, same_value}
-use Rattle.life_typing_laws.proofs.Values.{FirstRead, IsOne, Nothing, Value, first_is, none_read, one_read, several_never, some_read}
+use Rattle.life_typing_laws.proofs.Values.{FirstRead, Nothing, One, Several, Value, ValueRead, first_is, none_read, one_read, some_read}
 use Rattle.life_typing_laws.proofs.Written.{written_finds}
 
 -- ---- what a declaration does
@@ -71,25 +73,42 @@ pub record IsNew (name : Identifier) (v : Visible) (scope : Scope) (types : Type
   pub sound : IsSound (with_next v) x.0.1 x.1
   pub is : (p : ProgramForm) (locals : List TypedLocal) (result : TyId) → IsFinal p locals x.0.1 x.1 → IsDeclaration p locals result x.0.0 v
 
--- nothing, or an expression that is well typed, over the table that there is
-pub record IsRead (first : Option InitialForm) (scope : Scope) (types : Types) : Type 0 where
-  pub typed : (p : ProgramForm) (locals : List TypedLocal) (result : TyId) (v : Visible) (id : TyId) → IsSound v scope types → IsFinal p locals scope types → IsTaken p.types id first
-      → (l : TypedLocal) → l.ty ≡ id → IsInitialised p locals result v.visible (Some l) first
+-- a list needs the parts of the type that it initialises
+abbrev pub NeedsParts : Types → Ty → Option InitialForm → Type 0
+NeedsParts types t (Some (several l)) = HasParts types t
+NeedsParts types t first = Unit {0}
 
-read_of : (scope : Scope) (types : Types) (x : Option InitialForm × Types) → FirstRead scope types x → (IsRead x.0 scope types) × (x.1 ≡ types)
-read_of scope types x (Nothing none same) = (
-  subst (λ (f : Option InitialForm). IsRead f scope types) (sym none) (record {
-    typed = λ p locals result v id sound final given l is. subst (λ (t : TyId). default_fault (type_at p.types t) ≡ None) (sym is) given;
+-- nothing, or a value of this type that is well typed, over the table that there is
+pub record IsRead (t : Ty) (first : Option InitialForm) (scope : Scope) (types : Types) : Type 0 where
+  pub typed : (p : ProgramForm) (locals : List TypedLocal) (result : TyId) (v : Visible) (id : TyId) → IsSound v scope types → IsFinal p locals scope types → IsTaken p.types id first
+      → type_at p.types id ≡ t → NeedsParts types t first → (l : TypedLocal) → l.ty ≡ id → IsInitialised p locals result v.visible (Some l) first
+
+value_of : (t : Ty) (scope : Scope) (types : Types) (y : InitialForm × Types) → ValueRead t scope types y → (IsRead t (Some y.0) scope types) × (y.1 ≡ types)
+value_of t scope types y (One value) = (
+  subst (λ (f : InitialForm). IsRead t (Some f) scope types) value.is (record {
+    typed = λ p locals result v id sound final given of parts l is.
+        (subst (λ (i : TyId). is_given p.types (type_at p.types i) value.value ≡ true) (sym is) given, (value.typed p locals v sound final).is);
+  }),
+  value.same,
+)
+value_of t scope types y (Several read) = (
+  subst (λ (f : InitialForm). IsRead t (Some f) scope types) read.is (record {
+    typed = λ p locals result v id sound final given of parts l is.
+        let there = read.typed p locals v sound final parts in
+        (subst (λ (u : Ty). is_listed p.types u (forms read.list.elements) ≡ true) (sym of ∙ sym (ap (type_at p.types) is)) there.0, there.1);
+  }),
+  read.same,
+)
+
+read_of : (t : Ty) (scope : Scope) (types : Types) (x : Option InitialForm × Types) → FirstRead t scope types x → (IsRead t x.0 scope types) × (x.1 ≡ types)
+read_of t scope types x (Nothing none same) = (
+  subst (λ (f : Option InitialForm). IsRead t f scope types) (sym none) (record {
+    typed = λ p locals result v id sound final given of parts l is. subst (λ (i : TyId). default_fault (type_at p.types i) ≡ None) (sym is) given;
   }),
   same,
 )
-read_of scope types x (Value value first) = (
-  subst (λ (f : Option InitialForm). IsRead f scope types) (ap Some first.one.is ∙ sym first.is) (record {
-    typed = λ p locals result v id sound final given l is.
-        (subst (λ (t : TyId). is_given p.types (type_at p.types t) first.one.value ≡ true) (sym is) given, (first.one.typed p locals v sound final).is);
-  }),
-  first.one.same,
-)
+read_of t scope types x (Value value first) =
+    let there = value_of t scope types (value, x.1) first.read in (subst (λ (f : Option InitialForm). IsRead t f scope types) (sym first.is) there.0, there.1)
 
 taken_later : (old new : Types) (id : TyId) (first : Option InitialForm) → Grows old new → HasType old id → IsGivenTo old id first → IsTaken new id first
 taken_later old new id None grows there fine = subst (λ (t : Ty). default_fault t ≡ None) (sym (same_type_at old new id grows there)) fine
@@ -99,7 +118,7 @@ taken_later old new id (Some (one e)) grows there fine =
 taken_later old new id (Some (several l)) grows there fine = tt
 
 -- a name that may be declared means no function
-free_of : (name : NameId) (scope : Scope) → redeclared scope name ≡ None → IsFree name scope
+pub free_of : (name : NameId) (scope : Scope) → redeclared scope name ≡ None → IsFree name scope
 free_of name scope fine n e = never (rw e at fine)
   where
     never : visible_fault (entity.Function n) ≡ None → ⊥
@@ -108,9 +127,9 @@ free_of name scope fine n e = never (rw e at fine)
 -- a variable of this type, with what it is given over the middle table, is declared over the last
 module _ (name : Identifier) (v : Visible) (scope : Scope) (types : Types) (sound : IsSound v scope types) where
   new_local : (w : Written) (first : Option InitialForm) (middle after : Types) (n : ℕ × Scope) → Grows types middle → IsOrdered middle → Grows middle after → IsOrdered after → HasType after w.ty
-      → IsRead first scope middle → IsGivenTo after w.ty first → IsFree name.id scope → declared (local_of name w) scope ≡ Ok n
+      → IsRead (type_at after w.ty) first scope middle → NeedsParts middle (type_at after w.ty) first → IsGivenTo after w.ty first → IsFree name.id scope → declared (local_of name w) scope ≡ Ok n
       → IsNew name v scope types ((record { local = n.0; name = name; value = first }, n.1), after)
-  new_local w first middle after n early middle_ordered late ordered there read given_to free h =
+  new_local w first middle after n early middle_ordered late ordered there read needs given_to free h =
       subst (λ (m : ℕ). IsNew name v scope types ((record { local = m; name = name; value = first }, n.1), after)) (sym d.number)
       (subst (λ (s : Scope). IsNew name v scope types ((record { local = length scope.locals; name = name; value = first }, s), after)) (sym d.behind) made)
     where
@@ -140,9 +159,14 @@ module _ (name : Identifier) (v : Visible) (scope : Scope) (types : Types) (soun
           counted,
           subst (λ (o : Option TypedLocal). IsInitialised p locals result v.visible o first) (sym (final.kept (length scope.locals) (local_of name w) (declared_there (local_of name w) scope)))
               (read.typed p locals result v w.ty sound_middle (final_before p locals (name.id ∷ []) scope (behind_declared (local_of name w) scope) middle after from_middle final)
-              (taken_later after p.types w.ty first final.grown there given_to) (local_of name w) refl),
+              (taken_later after p.types w.ty first final.grown there given_to) (same_type_at after p.types w.ty final.grown there) needs (local_of name w) refl),
         );
       }
+
+needs_parts : (types : Types) (t : Ty) (first : Option InitialForm) → HasParts types t → NeedsParts types t first
+needs_parts types t None parts = tt
+needs_parts types t (Some (one e)) parts = tt
+needs_parts types t (Some (several l)) parts = parts
 
 -- ---- with a type that is written
 
@@ -151,7 +175,7 @@ pub record IsWritten (types : Types) (x : Written × Types) : Type 0 where
   pub ordered : IsOrdered x.1
   pub there : HasType x.1 x.0.ty
 
-local_written : (t : TypeName) (place : Place) (scope : Scope) (types : Types) (x : Written × Types) → IsOrdered types → Grows base_types types → scope.structs ≡ [] → written_local t place scope types ≡ Ok x
+pub local_written : (t : TypeName) (place : Place) (scope : Scope) (types : Types) (x : Written × Types) → IsOrdered types → Grows base_types types → scope.structs ≡ [] → written_local t place scope types ≡ Ok x
     → IsWritten types x
 local_written t place scope types x ordered base none h =
     let step = bound (written t place scope types) (with_const (is_const_value t)) x h in
@@ -183,37 +207,65 @@ module _ (name : Identifier) (scope : Scope) where
       let number = given_ok (declared (local_of name w.value.0) scope) (finished w.value.0 first.value.0 first.value.1) x fine.1 in
       let same = same_value {A = DeclarationForm × Scope} ((record { local = number.value.0; name = name; value = first.value.0 }, number.value.1), first.value.1) x number.behind in
       let served_first : is_served_first first.value.0 ≡ true = subst (λ (z : (DeclarationForm × Scope) × Types). is_served_first z.0.0.value ≡ true) (sym same) served in
-      let read = read_of scope w.value.1 first.value (first_is (type_at w.value.1 w.value.0.ty) i scope w.value.1 first.value first.gave served_first) in
+      let read = read_of (type_at w.value.1 w.value.0.ty) scope w.value.1 first.value (first_is (type_at w.value.1 w.value.0.ty) i scope w.value.1 first.value first.gave served_first) in
       let faults = lower_none (redeclared scope name.id) (variable_fault first.value.1 (type_at w.value.1 w.value.0.ty) first.value.0) fine.0 in
       let fault : variable_fault w.value.1 (type_at w.value.1 w.value.0.ty) first.value.0 ≡ None =
       subst (λ (s : Types). variable_fault s (type_at w.value.1 w.value.0.ty) first.value.0 ≡ None) read.1 faults.1 in
       subst (IsNew name v scope types) same
       (subst (λ (s : Types). IsNew name v scope types ((record { local = number.value.0; name = name; value = first.value.0 }, number.value.1), s)) (sym read.1)
       (new_local name v scope types sound w.value.0 first.value.0 w.value.1 w.value.1 number.value is.grows is.ordered (grows_not w.value.1) is.ordered is.there read.0
-      fault (free_of name.id scope faults.0) number.gave))
+      (needs_parts w.value.1 (type_at w.value.1 w.value.0.ty) first.value.0 (parts_there w.value.1 w.value.0.ty is.ordered is.there)) fault (free_of name.id scope faults.0) number.gave))
 
 -- ---- with `auto`
 
-lone_never : {P : Type 0} (l : InitList) (scope : Scope) (types : Types) (x : InitialForm × Types) → lone_list l scope types ≡ Ok x → is_served_value x.0 ≡ true → P
-lone_never l scope types x h served =
+-- a list has no type
+abbrev is_single : InitialForm → Bool
+is_single (one e) = true
+is_single (several l) = false
+
+abbrev is_single_first : Option InitialForm → Bool
+is_single_first None = true
+is_single_first (Some value) = is_single value
+
+auto_single : (a : AutoType) (place : Place) (first : Option InitialForm) (scope : Scope) (types : Types) (w : Written × Types) → auto_local a place first scope types ≡ Ok w → is_single_first first ≡ true
+auto_single a place None scope types w h = refl
+auto_single a place (Some (one e)) scope types w h = refl
+auto_single a place (Some (several l)) scope types w h = absurd (cc)
+
+single_needs : (types : Types) (t : Ty) (first : Option InitialForm) → is_single_first first ≡ true → NeedsParts types t first
+single_needs types t None single = tt
+single_needs types t (Some (one e)) single = tt
+single_needs types t (Some (several l)) single = absurd (cc)
+
+several_never : {P : Type 0} (l : ListForm) (types : Types) (x : InitialForm × Types) → ◌≡◌ {A = Checked InitialForm} (Ok (several l, types)) (Ok x) → is_single x.0 ≡ true → P
+several_never l types x h single =
+    let form : several l ≡ x.0 = ap (λ (z : InitialForm × Types). z.0) (same_value (several l, types) x h) in
+    absurd (true≢false (sym (subst (λ (i : InitialForm). is_single i ≡ true) (sym form) single)))
+
+lone_never : {P : Type 0} (l : InitList) (scope : Scope) (types : Types) (x : InitialForm × Types) → lone_list l scope types ≡ Ok x → is_single x.0 ≡ true → P
+lone_never l scope types x h single =
     let step = bound (lone_elements (out-InitList l).list.items scope types)
     (λ y. Ok (several (record { opening = (out-InitList l).opening; elements = y.0; delimiters = record { commas = (out-InitList l).commas.items; closing = (out-InitList l).closing } }), y.1)) x h in
-    several_never (record { opening = (out-InitList l).opening; elements = step.value.0; delimiters = record { commas = (out-InitList l).commas.items; closing = (out-InitList l).closing } }) step.value.1 x step.behind served
+    several_never (record { opening = (out-InitList l).opening; elements = step.value.0; delimiters = record { commas = (out-InitList l).commas.items; closing = (out-InitList l).closing } }) step.value.1 x step.behind single
 
-auto_value_is : (i : InitialValue) (scope : Scope) (types : Types) (x : InitialForm × Types) → auto_value i scope types ≡ Ok x → is_served_value x.0 ≡ true → IsOne scope types x
-auto_value_is (initial_value.Expr e) scope types x h served =
+auto_value_is : (t : Ty) (i : InitialValue) (scope : Scope) (types : Types) (x : InitialForm × Types) → auto_value i scope types ≡ Ok x → is_single x.0 ≡ true → is_served_value x.0 ≡ true → ValueRead t scope types x
+auto_value_is t (initial_value.Expr e) scope types x h single served =
     let step = bound (expr_meaning e.value scope types) (λ y. Ok (one y.0, y.1)) x h in
-    one_read e.value scope types step.value x step.gave step.behind served
-auto_value_is (initial_value.List l) scope types x h served = lone_never l scope types x h served
+    One (one_read e.value scope types step.value x step.gave step.behind served)
+auto_value_is t (initial_value.List l) scope types x h single served = lone_never l scope types x h single
 
-auto_first_is : (i : Option Initializer) (scope : Scope) (types : Types) (x : Option InitialForm × Types) → auto_given i scope types ≡ Ok x → is_served_first x.0 ≡ true → FirstRead scope types x
-auto_first_is None scope types x h served = none_read scope types x h
-auto_first_is (Some (initializer.Equals equals value)) scope types x h served =
+some_single : (y : InitialForm × Types) (x : Option InitialForm × Types) → ◌≡◌ {A = Checked (Option InitialForm)} (Ok (Some y.0, y.1)) (Ok x) → is_single_first x.0 ≡ true → is_single y.0 ≡ true
+some_single y x h single = subst (λ (z : Option InitialForm × Types). is_single_first z.0 ≡ true) (sym (same_value {A = Option InitialForm} (Some y.0, y.1) x h)) single
+
+auto_first_is : (t : Ty) (i : Option Initializer) (scope : Scope) (types : Types) (x : Option InitialForm × Types) → auto_given i scope types ≡ Ok x → is_single_first x.0 ≡ true → is_served_first x.0 ≡ true
+    → FirstRead t scope types x
+auto_first_is t None scope types x h single served = none_read t scope types x h
+auto_first_is t (Some (initializer.Equals equals value)) scope types x h single served =
     let step = bound (auto_value value scope types) (λ y. Ok (Some y.0, y.1)) x h in
-    some_read scope types step.value x step.behind (λ s. auto_value_is value scope types step.value step.gave s) served
-auto_first_is (Some (initializer.List l)) scope types x h served =
+    some_read t scope types step.value x step.behind (λ s. auto_value_is t value scope types step.value step.gave (some_single step.value x step.behind single) s) served
+auto_first_is t (Some (initializer.List l)) scope types x h single served =
     let step = bound (lone_list l scope types) (λ y. Ok (Some y.0, y.1)) x h in
-    some_read scope types step.value x step.behind (λ s. lone_never l scope types step.value step.gave s) served
+    some_read t scope types step.value x step.behind (λ s. lone_never l scope types step.value step.gave (some_single step.value x step.behind single)) served
 
 -- the number of the type, in a table that has grown
 number_is : (place : Place) (t : Ty) (scope : Scope) (types : Types) (x : TyId × Types) → IsOrdered types → scope.structs ≡ [] → type_number place t scope types ≡ Ok x → IsAdded t types x
@@ -277,7 +329,7 @@ auto_of a place t e c scope types x ordered none h =
     behind : (y : TyId × Types) → IsAdded t types y → IsAuto y.1 e c x → IsAuto types e c x
     behind y new auto = record { grows = grows_on types y.1 x.1 new.grows auto.grows; ordered = auto.ordered; there = auto.there; given = auto.given }
 
-auto_is : (a : AutoType) (place : Place) (e : ExprType) (c : Category) (scope : Scope) (types : Types) (x : Written × Types) → IsOrdered types → scope.structs ≡ [] → auto_written a place e c scope types ≡ Ok x
+pub auto_is : (a : AutoType) (place : Place) (e : ExprType) (c : Category) (scope : Scope) (types : Types) (x : Written × Types) → IsOrdered types → scope.structs ≡ [] → auto_written a place e c scope types ≡ Ok x
     → IsAuto types e c x
 auto_is a place e c scope types x ordered none h = go (auto_target e) h
   where
@@ -310,11 +362,13 @@ module _ (name : Identifier) (scope : Scope) where
       let number = given_ok (declared (local_of name w.value.0) scope) (finished name scope w.value.0 first.value.0 w.value.1) x w.behind in
       let same = same_value {A = DeclarationForm × Scope} ((record { local = number.value.0; name = name; value = first.value.0 }, number.value.1), w.value.1) x number.behind in
       let served_first : is_served_first first.value.0 ≡ true = subst (λ (z : (DeclarationForm × Scope) × Types). is_served_first z.0.0.value ≡ true) (sym same) served in
-      let read = read_of scope types first.value (auto_first_is i scope types first.value first.gave served_first) in
+      let single = auto_single a name.place first.value.0 scope first.value.1 w.value w.gave in
+      let own = type_at w.value.1 w.value.0.ty in
+      let read = read_of own scope types first.value (auto_first_is own i scope types first.value first.gave single served_first) in
       let gave : auto_local a name.place first.value.0 scope types ≡ Ok w.value = subst (λ (s : Types). auto_local a name.place first.value.0 scope s ≡ Ok w.value) read.1 w.gave in
       let auto = local_auto a name.place first.value.0 scope types w.value sound.ordered sound.no_structs gave in
       subst (IsNew name v scope types) same
-      (new_local name v scope types sound w.value.0 first.value.0 types w.value.1 number.value (grows_not types) sound.ordered auto.0.grows auto.0.ordered auto.0.there read.0 auto.1 (free_of name.id scope fine.0) number.gave)
+      (new_local name v scope types sound w.value.0 first.value.0 types w.value.1 number.value (grows_not types) sound.ordered auto.0.grows auto.0.ordered auto.0.there read.0 (single_needs types own first.value.0 single) auto.1 (free_of name.id scope fine.0) number.gave)
 
 -- ---- all declarations
 

@@ -25,6 +25,7 @@ pub mod Headers
 pub mod HeadersStay
 pub mod Indexing
 pub mod Known
+pub mod Lists
 pub mod Loops
 pub mod Members
 pub mod MethodTables
@@ -37,6 +38,7 @@ pub mod Parameters
 pub mod Pieces
 pub mod Prefixes
 pub mod ProgramLaws
+pub mod Ranges
 pub mod Reading
 pub mod Scopes
 pub mod Simples

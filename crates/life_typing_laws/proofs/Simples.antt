@@ -2,7 +2,8 @@
 use Rattle.std.proofs.Common.{◌≡◌, Bool, true, false, ◌&&◌, not, Option, None, Some, List, Ok, Box, refl, sym, ap, subst, ◌∙◌}
 use Rattle.std.specs.declared.alloc.Global.{Global}
 use Rattle.std.proofs.lemmas.Bool.{and_from, and_parts}
-use Rattle.life_types.specs.Types.{Types}
+use Rattle.life_types.specs.Types.{Types, HasParts}
+use Rattle.life_types.specs.declared.ty.Ty.{Ty}
 use Rattle.life_types.specs.declared.place.Place.{Place}
 use Rattle.life_types.specs.declared.ty.TyId.{TyId}
 use Rattle.life_tree.specs.declared.declaration.InitialValue.{InitialValue}
@@ -18,6 +19,8 @@ use Rattle.life_typed.specs.Statements.{can_step, compounded}
 use Rattle.life_typed.specs.TypedForm.{Typed}
 use Rattle.life_typed.specs.TypedStatement as typed
 use Rattle.life_typed.specs.TypedStatement.{InitialForm, SimpleForm, one}
+use Rattle.life_typed.specs.declared.typed_expr.ExprType.{ExprType}
+use Rattle.life_typed.specs.declared.typed_expr.ExprType.TheVariants as expr_type
 use Rattle.life_typed.specs.declared.typed_program.TypedLocal.{TypedLocal}
 use Rattle.life_names.specs.Checked.{Checked, ◌>>=◌}
 use Rattle.life_names.specs.Environment.{Scope}
@@ -36,8 +39,8 @@ use Rattle.life_typing_laws.proofs.Fitting.{fit_at_all, given_later, lower_none,
 use Rattle.life_typing_laws.specs.Sound.{Grows, IsFinal, IsSound}
 use Rattle.life_typing_laws.specs.Served.{is_served_form, is_served_simple, is_served_step, is_served_value}
 use Rattle.life_typing_laws.proofs.Steps.{allowed_ok, bound, given_ok, same_value}
-use Rattle.life_typing_laws.proofs.Typed.{Good}
-use Rattle.life_typing_laws.proofs.Values.{operand_reads, target_reads, unless_none, value_is}
+use Rattle.life_typing_laws.proofs.Typed.{Good, PartsThere}
+use Rattle.life_typing_laws.proofs.Values.{One, Several, ValueRead, operand_reads, target_reads, unless_none, value_is}
 use Rattle.life_typing_laws.proofs.Targets.{target_good}
 use Rattle.life_typing_laws.proofs.Wholes.{expr_good, postfix_good}
 
@@ -67,8 +70,30 @@ place_given t kind other place free =
 
 -- ---- assignments
 
-initial_given : (types : Types) (t : Typed) (value : Typed) → initial_fault kinds.NotAssignable types (type_of t.ty) (one value) ≡ None → fits types (type_of t.ty) value.ty value.category ≡ Ok tt
-initial_given types t value e = misfit_none kinds.NotAssignable (fits types (type_of t.ty) value.ty value.category) e
+-- the same table, and a value that is given to the type, where its parts are there
+record IsValue (t : Ty) (scope : Scope) (types : Types) (x : InitialForm × Types) : Type 0 where
+  same : x.1 ≡ types
+  is : (p : ProgramForm) (locals : List TypedLocal) (result : TyId) (v : Visible) → IsSound v scope types → IsFinal p locals scope types → HasParts types t → IsGiven p locals result v.visible t x.0
+
+value_given : (t : Ty) (scope : Scope) (types : Types) (x : InitialForm × Types) → ValueRead t scope types x → initial_fault kinds.NotAssignable x.1 t x.0 ≡ None → IsValue t scope types x
+value_given t scope types x (One value) fine = record {
+  same = value.same;
+  is = λ p locals result v sound final parts.
+      subst (λ (f : InitialForm). IsGiven p locals result v.visible t f) value.is
+      (given_later x.1 p.types (subst (λ (s : Types). Grows s p.types) (sym value.same) final.grown) t value.value fits_it, (value.typed p locals v sound final).is);
+}
+  where
+    fits_it : fits x.1 t value.value.ty value.value.category ≡ Ok tt
+    fits_it = misfit_none kinds.NotAssignable (fits x.1 t value.value.ty value.value.category) (subst (λ (f : InitialForm). initial_fault kinds.NotAssignable x.1 t f ≡ None) (sym value.is) fine)
+value_given t scope types x (Several l) fine = record {
+  same = l.same;
+  is = λ p locals result v sound final parts. subst (λ (f : InitialForm). IsGiven p locals result v.visible t f) l.is (l.typed p locals v sound final parts);
+}
+
+type_parts : (types : Types) (e : ExprType) → PartsThere types e → HasParts types (type_of e)
+type_parts types (expr_type.Of t) parts = parts
+type_parts types expr_type.NullPointer parts = tt
+type_parts types expr_type.TextLiteral parts = tt
 
 abbrev behind_value : Place → Typed → InitialForm × Types → Checked SimpleForm
 behind_value equals t y = given (allowed (assignment_fault y.1 t y.0) equals) (λ _. Ok (typed.assign t equals y.0, y.1))
@@ -86,7 +111,6 @@ assignment_is t equals i scope types x h served =
     let reads = target_reads t scope types first.value first.gave in
     let table : first.value.1 ≡ types = (target_good t scope types first.value reads parts.0).same in
     let gave : given_value (type_of first.value.0.ty) i scope types ≡ Ok second.value = subst (λ (s : Types). given_value (type_of first.value.0.ty) i scope s ≡ Ok second.value) table second.gave in
-    let value = value_is (type_of first.value.0.ty) i scope types second.value gave parts.1 in
     let no_place = lower_none (unless (is_place first.value.0.ty first.value.0.category) kinds.NotAssignable)
     (lower_kind (whole_fault second.value.1 first.value.0.category) (lower_kind (initial_fault kinds.NotAssignable second.value.1 (type_of first.value.0.ty) second.value.0)
     (const_or (is_constant first.value.0.category) (self_fault first.value.0.form second.value.0)))) fine.0 in
@@ -94,15 +118,14 @@ assignment_is t equals i scope types x h served =
     (const_or (is_constant first.value.0.category) (self_fault first.value.0.form second.value.0))) no_place.1 in
     let no_initial = lower_none (initial_fault kinds.NotAssignable second.value.1 (type_of first.value.0.ty) second.value.0)
     (const_or (is_constant first.value.0.category) (self_fault first.value.0.form second.value.0)) no_whole.1 in
-    let fits_it = initial_given second.value.1 first.value.0 value.value
-    (subst (λ (f : InitialForm). initial_fault kinds.NotAssignable second.value.1 (type_of first.value.0.ty) f ≡ None) (sym value.is) no_initial.0) in
+    let value = value_given (type_of first.value.0.ty) scope types second.value (value_is (type_of first.value.0.ty) i scope types second.value gave parts.1) no_initial.0 in
     done_as scope types (typed.assign first.value.0 equals second.value.0, second.value.1) x fine.1 (record {
       same = value.same;
-      is = λ p locals result v sound final. (
-        (place_given first.value.0 kinds.NotAssignable (self_fault first.value.0.form second.value.0) no_place.0 no_initial.1, ((target_good t scope types first.value reads parts.0).is p locals v sound final).is),
-        subst (λ (f : InitialForm). IsGiven p locals result v.visible (type_of first.value.0.ty) f) value.is
-            (given_later second.value.1 p.types (subst (λ (s : Types). Grows s p.types) (sym value.same) final.grown) (type_of first.value.0.ty) value.value fits_it, (value.typed p locals v sound final).is),
-      );
+      is = λ p locals result v sound final.
+          let assigned = (target_good t scope types first.value reads parts.0).is p locals v sound final in (
+            (place_given first.value.0 kinds.NotAssignable (self_fault first.value.0.form second.value.0) no_place.0 no_initial.1, assigned.is),
+            value.is p locals result v sound final (type_parts types first.value.0.ty assigned.parts),
+          );
     })
 
 -- ---- `+=` and its kind

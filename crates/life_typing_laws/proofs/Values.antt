@@ -29,6 +29,7 @@ use Rattle.life_type_stmt.specs.Simples.{operand, target}
 use Rattle.life_well_typed.specs.Visible.{Visible}
 use Rattle.life_typing_laws.specs.Sound.{IsFinal, IsSound}
 use Rattle.life_typing_laws.specs.Served.{is_served_first, is_served_form, is_served_value}
+use Rattle.life_typing_laws.proofs.Lists.{IsList, list_is}
 use Rattle.life_typing_laws.proofs.Steps.{allowed_ok, bound, given_ok, same_value}
 use Rattle.life_typing_laws.proofs.Typed.{IsTyped}
 use Rattle.life_typing_laws.proofs.Wholes.{expr_good}
@@ -99,54 +100,48 @@ one_read e scope types y x read h served =
       typed = λ p locals v sound final. (expr_good e scope types y read served_value).is p locals v sound final;
     }
 
--- a list isn't served
-pub several_never : {P : Type 0} (l : ListForm) (types : Types) (x : InitialForm × Types) → ◌≡◌ {A = Checked InitialForm} (Ok (several l, types)) (Ok x) → is_served_value x.0 ≡ true → P
-several_never l types x h served =
-    let form : several l ≡ x.0 = ap (λ (z : InitialForm × Types). z.0) (same_value (several l, types) x h) in
-    absurd (true≢false (sym (subst (λ (i : InitialForm). is_served_value i ≡ true) (sym form) served)))
+-- an expression or a list
+pub data ValueRead (t : Ty) (scope : Scope) (types : Types) (x : InitialForm × Types) : Type 0 where
+  One : IsOne scope types x → ValueRead t scope types x
+  Several : IsList t scope types x → ValueRead t scope types x
 
-list_never : {P : Type 0} (t : Ty) (l : InitList) (scope : Scope) (types : Types) (x : InitialForm × Types) → given_list t l scope types ≡ Ok x → is_served_value x.0 ≡ true → P
-list_never t l scope types x h served =
-    let step = bound (list_checked t l scope types) (λ y. Ok (several y.0, y.1)) x h in
-    several_never step.value.0 step.value.1 x step.behind served
-
-pub value_is : (t : Ty) (i : InitialValue) (scope : Scope) (types : Types) (x : InitialForm × Types) → given_value t i scope types ≡ Ok x → is_served_value x.0 ≡ true → IsOne scope types x
+pub value_is : (t : Ty) (i : InitialValue) (scope : Scope) (types : Types) (x : InitialForm × Types) → given_value t i scope types ≡ Ok x → is_served_value x.0 ≡ true → ValueRead t scope types x
 value_is t (initial_value.Expr e) scope types x h served =
     let step = bound (given_expr t e.value scope types) (λ y. Ok (one y.0, y.1)) x h in
-    one_read e.value scope types step.value x (given_expr_reads t e.value scope types step.value step.gave) step.behind served
-value_is t (initial_value.List l) scope types x h served = list_never t l scope types x h served
+    One (one_read e.value scope types step.value x (given_expr_reads t e.value scope types step.value step.gave) step.behind served)
+value_is t (initial_value.List l) scope types x h served = Several (list_is t l scope types x h served)
 
--- nothing, or an expression
-pub record IsFirst (scope : Scope) (types : Types) (value : InitialForm) (x : Option InitialForm × Types) : Type 0 where
+-- nothing, or a value
+pub record IsFirst (t : Ty) (scope : Scope) (types : Types) (value : InitialForm) (x : Option InitialForm × Types) : Type 0 where
   pub is : x.0 ≡ Some value
-  pub one : IsOne scope types (value, x.1)
+  pub read : ValueRead t scope types (value, x.1)
 
-pub data FirstRead (scope : Scope) (types : Types) (x : Option InitialForm × Types) : Type 0 where
-  Nothing : x.0 ≡ None → x.1 ≡ types → FirstRead scope types x
-  Value : (value : InitialForm) → IsFirst scope types value x → FirstRead scope types x
+pub data FirstRead (t : Ty) (scope : Scope) (types : Types) (x : Option InitialForm × Types) : Type 0 where
+  Nothing : x.0 ≡ None → x.1 ≡ types → FirstRead t scope types x
+  Value : (value : InitialForm) → IsFirst t scope types value x → FirstRead t scope types x
 
-pub some_read : (scope : Scope) (types : Types) (y : InitialForm × Types) (x : Option InitialForm × Types) → ◌≡◌ {A = Checked (Option InitialForm)} (Ok (Some y.0, y.1)) (Ok x)
-    → (is_served_value y.0 ≡ true → IsOne scope types y) → is_served_first x.0 ≡ true → FirstRead scope types x
-some_read scope types y x h read served =
+pub some_read : (t : Ty) (scope : Scope) (types : Types) (y : InitialForm × Types) (x : Option InitialForm × Types) → ◌≡◌ {A = Checked (Option InitialForm)} (Ok (Some y.0, y.1)) (Ok x)
+    → (is_served_value y.0 ≡ true → ValueRead t scope types y) → is_served_first x.0 ≡ true → FirstRead t scope types x
+some_read t scope types y x h read served =
     let same : ◌≡◌ {A = Option InitialForm × Types} (Some y.0, y.1) x = same_value (Some y.0, y.1) x h in
     let first : Some y.0 ≡ x.0 = ap (λ (z : Option InitialForm × Types). z.0) same in
     let table : y.1 ≡ x.1 = ap (λ (z : Option InitialForm × Types). z.1) same in
     Value y.0 (record {
       is = sym first;
-      one = subst (λ (t : Types). IsOne scope types (y.0, t)) table (read (subst (λ (o : Option InitialForm). is_served_first o ≡ true) (sym first) served));
+      read = subst (λ (s : Types). ValueRead t scope types (y.0, s)) table (read (subst (λ (o : Option InitialForm). is_served_first o ≡ true) (sym first) served));
     })
 
-pub none_read : (scope : Scope) (types : Types) (x : Option InitialForm × Types) → ◌≡◌ {A = Checked (Option InitialForm)} (Ok (None, types)) (Ok x) → FirstRead scope types x
-none_read scope types x h =
+pub none_read : (t : Ty) (scope : Scope) (types : Types) (x : Option InitialForm × Types) → ◌≡◌ {A = Checked (Option InitialForm)} (Ok (None, types)) (Ok x) → FirstRead t scope types x
+none_read t scope types x h =
     let same : ◌≡◌ {A = Option InitialForm × Types} (None, types) x = same_value (None, types) x h in
     Nothing (ap (λ (z : Option InitialForm × Types). z.0) (sym same)) (ap (λ (z : Option InitialForm × Types). z.1) (sym same))
 
 pub first_is : (t : Ty) (i : Option Initializer) (scope : Scope) (types : Types) (x : Option InitialForm × Types) → given_first t i scope types ≡ Ok x → is_served_first x.0 ≡ true
-    → FirstRead scope types x
-first_is t None scope types x h served = none_read scope types x h
+    → FirstRead t scope types x
+first_is t None scope types x h served = none_read t scope types x h
 first_is t (Some (initializer.Equals equals value)) scope types x h served =
     let step = bound (given_value t value scope types) (λ y. Ok (Some y.0, y.1)) x h in
-    some_read scope types step.value x step.behind (λ s. value_is t value scope types step.value step.gave s) served
+    some_read t scope types step.value x step.behind (λ s. value_is t value scope types step.value step.gave s) served
 first_is t (Some (initializer.List l)) scope types x h served =
     let step = bound (given_list t l scope types) (λ y. Ok (Some y.0, y.1)) x h in
-    some_read scope types step.value x step.behind (λ s. list_never t l scope types step.value step.gave s) served
+    some_read t scope types step.value x step.behind (λ s. Several (list_is t l scope types step.value step.gave s)) served

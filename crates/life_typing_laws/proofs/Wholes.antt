@@ -22,7 +22,7 @@ use Rattle.life_tree.specs.declared.primary.Primary.{Primary, roll-Primary}
 use Rattle.life_tree.specs.declared.primary.Unary.{Unary, roll-Unary}
 use Rattle.life_tree.specs.declared.primary.Postfix.{Postfix, roll-Postfix}
 use Rattle.life_tree.specs.declared.primary.PostfixPart.TheFolds.{fold-roll-PostfixPart, fold-roll-Primary, fold-roll-Unary, fold-roll-Additive, fold-roll-AdditivePart, fold-roll-Multiplicative, fold-roll-MultiplicativePart, fold-roll-Equality, fold-roll-EqualityPart, fold-roll-Relational, fold-roll-RelationalPart, fold-roll-AndPart, fold-roll-Arguments, fold-roll-Expr, fold-roll-InitList, fold-roll-LogicalAnd, fold-roll-OrPart, fold-roll-Postfix}
-use Rattle.life_tree.specs.declared.primary.PostfixPart.TheFolds.{ind-Additive, ind-Expr, ind-Postfix}
+use Rattle.life_tree.specs.declared.primary.PostfixPart.TheFolds.{ind-Additive, ind-Expr, ind-InitList, ind-Postfix}
 use Rattle.life_tree.specs.declared.primary.PostfixPart.TheFolds.{map-PostfixPart, map-Primary, map-Unary}
 use Rattle.life_tree.specs.declared.primary.PostfixPart.TheOpen as open_expr
 use Rattle.life_typed.specs.TypedForm.{boolean, character, input, null, number, text}
@@ -139,6 +139,7 @@ unary_layer (open_expr.Plain operand) = operand.1
 record All : Type 0 where
   additive : (x : Additive) → Good (additive_meaning x)
   expr : (x : Expr) → Good (expr_meaning x)
+  init_list : (x : InitList) → GoodList (init_list_meaning x)
   postfix : (x : Postfix) → Good (postfix_meaning x)
 
 all : All
@@ -150,6 +151,11 @@ all = record {
       part_made primary_made unary_made additive_made additive_part_made multiplicative_made multiplicative_part_made equality_made equality_part_made relational_made relational_part_made
       and_part_made arguments_made expr_made init_list_made logical_and_made or_part_made postfix_made;
   expr = ind-Expr
+      claims.part claims.primary claims.unary claims.additive claims.additive_part claims.multiplicative claims.multiplicative_part claims.equality claims.equality_part claims.relational
+      claims.relational_part claims.and_part claims.arguments claims.expr claims.init_list claims.logical_and claims.or_part claims.postfix
+      part_made primary_made unary_made additive_made additive_part_made multiplicative_made multiplicative_part_made equality_made equality_part_made relational_made relational_part_made
+      and_part_made arguments_made expr_made init_list_made logical_and_made or_part_made postfix_made;
+  init_list = ind-InitList
       claims.part claims.primary claims.unary claims.additive claims.additive_part claims.multiplicative claims.multiplicative_part claims.equality claims.equality_part claims.relational
       claims.relational_part claims.and_part claims.arguments claims.expr claims.init_list claims.logical_and claims.or_part claims.postfix
       part_made primary_made unary_made additive_made additive_part_made multiplicative_made multiplicative_part_made equality_made equality_part_made relational_made relational_part_made
@@ -292,6 +298,9 @@ additive_good = all.additive
 
 pub expr_good : (x : Expr) → Good (expr_meaning x)
 expr_good = all.expr
+
+pub init_list_good : (x : InitList) → GoodList (init_list_meaning x)
+init_list_good = all.init_list
 
 pub postfix_good : (x : Postfix) → Good (postfix_meaning x)
 postfix_good = all.postfix

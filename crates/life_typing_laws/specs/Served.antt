@@ -1,7 +1,7 @@
 -- Typed expressions and statements that are served so far, whatever types and variables there are: `std::make_unique`, which may add a type to the table, isn't.
 use Rattle.std.specs.Prelude.{Bool, true, false, ◌&&◌, List, [], ◌∷◌, Option, None, Some}
 use Rattle.life_typed.specs.Programs.{FunctionForm, ProgramForm}
-use Rattle.life_typed.specs.TypedForm.{Form, Typed, call, construct, paren, make_unique, text_of, member, dereference, index, method, negate, not as negation, address_of, binary, typed, ◌⨟◌, whole}
+use Rattle.life_typed.specs.TypedForm.{Form, Typed, call, construct, paren, make_unique, text_of, member, dereference, index, method, negate, not as negation, address_of, binary, typed, ◌⨟◌, forms, whole}
 use Rattle.life_typed.specs.TypedStatement.{StmtForm, ForStartForm, InitialForm, ItemForm, SimpleForm, one, several, assign, compound, step, discarded, declared_first, done_first, printed, line_end, block, empty, sentence, branching, while_loop, for_loop, range_loop, loop_break, loop_continue, returned, print, assertion, branch, declaration, no_more, chain}
 use Rattle.life_built.specs.Built.{has_no_structs}
 
@@ -37,7 +37,7 @@ is_served_if_any (Some e) = is_served_expression e
 
 abbrev pub is_served_value : InitialForm → Bool
 is_served_value (one e) = is_served_expression e
-is_served_value (several list) = false
+is_served_value (several list) = is_served_form (forms list.elements)
 
 abbrev pub is_served_first : Option InitialForm → Bool
 is_served_first None = true
@@ -76,7 +76,7 @@ is_served_statement (branching branches last) = is_served_statement branches && 
 is_served_statement (while_loop keyword decides closing body) = is_served_expression decides && is_served_statement body
 is_served_statement (for_loop keyword start first decides second stepping closing body) =
     is_served_start start && (is_served_if_any decides && (is_served_step stepping && is_served_statement body))
-is_served_statement (range_loop keyword x name colon range closing body) = false
+is_served_statement (range_loop keyword x name colon range closing body) = is_served_expression range && is_served_statement body
 is_served_statement (loop_break keyword semicolon) = true
 is_served_statement (loop_continue keyword semicolon) = true
 is_served_statement (returned keyword value semicolon) = is_served_if_any value
