@@ -1,3 +1,4 @@
+pub mod Later
 pub mod MeantSteps
 pub mod Owning
 pub mod Reading

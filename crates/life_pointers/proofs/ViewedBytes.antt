@@ -10,7 +10,7 @@ use Rattle.life_store.specs.Kinds.{Kind, Plain}
 use Rattle.life_store.specs.References.{Rows, object_of}
 use Rattle.life_store.specs.State as state
 use Rattle.life_store.specs.Effects.{Attempt, Got, then_get}
-use Rattle.life_store.specs.Views.{are_same, first_word, seen_bytes, usable}
+use Rattle.life_store.specs.Views.{are_same, first_word, seen_bytes, seen_words, usable}
 use Rattle.life_store.specs.declared.object.ObjRef.{ObjRef}
 use Rattle.life_seen.specs.Housed.{IsHoused}
 use Rattle.life_seen.specs.Kinds.{Kinds}
@@ -18,7 +18,7 @@ use Rattle.life_seen.specs.Named.{Names, names_of}
 use Rattle.life_seen.specs.Seen.{slot_seen, word_seen, object_seen, seen}
 use Rattle.life_seen.proofs.References.{seen_by_number}
 use Rattle.life_seen.proofs.Views.{word_read}
-use Rattle.life_pointers.specs.Bytes.{byte_in, stored_bytes, stored_slots, HasPositions, SeesPlain}
+use Rattle.life_pointers.specs.Bytes.{byte_in, stored_bytes, stored_slots, stored_words, HasPositions, SeesPlain}
 use Rattle.life_pointers.specs.Made.{viewed_alike}
 use Rattle.life_pointers.specs.Pointers.{pointer_seen, PointerFits}
 use Rattle.life_pointers.specs.declared.pointer.Pointer.{Pointer}
@@ -121,14 +121,19 @@ module _ (texts : List (List ℕ)) (kinds : Kinds) (c : Content) (rows : Rows) (
   slots_words r first count None plain = refl
   slots_words r first count (Some o) plain = plain_words kinds (names_of c rows) (kinds o.ty) (plain o refl) o.slots first count
 
+  pub words_seen : (p : Pointer) → PointerFits c rows p → SeesPlain kinds c rows p → stored_words texts c rows p ≡ seen_words texts (seen kinds c rows) (pointer_seen p)
+  words_seen leads.Null fits plain = refl
+  words_seen leads.Wild fits plain = refl
+  words_seen (leads.Static s) fits plain = refl
+  words_seen (leads.To index count word object moment) fits plain =
+      slots_words object index count (object_of c rows object) plain
+      ∙ ap (λ (x : Option Object). map first_word (take count (drop index (slots_if x)))) (seen_by_number kinds c rows h object fits.0)
+
   pub bytes_seen : (p : Pointer) → PointerFits c rows p → SeesPlain kinds c rows p → stored_bytes texts c rows p ≡ seen_bytes texts (seen kinds c rows) (pointer_seen p)
   bytes_seen leads.Null fits plain = refl
   bytes_seen leads.Wild fits plain = refl
   bytes_seen (leads.Static s) fits plain = refl
-  bytes_seen (leads.To index count word object moment) fits plain =
-      ap (map byte_in)
-      (slots_words object index count (object_of c rows object) plain
-      ∙ ap (λ (x : Option Object). map first_word (take count (drop index (slots_if x)))) (seen_by_number kinds c rows h object fits.0))
+  bytes_seen (leads.To index count word object moment) fits plain = ap (map byte_in) (words_seen (leads.To index count word object moment) fits plain)
 
 -- ---- both are used first
 

@@ -4,7 +4,7 @@ use Rattle.life_store.specs.Content.{Slot, Object, Content}
 use Rattle.life_store.specs.Held.{slots_if}
 use Rattle.life_store.specs.Kinds.{Plain}
 use Rattle.life_store.specs.References.{Rows, object_of}
-use Rattle.life_store.specs.Views.{characters_in, first_word}
+use Rattle.life_store.specs.Views.{characters_in, first_word, word_of_byte}
 use Rattle.life_store.specs.declared.object.ObjRef.{ObjRef}
 use Rattle.life_seen.specs.Kinds.{Kinds}
 use Rattle.life_pointers.specs.Pointers.{characters_seen}
@@ -22,6 +22,13 @@ stored_bytes texts c rows leads.Null = []
 stored_bytes texts c rows leads.Wild = []
 stored_bytes texts c rows (leads.To index count word object moment) = map byte_in (map first_word (take count (drop index (stored_slots c rows object))))
 stored_bytes texts c rows (leads.Static s) = characters_in texts (characters_seen s)
+
+-- .. as they lie in the slots of a string
+abbrev pub stored_words : List (List ℕ) → Content → Rows → Pointer → List ℕ
+stored_words texts c rows leads.Null = []
+stored_words texts c rows leads.Wild = []
+stored_words texts c rows (leads.To index count word object moment) = map first_word (take count (drop index (stored_slots c rows object)))
+stored_words texts c rows (leads.Static s) = map word_of_byte (characters_in texts (characters_seen s))
 
 -- the object lives, and has so many positions from one on
 pub record HasPositions (c : Content) (rows : Rows) (r : ObjRef) (first count : ℕ) : Type 0 where

@@ -7,12 +7,13 @@ ghost use Rattle.life_seen.specs.Housed.{IsHoused};
 ghost use Rattle.life_seen.specs.Kinds.{Kinds};
 ghost use Rattle.life_seen.specs.Seen.{seen};
 ghost use Rattle.life_pointers.specs.Attempts.{itself, tried};
-ghost use Rattle.life_pointers.specs.Bytes.{stored_bytes, stored_slots, HasPositions, IsInside, SeesPlain};
+ghost use Rattle.life_pointers.specs.Bytes.{stored_bytes, stored_slots, stored_words, HasPositions, IsInside, SeesPlain};
 ghost use Rattle.life_pointers.specs.Made.{viewed_alike};
 ghost use Rattle.life_pointers.specs.Pointers.{characters_seen, pointer_seen, IsThere, PointerFits};
 
 use crate::pointer::{Characters, Pointer};
 use crate::stop::Stop;
+use crate::texts::char_value;
 use crate::valid::usable;
 use life_store::{ObjRef, Store};
 
@@ -81,15 +82,45 @@ pub fn byte_at<S: Store>(store: &S, texts: &[Vec<u8>], view: Pointer, position: 
     }
 }
 
+/// .. as it lies in the slot of a string.
+pub fn word_at<S: Store>(store: &S, texts: &[Vec<u8>], view: Pointer, position: u64) -> u64
+    requires inside { IsInside (S.content store.now) (S.rows store.now) view }
+    requires there { IsThere view }
+    requires within { position < length (stored_words (map name_bytes texts.now) (S.content store.now) (S.rows store.now) view) }
+    ensures { slice_get (stored_words (map name_bytes texts.now) (S.content store.now) (S.rows store.now) view) position ≡ Some result }
+{
+    match view {
+        Pointer::Null => 0,
+        Pointer::Wild => 0,
+        Pointer::To { index, object, .. } => slot_word(store, object, index + position as u32),
+        Pointer::Static(characters) => {
+            char_word(characters_in(texts, characters)[position as usize])
+        }
+    }
+}
+
 // The byte of a char that lies in a slot.
 fn slot_byte<S: Store>(store: &S, object: ObjRef, slot: u32) -> u8
     requires { HasPositions (S.content store.now) (S.rows store.now) object slot 1 }
     ensures { result ≡ word_in (slice_get (stored_slots (S.content store.now) (S.rows store.now) object) slot) 0 % 2 ^ 8 }
 {
+    (slot_word(store, object, slot) % (1 << 8)) as u8
+}
+
+fn slot_word<S: Store>(store: &S, object: ObjRef, slot: u32) -> u64
+    requires { HasPositions (S.content store.now) (S.rows store.now) object slot 1 }
+    ensures { result ≡ word_in (slice_get (stored_slots (S.content store.now) (S.rows store.now) object) slot) 0 }
+{
     match store.get(object, slot, 0) {
-        Ok(word) => (word % (1 << 8)) as u8,
+        Ok(word) => word,
         Err(_) => unreachable!(),
     }
+}
+
+fn char_word(byte: u8) -> u64
+    ensures { result ≡ spec.word_of_byte byte }
+{
+    char_value(byte).cast_unsigned()
 }
 
 // Characters of a text.

@@ -12,7 +12,7 @@ mod valid;
 mod views;
 mod words;
 
-pub use bytes::{byte_at, byte_count, viewed_alike};
+pub use bytes::{byte_at, byte_count, viewed_alike, word_at};
 pub use choosing::{Choice, chosen};
 pub use iterators::{Step, alike, moved, step_of};
 pub use owned::{

@@ -1,22 +1,11 @@
-use Rattle.std.proofs.Common.{◌<◌, ℕ, List, Some, length, map, ap, subst, sym, ◌∙◌, arith}
+use Rattle.std.proofs.Common.{◌<◌, ℕ, List, Some, length, map, ap, subst, sym, ◌∙◌}
 use Rattle.std.proofs.lemmas.Option.{slice_get-get_or}
 use Rattle.std.specs.Prelude.{slice_get}
 use Rattle.life_core.specs.Function.{name_bytes}
 use Rattle.life_pointers.specs.Bytes.{stored_bytes, stored_slots, IsInside}
-use Rattle.life_pointers.specs.Pointers.{IsThere}
 use Rattle.life_pointers.specs.declared.pointer.Pointer.{Pointer}
 use Rattle.life_pointers.proofs.ViewedBytes.{byte_there, in_count}
 use Rattle.life_pointers.proofs.bytes.byte_at.Goals as goal
-
-pub overflow_add-index : goal.overflow_add-index
-overflow_add-index g c =
-    let content = g.S.Store.content c.args.store.now in
-    let rows = g.S.Store.rows c.args.store.now in
-    let texts = map name_bytes c.args.texts.now in
-    let within = subst (λ (p : Pointer). c.args.position < length (stored_bytes texts content rows p)) c.in-To.is c.requires.within in
-    let there = subst (λ (p : Pointer). IsThere p) c.in-To.is c.requires.there in
-    let lt = in_count (stored_slots content rows c.in-To.object) c.in-To.index c.in-To.count c.args.position within in
-    omega (arith, there, lt)
 
 pub returns-in-To : goal.returns-in-To
 returns-in-To g c =
