@@ -17,7 +17,7 @@ pub use choosing::{Choice, chosen};
 pub use iterators::{Step, alike, moved, step_of};
 pub use owned::{
     Spot, buffer, owned_by, owned_element, owned_end, owned_pointer, owned_size, owned_target,
-    owned_whole,
+    owned_whole, place_pointer,
 };
 pub use pointer::{Characters, Pointer, at_index, element_of, part_of, seen_count};
 pub use stop::Stop;

@@ -55,6 +55,20 @@ pub fn buffer<S: Store>(store: &S, owner: Spot) -> Result<ObjRef, Stop>
     }
 }
 
+/// A pointer of this moment to what begins at the place.
+pub fn place_pointer(now: u64, place: Spot) -> Pointer
+    ensures is { pointer_seen result ≡ To (record { object = place.object.birth; index = place.index; word = place.word; count = 1; moment = now }) }
+    ensures fits { (c : Content) (rows : Rows) → IsRef c rows place.object → now + 1 < 2 ^ 64 → PointerFits c rows result }
+{
+    Pointer::To {
+        index: place.index,
+        count: 1,
+        word: place.word,
+        object: place.object,
+        moment: now,
+    }
+}
+
 // A pointer of this moment to so many positions of an object.
 fn pointer_to(now: u64, object: ObjRef, index: u32, count: u32) -> Pointer
     ensures is { pointer_seen result ≡ To (record { object = object.birth; index = index; word = 0; count = count; moment = now }) }
