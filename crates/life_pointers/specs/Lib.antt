@@ -3,6 +3,7 @@ pub mod Bytes
 pub mod Choices
 pub mod Made
 pub mod Owned
+pub mod Places
 pub mod Pointers
 pub mod Steps
 pub mod Valid

@@ -5,6 +5,7 @@ mod bytes;
 mod choosing;
 mod iterators;
 mod owned;
+mod places;
 mod pointer;
 mod stop;
 mod texts;
@@ -19,6 +20,7 @@ pub use owned::{
     Spot, buffer, owned_by, owned_element, owned_end, owned_pointer, owned_size, owned_target,
     owned_whole, place_pointer,
 };
+pub use places::{Place, behind};
 pub use pointer::{Characters, Pointer, at_index, element_of, part_of, seen_count};
 pub use stop::Stop;
 pub use texts::{character, empty_view, text_view};
