@@ -12,12 +12,14 @@ use life_store::TrapKind;
 pub enum Choice {
     /// By an index that was read from a register, and is taken without a sign.
     At(i64),
+    /// The first.
     First,
+    /// The last.
     Last,
 }
 
-/// The index of the element, of so many.
-pub fn chosen(choice: Choice, size: u64) -> Result<u64, Stop>
+// The index of the element, of so many.
+pub(crate) fn chosen(choice: Choice, size: u64) -> Result<u64, Stop>
     ensures is { tried itself result ≡ chosen_by choice size }
     ensures within { IfOk result (λ index. index < size) }
 {

@@ -20,14 +20,16 @@ use life_core::Direction;
 use life_store::{Store, TrapKind};
 use life_types::Ty;
 
-/// How far an iterator is moved, and whether towards the begin.
+/// How an iterator is moved.
 #[derive(Clone, Copy)]
 pub struct Step {
+    /// Whether it goes towards the begin.
     pub back: bool,
+    /// How many positions it goes.
     pub by: u64,
 }
 
-/// The step by a number of a type.
+/// The step by a number, which a `size_t` has without a sign.
 pub fn step_of(ty: Option<Ty>, number: i64, direction: Direction) -> Step
     ensures { step_seen result ≡ spec.directed direction (spec.count_of ty number) }
 {
@@ -144,7 +146,8 @@ fn text_size(texts: &[Vec<u8>], characters: Characters) -> u64
     }
 }
 
-/// Whether two iterators stand at the same position. Those of two objects may not be compared.
+/// Whether two iterators stand at the same position. Those of two objects are the trap of foreign
+/// iterators (ISO/IEC 14882:2017 [forward.iterators]).
 pub fn alike<S: Store>(store: &S, left: Pointer, right: Pointer) -> Result<bool, Stop>
     requires left { PointerFits (S.content store.now) (S.rows store.now) left }
     requires right { PointerFits (S.content store.now) (S.rows store.now) right }

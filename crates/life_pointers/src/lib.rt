@@ -14,14 +14,14 @@ mod views;
 mod words;
 
 pub use bytes::{byte_at, byte_count, viewed_alike, word_at};
-pub use choosing::{Choice, chosen};
+pub use choosing::Choice;
 pub use iterators::{Step, alike, moved, step_of};
 pub use owned::{
     Spot, buffer, owned_by, owned_element, owned_end, owned_pointer, owned_size, owned_target,
     owned_whole, place_pointer,
 };
 pub use places::{Place, behind};
-pub use pointer::{Characters, Pointer, at_index, element_of, part_of, seen_count};
+pub use pointer::{Characters, Pointer, at_index};
 pub use stop::Stop;
 pub use texts::{character, empty_view, text_view};
 pub use valid::{length, standing, usable};

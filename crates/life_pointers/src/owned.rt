@@ -26,6 +26,7 @@ use life_words::owned;
 #[derive(Clone, Copy)]
 pub struct Spot {
     pub object: ObjRef,
+    /// The slot's number.
     pub index: u32,
     pub word: u32,
 }
@@ -139,7 +140,7 @@ pub fn owned_size<S: Store>(store: &S, owner: Spot) -> Result<u32, Stop>
     Ok(length(store, buffer))
 }
 
-/// The target of a `std::unique_ptr`, which may be null where it is only asked for.
+/// A pointer to what a `std::unique_ptr` owns, or the null pointer.
 pub fn owned_pointer<S: Store>(store: &S, owner: Spot) -> Pointer
     requires { IfSome (object_of (S.content store.now) (S.rows store.now) owner.object) (HasWord owner.index owner.word) }
     ensures is { (kinds : Kinds) (o : Object) → IsOwner kinds (S.content store.now) (S.rows store.now) owner.object owner.word o
@@ -153,7 +154,8 @@ pub fn owned_pointer<S: Store>(store: &S, owner: Spot) -> Pointer
     }
 }
 
-/// .. and may not where it is gone through.
+/// A pointer to what a `std::unique_ptr` owns. Going through one that owns nothing is the fault of a
+/// null pointer.
 pub fn owned_target<S: Store>(store: &S, owner: Spot) -> Result<Pointer, Stop>
     requires { IfSome (object_of (S.content store.now) (S.rows store.now) owner.object) (HasWord owner.index owner.word) }
     ensures is { (kinds : Kinds) (o : Object) → IsOwner kinds (S.content store.now) (S.rows store.now) owner.object owner.word o

@@ -18,6 +18,7 @@ use life_store::{FaultKind, Store, TrapKind};
 /// What may be read behind a pointer, and written if it lies in an object.
 #[derive(Clone, Copy)]
 pub enum Place {
+    /// A word of a slot that is there.
     Here(Spot),
     /// Characters that never end.
     Fixed(Characters),

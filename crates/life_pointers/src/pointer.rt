@@ -11,7 +11,9 @@ use life_store::ObjRef;
 /// Characters that never end: of a text of the program, or of none, from an index on.
 #[derive(Clone, Copy)]
 pub struct Characters {
+    /// The text's number in its program.
     pub text: Option<u32>,
+    /// The first character that is seen, and how many are.
     pub index: u64,
     pub count: u64,
 }
@@ -19,6 +21,7 @@ pub struct Characters {
 /// Where a pointer leads.
 #[derive(Clone, Copy)]
 pub enum Pointer {
+    /// To nothing.
     Null,
     /// It never pointed to anything.
     Wild,
@@ -37,8 +40,8 @@ pub enum Pointer {
 
 const _: () = prove!(size_of::<Pointer>() == 40);
 
-/// How many positions a span or a view sees.
-pub fn seen_count(pointer: Pointer) -> u64
+// How many positions a span or a view sees.
+pub(crate) fn seen_count(pointer: Pointer) -> u64
     ensures { result ≡ views.seen_count (pointer_seen pointer) }
 {
     match pointer {
@@ -48,7 +51,7 @@ pub fn seen_count(pointer: Pointer) -> u64
     }
 }
 
-/// A pointer of this moment to one position of the same object.
+/// A pointer of this moment to one position of the same object, or to one character of the same text.
 pub fn at_index(now: u64, index: u64, pointer: Pointer) -> Pointer
     requires { IsNarrow index pointer }
     ensures is { pointer_seen result ≡ spec.at_index now index (pointer_seen pointer) }
@@ -72,8 +75,8 @@ pub fn at_index(now: u64, index: u64, pointer: Pointer) -> Pointer
     }
 }
 
-/// .. so many behind where it points.
-pub fn element_of(now: u64, index: u64, pointer: Pointer) -> Pointer
+// .. so many behind where it points.
+pub(crate) fn element_of(now: u64, index: u64, pointer: Pointer) -> Pointer
     requires wide { starts_at pointer + index < 2 ^ 64 }
     requires narrow { IsNarrow (starts_at pointer + index) pointer }
     ensures is { pointer_seen result ≡ spec.element_of now index (pointer_seen pointer) }
@@ -94,8 +97,8 @@ pub(crate) fn start_of(pointer: Pointer) -> u64
     }
 }
 
-/// So many positions from an index on. What is made now has this moment.
-pub fn part_of(now: u64, index: u64, count: u64, pointer: Pointer) -> Pointer
+// So many positions from an index on. What is made now has this moment.
+pub(crate) fn part_of(now: u64, index: u64, count: u64, pointer: Pointer) -> Pointer
     requires wide { starts_at pointer + index < 2 ^ 64 }
     requires first { IsNarrow (starts_at pointer + index) pointer }
     requires narrow { IsNarrow count pointer }
