@@ -2,9 +2,10 @@
 ghost use Rattle.std.specs.Prelude.{◌≡◌, ◌<◌, ◌≤◌, ◌+◌, ◌^◌, ◌+ℤ◌, map, neg_ℤ, pos, IfOk};
 ghost use Rattle.life_core.specs.Function.{name_bytes};
 ghost use Rattle.life_store.specs.Content.{CanCount};
+ghost use Rattle.life_store.specs.Edits.{size_of};
 ghost use Rattle.life_store.specs.Iterators as spec;
 ghost use Rattle.life_store.specs.Views as views;
-ghost use Rattle.life_seen.specs.Housed.{IsHoused};
+ghost use Rattle.life_seen.specs.Housed.{IsHoused, IsRef};
 ghost use Rattle.life_seen.specs.Kinds.{Kinds};
 ghost use Rattle.life_seen.specs.Seen.{seen};
 ghost use Rattle.life_pointers.specs.Attempts.{itself, tried};
@@ -17,7 +18,7 @@ use crate::stop::Stop;
 use crate::texts::text_length;
 use crate::valid::{length, standing};
 use life_core::Direction;
-use life_store::{Store, TrapKind};
+use life_store::{ObjRef, Store, TrapKind};
 use life_types::Ty;
 
 /// How an iterator is moved.
@@ -188,5 +189,36 @@ fn same_text(left: Option<u32>, right: Option<u32>) -> bool
         (None, None) => true,
         (Some(left), Some(right)) => left == right,
         _ => false,
+    }
+}
+
+/// The index of an iterator at an element of this buffer. One of another object is the trap of foreign
+/// iterators, and the end that of bounds.
+pub fn erasable<S: Store>(store: &S, buffer: ObjRef, iterator: Pointer) -> Result<u32, Stop>
+    ensures { (kinds : Kinds) → IsHoused kinds (S.content store.now) (S.rows store.now) → IsRef (S.content store.now) (S.rows store.now) buffer
+        → tried itself result ≡ spec.erasable (seen kinds (S.content store.now) (S.rows store.now)) buffer.birth (pointer_seen iterator) }
+{
+    match iterator {
+        Pointer::To { index, object, .. } => {
+            if object.birth == buffer.birth {
+                element_index(store, buffer, index)
+            } else {
+                Err(Stop::Trap(TrapKind::ForeignIterator))
+            }
+        }
+        Pointer::Null => Err(Stop::Trap(TrapKind::ForeignIterator)),
+        Pointer::Wild => Err(Stop::Trap(TrapKind::ForeignIterator)),
+        Pointer::Static(_) => Err(Stop::Trap(TrapKind::ForeignIterator)),
+    }
+}
+
+fn element_index<S: Store>(store: &S, buffer: ObjRef, index: u32) -> Result<u32, Stop>
+    ensures { (kinds : Kinds) → IsHoused kinds (S.content store.now) (S.rows store.now) → IsRef (S.content store.now) (S.rows store.now) buffer
+        → tried itself result ≡ spec.below index (size_of (seen kinds (S.content store.now) (S.rows store.now)) buffer.birth) }
+{
+    if index < length(store, buffer) {
+        Ok(index)
+    } else {
+        Err(Stop::Trap(TrapKind::Bounds))
     }
 }

@@ -15,7 +15,7 @@ mod words;
 
 pub use bytes::{byte_at, byte_count, viewed_alike, word_at};
 pub use choosing::Choice;
-pub use iterators::{Step, alike, moved, step_of};
+pub use iterators::{Step, alike, erasable, moved, step_of};
 pub use owned::{
     Spot, buffer, owned_by, owned_element, owned_end, owned_pointer, owned_size, owned_target,
     owned_whole, place_pointer,
