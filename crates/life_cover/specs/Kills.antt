@@ -1,0 +1,32 @@
+-- What a step kills: the places under which it changes something, and the facts that are left.
+use Rattle.std.specs.Prelude.{◌≡◌, Bool, true, false}
+use Rattle.life_types.specs.Types.{Types}
+use Rattle.life_pset.specs.declared.element.AbsPlace.{AbsPlace}
+use Rattle.life_pset.specs.declared.element.Cause.{Cause}
+use Rattle.life_pset.specs.declared.element.Element.{Element}
+use Rattle.life_pset.specs.declared.element.Element.TheVariants as element
+use Rattle.life_pset.specs.declared.element.Fact.{Fact}
+use Rattle.life_pset.specs.declared.element.Root.{Root}
+use Rattle.life_rules.specs.Matching.{fact_at}
+use Rattle.life_store.specs.Content.{Content}
+use Rattle.life_forest.specs.Forest.{Beneath, Foot}
+use Rattle.life_forest.specs.Kinds.{kinds_of}
+use Rattle.life_cover.specs.Regions.{Region, IsAt}
+
+-- the element points to a place that is killed
+abbrev pub is_hit : (killed : AbsPlace → Bool) → Element → Bool
+is_hit killed (element.At place) = killed place
+is_hit killed _ = false
+
+-- the facts S' that are left of the facts S: of what isn't written each stays that isn't hit, and of one that is there is an invalid one
+pub record LeftBy (killed written : AbsPlace → Bool) (S S' : Fact → Type 0) : Type 0 where
+  pub kept : (l : AbsPlace) (e : Element) → S (fact_at l e) → written l ≡ false → is_hit killed e ≡ false → S' (fact_at l e)
+  pub hit : (l a : AbsPlace) → S (fact_at l (element.At a)) → written l ≡ false → killed a ≡ true → (cause : Cause) × S' (fact_at l (element.Invalid cause))
+
+-- what is touched lies at places that are killed
+abbrev pub Guards : Types → Content → (Stands : Root → Region → Type 0) → (killed : AbsPlace → Bool) → Foot → Type 0
+Guards types c Stands killed foot = (place : AbsPlace) (r : Region) → IsAt types c Stands place r → Beneath (kinds_of types) c foot r.object → killed place ≡ true
+
+-- the roots of places that aren't killed stand where they stood
+abbrev pub KeepsRoots : (Stands Stands' : Root → Region → Type 0) → (killed : AbsPlace → Bool) → Type 0
+KeepsRoots Stands Stands' killed = (place : AbsPlace) (r : Region) → killed place ≡ false → Stands place.root r → Stands' place.root r
