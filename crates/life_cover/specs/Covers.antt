@@ -1,6 +1,5 @@
--- What a fact says of a pointer's value, and what must be true of the roots of a function's places.
-use Rattle.std.specs.Prelude.{◌≡◌, ◌≢◌, ℕ, ◌+◌, ◌≤◌, Bool, true, false, Option, Some, None, length}
-use Rattle.std.proofs.Common.{◌⊎◌}
+-- What a fact says of a pointer's value, and of what an owner has.
+use Rattle.std.specs.Prelude.{◌≡◌, ℕ, ◌+◌, ◌≤◌, Bool, true, false, Option, Some, None, length}
 use Rattle.life_types.specs.Types.{Types}
 use Rattle.life_types.specs.declared.ty.TyId.{TyId}
 use Rattle.life_pset.specs.declared.element.AbsPlace.{AbsPlace}
@@ -12,11 +11,8 @@ use Rattle.life_rules.specs.Matching.{fact_at}
 use Rattle.life_store.specs.Cells.{at}
 use Rattle.life_store.specs.Content.{Content, is_valid_in}
 use Rattle.life_store.specs.Held.{slots_at}
-use Rattle.life_store.specs.Parts.{width_at}
 use Rattle.life_store.specs.State.{Target, Pointer, Null, Wild, To, Static}
-use Rattle.life_forest.specs.Forest.{Beneath}
-use Rattle.life_forest.specs.Kinds.{kinds_of}
-use Rattle.life_cover.specs.Regions.{Region, IsAt, IsTrue, foot_of}
+use Rattle.life_cover.specs.Regions.{Region, IsAt}
 
 -- ---- a pointer of a type
 
@@ -72,18 +68,3 @@ module _ (types : Types) (c : Content) (Stands : Root → Region → Type 0) (ma
   CoversOwner unique element.Own (Some n) = Unit {0}
   CoversOwner unique element.Null None = Unit {0}
   CoversOwner unique _ _ = ⊥
-
-  -- ---- roots
-
-  -- neither lies in, above or beneath the other
-  pub record IsApart (a b : Region) : Type 0 where
-    pub beside : a.object ≡ b.object → (a.word + width_at types a.ty ≤ b.word) ⊎ (b.word + width_at types b.ty ≤ a.word)
-    pub over : Beneath (kinds_of types) c (foot_of types a) b.object → ⊥
-    pub under : Beneath (kinds_of types) c (foot_of types b) a.object → ⊥
-
-  -- each root stands in one region, where there is a value of its type, and one beneath which a function may change what is owned is apart
-  -- from every other
-  pub record AreRooted (owning : Root → Bool) : Type 0 where
-    pub true_ : (r : Root) (a : Region) → Stands r a → IsTrue types c a
-    pub one : (r : Root) (a b : Region) → Stands r a → Stands r b → a ≡ b
-    pub apart : (r s : Root) (a b : Region) → owning r ≡ true → r ≢ s → Stands r a → Stands s b → IsApart a b

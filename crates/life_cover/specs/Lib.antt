@@ -1,3 +1,4 @@
 pub mod Covers
 pub mod Kills
 pub mod Regions
+pub mod Roots
