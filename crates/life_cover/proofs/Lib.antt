@@ -1,2 +1,4 @@
+pub mod Beside
 pub mod Guarding
 pub mod Inside
+pub mod Killing

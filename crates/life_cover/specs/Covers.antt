@@ -58,13 +58,18 @@ module _ (types : Types) (c : Content) (Stands : Root → Region → Type 0) (ma
   IsCovered S location look (Static s) = Unit {0}
   IsCovered S location look v = IsTold S location look v
 
-  -- ---- what owns
+-- ---- what owns
 
-  -- own covers what has something, null what has nothing, and moved all but a unique_ptr that has something
-  abbrev pub CoversOwner : (unique : Bool) → Element → Option ℕ → Type 0
-  CoversOwner unique (element.Invalid cause) owned = Unit {0}
-  CoversOwner unique (element.Moved cause) None = Unit {0}
-  CoversOwner unique (element.Moved cause) (Some n) = unique ≡ false
-  CoversOwner unique element.Own (Some n) = Unit {0}
-  CoversOwner unique element.Null None = Unit {0}
-  CoversOwner unique _ _ = ⊥
+-- own covers what has something, null what has nothing, and moved all but a unique_ptr that has something
+abbrev pub CoversOwner : (unique : Bool) → Element → Option ℕ → Type 0
+CoversOwner unique (element.Invalid cause) owned = Unit {0}
+CoversOwner unique (element.Moved cause) None = Unit {0}
+CoversOwner unique (element.Moved cause) (Some n) = unique ≡ false
+CoversOwner unique element.Own (Some n) = Unit {0}
+CoversOwner unique element.Null None = Unit {0}
+CoversOwner unique _ _ = ⊥
+
+pub record IsOwnerTold (S : Fact → Type 0) (location : AbsPlace) (unique : Bool) (owned : Option ℕ) : Type 0 where
+  pub known : Element
+  pub holds : S (fact_at location known)
+  pub covers : CoversOwner unique known owned
