@@ -1,0 +1,126 @@
+-- Places, covered pointers and kills, worked out by hand.
+use Rattle.std.proofs.Common.{◌≡◌, ℕ, inl, inr, false, true, [], ◌∷◌, length, Option, Some, None, refl, sym, ap, ◌∙◌, arith}
+use Rattle.std.proofs.lemmas.Bool.{false≢true}
+use Rattle.life_types.specs.Types.{Types}
+use Rattle.life_types.specs.declared.ty.Ty.TheVariants as variant
+use Rattle.life_types.specs.declared.ty.TyId.{TyId}
+use Rattle.life_pset.specs.Elements.{local_place}
+use Rattle.life_pset.specs.Places as places
+use Rattle.life_pset.specs.Places.{member_place, owned_place, path}
+use Rattle.life_pset.specs.declared.element.Element.TheVariants as element
+use Rattle.life_pset.specs.declared.element.Root.{Root}
+use Rattle.life_pset.specs.declared.element.Root.TheVariants as root
+use Rattle.life_store.specs.Cells.{at, unset, at-unset_same}
+use Rattle.life_store.specs.Content.{Slot, Object, Content, is_valid_in, resized, without}
+use Rattle.life_store.specs.Held.{slots_if}
+use Rattle.life_store.specs.State.{Target, To, Null, Wild}
+use Rattle.life_cover.specs.Covers.{Covers, Holds, Look, PointsTo}
+use Rattle.life_cover.specs.Kills.{is_hit}
+use Rattle.life_cover.specs.Regions.{Lies, Region}
+
+abbrev id : ℕ → TyId
+id n = record { 0 = n }
+
+-- 0 int, 1 std::vector<int>, 2 std::string, 3 struct { int a; std::vector<int> v; }, and 4 for characters of strings
+abbrev table : Types
+table = record { types = variant.Int ∷ variant.Vector (id 0) ∷ variant.Text ∷ variant.Struct 0 ∷ []; structs = (id 0 ∷ id 1 ∷ []) ∷ [] }
+
+abbrev region : (object word type : ℕ) → Region
+region n w ty = record { object = n; word = w; ty = id ty }
+
+abbrev slot : (word stamp : ℕ) → Slot
+slot word stamp = record { words = word ∷ []; stamp = stamp }
+
+-- object 7 is a vector whose buffer is object 8, with three elements
+abbrev vector : Object
+vector = record { ty = id 1; width = 1; capacity = 1; slots = slot 9 1 ∷ []; end = 1 }
+
+abbrev buffer : Object
+buffer = record { ty = id 0; width = 1; capacity = 3; slots = slot 10 2 ∷ slot 20 3 ∷ slot 30 4 ∷ []; end = 4 }
+
+-- ---- where places lie
+
+abbrev v : ℕ
+v = 0
+
+-- the elements of the vector v
+elements_lie : (c : Content) → at c.objects 7 ≡ Some vector → Lies table c (path (owned_place (local_place v))) (region 7 0 1) (region 8 0 0)
+elements_lie c there = (region 8 0 0, inr (record { owned = refl; type = refl; holder = vector; there = there; index = 0; has = refl; word = refl }), refl)
+
+-- the second member of a struct begins behind the first
+member_lies : (c : Content) → Lies table c (path (member_place (local_place v) 1)) (region 7 0 3) (region 7 1 1)
+member_lies c = (region 7 1 1, inl (record { small = omega arith; type = refl; object = refl; word = refl }), refl)
+
+-- ---- iterators into v, made at moment 5
+
+abbrev iterator : (index : ℕ) → Target
+iterator i = record { object = 8; index = i; word = 0; count = 1; moment = 5 }
+
+abbrev of_ints : Look
+of_ints = record { ranged = false; target = Some (id 0); constant = false }
+
+-- v is object 7
+abbrev V : Root → Region → Type 0
+V r a = (r ≡ root.Local v) × (a ≡ region 7 0 1)
+
+-- the fact that it points to elements of v covers it, also at the end
+covered : (c : Content) → at c.objects 7 ≡ Some vector → at c.objects 8 ≡ Some buffer → (i : ℕ) → is_valid_in i 1 5 (Some buffer) ≡ true → Covers table c V (λ r. true) of_ints (element.At (owned_place (local_place v))) (To (iterator i))
+covered c seven eight i valid = record {
+  region = region 8 0 0;
+  lies = record { start = region 7 0 1; stands = (refl, refl); lies = elements_lie c seven };
+  object = refl;
+  word = refl;
+  type = refl;
+  change = λ e. refl;
+  holds = record { settled = ap (is_valid_in i 1 5) eight ∙ valid; single = λ e. refl; within = λ e. absurd (false≢true e) };
+}
+
+positions : (is_valid_in 0 1 5 (Some buffer) ≡ true) × (is_valid_in 2 1 5 (Some buffer) ≡ true) × (is_valid_in 3 1 5 (Some buffer) ≡ true) × (is_valid_in 4 1 5 (Some buffer) ≡ false)
+positions = (refl, refl, refl, refl)
+
+-- where v grew, its old buffer is no more, and no iterator into it holds
+grown : (c : Content) (i : ℕ) → Holds (without 8 c) false (iterator i) → ⊥
+grown c i h = false≢true (sym (ap (is_valid_in i 1 5) (at-unset_same c.objects 8 8 refl)) ∙ h.settled)
+
+-- an erase of the element in the middle, at moment 6: one before it stands, those from there on don't, the old end among them
+erased : (is_valid_in 0 1 5 (Some (resized 6 2 1 buffer)) ≡ true) × (is_valid_in 1 1 5 (Some (resized 6 2 1 buffer)) ≡ false) × (is_valid_in 2 1 5 (Some (resized 6 2 1 buffer)) ≡ false) × (is_valid_in 3 1 5 (Some (resized 6 2 1 buffer)) ≡ false)
+erased = (refl, refl, refl, refl)
+
+-- .. and what erase gives does
+erased_into : is_valid_in 1 1 6 (Some (resized 6 2 1 buffer)) ≡ true
+erased_into = refl
+
+-- what pop_back leaves behind: the iterators at the last element and at the old end
+popped : (is_valid_in 1 1 5 (Some (resized 6 2 2 buffer)) ≡ true) × (is_valid_in 2 1 5 (Some (resized 6 2 2 buffer)) ≡ false) × (is_valid_in 3 1 5 (Some (resized 6 2 2 buffer)) ≡ false)
+popped = (refl, refl, refl)
+
+-- ---- what is killed: what v owns, and neither v itself nor what another has
+
+kills : (is_hit (places.under (local_place v)) (element.At (owned_place (local_place v))) ≡ true) × (is_hit (places.under (local_place v)) (element.At (local_place v)) ≡ false)
+    × (is_hit (places.under (local_place v)) (element.At (owned_place (local_place 1))) ≡ false) × (is_hit (places.under (member_place (local_place v) 1)) (element.At (owned_place (member_place (local_place v) 1))) ≡ true)
+    × (is_hit (places.under (member_place (local_place v) 1)) (element.At (owned_place (member_place (local_place v) 0))) ≡ false)
+kills = (refl, refl, refl, refl, refl)
+
+-- ---- a view of a string, whose buffer is object 8
+
+abbrev view : (index count : ℕ) → Target
+view i n = record { object = 8; index = i; word = 0; count = n; moment = 5 }
+
+-- it sees the characters, and at the end none
+seen : (c : Content) → at c.objects 8 ≡ Some buffer → Holds c true (view 0 3) × Holds c true (view 3 0)
+seen c there =
+    (record { settled = ap (is_valid_in 0 3 5) there; single = λ e. absurd (false≢true (sym e)); within = λ e. rw there (omega arith) },
+    record { settled = ap (is_valid_in 3 0 5) there; single = λ e. absurd (false≢true (sym e)); within = λ e. rw there (omega arith) })
+
+-- the end isn't among what is seen
+behind_end : (c : Content) → at c.objects 8 ≡ Some buffer → Holds c true (view 2 2) → ⊥
+behind_end c there h = let w = h.within refl in let n = ap (λ (o : Option Object). length (slots_if o)) there in omega (arith, w, n)
+
+-- where the string is set anew, its old buffer is no more, and not even a view of nothing holds
+set_anew : (c : Content) (i n : ℕ) → Holds (without 8 c) true (view i n) → ⊥
+set_anew c i n h = false≢true (sym (ap (is_valid_in i n 5) (at-unset_same c.objects 8 8 refl)) ∙ h.settled)
+
+-- ---- null and invalid
+
+empty_handed : (c : Content) → Covers table c V (λ r. true) of_ints element.Null Null × (Covers table c V (λ r. true) of_ints element.Null (To (iterator 0)) → ⊥) × (Covers table c V (λ r. true) of_ints element.Own Null → ⊥)
+empty_handed c = (tt, λ h. h, λ h. h)
