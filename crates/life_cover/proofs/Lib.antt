@@ -1,5 +1,11 @@
 pub mod Beside
+pub mod Buffers
+pub mod Changes
+pub mod Fresh
 pub mod Guarding
 pub mod Inside
 pub mod Killing
+pub mod Left
+pub mod Stepping
+pub mod Using
 mod Worked

@@ -1,12 +1,19 @@
 -- What a step kills: the places under which it changes something, and the facts that are left.
-use Rattle.std.specs.Prelude.{◌≡◌, Bool, true, false}
+use Rattle.std.specs.Prelude.{◌≡◌, Bool, true, false, List, Contains}
 use Rattle.life_types.specs.Types.{Types}
+use Rattle.life_types.specs.declared.place.Place.{Place}
+use Rattle.life_core.specs.Function.{Function}
+use Rattle.life_core.specs.Step.{Step}
+use Rattle.life_pset.specs.Elements.{caused_elements, step_elements}
+use Rattle.life_pset.specs.Table.{IsOf, table_of}
 use Rattle.life_pset.specs.declared.element.AbsPlace.{AbsPlace}
 use Rattle.life_pset.specs.declared.element.Cause.{Cause}
 use Rattle.life_pset.specs.declared.element.Element.{Element}
 use Rattle.life_pset.specs.declared.element.Element.TheVariants as element
 use Rattle.life_pset.specs.declared.element.Fact.{Fact}
 use Rattle.life_pset.specs.declared.element.Root.{Root}
+use Rattle.life_contract.specs.Signatures.{Signature}
+use Rattle.life_rules.specs.Carrying.{from_none, from_one, from_two}
 use Rattle.life_rules.specs.Matching.{fact_at}
 use Rattle.life_store.specs.Content.{Content}
 use Rattle.life_forest.specs.Forest.{Beneath, Foot}
@@ -30,3 +37,11 @@ Guards types c Stands killed foot = (place : AbsPlace) (r : Region) → IsAt typ
 -- the roots of places that aren't killed stand where they stood
 abbrev pub KeepsRoots : (Stands Stands' : Root → Region → Type 0) → (killed : AbsPlace → Bool) → Type 0
 KeepsRoots Stands Stands' killed = (place : AbsPlace) (r : Region) → killed place ≡ false → Stands place.root r → Stands' place.root r
+
+-- S' has what the instruction at this place gives from facts of S, as far as it is of the function
+pub record Closed (sigs : List Signature) (types : Types) (f : Function) (place : Place) (i : Step) (S S' : Fact → Type 0) : Type 0 where
+  pub of : (x : Fact) → S x → IsOf (table_of types f) x
+  pub causes : (e : Element) → Contains (step_elements f place i) e → Contains (caused_elements f) e
+  pub none : (x : Fact) → IsOf (table_of types f) x → Contains (from_none sigs types f place i) x → S' x
+  pub one : (a x : Fact) → S a → IsOf (table_of types f) x → Contains (from_one sigs types f place i a) x → S' x
+  pub two : (a b x : Fact) → S a → S b → IsOf (table_of types f) x → Contains (from_two sigs types f place i a b) x → S' x

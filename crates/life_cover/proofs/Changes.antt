@@ -1,0 +1,69 @@
+-- A change of an owner in a place, by its name or through a pointer: the facts that the rules leave cover all other pointers.
+use Rattle.std.proofs.Common.{◌≡◌, ℕ, Bool, true, false, List, [], length, Some, refl, sym, subst, ◌∙◌, Option}
+use Rattle.std.specs.Prelude.{Contains}
+use Rattle.life_types.specs.Trees.{IsOrdered}
+use Rattle.life_types.specs.Types.{Types}
+use Rattle.life_types.specs.declared.place.Place.{Place}
+use Rattle.life_types.specs.declared.ty.TyId.{TyId}
+use Rattle.life_core.specs.Function.{Function}
+use Rattle.life_core.specs.Operands.{Location}
+use Rattle.life_core.specs.Operands as named
+use Rattle.life_core.specs.Step.{Change, Changes, Step}
+use Rattle.life_pset.specs.Elements.{changed, owner_changed}
+use Rattle.life_pset.specs.Places.{members_place, under}
+use Rattle.life_pset.specs.declared.element.AbsPlace.{AbsPlace}
+use Rattle.life_pset.specs.declared.element.Element.TheVariants as element
+use Rattle.life_pset.specs.declared.element.Fact.{Fact}
+use Rattle.life_pset.specs.declared.element.Root.{Root}
+use Rattle.life_contract.specs.Located.{located}
+use Rattle.life_contract.specs.Signatures.{Signature}
+use Rattle.life_rules.specs.Carrying.{writes}
+use Rattle.life_rules.specs.Matching.{fact_at}
+use Rattle.life_rules.proofs.Giving.{at_head}
+use Rattle.life_store.specs.Content.{Content}
+use Rattle.life_store.specs.Parts.{type_within, word_within}
+use Rattle.life_store.specs.State.{Pointer, Target}
+use Rattle.life_forest.specs.Forest.{Touches}
+use Rattle.life_forest.specs.Kinds.{kinds_of}
+use Rattle.life_forest.specs.Typed.{IsStore}
+use Rattle.life_cover.specs.Covers.{IsCovered, Look, PointsTo}
+use Rattle.life_cover.specs.Kills.{Closed, Guards, LeftBy}
+use Rattle.life_cover.specs.Regions.{IsAt, Region, foot_of}
+use Rattle.life_cover.specs.Roots.{AreRooted}
+use Rattle.life_cover.proofs.Guarding.{under_place}
+use Rattle.life_cover.proofs.Killing.{cover_on}
+use Rattle.life_cover.proofs.Left.{left_by_name, left_through}
+use Rattle.life_cover.proofs.Stepping.{AllSmall, HasRoom, members_at}
+
+module _ (types : Types) (ordered : IsOrdered types) (hand : ℕ → ℕ) (c d : Content) (store : IsStore types hand c) (Stands : Root → Region → Type 0) (may_change owning : Root → Bool) (rooted : AreRooted types c Stands owning) where
+  -- what is owned in a place is guarded by what is under it
+  pub place_guards : (killed : AbsPlace) (k : Region) → owning killed.root ≡ true → IsAt types c Stands killed k → Guards types c Stands (under killed) (foot_of types k)
+  place_guards killed k may at_k place r at_r low = under_place types ordered hand c store Stands owning rooted killed place k r may at_k at_r low
+
+  -- any step that touches what is owned in a place, and kills what is under it
+  pub place_cover : (killed : AbsPlace) (k : Region) → owning killed.root ≡ true → IsAt types c Stands killed k → Touches (kinds_of types) (foot_of types k) c d → (written : AbsPlace → Bool) (S S' : Fact → Type 0) → LeftBy (under killed) written S S'
+      → (l : AbsPlace) (look : Look) (v : Pointer) → written l ≡ false → IsCovered types c Stands may_change S l look v → IsCovered types d Stands may_change S' l look v
+  place_cover killed k may at_k touch written S S' left =
+      cover_on types ordered hand c d store (foot_of types k) touch Stands Stands may_change (λ r a s. rooted.fits r a s) (under killed) written S S' left (place_guards killed k may at_k) (λ place r free s. s)
+
+  module _ (sigs : List Signature) (f : Function) (place : Place) (change : Change) (S S' : Fact → Type 0) where
+    -- .. a change by a name
+    pub change_named : (l : Location) (k : Region) → Closed sigs types f place (Changes (named.Name l) change) S S' → owning (located l).root ≡ true → IsAt types c Stands (located l) k → Touches (kinds_of types) (foot_of types k) c d
+        → (q : AbsPlace) (look : Look) (v : Pointer) → writes (Changes (named.Name l) change) q ≡ false → IsCovered types c Stands may_change S q look v → IsCovered types d Stands may_change S' q look v
+    change_named l k closed may at_k touch =
+        place_cover (located l) k may at_k touch (writes (Changes (named.Name l) change)) S S'
+        (left_by_name sigs types f place (Changes (named.Name l) change) S S' closed (record { owner = located l; cause = changed place l.local }) refl (λ e. refl) (at_head (element.Invalid (changed place l.local)) []))
+
+    -- .. and through a pointer, whose value some fact covers
+    pub change_through : (p : Location) (members : List ℕ) (a : AbsPlace) (k : Region) → Closed sigs types f place (Changes (named.Through p members) change) S S' → S (fact_at (located p) (element.At a)) → owning (members_place a members).root ≡ true
+        → IsAt types c Stands (members_place a members) k → Touches (kinds_of types) (foot_of types k) c d
+        → (q : AbsPlace) (look : Look) (v : Pointer) → writes (Changes (named.Through p members) change) q ≡ false → IsCovered types c Stands may_change S q look v → IsCovered types d Stands may_change S' q look v
+    change_through p members a k closed target may at_k touch =
+        place_cover (members_place a members) k may at_k touch (writes (Changes (named.Through p members) change)) S S'
+        (left_through sigs types f place (Changes (named.Through p members) change) S S' closed p members a target (λ x y. refl) (λ e. refl) (at_head (element.Invalid (owner_changed place)) []))
+
+-- where a pointer points to a place, its member lies in the member's place
+pub member_pointed : (types : Types) (c : Content) (Stands : Root → Region → Type 0) (may_change : Root → Bool) (look : Look) (a : AbsPlace) (t : Target) (target item : TyId) (members : List ℕ) → PointsTo types c Stands may_change look a t → look.target ≡ Some target
+    → type_within types (Some target) members ≡ Some item → HasRoom (length members) a → AllSmall members → (r : Region) × IsAt types c Stands (members_place a members) r
+member_pointed types c Stands may_change look a t target item members h is typed room small =
+    (_, members_at types c Stands members a h.region item room small (subst (λ (o : Option TyId). type_within types o members ≡ Some item) (sym is ∙ h.type) typed) h.lies)
