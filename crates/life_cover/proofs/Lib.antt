@@ -6,6 +6,8 @@ pub mod Guarding
 pub mod Inside
 pub mod Killing
 pub mod Left
+pub mod Pointers
 pub mod Stepping
+pub mod Takes
 pub mod Using
 mod Worked
