@@ -37,14 +37,14 @@ use Rattle.life_cover.proofs.Stepping.{AllSmall, HasRoom, members_at}
 
 module _ (types : Types) (ordered : IsOrdered types) (hand : ℕ → ℕ) (c d : Content) (store : IsStore types hand c) (Stands : Root → Region → Type 0) (may_change owning : Root → Bool) (rooted : AreRooted types c Stands owning) where
   -- what is owned in a place is guarded by what is under it
-  pub place_guards : (killed : AbsPlace) (k : Region) → owning killed.root ≡ true → IsAt types c Stands killed k → Guards types c Stands (under killed) (foot_of types k)
-  place_guards killed k may at_k place r at_r low = under_place types ordered hand c store Stands owning rooted killed place k r may at_k at_r low
+  pub place_guards : (S : Fact → Type 0) (killed : AbsPlace) (k : Region) → owning killed.root ≡ true → IsAt types c Stands killed k → Guards types c Stands S (under killed) (foot_of types k)
+  place_guards S killed k may at_k place r names at_r low = under_place types ordered hand c store Stands owning rooted killed place k r may at_k at_r low
 
   -- any step that touches what is owned in a place, and kills what is under it
   pub place_cover : (killed : AbsPlace) (k : Region) → owning killed.root ≡ true → IsAt types c Stands killed k → Touches (kinds_of types) (foot_of types k) c d → (written : AbsPlace → Bool) (S S' : Fact → Type 0) → LeftBy (under killed) written S S'
       → (l : AbsPlace) (look : Look) (v : Pointer) → written l ≡ false → IsCovered types c Stands may_change S l look v → IsCovered types d Stands may_change S' l look v
   place_cover killed k may at_k touch written S S' left =
-      cover_on types ordered hand c d store (foot_of types k) touch Stands Stands may_change (λ r a s. rooted.fits r a s) (under killed) written S S' left (place_guards killed k may at_k) (λ place r free s. s)
+      cover_on types ordered hand c d store (foot_of types k) touch Stands Stands may_change (λ r a s. rooted.fits r a s) (under killed) written S S' left (place_guards S killed k may at_k) (λ place r names free s. s)
 
   module _ (sigs : List Signature) (f : Function) (place : Place) (change : Change) (S S' : Fact → Type 0) where
     -- .. a change by a name

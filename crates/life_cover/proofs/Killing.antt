@@ -15,18 +15,18 @@ use Rattle.life_forest.specs.Forest.{Beneath, Foot, Touches}
 use Rattle.life_forest.specs.Kinds.{kinds_of}
 use Rattle.life_forest.specs.Typed.{IsStore}
 use Rattle.life_cover.specs.Covers.{Covers, CoversOwner, IsCovered, IsOwnerTold, IsTold, Look, PointsTo}
-use Rattle.life_cover.specs.Kills.{Guards, KeepsRoots, LeftBy}
+use Rattle.life_cover.specs.Kills.{Guards, KeepsRoots, LeftBy, Names}
 use Rattle.life_cover.specs.Regions.{IsTrue, Region}
 use Rattle.life_cover.proofs.Beside.{at_on, holds_on}
 
 module _ (types : Types) (ordered : IsOrdered types) (hand : ℕ → ℕ) (c d : Content) (store : IsStore types hand c) (t : Foot) (touch : Touches (kinds_of types) t c d) (Stands Stands' : Root → Region → Type 0)
-    (may_change : Root → Bool) (fits : (r : Root) (a : Region) → Stands r a → IsTrue types c a) (killed written : AbsPlace → Bool) (S S' : Fact → Type 0) (left : LeftBy killed written S S') (guards : Guards types c Stands killed t)
-    (roots : KeepsRoots Stands Stands' killed) where
+    (may_change : Root → Bool) (fits : (r : Root) (a : Region) → Stands r a → IsTrue types c a) (killed written : AbsPlace → Bool) (S S' : Fact → Type 0) (left : LeftBy killed written S S') (guards : Guards types c Stands S killed t)
+    (roots : KeepsRoots Stands Stands' S killed) where
   -- a place that isn't killed is pointed to as before
-  pub points_on : (look : Look) (place : AbsPlace) (p : Target) → killed place ≡ false → PointsTo types c Stands may_change look place p → PointsTo types d Stands' may_change look place p
-  points_on look place p free h = record {
+  pub points_on : (look : Look) (place : AbsPlace) (p : Target) → Names S place → killed place ≡ false → PointsTo types c Stands may_change look place p → PointsTo types d Stands' may_change look place p
+  points_on look place p names free h = record {
     region = h.region;
-    lies = at_on types ordered hand c d store t touch Stands Stands' place h.region (fits place.root) (λ a. roots place a free) h.lies apart;
+    lies = at_on types ordered hand c d store t touch Stands Stands' place h.region (fits place.root) (λ a. roots place a names free) h.lies apart;
     object = h.object;
     word = h.word;
     type = h.type;
@@ -35,7 +35,7 @@ module _ (types : Types) (ordered : IsOrdered types) (hand : ℕ → ℕ) (c d :
   }
     where
       apart : Beneath (kinds_of types) c t h.region.object → ⊥
-      apart low = false≢true (sym free ∙ guards place h.region h.lies low)
+      apart low = false≢true (sym free ∙ guards place h.region names h.lies low)
 
   told_on : (l : AbsPlace) (look : Look) (e : Element) (v : Pointer) → written l ≡ false → S (fact_at l e) → Covers types c Stands may_change look e v → IsTold types d Stands' may_change S' l look v
   told_on l look (element.Invalid cause) v free s h = record { known = element.Invalid cause; holds = left.kept l (element.Invalid cause) s free refl; covers = tt }
@@ -53,7 +53,7 @@ module _ (types : Types) (ordered : IsOrdered types) (hand : ℕ → ℕ) (c d :
     where
       go : (b : Bool) → killed place ≡ b → IsTold types d Stands' may_change S' l look (To p)
       go true e = let x = left.hit l place s free e in record { known = element.Invalid x.0; holds = x.1; covers = tt }
-      go false e = record { known = element.At place; holds = left.kept l (element.At place) s free e; covers = points_on look place p e h }
+      go false e = record { known = element.At place; holds = left.kept l (element.At place) s free e; covers = points_on look place p (l, s) e h }
 
   -- a pointer that isn't written stays covered
   pub cover_on : (l : AbsPlace) (look : Look) (v : Pointer) → written l ≡ false → IsCovered types c Stands may_change S l look v → IsCovered types d Stands' may_change S' l look v

@@ -6,8 +6,10 @@ pub mod Guarding
 pub mod Inside
 pub mod Killing
 pub mod Left
+pub mod Locals
 pub mod Pointers
 pub mod Stepping
 pub mod Takes
+pub mod Unkilled
 pub mod Using
 mod Worked

@@ -43,6 +43,11 @@ right_then (GotTrap kind) go P Q h each = tt
 right_then (GotFault kind) go P Q h each = absurd h
 right_then GotLost go P Q h each = tt
 
+-- the position is one, the end among them, of what an iterator points into
+abbrev pub HasPosition : Content → Pointer → ℕ → Type 0
+HasPosition c (To t) i = i ≤ length (slots_at c t.object)
+HasPosition c _ i = Unit {0}
+
 module _ (types : Types) (c : Content) (Stands : Root → Region → Type 0) (may_change : Root → Bool) (S S' : Fact → Type 0) (l l' : AbsPlace) (look look' : Look) (right : NotInvalid S l) (target : look'.target ≡ look.target)
     (constant : look'.constant ≡ false → look.constant ≡ false) (takes : (e : Element) → S (fact_at l e) → S' (fact_at l' e)) where
   -- another pointer to the same place
@@ -76,20 +81,15 @@ module _ (types : Types) (c : Content) (Stands : Root → Region → Type 0) (ma
         subst (λ b. IfRight (cond b (Got (To t)) (GotFault fault.Dangling)) (λ u. (i n : ℕ) → i + n ≤ seen_count u → IsCovered types c Stands may_change S' l' look' (part_of c.clock i n u))) (sym (range_valid c t holds))
         (λ i n le. again_covered t (at_range c t.object (t.index + i) t.word n) refl refl (λ g. subst (λ b. Holds c b (at_range c t.object (t.index + i) t.word n)) (sym is') (part_holds (kinds_of types) hand c forest t i n le holds)) h)
 
-    -- how many positions there are where an iterator stands
-    abbrev pub room_of : Pointer → ℕ → Type 0
-    room_of (To t) i = i ≤ length (slots_at c t.object)
-    room_of _ i = Unit {0}
-
     -- an iterator goes on to a position, or to the end
     pub advanced_right : (v : Pointer) → look.ranged ≡ false → look'.ranged ≡ false → IsCovered types c Stands may_change S l look v
-        → IfRight (standing c v) (λ u. (i : ℕ) → room_of u i → IsCovered types c Stands may_change S' l' look' (at_index c.clock i u))
+        → IfRight (standing c v) (λ u. (i : ℕ) → HasPosition c u i → IsCovered types c Stands may_change S' l' look' (at_index c.clock i u))
     advanced_right Null is is' h = tt
     advanced_right Wild is is' h = absurd (not_wild types c Stands may_change S l look right h)
     advanced_right (Static k) is is' h = λ i le. tt
     advanced_right (To t) is is' h =
         let holds = subst (λ b. Holds c b t) is (to_place types c Stands may_change S l look right t h).points.holds in
-        subst (λ b. IfRight (cond b (Got (To t)) (GotFault fault.Dangling)) (λ u. (i : ℕ) → room_of u i → IsCovered types c Stands may_change S' l' look' (at_index c.clock i u))) (sym (position_valid c t holds))
+        subst (λ b. IfRight (cond b (Got (To t)) (GotFault fault.Dangling)) (λ u. (i : ℕ) → HasPosition c u i → IsCovered types c Stands may_change S' l' look' (at_index c.clock i u))) (sym (position_valid c t holds))
         (λ i le. again_covered t (at_position c t.object i t.word) refl refl (λ g. subst (λ b. Holds c b (at_position c t.object i t.word)) (sym is') (advanced_holds (kinds_of types) hand c forest t false i le holds)) h)
 
 -- a pointer that takes another's value is covered as that is, also where it may be null or invalid

@@ -30,13 +30,17 @@ pub record LeftBy (killed written : AbsPlace → Bool) (S S' : Fact → Type 0) 
   pub kept : (l : AbsPlace) (e : Element) → S (fact_at l e) → written l ≡ false → is_hit killed e ≡ false → S' (fact_at l e)
   pub hit : (l a : AbsPlace) → S (fact_at l (element.At a)) → written l ≡ false → killed a ≡ true → (cause : Cause) × S' (fact_at l (element.Invalid cause))
 
--- what is touched lies at places that are killed
-abbrev pub Guards : Types → Content → (Stands : Root → Region → Type 0) → (killed : AbsPlace → Bool) → Foot → Type 0
-Guards types c Stands killed foot = (place : AbsPlace) (r : Region) → IsAt types c Stands place r → Beneath (kinds_of types) c foot r.object → killed place ≡ true
+-- some fact points to the place
+abbrev pub Names : (Fact → Type 0) → AbsPlace → Type 0
+Names S place = (l : AbsPlace) × S (fact_at l (element.At place))
 
--- the roots of places that aren't killed stand where they stood
-abbrev pub KeepsRoots : (Stands Stands' : Root → Region → Type 0) → (killed : AbsPlace → Bool) → Type 0
-KeepsRoots Stands Stands' killed = (place : AbsPlace) (r : Region) → killed place ≡ false → Stands place.root r → Stands' place.root r
+-- what is touched of what facts point to lies at places that are killed
+abbrev pub Guards : Types → Content → (Stands : Root → Region → Type 0) → (S : Fact → Type 0) → (killed : AbsPlace → Bool) → Foot → Type 0
+Guards types c Stands S killed foot = (place : AbsPlace) (r : Region) → Names S place → IsAt types c Stands place r → Beneath (kinds_of types) c foot r.object → killed place ≡ true
+
+-- the roots of such places stand where they stood, if these aren't killed
+abbrev pub KeepsRoots : (Stands Stands' : Root → Region → Type 0) → (S : Fact → Type 0) → (killed : AbsPlace → Bool) → Type 0
+KeepsRoots Stands Stands' S killed = (place : AbsPlace) (r : Region) → Names S place → killed place ≡ false → Stands place.root r → Stands' place.root r
 
 -- S' has what the instruction at this place gives from facts of S, as far as it is of the function
 pub record Closed (sigs : List Signature) (types : Types) (f : Function) (place : Place) (i : Step) (S S' : Fact → Type 0) : Type 0 where

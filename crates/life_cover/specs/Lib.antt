@@ -1,4 +1,5 @@
 pub mod Covers
+pub mod Frames
 pub mod Kills
 pub mod Regions
 pub mod Roots
