@@ -12,4 +12,5 @@ pub mod Stepping
 pub mod Takes
 pub mod Unkilled
 pub mod Using
+pub mod Walks
 mod Worked
