@@ -7,7 +7,10 @@ pub mod Inside
 pub mod Killing
 pub mod Left
 pub mod Locals
+pub mod OwnerElements
 pub mod Pointers
+pub mod Putting
+pub mod Reading
 pub mod Stepping
 pub mod Takes
 pub mod Unkilled

@@ -70,7 +70,7 @@ index_right (Some (Named n)) = tt
 index_right (Some (Number z)) = tt
 index_right (Some (Points p)) = tt
 
-then_right : {A B : Type 0} (x : Attempt A) (go : A → Attempt B) (P : A → Type 0) (Q : B → Type 0) → IfRight x P → ((a : A) → P a → IfRight (go a) Q) → IfRight (then_get x go) Q
+pub then_right : {A B : Type 0} (x : Attempt A) (go : A → Attempt B) (P : A → Type 0) (Q : B → Type 0) → IfRight x P → ((a : A) → P a → IfRight (go a) Q) → IfRight (then_get x go) Q
 then_right (Got a) go P Q h each = each a h
 then_right (GotTrap kind) go P Q h each = tt
 then_right (GotFault kind) go P Q h each = absurd h

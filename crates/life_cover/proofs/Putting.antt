@@ -1,0 +1,107 @@
+-- Where a pointer that is a local is given what is covered, and nothing is killed, all pointers of the frame are covered.
+use Rattle.std.proofs.Common.{◌≡◌, ◌≢◌, ⊎_elim, ℕ, zero, suc, Bool, true, false, List, [], ◌∷◌, Option, Some, None, refl, sym, ap, subst, ◌∙◌}
+use Rattle.std.specs.Prelude.{slice_get, slice_set}
+use Rattle.life_types.specs.Trees.{IsOrdered}
+use Rattle.life_types.specs.Types.{Types}
+use Rattle.life_types.specs.declared.place.Place.{Place}
+use Rattle.life_core.specs.Function.{Function}
+use Rattle.life_core.specs.Operands.{whole}
+use Rattle.life_core.specs.Step.{Step}
+use Rattle.life_pset.specs.Elements.{local_place}
+use Rattle.life_pset.specs.declared.element.AbsPlace.{AbsPlace}
+use Rattle.life_pset.specs.declared.element.Element.{Element}
+use Rattle.life_pset.specs.declared.element.Element.TheVariants as element
+use Rattle.life_pset.specs.declared.element.Fact.{Fact}
+use Rattle.life_pset.specs.declared.element.Root.{Root}
+use Rattle.life_pset.specs.declared.element.Root.TheVariants as root
+use Rattle.life_pset.proofs.Numbers.{exact_place}
+use Rattle.life_contract.specs.Located.{is_location}
+use Rattle.life_contract.specs.Signatures.{Signature}
+use Rattle.life_rules.specs.Carrying.{is_gone, writes}
+use Rattle.life_store.specs.Content.{Content}
+use Rattle.life_store.specs.Effects.{cell, put_cell}
+use Rattle.life_store.specs.State.{Target, Cell, Named, Pointer, Null, Wild, To, Static, Points, State}
+use Rattle.life_store.proofs.CellLemmas.{cell_cases, none_some}
+use Rattle.life_store.proofs.MapLemmas.{one_or_apart}
+use Rattle.life_forest.specs.Kinds.{kinds_of}
+use Rattle.life_forest.specs.Typed.{IsStore}
+use Rattle.life_forest.proofs.Steps.{touches_self}
+use Rattle.life_cover.specs.Covers.{Covers, IsCovered, Look, PointsTo}
+use Rattle.life_cover.specs.Frames.{LocalsCovered, RootStands, look_at}
+use Rattle.life_cover.specs.Kills.{Closed}
+use Rattle.life_cover.specs.Regions.{IsTrue, Region}
+use Rattle.life_cover.proofs.Unkilled.{no_foot, unkilled_cover}
+
+-- another cell is as it was
+set_other : {A : Type 0} (xs : List A) (x y : ℕ) (v : A) → x ≢ y → slice_get (slice_set xs x v) y ≡ slice_get xs y
+set_other [] x y v ne = refl
+set_other (c ∷ cs) zero zero v ne = absurd (ne refl)
+set_other (c ∷ cs) zero (suc y) v ne = refl
+set_other (c ∷ cs) (suc x) zero v ne = refl
+set_other (c ∷ cs) (suc x) (suc y) v ne = set_other cs x y v (λ e. ne (ap suc e))
+
+pub other_local : (p x : ℕ) → p ≢ x → is_location (whole p) (local_place x) ≡ false
+other_local p x ne = go (is_location (whole p) (local_place x)) refl
+  where
+    inside : root.Local x ≡ root.Local p → p ≡ x
+    inside e = cc
+
+    go : (b : Bool) → is_location (whole p) (local_place x) ≡ b → is_location (whole p) (local_place x) ≡ false
+    go true e = absurd (ne (inside (ap (λ (l : AbsPlace). l.root) (exact_place (local_place x) (local_place p) e))))
+    go false e = e
+
+-- what is covered is where roots stand more often
+pub covered_more : (types : Types) (c : Content) (Stands Stands' : Root → Region → Type 0) (may_change : Root → Bool) → ((r : Root) (a : Region) → Stands r a → Stands' r a) → (S : Fact → Type 0) (l : AbsPlace) (look : Look) (v : Pointer)
+    → IsCovered types c Stands may_change S l look v → IsCovered types c Stands' may_change S l look v
+covered_more types c Stands Stands' may_change more S l look v = go v
+  where
+    points : (place : AbsPlace) (t : Target) → PointsTo types c Stands may_change look place t → PointsTo types c Stands' may_change look place t
+    points place t h = record {
+      region = h.region;
+      lies = record { start = h.lies.start; stands = more place.root h.lies.start h.lies.stands; lies = h.lies.lies };
+      object = h.object;
+      word = h.word;
+      type = h.type;
+      change = h.change;
+      holds = h.holds;
+    }
+
+    told : (e : Element) (u : Pointer) → Covers types c Stands may_change look e u → Covers types c Stands' may_change look e u
+    told (element.Invalid cause) u k = tt
+    told element.Null Null k = tt
+    told element.Null Wild k = k
+    told element.Null (To t) k = k
+    told element.Null (Static s) k = k
+    told (element.Moved cause) u k = absurd k
+    told element.Own u k = absurd k
+    told element.Static u k = absurd k
+    told (element.At place) Null k = k
+    told (element.At place) Wild k = k
+    told (element.At place) (Static s) k = k
+    told (element.At place) (To t) k = points place t k
+
+    go : (u : Pointer) → IsCovered types c Stands may_change S l look u → IsCovered types c Stands' may_change S l look u
+    go (Static s) h = tt
+    go Null h = record { known = h.known; holds = h.holds; covers = told h.known Null h.covers }
+    go Wild h = record { known = h.known; holds = h.holds; covers = told h.known Wild h.covers }
+    go (To t) h = record { known = h.known; holds = h.holds; covers = told h.known (To t) h.covers }
+
+module _ (types : Types) (ordered : IsOrdered types) (f : Function) (hand : ℕ → ℕ) (st : State) (store : IsStore types hand st.world.content) (Input : Root → Region → Type 0) (may_change : Root → Bool)
+    (fits : (r : Root) (a : Region) → RootStands types f Input st.cells r a → IsTrue types st.world.content a) (sigs : List Signature) (place : Place) (i : Step) (S S' : Fact → Type 0) (closed : Closed sigs types f place i S S')
+    (gone : (e : Element) → is_gone types f place i e ≡ false) (p : ℕ) (new : Cell) (writes_p : (x : ℕ) → p ≢ x → writes i (local_place x) ≡ false) (no_object : (n : ℕ) → cell st p ≡ Some (Named n) → ⊥) where
+  roots_stay : (r : Root) (a : Region) → RootStands types f Input st.cells r a → RootStands types f Input (slice_set st.cells p new) r a
+  roots_stay (root.Local x) a s = one_or_apart p x
+      (λ e. absurd (no_object a.object (ap (slice_get st.cells) e ∙ s.0)))
+      (λ ne. (set_other st.cells p x new ne ∙ s.0, s.1, s.2))
+  roots_stay (root.Input q member) a s = s
+
+  -- so where what it is given is a pointer that is covered, or no pointer at all
+  pub put_covered : ((v : Pointer) → new ≡ Points v → IsCovered types st.world.content (RootStands types f Input st.cells) may_change S' (local_place p) (look_at types f p) v) → LocalsCovered types f Input may_change S st
+      → LocalsCovered types f Input may_change S' (put_cell p new st)
+  put_covered covers old x v e =
+      ⊎_elim
+      (λ h. subst (λ y. IsCovered types st.world.content (RootStands types f Input (slice_set st.cells p new)) may_change S' (local_place y) (look_at types f y) v) h.0
+      (covered_more types st.world.content (RootStands types f Input st.cells) (RootStands types f Input (slice_set st.cells p new)) may_change roots_stay S' (local_place p) (look_at types f p) v (covers v h.1)))
+      (λ h. unkilled_cover types ordered hand st.world.content st.world.content store (touches_self (kinds_of types) no_foot st.world.content) (RootStands types f Input st.cells) (RootStands types f Input (slice_set st.cells p new)) may_change fits
+      sigs f place i S S' closed gone (λ a r names free s. roots_stay a.root r s) (local_place x) (look_at types f x) v (writes_p x h.0) (old x v h.1))
+      (cell_cases st.cells p x new (Points v) e)
