@@ -1,6 +1,7 @@
 pub mod Beside
 pub mod Buffers
 pub mod Changes
+pub mod Copied
 pub mod Fresh
 pub mod Guarding
 pub mod Inside
@@ -8,6 +9,8 @@ pub mod Killing
 pub mod Left
 pub mod Locals
 pub mod OwnerElements
+pub mod OwnerKinds
+pub mod PointerKinds
 pub mod Pointers
 pub mod Putting
 pub mod Reading
