@@ -75,8 +75,10 @@ module _ (types : Types) (ordered : IsOrdered types) (hand : ℕ → ℕ) (c d :
       go (element.Moved cause) s k = with_known (element.Moved cause) (left.kept l (element.Moved cause) s free refl) k
       go element.Own s k = with_known element.Own (left.kept l element.Own s free refl) k
       go element.Static s k = with_known element.Static (left.kept l element.Static s free refl) k
-      go (element.At place) s k = absurd (none owned k)
+      go (element.At place) s k = absurd (none unique owned k)
         where
-          none : (o : Option ℕ) → CoversOwner unique (element.At place) o → ⊥
-          none None h = h
-          none (Some n) h = h
+          none : (u : Bool) (o : Option ℕ) → CoversOwner u (element.At place) o → ⊥
+          none true None h = h
+          none true (Some n) h = h
+          none false None h = h
+          none false (Some n) h = h

@@ -10,6 +10,7 @@ pub mod Left
 pub mod Locals
 pub mod OwnerElements
 pub mod OwnerKinds
+pub mod OwnerPointers
 pub mod PointerKinds
 pub mod Pointers
 pub mod Putting

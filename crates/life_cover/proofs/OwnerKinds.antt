@@ -56,7 +56,7 @@ module _ (types : Types) (ordered : IsOrdered types) (f : Function) (hand : ℕ 
   region = record { object = n; word = 0; ty = o.ty }
 
   -- the operand names the local's object
-  spot_named : (go : Spot → Effect) → on_spot types f (named.Name (whole x)) st go ≡ go (record { object = n; index = 0; word = 0 })
+  pub spot_named : (go : Spot → Effect) → on_spot types f (named.Name (whole x)) st go ≡ go (record { object = n; index = 0; word = 0 })
   spot_named go =
       ap (λ v. on_found (named_by st.world.content v) found) there_cell
       ∙ ap (λ ob. on_found (found_in ob n 0) found) there

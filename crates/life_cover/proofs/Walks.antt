@@ -89,7 +89,7 @@ part_count_right false i (Some n) count =
     least : (a b : ℕ) → min a b ≤ b
     least a b = omega arith
 
-chosen_right : (st : State) (w : Which) (size : ℕ) → IfRight (chosen st w size) (λ i. i ≤ size)
+pub chosen_right : (st : State) (w : Which) (size : ℕ) → IfRight (chosen st w size) (λ i. i ≤ size)
 chosen_right st (which.Index r) size = found (index_in (cell st r)) (index_right (cell st r))
   where
     found : (x : Attempt ℕ) → IfRight x (λ i. Unit {0}) → IfRight (below_if x size) (λ i. i ≤ size)
@@ -102,7 +102,7 @@ chosen_right st which.Last zero = tt
 chosen_right st which.Last (suc n) = omega arith
 chosen_right st which.Target size = tt
 
-end_fits : (end : RangeEnd) (size : ℕ) → end_index end size ≤ size
+pub end_fits : (end : RangeEnd) (size : ℕ) → end_index end size ≤ size
 end_fits range_end.Begin size = omega arith
 end_fits range_end.End size = omega arith
 

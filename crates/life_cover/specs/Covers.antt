@@ -60,14 +60,13 @@ module _ (types : Types) (c : Content) (Stands : Root → Region → Type 0) (ma
 
 -- ---- what owns
 
--- own covers what has something, null what has nothing, and moved all but a unique_ptr that has something
+-- own covers what has something, null a unique_ptr that has nothing, and moved that, too, and every state of a vector or a string
 abbrev pub CoversOwner : (unique : Bool) → Element → Option ℕ → Type 0
-CoversOwner unique (element.Invalid cause) owned = Unit {0}
-CoversOwner unique (element.Moved cause) None = Unit {0}
-CoversOwner unique (element.Moved cause) (Some n) = unique ≡ false
 CoversOwner unique element.Own (Some n) = Unit {0}
-CoversOwner unique element.Null None = Unit {0}
-CoversOwner unique _ _ = ⊥
+CoversOwner true element.Null None = Unit {0}
+CoversOwner true (element.Moved cause) None = Unit {0}
+CoversOwner false (element.Moved cause) owned = Unit {0}
+CoversOwner _ _ _ = ⊥
 
 pub record IsOwnerTold (S : Fact → Type 0) (location : AbsPlace) (unique : Bool) (owned : Option ℕ) : Type 0 where
   pub known : Element
