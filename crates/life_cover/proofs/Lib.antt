@@ -8,6 +8,7 @@ pub mod Inside
 pub mod Killing
 pub mod Left
 pub mod Locals
+pub mod Owned
 pub mod OwnerElements
 pub mod OwnerKinds
 pub mod OwnerPointers

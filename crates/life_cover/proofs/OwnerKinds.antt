@@ -1,7 +1,8 @@
 -- A vector or a string that is a local is changed, with which nothing is wrong: there is no fault, and the facts behind it cover all
 -- pointers of the frame.
-use Rattle.std.proofs.Common.{◌≡◌, ℕ, zero, suc, ◌<◌, Bool, true, false, List, [], ◌∷◌, ◌++◌, length, Option, Some, None, refl, sym, ap, subst, ◌∙◌, arith}
-use Rattle.std.specs.Prelude.{Contains, nat_lt, map}
+use Rattle.std.proofs.Common.{◌≡◌, ℕ, zero, suc, ◌+◌, ◌*◌, ◌<◌, Bool, true, false, List, [], ◌∷◌, ◌++◌, length, Option, Some, None, refl, sym, ap, subst, ◌∙◌, arith}
+use Rattle.std.specs.Prelude.{ℤ, cond, nat_lt}
+use Rattle.std.specs.Int.{cast_unsigned, w64}
 use Rattle.std.proofs.lemmas.Bool.Decides.{nat_tests}
 use Rattle.life_types.specs.Trees.{IsOrdered}
 use Rattle.life_types.specs.Types.{Types}
@@ -10,7 +11,7 @@ use Rattle.life_types.specs.declared.ty.TyId.{TyId}
 use Rattle.life_core.specs.Function.{Function}
 use Rattle.life_core.specs.Operands.{whole}
 use Rattle.life_core.specs.Operands as named
-use Rattle.life_core.specs.Step.{Change, Changes, Clear, PopBack, Step}
+use Rattle.life_core.specs.Step.{Append, Change, Changes, Clear, PopBack, PushBack, Reserve, Set}
 use Rattle.life_pset.specs.Elements.{local_place}
 use Rattle.life_pset.specs.declared.element.Fact.{Fact}
 use Rattle.life_pset.specs.declared.element.Root.{Root}
@@ -18,26 +19,82 @@ use Rattle.life_pset.specs.declared.element.Root.TheVariants as root
 use Rattle.life_contract.specs.Signatures.{Signature}
 use Rattle.life_rules.specs.Carrying.{writes}
 use Rattle.life_store.specs.Cells.{at}
-use Rattle.life_store.specs.Content.{Object, Content}
-use Rattle.life_store.specs.Doing.{changed, does, edits}
-use Rattle.life_store.specs.Edits.{Edit, Pop, Clear as ClearAll, edited, owned_at, popped, size_of}
-use Rattle.life_store.specs.Effects.{Attempt, Got, Effect, Next, Setting, cell, got_or, on_got, put_content, GotFault}
-use Rattle.life_store.specs.Parts.{Parts, Text, Vector, local_type, operand_parts, parts_at, parts_if}
+use Rattle.life_store.specs.Content.{Object, Content, live_words_of, with_birth}
+use Rattle.life_store.specs.Doing.{changed, does, edits, on_given, pushes}
+use Rattle.life_store.specs.Edits.{Edit, Add, Clear as ClearAll, Pop, Push, Put, Reserve as Room, capacity_of, characters_of, edited, grown, owned_at, popped, pushed, regrown, reserved, rewritten, size_of, with_room}
+use Rattle.life_store.specs.Effects.{Attempt, Got, GotTrap, GotFault, GotLost, Effect, Next, Setting, cell, got_or, on_got, on_number, put_content, then_get, word_of_number}
+use Rattle.life_store.specs.Held.{resized_at}
+use Rattle.life_store.specs.Owners.{Words, birth, sized_birth}
+use Rattle.life_store.specs.Parts.{Parts, Single, Text, Vector, local_type, operand_parts, parts_at, parts_if, width}
 use Rattle.life_store.specs.Places.{Spot, found_in, here_if, named_by, on_found, on_spot, operand_word}
-use Rattle.life_store.specs.State.{Named, State}
+use Rattle.life_store.specs.State.{Cell, Empty, Named, Number, Points, State}
 use Rattle.life_store.specs.declared.run.FaultKind.TheVariants as fault
+use Rattle.life_store.specs.declared.run.TrapKind.TheVariants as trap
 use Rattle.life_forest.specs.Forest.{Touches}
 use Rattle.life_forest.specs.Kinds.{kinds_of}
 use Rattle.life_forest.specs.Typed.{IsStore}
 use Rattle.life_forest.specs.Within.{LiesWithin}
+use Rattle.life_forest.proofs.Coming.{IfGot}
 use Rattle.life_forest.proofs.Members.{within_self}
 use Rattle.life_cover.specs.Frames.{LocalsCovered, RootStands, look_at}
 use Rattle.life_cover.specs.Kills.{Closed}
 use Rattle.life_cover.specs.Regions.{IsAt, Region, foot_of}
 use Rattle.life_cover.specs.Roots.{AreRooted}
-use Rattle.life_cover.proofs.Buffers.{clear_touches, pop_touches, rewrite_touches}
+use Rattle.life_cover.proofs.Buffers.{clear_touches, pop_touches, push_touches, reserve_touches, rewrite_touches}
 use Rattle.life_cover.proofs.Changes.{change_named}
 use Rattle.life_cover.proofs.Pointers.{IfRight, OnRight, right_then}
+use Rattle.life_cover.proofs.Using.{Faultless}
+
+-- ---- no births are faults
+
+right_got : {A : Type 0} (x : Attempt A) (P : A → Type 0) → IfGot x P → Faultless x → IfRight x P
+right_got (Got a) P h k = h
+right_got (GotTrap kind) P h k = tt
+right_got (GotFault kind) P h k = k
+right_got GotLost P h k = tt
+
+faultless_then : {A B : Type 0} (x : Attempt A) (go : A → Attempt B) → Faultless x → ((a : A) → Faultless (go a)) → Faultless (then_get x go)
+faultless_then (Got a) go h each = each a
+faultless_then (GotTrap kind) go h each = tt
+faultless_then (GotFault kind) go h each = h
+faultless_then GotLost go h each = tt
+
+faultless_if : {A : Type 0} (b : Bool) (x y : Attempt A) → Faultless x → Faultless y → Faultless (cond b x y)
+faultless_if true x y h k = h
+faultless_if false x y h k = k
+
+birth_faultless : (s : Setting) (ty : TyId) (w capacity : ℕ) (c : Content) → Faultless (birth s ty w capacity c)
+birth_faultless s ty w capacity c = faultless_if {A = ℕ × Content} (nat_lt s.given.cells (live_words_of c + (2 + w * capacity))) (GotTrap trap.Cells) (Got (c.births, with_birth ty w capacity c)) tt tt
+
+regrown_faultless : (s : Setting) (ty : TyId) (element : Parts) (b capacity size : ℕ) (c : Content) → Faultless (regrown s ty element b capacity size c)
+regrown_faultless s ty element b capacity size c = faultless_then (birth s ty (width element) capacity c) _ (birth_faultless s ty (width element) capacity c) (λ f. tt)
+
+reserved_faultless : (s : Setting) (ty : TyId) (element : Parts) (spot : Spot) (b capacity : ℕ) (c : Content) → Faultless (reserved s ty element spot b capacity c)
+reserved_faultless s ty element spot b capacity c =
+    faultless_if {A = Content} (nat_lt (capacity_of c b) capacity) (then_get (regrown s ty element b capacity (size_of c b) c) _) (Got c) (faultless_then (regrown s ty element b capacity (size_of c b) c) _ (regrown_faultless s ty element b capacity (size_of c b) c) (λ f. tt)) tt
+
+pushed_faultless : (s : Setting) (ty : TyId) (element : Parts) (spot : Spot) (b : ℕ) (value : Content → Words) (c : Content) → Faultless (pushed s ty element spot b value c)
+pushed_faultless s ty element spot b value c =
+    faultless_then (with_room s ty element b c) _
+    (faultless_if (nat_lt (size_of c b) (capacity_of c b)) (Got (b, resized_at b (size_of c b + 1) (size_of c b) c)) (regrown s ty element b (grown s.given.growth (size_of c b) (capacity_of c b)) (size_of c b + 1) c) tt
+    (regrown_faultless s ty element b (grown s.given.growth (size_of c b) (capacity_of c b)) (size_of c b + 1) c))
+    (λ f. tt)
+
+rewritten_faultless : (s : Setting) (ty : TyId) (spot : Spot) (b : ℕ) (words : List ℕ) (c : Content) → Faultless (rewritten s ty spot b words c)
+rewritten_faultless s ty spot b words c = faultless_then (sized_birth s ty 1 (length words) c) _ (faultless_then (birth s ty 1 (length words) c) _ (birth_faultless s ty 1 (length words) c) (λ f. tt)) (λ f. tt)
+
+number_right : (v : Option Cell) (go : ℤ → Effect) (Q : State → Type 0) → ((z : ℤ) → OnRight (go z) Q) → OnRight (on_number v go) Q
+number_right None go Q each = tt
+number_right (Some Empty) go Q each = tt
+number_right (Some (Named n)) go Q each = tt
+number_right (Some (Points p)) go Q each = tt
+number_right (Some (Number z)) go Q each = each z
+
+right_more : {A : Type 0} (x : Attempt A) (P Q : A → Type 0) → IfRight x P → ((a : A) → P a → Q a) → IfRight x Q
+right_more (Got a) P Q h more = more a h
+right_more (GotTrap kind) P Q h more = tt
+right_more (GotFault kind) P Q h more = h
+right_more GotLost P Q h more = tt
 
 lt_true : (a b : ℕ) → a < b → nat_lt a b ≡ true
 lt_true a b h = grind (arith, nat_tests)
@@ -108,3 +165,64 @@ module _ (types : Types) (ordered : IsOrdered types) (f : Function) (hand : ℕ 
         by_edit (Vector ty element) is_vector Clear (LocalsCovered types f Input may_change S')
         (edit_right (Vector ty element) ClearAll (LocalsCovered types f Input may_change S')
         (touched_covered Clear closed (λ y. refl) _ (clear_touches types ordered hand st.world.content store n 0 0 o.ty o there (within_self types o.ty) slot ty element is_vector b owned)))
+
+    pub reserve_kind : (r : ℕ) → Closed sigs types f place (Changes (named.Name (whole x)) (Reserve r)) S S' → OnRight (does s types f (Changes (named.Name (whole x)) (Reserve r)) st) (LocalsCovered types f Input may_change S')
+    reserve_kind r closed =
+        by_edit (Vector ty element) is_vector (Reserve r) (LocalsCovered types f Input may_change S')
+        (number_right (cell st r) (λ z. edits s (Vector ty element) spot (Room (cast_unsigned w64 z)) st) (LocalsCovered types f Input may_change S')
+        (λ z. edit_right (Vector ty element) (Room (cast_unsigned w64 z)) (LocalsCovered types f Input may_change S')
+        (right_more (reserved s ty element spot b (cast_unsigned w64 z) st.world.content) (Touches (kinds_of types) (foot_of types region) st.world.content) (λ d. LocalsCovered types f Input may_change S' (put_content d st))
+        (right_got (reserved s ty element spot b (cast_unsigned w64 z) st.world.content) (Touches (kinds_of types) (foot_of types region) st.world.content)
+        (reserve_touches types ordered hand st.world.content store n 0 0 o.ty o there (within_self types o.ty) slot ty element is_vector b owned s (cast_unsigned w64 z)) (reserved_faultless s ty element spot b (cast_unsigned w64 z) st.world.content))
+        (λ d touch. touched_covered (Reserve r) closed (λ y. refl) d touch))))
+
+  -- a number is added
+  pub push_kind : (ty : TyId) → parts_at types o.ty ≡ Vector ty Single → (y : ℕ) (z : ℤ) → cell st y ≡ Some (Number z) → Closed sigs types f place (Changes (named.Name (whole x)) (PushBack y)) S S'
+      → OnRight (does s types f (Changes (named.Name (whole x)) (PushBack y)) st) (LocalsCovered types f Input may_change S')
+  push_kind ty is_vector y z number closed =
+      by_edit (Vector ty Single) is_vector (PushBack y) (LocalsCovered types f Input may_change S')
+      (subst (λ v. OnRight (pushes s types f (Vector ty Single) spot y v st) (LocalsCovered types f Input may_change S')) (sym number)
+      (edit_right (Vector ty Single) (Push (λ d. (word_of_number z ∷ [], d))) (LocalsCovered types f Input may_change S')
+      (right_more (pushed s ty Single spot b (λ d. (word_of_number z ∷ [], d)) st.world.content) (Touches (kinds_of types) (foot_of types region) st.world.content) (λ d. LocalsCovered types f Input may_change S' (put_content d st))
+      (right_got (pushed s ty Single spot b (λ d. (word_of_number z ∷ [], d)) st.world.content) (Touches (kinds_of types) (foot_of types region) st.world.content)
+      (push_touches types ordered hand st.world.content store n 0 0 o.ty o there (within_self types o.ty) slot ty Single is_vector b owned s (word_of_number z ∷ []) refl (λ k. refl))
+      (pushed_faultless s ty Single spot b (λ d. (word_of_number z ∷ [], d)) st.world.content))
+      (λ d touch. touched_covered (PushBack y) closed (λ w. refl) d touch))))
+
+  -- ---- strings
+
+  module _ (ty : TyId) (is_text : parts_at types o.ty ≡ Text ty) where
+    rewrite_right : (change : Change) → Closed sigs types f place (Changes (named.Name (whole x)) change) S S' → ((y : ℕ) → writes (Changes (named.Name (whole x)) change) (local_place y) ≡ false) → (words : List ℕ)
+        → IfRight (rewritten s ty (record { object = n; index = 0; word = 0 }) b words st.world.content) (λ d. LocalsCovered types f Input may_change S' (put_content d st))
+    rewrite_right change closed none words =
+        right_more (rewritten s ty spot b words st.world.content) (Touches (kinds_of types) (foot_of types region) st.world.content) (λ d. LocalsCovered types f Input may_change S' (put_content d st))
+        (right_got (rewritten s ty spot b words st.world.content) (Touches (kinds_of types) (foot_of types region) st.world.content)
+        (rewrite_touches types ordered hand st.world.content store n 0 0 o.ty o there (within_self types o.ty) slot ty is_text b owned s words) (rewritten_faultless s ty spot b words st.world.content))
+        (λ d touch. touched_covered change closed none d touch)
+
+    pub clear_text_kind : Closed sigs types f place (Changes (named.Name (whole x)) Clear) S S' → OnRight (does s types f (Changes (named.Name (whole x)) Clear) st) (LocalsCovered types f Input may_change S')
+    clear_text_kind closed =
+        by_edit (Text ty) is_text Clear (LocalsCovered types f Input may_change S')
+        (edit_right (Text ty) ClearAll (LocalsCovered types f Input may_change S') (rewrite_right Clear closed (λ y. refl) []))
+
+    -- a character is added
+    pub push_character_kind : (y : ℕ) (z : ℤ) → cell st y ≡ Some (Number z) → Closed sigs types f place (Changes (named.Name (whole x)) (PushBack y)) S S'
+        → OnRight (does s types f (Changes (named.Name (whole x)) (PushBack y)) st) (LocalsCovered types f Input may_change S')
+    push_character_kind y z number closed =
+        by_edit (Text ty) is_text (PushBack y) (LocalsCovered types f Input may_change S')
+        (subst (λ v. OnRight (pushes s types f (Text ty) spot y v st) (LocalsCovered types f Input may_change S')) (sym number)
+        (edit_right (Text ty) (Push (λ d. (word_of_number z ∷ [], d))) (LocalsCovered types f Input may_change S') (rewrite_right (PushBack y) closed (λ w. refl) (characters_of st.world.content b ++ (word_of_number z ∷ [])))))
+
+    -- set to characters, or appended to, where these are those of a view that may be used, or one character
+    module _ (given : named.Characters) (can : (go : List ℕ → Effect) (Q : State → Type 0) → ((ws : List ℕ) → OnRight (go ws) Q) → OnRight (on_given s types f given st go) Q) where
+      pub set_kind : Closed sigs types f place (Changes (named.Name (whole x)) (Set given)) S S' → OnRight (does s types f (Changes (named.Name (whole x)) (Set given)) st) (LocalsCovered types f Input may_change S')
+      set_kind closed =
+          by_edit (Text ty) is_text (Set given) (LocalsCovered types f Input may_change S')
+          (can (λ ws. edits s (Text ty) spot (Put ws) st) (LocalsCovered types f Input may_change S')
+          (λ ws. edit_right (Text ty) (Put ws) (LocalsCovered types f Input may_change S') (rewrite_right (Set given) closed (λ y. refl) ws)))
+
+      pub append_kind : Closed sigs types f place (Changes (named.Name (whole x)) (Append given)) S S' → OnRight (does s types f (Changes (named.Name (whole x)) (Append given)) st) (LocalsCovered types f Input may_change S')
+      append_kind closed =
+          by_edit (Text ty) is_text (Append given) (LocalsCovered types f Input may_change S')
+          (can (λ ws. edits s (Text ty) spot (Add ws) st) (LocalsCovered types f Input may_change S')
+          (λ ws. edit_right (Text ty) (Add ws) (LocalsCovered types f Input may_change S') (rewrite_right (Append given) closed (λ y. refl) (characters_of st.world.content b ++ ws))))
