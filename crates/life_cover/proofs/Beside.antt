@@ -1,5 +1,5 @@
 -- What isn't beneath what a step touches lies and stands as it did.
-use Rattle.std.proofs.Common.{◌≡◌, inl, inr, ⊎_elim, ℕ, zero, suc, ◌+◌, ◌<◌, Bool, true, false, cond, List, [], ◌∷◌, length, Option, Some, None, refl, sym, ap, subst, ◌∙◌, arith}
+use Rattle.std.proofs.Common.{◌≡◌, inl, inr, ℕ, zero, suc, ◌+◌, ◌<◌, Bool, true, false, cond, List, [], ◌∷◌, Option, Some, None, refl, sym, ap, subst, ◌∙◌, arith}
 use Rattle.std.specs.Prelude.{◌||◌, option_map, slice_get, slice_index}
 use Rattle.std.proofs.lemmas.Bool.{false≢true}
 use Rattle.life_types.specs.Trees.{IsOrdered}
@@ -9,17 +9,17 @@ use Rattle.life_pset.specs.declared.element.AbsPlace.{AbsPlace}
 use Rattle.life_pset.specs.declared.element.Root.{Root}
 use Rattle.life_store.specs.Cells.{at}
 use Rattle.life_store.specs.Content.{Slot, Object, Content, is_valid_in, word_at, word_in}
-use Rattle.life_store.specs.Kinds.{Kind, Owner, is_value, kind_in}
-use Rattle.life_store.specs.Parts.{parts_at, width_at}
+use Rattle.life_store.specs.Kinds.{Owner, is_value, kind_in}
+use Rattle.life_store.specs.Parts.{parts_at}
 use Rattle.life_store.specs.State.{Target}
 use Rattle.life_store.proofs.CellLemmas.{none_some, some_same}
-use Rattle.life_forest.specs.Forest.{Beneath, Foot, IsForest, Touches, part, under, whole}
+use Rattle.life_forest.specs.Forest.{Beneath, Foot, Touches, part, under, whole}
 use Rattle.life_forest.specs.Kinds.{Kinds, kinds_of}
 use Rattle.life_forest.specs.Owned.{blanked, blanked_slots, spared}
 use Rattle.life_forest.specs.Typed.{IsStore}
 use Rattle.life_forest.proofs.Steps.{own_all, size_on, stands_on}
 use Rattle.life_cover.specs.Covers.{Holds}
-use Rattle.life_cover.specs.Regions.{Goes, IsAt, IsTrue, Lies, Region, ToMember, ToOwned, foot_of}
+use Rattle.life_cover.specs.Regions.{Goes, IsAt, IsTrue, Lies, Region, ToOwned, foot_of}
 use Rattle.life_cover.proofs.Inside.{Inside, goes_inside, goes_true, lies_inside, owned_counted, owner_of, region_owner}
 
 -- ---- words that aren't blanked out

@@ -1,6 +1,6 @@
 -- Each change of a vector or a string touches what is owned in its place, and nothing else.
-use Rattle.std.proofs.Common.{◌≡◌, ℕ, zero, suc, ◌+◌, ◌≤◌, ◌<◌, Bool, true, List, [], ◌∷◌, length, Option, Some, None, refl, sym, ap, subst, ◌∙◌, arith}
-use Rattle.std.specs.Prelude.{◌||◌, slice_index}
+use Rattle.std.proofs.Common.{◌≡◌, ℕ, zero, suc, ◌+◌, ◌<◌, List, [], ◌∷◌, length, Option, Some, refl, sym, ap, subst, ◌∙◌, arith}
+use Rattle.std.specs.Prelude.{slice_index}
 use Rattle.std.proofs.lemmas.Bool.{or_right}
 use Rattle.life_types.specs.Trees.{IsOrdered}
 use Rattle.life_types.specs.Types.{Types}
@@ -11,7 +11,7 @@ use Rattle.life_store.specs.Edits.{cleared, erased, owned_at, popped, pushed, re
 use Rattle.life_store.specs.Effects.{Setting}
 use Rattle.life_store.specs.Held.{owned_in, slots_if}
 use Rattle.life_store.specs.Kinds.{is_value, kind_in}
-use Rattle.life_store.specs.Parts.{Parts, Single, Text, Vector, parts_at, width, width_at}
+use Rattle.life_store.specs.Parts.{Parts, Text, Vector, parts_at, width, width_at}
 use Rattle.life_store.specs.Places.{Spot, spot_words}
 use Rattle.life_store.proofs.CellLemmas.{none_some, some_same}
 use Rattle.life_forest.specs.Forest.{Beneath, Touches}

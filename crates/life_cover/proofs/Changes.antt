@@ -1,6 +1,5 @@
 -- A change of an owner in a place, by its name or through a pointer: the facts that the rules leave cover all other pointers.
 use Rattle.std.proofs.Common.{◌≡◌, ℕ, Bool, true, false, List, [], length, Some, refl, sym, subst, ◌∙◌, Option}
-use Rattle.std.specs.Prelude.{Contains}
 use Rattle.life_types.specs.Trees.{IsOrdered}
 use Rattle.life_types.specs.Types.{Types}
 use Rattle.life_types.specs.declared.place.Place.{Place}
@@ -8,7 +7,7 @@ use Rattle.life_types.specs.declared.ty.TyId.{TyId}
 use Rattle.life_core.specs.Function.{Function}
 use Rattle.life_core.specs.Operands.{Location}
 use Rattle.life_core.specs.Operands as named
-use Rattle.life_core.specs.Step.{Change, Changes, Step}
+use Rattle.life_core.specs.Step.{Change, Changes}
 use Rattle.life_pset.specs.Elements.{changed, owner_changed}
 use Rattle.life_pset.specs.Places.{members_place, under}
 use Rattle.life_pset.specs.declared.element.AbsPlace.{AbsPlace}
@@ -21,7 +20,7 @@ use Rattle.life_rules.specs.Carrying.{writes}
 use Rattle.life_rules.specs.Matching.{fact_at}
 use Rattle.life_rules.proofs.Giving.{at_head}
 use Rattle.life_store.specs.Content.{Content}
-use Rattle.life_store.specs.Parts.{type_within, word_within}
+use Rattle.life_store.specs.Parts.{type_within}
 use Rattle.life_store.specs.State.{Pointer, Target}
 use Rattle.life_forest.specs.Forest.{Touches}
 use Rattle.life_forest.specs.Kinds.{kinds_of}

@@ -1,6 +1,6 @@
 -- A value that is copied to a place: what is owned there is touched, and nothing else, and the facts that the rules leave cover all other pointers.
-use Rattle.std.proofs.Common.{◌≡◌, ℕ, ◌+◌, ◌≤◌, ◌<◌, Bool, true, false, List, [], length, Option, Some, None, refl, sym, ap, subst, ◌∙◌, arith}
-use Rattle.std.specs.Prelude.{◌||◌, Contains, if◌then◌else◌}
+use Rattle.std.proofs.Common.{◌≡◌, ℕ, ◌+◌, ◌<◌, Bool, true, false, List, [], length, Some, None, refl, ap, ◌∙◌, arith}
+use Rattle.std.specs.Prelude.{if◌then◌else◌}
 use Rattle.std.proofs.lemmas.Bool.{or_right}
 use Rattle.life_types.specs.Trees.{IsOrdered, holds_owner}
 use Rattle.life_types.specs.Types.{Types}
@@ -14,7 +14,6 @@ use Rattle.life_pset.specs.Elements.{changed, owner_changed}
 use Rattle.life_pset.specs.Places.{members_place}
 use Rattle.life_pset.specs.Shapes.{operand_type, tree_if}
 use Rattle.life_pset.specs.declared.element.AbsPlace.{AbsPlace}
-use Rattle.life_pset.specs.declared.element.Element.{Element}
 use Rattle.life_pset.specs.declared.element.Element.TheVariants as element
 use Rattle.life_pset.specs.declared.element.Fact.{Fact}
 use Rattle.life_pset.specs.declared.element.Root.{Root}

@@ -1,13 +1,13 @@
 -- Pointers that are made now hold, and one that holds may be used.
-use Rattle.std.proofs.Common.{◌≡◌, ℕ, zero, suc, ◌+◌, ◌≤◌, ◌<◌, Bool, true, false, length, Option, Some, None, refl, sym, ap, subst, ◌∙◌, arith}
-use Rattle.std.specs.Prelude.{◌&&◌, ◌||◌, nat_eq, nat_le, cond}
+use Rattle.std.proofs.Common.{◌≡◌, ℕ, zero, suc, ◌+◌, ◌≤◌, Bool, true, false, length, Option, Some, None, refl, sym, ap, ◌∙◌, arith}
+use Rattle.std.specs.Prelude.{◌&&◌, ◌||◌, nat_eq, nat_le}
 use Rattle.std.proofs.lemmas.Bool.{and_from, false≢true, or_right}
 use Rattle.std.proofs.lemmas.Bool.Decides.{nat_tests}
 use Rattle.life_store.specs.Cells.{at}
 use Rattle.life_store.specs.Content.{Object, Content, are_settled, is_settled, is_valid_in}
 use Rattle.life_store.specs.Held.{slots_at, slots_if}
 use Rattle.life_store.specs.Places.{is_valid}
-use Rattle.life_store.specs.State.{Target, To}
+use Rattle.life_store.specs.State.{Target}
 use Rattle.life_store.specs.Views.{is_valid_range}
 use Rattle.life_forest.specs.Forest.{IsForest}
 use Rattle.life_forest.specs.Kinds.{Kinds}

@@ -3,7 +3,7 @@ use Rattle.std.proofs.Common.{◌≡◌, ◌≢◌, inl, inr, ⊎_elim, ℕ, zer
 use Rattle.std.specs.Cmp.{IsEquivalence}
 use Rattle.std.specs.Prelude.{◌&&◌, ◌||◌, drop, nat_eq, slice_get, sum_by, take}
 use Rattle.std.specs.List.{list_any}
-use Rattle.std.proofs.lemmas.Bool.{eqb-true, false≢true}
+use Rattle.std.proofs.lemmas.Bool.{false≢true}
 use Rattle.std.proofs.lemmas.Bool.Decides.{nat_tests}
 use Rattle.std.proofs.lemmas.List.Sums.{sum_by-cons}
 use Rattle.life_types.specs.Trees.{IsOrdered}
@@ -29,7 +29,7 @@ use Rattle.life_forest.proofs.Apart.{Apart}
 use Rattle.life_forest.proofs.Apart as feet
 use Rattle.life_cover.specs.Regions.{Goes, IsAt, IsTrue, Lies, Region, ToMember, ToOwned, foot_of, owned_in_type}
 use Rattle.life_cover.specs.Roots.{AreRooted, IsApart}
-use Rattle.life_cover.proofs.Inside.{AmongWords, Inside, IsWithin, beneath_inside, beneath_lesser, goes_inside, goes_true, lies_inside, not_itself, owned_counted, owned_lives, owned_typed, region_within}
+use Rattle.life_cover.proofs.Inside.{Inside, beneath_inside, beneath_lesser, goes_inside, goes_true, lies_inside, not_itself, owned_counted, owned_lives, owned_typed, region_within}
 
 -- ---- roots
 

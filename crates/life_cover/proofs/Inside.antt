@@ -1,7 +1,7 @@
 -- What a place goes to lies inside of where it starts: among the same words, or beneath them.
-use Rattle.std.proofs.Common.{◌≡◌, ◌⊎◌, inl, inr, ℕ, zero, suc, ◌+◌, ◌≤◌, ◌<◌, Bool, true, false, List, [], ◌∷◌, Option, Some, None, refl, sym, ap, subst, ◌∙◌, arith}
+use Rattle.std.proofs.Common.{◌≡◌, ◌⊎◌, inl, inr, ℕ, ◌+◌, ◌≤◌, ◌<◌, Bool, true, false, List, [], ◌∷◌, Option, Some, None, refl, sym, ap, subst, ◌∙◌, arith}
 use Rattle.std.specs.Prelude.{◌&&◌, nat_eq, nat_le, nat_lt, slice_get, sum_by, take}
-use Rattle.std.proofs.lemmas.Bool.{and_from, and_parts, eqb-true, false≢true, ne_eqb}
+use Rattle.std.proofs.lemmas.Bool.{and_from, eqb-true, false≢true, ne_eqb}
 use Rattle.std.proofs.lemmas.Bool.Decides.{nat_tests}
 use Rattle.life_types.specs.Trees.{IsOrdered}
 use Rattle.life_types.specs.Types.{Types}
@@ -9,14 +9,14 @@ use Rattle.life_types.specs.declared.ty.Ty.{Ty}
 use Rattle.life_types.specs.declared.ty.Ty.TheVariants as variant
 use Rattle.life_types.specs.declared.ty.TyId.{TyId}
 use Rattle.life_store.specs.Cells.{at}
-use Rattle.life_store.specs.Content.{Object, Content, word_at}
-use Rattle.life_store.specs.Kinds.{Kind, Owner, is_owner, kind_in}
+use Rattle.life_store.specs.Content.{Object, Content}
+use Rattle.life_store.specs.Kinds.{Owner, is_owner, kind_in}
 use Rattle.life_store.specs.Parts.{members_of, parts_at, parts_of, width, width_at}
 use Rattle.life_store.proofs.CellLemmas.{none_some, some_same}
 use Rattle.life_store.proofs.MapLemmas.{one_or_apart}
-use Rattle.life_forest.specs.Forest.{Beneath, Foot, IsForest, part, under, whole}
+use Rattle.life_forest.specs.Forest.{Beneath, part, under, whole}
 use Rattle.life_forest.specs.Kinds.{kinds_of, owned_type, rank_of}
-use Rattle.life_forest.specs.Owned.{every, owns, owns_at, owns_if}
+use Rattle.life_forest.specs.Owned.{every, owns_at, owns_if}
 use Rattle.life_forest.specs.Typed.{IsStore}
 use Rattle.life_forest.specs.Within.{LiesWithin}
 use Rattle.life_forest.proofs.Among.{slots_counted, to_among}
@@ -26,7 +26,7 @@ use Rattle.life_forest.proofs.Laying.{parts_made}
 use Rattle.life_forest.proofs.Members.{member_within, within_self, within_then}
 use Rattle.life_forest.proofs.Sparing.{owns_le}
 use Rattle.life_forest.proofs.Steps.{own_all}
-use Rattle.life_cover.specs.Regions.{Goes, IsTrue, Lies, Region, ToMember, ToOwned, foot_of, is_in_region, owned_in_type}
+use Rattle.life_cover.specs.Regions.{Goes, IsTrue, Lies, Region, ToOwned, foot_of, is_in_region, owned_in_type}
 
 -- ---- words of a region
 

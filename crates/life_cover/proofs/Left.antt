@@ -9,22 +9,21 @@ use Rattle.life_core.specs.Function.{Function}
 use Rattle.life_core.specs.Operands.{Location}
 use Rattle.life_core.specs.Operands as named
 use Rattle.life_core.specs.Step.{Step}
-use Rattle.life_pset.specs.Elements.{caused_elements, elements_of, input_places, inputs_of, objects_from, owner_changed, step_elements}
+use Rattle.life_pset.specs.Elements.{caused_elements, input_places, inputs_of, objects_from, owner_changed, step_elements}
 use Rattle.life_pset.specs.Places.{members_place, under}
 use Rattle.life_pset.specs.Table.{IsOf, table_of}
 use Rattle.life_pset.specs.declared.element.AbsPlace.{AbsPlace}
-use Rattle.life_pset.specs.declared.element.Cause.{Cause}
 use Rattle.life_pset.specs.declared.element.Element.{Element}
 use Rattle.life_pset.specs.declared.element.Element.TheVariants as element
 use Rattle.life_pset.specs.declared.element.Fact.{Fact}
 use Rattle.life_pset.proofs.Numbers.{is_of_iff, place_laws}
-use Rattle.life_contract.specs.Located.{is_location, located}
+use Rattle.life_contract.specs.Located.{located}
 use Rattle.life_contract.specs.Signatures.{Signature}
 use Rattle.life_rules.specs.Carrying.{drops, from_two, is_gone, is_killed, kills, killed_facts, killed_through, makes, one_kill, writes}
 use Rattle.life_rules.specs.Matching.{fact_at, given_if, points_under, unless}
 use Rattle.life_rules.specs.declared.kill.Kill.{Kill}
 use Rattle.life_rules.proofs.Giving.{at_head, in_tail}
-use Rattle.std.specs.Prelude.{Some, None}
+use Rattle.std.specs.Prelude.{Some}
 use Rattle.life_cover.specs.Kills.{Closed, LeftBy, is_hit}
 
 -- the element with a cause is one of the function's
@@ -36,7 +35,7 @@ caused_of types f l e e' of caused =
     (is_of_iff types f (fact_at l e')).1 (
       ((is_of_iff types f (fact_at l e)).0 of).0,
       in_tail element.Null (element.Own ∷ element.Static ∷ more) e' (in_tail element.Own (element.Static ∷ more) e' (in_tail element.Static more e'
-      (Contains-append_right objects (inputs ++ caused_elements f) e' (Contains-append_right inputs (caused_elements f) e' caused)))),
+          (Contains-append_right objects (inputs ++ caused_elements f) e' (Contains-append_right inputs (caused_elements f) e' caused)))),
     )
 
 hit_under : (a : AbsPlace) (e : Element) → is_hit (under a) e ≡ points_under a e
@@ -70,13 +69,16 @@ module _ (sigs : List Signature) (types : Types) (f : Function) (place : Place) 
       → LeftBy (under k.owner) (writes i) S S'
   left_by_name k is gone caused = record {
     kept = λ l e s free not_hit. kept_by l e s (both_false (is_gone types f place i e) (writes i l) (gone e ∙ ap (λ ks. is_killed ks e) is ∙ both_false (points_under k.owner e) false (sym (hit_under k.owner e) ∙ not_hit) refl) free);
-    hit = λ l a s free under_k. (k.cause, closed.one (fact_at l (element.At a)) (fact_at l (element.Invalid k.cause)) s
-        (caused_of types f l (element.At a) (element.Invalid k.cause) (closed.of (fact_at l (element.At a)) s) (closed.causes (element.Invalid k.cause) caused))
-        (Contains-append_right (unless (drops types f place i (fact_at l (element.At a))) (fact_at l (element.At a))) (killed_facts (kills types f place i) i (fact_at l (element.At a)) ++ makes sigs types f place i (fact_at l (element.At a))) (fact_at l (element.Invalid k.cause))
-        (Contains-append_left (killed_facts (kills types f place i) i (fact_at l (element.At a))) (makes sigs types f place i (fact_at l (element.At a))) (fact_at l (element.Invalid k.cause))
-        (subst (λ ks. Contains (killed_facts ks i (fact_at l (element.At a))) (fact_at l (element.Invalid k.cause))) (sym is)
-        (Contains-append_left (given_if (under k.owner a && not (writes i l)) (fact_at l (element.Invalid k.cause))) [] (fact_at l (element.Invalid k.cause))
-        (given (under k.owner a && not (writes i l)) (fact_at l (element.Invalid k.cause)) (both_true (under k.owner a) (writes i l) under_k free)))))));
+    hit = λ l a s free under_k. (
+      k.cause,
+      closed.one (fact_at l (element.At a)) (fact_at l (element.Invalid k.cause)) s
+          (caused_of types f l (element.At a) (element.Invalid k.cause) (closed.of (fact_at l (element.At a)) s) (closed.causes (element.Invalid k.cause) caused))
+          (Contains-append_right (unless (drops types f place i (fact_at l (element.At a))) (fact_at l (element.At a))) (killed_facts (kills types f place i) i (fact_at l (element.At a)) ++ makes sigs types f place i (fact_at l (element.At a))) (fact_at l (element.Invalid k.cause))
+          (Contains-append_left (killed_facts (kills types f place i) i (fact_at l (element.At a))) (makes sigs types f place i (fact_at l (element.At a))) (fact_at l (element.Invalid k.cause))
+          (subst (λ ks. Contains (killed_facts ks i (fact_at l (element.At a))) (fact_at l (element.Invalid k.cause))) (sym is)
+          (Contains-append_left (given_if (under k.owner a && not (writes i l)) (fact_at l (element.Invalid k.cause))) [] (fact_at l (element.Invalid k.cause))
+          (given (under k.owner a && not (writes i l)) (fact_at l (element.Invalid k.cause)) (both_true (under k.owner a) (writes i l) under_k free)))))),
+    );
   }
 
   -- .. and through a pointer that may point to a place
@@ -84,9 +86,12 @@ module _ (sigs : List Signature) (types : Types) (f : Function) (place : Place) 
       → ((e : Element) → is_gone types f place i e ≡ false) → Contains (step_elements f place i) (element.Invalid (owner_changed place)) → LeftBy (under (members_place a members)) (writes i) S S'
   left_through p members a target two gone caused = record {
     kept = λ l e s free not_hit. kept_by l e s (both_false (is_gone types f place i e) (writes i l) (gone e) free);
-    hit = λ l b s free under_a. (owner_changed place, closed.two (fact_at (located p) (element.At a)) (fact_at l (element.At b)) (fact_at l (element.Invalid (owner_changed place))) target s
-        (caused_of types f l (element.At b) (element.Invalid (owner_changed place)) (closed.of (fact_at l (element.At b)) s) (closed.causes (element.Invalid (owner_changed place)) caused))
-        (subst (λ xs. Contains xs (fact_at l (element.Invalid (owner_changed place)))) (sym (two (fact_at (located p) (element.At a)) (fact_at l (element.At b))))
-        (subst (λ t. Contains (cond t (given_if (under (members_place a members) b && not (writes i l)) (fact_at l (element.Invalid (owner_changed place)))) []) (fact_at l (element.Invalid (owner_changed place)))) (sym (place_laws.refl (located p)))
-        (given (under (members_place a members) b && not (writes i l)) (fact_at l (element.Invalid (owner_changed place))) (both_true (under (members_place a members) b) (writes i l) under_a free)))));
+    hit = λ l b s free under_a. (
+      owner_changed place,
+      closed.two (fact_at (located p) (element.At a)) (fact_at l (element.At b)) (fact_at l (element.Invalid (owner_changed place))) target s
+          (caused_of types f l (element.At b) (element.Invalid (owner_changed place)) (closed.of (fact_at l (element.At b)) s) (closed.causes (element.Invalid (owner_changed place)) caused))
+          (subst (λ xs. Contains xs (fact_at l (element.Invalid (owner_changed place)))) (sym (two (fact_at (located p) (element.At a)) (fact_at l (element.At b))))
+          (subst (λ t. Contains (cond t (given_if (under (members_place a members) b && not (writes i l)) (fact_at l (element.Invalid (owner_changed place)))) []) (fact_at l (element.Invalid (owner_changed place)))) (sym (place_laws.refl (located p)))
+          (given (under (members_place a members) b && not (writes i l)) (fact_at l (element.Invalid (owner_changed place))) (both_true (under (members_place a members) b) (writes i l) under_a free)))),
+    );
   }

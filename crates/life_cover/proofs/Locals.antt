@@ -1,21 +1,18 @@
 -- In a frame without inputs each local stands for itself, apart from all others.
-use Rattle.std.proofs.Common.{◌≡◌, ◌≢◌, ℕ, zero, suc, ◌+◌, ◌≤◌, ◌<◌, Bool, true, false, List, [], ◌∷◌, Option, Some, None, refl, sym, ap, subst, ◌∙◌, arith}
+use Rattle.std.proofs.Common.{◌≡◌, ◌≢◌, ℕ, zero, suc, ◌≤◌, ◌<◌, Bool, true, List, [], ◌∷◌, Option, Some, None, refl, sym, ap, subst, ◌∙◌, arith}
 use Rattle.std.specs.Prelude.{slice_get}
 use Rattle.std.proofs.lemmas.Bool.{false≢true}
 use Rattle.life_types.specs.Types.{Types}
-use Rattle.life_types.specs.declared.ty.TyId.{TyId}
 use Rattle.life_core.specs.Function.{Function}
 use Rattle.life_pset.specs.declared.element.Root.{Root}
 use Rattle.life_pset.specs.declared.element.Root.TheVariants as root
-use Rattle.life_store.specs.Cells.{at}
 use Rattle.life_store.specs.Content.{Object, Content}
-use Rattle.life_store.specs.Parts.{local_type}
-use Rattle.life_store.specs.State.{Cell, Empty, Named, Number, Points, State}
+use Rattle.life_store.specs.State.{Cell, Named, State}
 use Rattle.life_store.proofs.CellLemmas.{some_same}
-use Rattle.life_forest.specs.Forest.{Beneath, IsForest, part, under, whole}
+use Rattle.life_forest.specs.Forest.{Beneath, part, under, whole}
 use Rattle.life_forest.specs.FrameTypes.{IsFrame}
 use Rattle.life_forest.specs.Frames.{HasStore, named_in}
-use Rattle.life_forest.specs.Kinds.{Kinds, kinds_of}
+use Rattle.life_forest.specs.Kinds.{kinds_of}
 use Rattle.life_forest.specs.Owned.{every, owns_at, times}
 use Rattle.life_forest.specs.Within.{LiesWithin}
 use Rattle.life_forest.proofs.Below.{owned_at_held}

@@ -33,7 +33,6 @@ use Rattle.life_store.specs.declared.run.TrapKind.TheVariants as trap
 use Rattle.life_forest.specs.Forest.{Touches}
 use Rattle.life_forest.specs.Kinds.{kinds_of}
 use Rattle.life_forest.specs.Typed.{IsStore}
-use Rattle.life_forest.specs.Within.{LiesWithin}
 use Rattle.life_forest.proofs.Coming.{IfGot}
 use Rattle.life_forest.proofs.Members.{within_self}
 use Rattle.life_cover.specs.Frames.{LocalsCovered, RootStands, look_at}

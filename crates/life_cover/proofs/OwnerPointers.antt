@@ -1,8 +1,7 @@
 -- A pointer is aimed into a vector or a string that is a local and has a buffer: at an element, at the begin or the end, or at all of it.
 -- There is no fault, and the facts behind it cover all pointers of the frame.
-use Rattle.std.proofs.Common.{◌≡◌, ◌≢◌, ℕ, zero, suc, ◌+◌, ◌≤◌, ◌<◌, Bool, true, false, List, [], ◌∷◌, length, Option, Some, None, refl, sym, ap, subst, ◌∙◌, arith}
-use Rattle.std.specs.Prelude.{Contains, nat_lt, slice_get}
-use Rattle.std.proofs.lemmas.Bool.Decides.{nat_tests}
+use Rattle.std.proofs.Common.{◌≡◌, ◌≢◌, ℕ, ◌+◌, ◌≤◌, ◌<◌, Bool, true, false, List, [], length, Option, Some, refl, sym, ap, subst, arith}
+use Rattle.std.specs.Prelude.{Contains, slice_get}
 use Rattle.life_types.specs.Trees.{IsOrdered}
 use Rattle.life_types.specs.Types.{Types}
 use Rattle.life_types.specs.declared.place.Place.{Place}
@@ -27,10 +26,10 @@ use Rattle.life_rules.specs.Carrying.{from_none, is_gone, writes}
 use Rattle.life_rules.specs.Matching.{fact_at}
 use Rattle.life_rules.proofs.Giving.{at_head}
 use Rattle.life_store.specs.Cells.{at}
-use Rattle.life_store.specs.Content.{Object, Content}
+use Rattle.life_store.specs.Content.{Object}
 use Rattle.life_store.specs.Doing.{does, element_at, owner_element, pointer_to, whole_of}
 use Rattle.life_store.specs.Edits.{buffer_of, owned_at, size_of}
-use Rattle.life_store.specs.Effects.{Effect, Next, Setting, cell, got_or, on_got, put_cell, GotFault}
+use Rattle.life_store.specs.Effects.{Effect, Setting, cell, got_or, on_got, GotFault}
 use Rattle.life_store.specs.Held.{slots_if}
 use Rattle.life_store.specs.Iterators.{chosen, element_of, end_index}
 use Rattle.life_store.specs.Parts.{local_type}

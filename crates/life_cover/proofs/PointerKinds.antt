@@ -1,5 +1,5 @@
 -- Kind by kind, of a whole frame: an instruction with which nothing is wrong makes no fault, and the facts behind it cover all its pointers.
-use Rattle.std.proofs.Common.{◌≡◌, ◌≢◌, ℕ, Bool, true, false, List, [], ◌∷◌, ◌++◌, Option, Some, None, refl, sym, ap, subst, ◌∙◌}
+use Rattle.std.proofs.Common.{◌≡◌, ◌≢◌, ℕ, Bool, true, false, List, [], ◌++◌, Option, Some, None, refl, sym, subst}
 use Rattle.std.specs.Prelude.{Contains, cond}
 use Rattle.std.specs.List.{flat_map}
 use Rattle.std.proofs.lemmas.List.Elements.{Contains-append_left, Contains-append_right}
@@ -32,9 +32,8 @@ use Rattle.life_rules.specs.declared.diag.DiagKind.TheVariants.{DanglingUse}
 use Rattle.life_rules.specs.declared.diag.Why.TheVariants as why
 use Rattle.life_rules.proofs.Giving.{at_head, flat_map_into}
 use Rattle.life_store.specs.Doing.{does}
-use Rattle.life_store.specs.Effects.{Effect, Next, Traps, Faults, Strays, Setting, cell, put_cell}
+use Rattle.life_store.specs.Effects.{Effect, Next, Traps, Faults, Strays, Setting, cell}
 use Rattle.life_store.specs.State.{Named, Pointer, Points, State}
-use Rattle.life_forest.specs.Kinds.{kinds_of}
 use Rattle.life_forest.specs.Typed.{IsStore}
 use Rattle.life_cover.specs.Covers.{IsCovered}
 use Rattle.life_cover.specs.Frames.{LocalsCovered, RootStands, look_at}

@@ -1,5 +1,5 @@
 -- What is made of a covered pointer, a part of what it sees, one of its positions, or its end, is covered by the facts that it takes.
-use Rattle.std.proofs.Common.{◌≡◌, ℕ, zero, suc, ◌+◌, ◌≤◌, ◌<◌, Bool, true, false, length, Option, Some, None, refl, sym, ap, subst, ◌∙◌, arith}
+use Rattle.std.proofs.Common.{◌≡◌, ℕ, ◌+◌, ◌≤◌, Bool, true, false, length, refl, sym, subst}
 use Rattle.std.specs.Prelude.{cond}
 use Rattle.life_types.specs.Types.{Types}
 use Rattle.life_pset.specs.declared.element.AbsPlace.{AbsPlace}
@@ -12,16 +12,15 @@ use Rattle.life_store.specs.Content.{Content}
 use Rattle.life_store.specs.Effects.{Attempt, Got, GotTrap, GotFault, GotLost, Effect, Next, Traps, Faults, Strays, on_got}
 use Rattle.life_store.specs.Held.{slots_at}
 use Rattle.life_store.specs.Iterators.{at_index, element_of, standing}
-use Rattle.life_store.specs.Places.{is_valid}
 use Rattle.life_store.specs.State.{Target, Pointer, Null, Wild, To, Static, State}
-use Rattle.life_store.specs.Views.{is_valid_range, part_of, seen_count, usable}
+use Rattle.life_store.specs.Views.{part_of, seen_count, usable}
 use Rattle.life_store.specs.declared.run.FaultKind.TheVariants as fault
 use Rattle.life_forest.specs.Forest.{IsForest}
 use Rattle.life_forest.specs.Kinds.{kinds_of}
-use Rattle.life_cover.specs.Covers.{Covers, Holds, IsCovered, Look, PointsTo}
+use Rattle.life_cover.specs.Covers.{Covers, Holds, IsCovered, Look}
 use Rattle.life_cover.specs.Regions.{Region}
 use Rattle.life_cover.proofs.Fresh.{advanced_holds, at_position, at_range, element_holds, part_holds, position_valid, range_valid}
-use Rattle.life_cover.proofs.Using.{IsTo, NotInvalid, not_wild, points_again, to_place}
+use Rattle.life_cover.proofs.Using.{NotInvalid, not_wild, points_again, to_place}
 
 -- ---- what comes of an attempt, and of an effect, that may be no fault
 

@@ -1,5 +1,5 @@
 -- Where a pointer that is a local is given what is covered, and nothing is killed, all pointers of the frame are covered.
-use Rattle.std.proofs.Common.{◌≡◌, ◌≢◌, ⊎_elim, ℕ, zero, suc, Bool, true, false, List, [], ◌∷◌, Option, Some, None, refl, sym, ap, subst, ◌∙◌}
+use Rattle.std.proofs.Common.{◌≡◌, ◌≢◌, ⊎_elim, ℕ, zero, suc, Bool, true, false, List, [], ◌∷◌, Some, refl, ap, subst, ◌∙◌}
 use Rattle.std.specs.Prelude.{slice_get, slice_set}
 use Rattle.life_types.specs.Trees.{IsOrdered}
 use Rattle.life_types.specs.Types.{Types}
@@ -21,7 +21,7 @@ use Rattle.life_rules.specs.Carrying.{is_gone, writes}
 use Rattle.life_store.specs.Content.{Content}
 use Rattle.life_store.specs.Effects.{cell, put_cell}
 use Rattle.life_store.specs.State.{Target, Cell, Named, Pointer, Null, Wild, To, Static, Points, State}
-use Rattle.life_store.proofs.CellLemmas.{cell_cases, none_some}
+use Rattle.life_store.proofs.CellLemmas.{cell_cases}
 use Rattle.life_store.proofs.MapLemmas.{one_or_apart}
 use Rattle.life_forest.specs.Kinds.{kinds_of}
 use Rattle.life_forest.specs.Typed.{IsStore}

@@ -1,5 +1,5 @@
 -- Sizes and comparisons of pointers that may not be invalid make no fault.
-use Rattle.std.proofs.Common.{◌≡◌, ℕ, Bool, true, false, Option, Some, None, refl, sym, ap, subst, ◌∙◌}
+use Rattle.std.proofs.Common.{◌≡◌, ℕ, Bool, true, false, Some, refl, sym, subst}
 use Rattle.std.specs.Prelude.{ℤ, cond, nat_eq}
 use Rattle.life_types.specs.Types.{Types}
 use Rattle.life_core.specs.Function.{Function}
@@ -8,13 +8,12 @@ use Rattle.life_core.specs.Operands as named
 use Rattle.life_pset.specs.Elements.{local_place}
 use Rattle.life_pset.specs.declared.element.Fact.{Fact}
 use Rattle.life_pset.specs.declared.element.Root.{Root}
-use Rattle.life_store.specs.Content.{Content}
 use Rattle.life_store.specs.Doing.{compared, same_into, sized}
-use Rattle.life_store.specs.Effects.{Attempt, Got, GotTrap, GotFault, GotLost, Effect, Next, Setting, cell, on_got, put_cell, then_get}
+use Rattle.life_store.specs.Effects.{Attempt, Got, GotTrap, GotFault, GotLost, Setting, cell, put_cell}
 use Rattle.life_store.specs.Iterators.{is_one_object, iterator, same_position, standing, start_of}
 use Rattle.life_store.specs.Parts.{Iterates, Parts, Views, location_parts}
 use Rattle.life_store.specs.State.{Pointer, Points, Number, State}
-use Rattle.life_store.specs.Views.{are_same, seen_bytes, usable, used}
+use Rattle.life_store.specs.Views.{usable, used}
 use Rattle.life_store.specs.declared.run.TrapKind.TheVariants as trap
 use Rattle.life_cover.specs.Covers.{IsCovered}
 use Rattle.life_cover.specs.Frames.{look_at}

@@ -1,11 +1,11 @@
 -- A place that goes on lies where its parts lie, one after the other.
-use Rattle.std.proofs.Common.{◌≡◌, inl, inr, ℕ, zero, suc, ◌+◌, ◌≤◌, ◌<◌, Bool, true, List, [], ◌∷◌, ◌++◌, length, Option, Some, None, refl, sym, ap, subst, ◌∙◌, arith}
+use Rattle.std.proofs.Common.{◌≡◌, inl, ℕ, zero, suc, ◌+◌, ◌≤◌, ◌<◌, true, List, [], ◌∷◌, ◌++◌, length, Option, Some, None, refl, sym, ap, subst, ◌∙◌, arith}
 use Rattle.std.specs.Prelude.{if◌then◌else◌, nat_lt, slice_get, slice_set, sum_by, take}
 use Rattle.std.proofs.lemmas.Bool.Decides.{nat_tests}
 use Rattle.std.proofs.lemmas.List.{length-set}
 use Rattle.life_types.specs.Types.{Types}
 use Rattle.life_types.specs.declared.ty.TyId.{TyId}
-use Rattle.life_pset.specs.Places.{longer, member_place, members_place, owned_place, owned_step, path, stepped, too_long}
+use Rattle.life_pset.specs.Places.{longer, member_place, members_place, owned_step, path, stepped, too_long}
 use Rattle.life_pset.specs.declared.element.AbsPlace.{AbsPlace}
 use Rattle.life_pset.specs.declared.element.Root.{Root}
 use Rattle.life_store.specs.Content.{Content}
@@ -96,7 +96,7 @@ module _ (types : Types) (c : Content) (Stands : Root → Region → Type 0) whe
       go rest (Some x) e h =
           let is : member_place a m ≡ stepped a m = ap (λ b. if b then stepped a m else too_long a) (lt_true m owned_step small.0) in
           let next = rest (stepped a m) (record { object = r.object; word = r.word + sum_by (width_at types) (take m (members_of types r.ty)); ty = x }) (stepped_room (length ms) a m room) h
-              (goes_at (length ms) a m r (record { object = r.object; word = r.word + sum_by (width_at types) (take m (members_of types r.ty)); ty = x }) room at_r
-              (inl (record { small = small.0; type = e; object = refl; word = refl }))) in
+          (goes_at (length ms) a m r (record { object = r.object; word = r.word + sum_by (width_at types) (take m (members_of types r.ty)); ty = x }) room at_r
+          (inl (record { small = small.0; type = e; object = refl; word = refl }))) in
           subst (λ w. IsAt types c Stands (members_place (member_place a m) ms) (record { object = r.object; word = w; ty = item })) (behind r.word (sum_by (width_at types) (take m (members_of types r.ty))) (word_within types (Some x) ms))
           (subst (λ b. IsAt types c Stands (members_place b ms) (record { object = r.object; word = (r.word + sum_by (width_at types) (take m (members_of types r.ty))) + word_within types (Some x) ms; ty = item })) (sym is) next)

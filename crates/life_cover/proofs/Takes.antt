@@ -1,6 +1,6 @@
 -- What an instruction makes of a pointer's facts, where it makes a pointer of another one, or of a place; and that nothing is killed then.
-use Rattle.std.proofs.Common.{◌≡◌, ℕ, Bool, true, false, List, [], ◌∷◌, ◌++◌, Option, Some, None, refl, sym, ap, subst, ◌∙◌}
-use Rattle.std.specs.Prelude.{◌||◌, Contains, cond}
+use Rattle.std.proofs.Common.{◌≡◌, ℕ, Bool, true, false, List, [], ◌++◌, Some, sym, subst}
+use Rattle.std.specs.Prelude.{◌||◌, Contains}
 use Rattle.std.proofs.lemmas.List.Elements.{Contains-append_left, Contains-append_right}
 use Rattle.life_types.specs.Types.{Types}
 use Rattle.life_types.specs.declared.place.Place.{Place}
@@ -10,9 +10,7 @@ use Rattle.life_core.specs.Operands as named
 use Rattle.life_core.specs.Step.{Step}
 use Rattle.life_pset.specs.Elements.{elements_of, locations_of}
 use Rattle.life_pset.specs.Table.{IsOf, table_of}
-use Rattle.life_pset.specs.declared.element.AbsPlace.{AbsPlace}
 use Rattle.life_pset.specs.declared.element.Element.{Element}
-use Rattle.life_pset.specs.declared.element.Element.TheVariants as element
 use Rattle.life_pset.specs.declared.element.Fact.{Fact}
 use Rattle.life_pset.proofs.Numbers.{is_of_iff, place_laws}
 use Rattle.life_contract.specs.Located.{located}

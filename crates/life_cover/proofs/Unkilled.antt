@@ -1,6 +1,6 @@
 -- A step that touches nothing that is owned, as one that makes objects or writes values, and one that kills nothing: all pointers that it
 -- doesn't write stay covered.
-use Rattle.std.proofs.Common.{◌≡◌, ℕ, ◌+◌, ◌<◌, Bool, true, false, List, refl, arith}
+use Rattle.std.proofs.Common.{◌≡◌, ℕ, Bool, false, List, arith}
 use Rattle.std.proofs.lemmas.Bool.{false≢true}
 use Rattle.life_types.specs.Trees.{IsOrdered}
 use Rattle.life_types.specs.Types.{Types}

@@ -1,7 +1,6 @@
 -- A pointer that is covered and isn't misused makes no fault; and what is made of one is covered by its facts.
-use Rattle.std.proofs.Common.{◌≡◌, ℕ, Bool, true, false, Option, Some, None, refl, sym, ap, subst, ◌∙◌}
+use Rattle.std.proofs.Common.{◌≡◌, ℕ, Bool, true, false, Option, Some, None, sym, subst, ◌∙◌}
 use Rattle.std.specs.Prelude.{cond, nat_lt, length}
-use Rattle.std.proofs.lemmas.Bool.{false≢true}
 use Rattle.life_types.specs.Types.{Types}
 use Rattle.life_pset.specs.declared.element.AbsPlace.{AbsPlace}
 use Rattle.life_pset.specs.declared.element.Cause.{Cause}
@@ -14,11 +13,11 @@ use Rattle.life_store.specs.Cells.{at}
 use Rattle.life_store.specs.Content.{Object, Content}
 use Rattle.life_store.specs.Effects.{Attempt, Got, GotTrap, GotFault, GotLost}
 use Rattle.life_store.specs.Iterators.{standing}
-use Rattle.life_store.specs.Places.{Found, Here, Fixed, Outside, Wrong, Astray, behind_pointer, found_if, found_text, is_valid, reached_if, reached_in}
+use Rattle.life_store.specs.Places.{Found, Here, Fixed, Outside, Wrong, Astray, behind_pointer, found_if, found_text, reached_if, reached_in}
 use Rattle.life_store.specs.State.{Target, Pointer, Null, Wild, To, Static}
-use Rattle.life_store.specs.Views.{is_valid_range, usable}
+use Rattle.life_store.specs.Views.{usable}
 use Rattle.life_store.specs.declared.run.FaultKind.TheVariants as fault
-use Rattle.life_cover.specs.Covers.{Covers, Holds, IsCovered, IsTold, Look, PointsTo}
+use Rattle.life_cover.specs.Covers.{Covers, Holds, IsCovered, Look, PointsTo}
 use Rattle.life_cover.specs.Regions.{Region}
 use Rattle.life_cover.proofs.Fresh.{position_valid, range_valid}
 

@@ -1,6 +1,6 @@
 -- The kinds of instructions that go from pointers to pointers, where no pointer that they read may be invalid: they make no fault, and what
 -- they make is covered by the facts that it takes.
-use Rattle.std.proofs.Common.{◌≡◌, ℕ, zero, suc, ◌+◌, ◌-◌, ◌≤◌, ◌<◌, Bool, true, false, List, [], length, Option, Some, None, refl, sym, ap, subst, ◌∙◌, arith}
+use Rattle.std.proofs.Common.{◌≡◌, ℕ, zero, suc, ◌+◌, ◌-◌, ◌≤◌, ◌<◌, Bool, true, false, List, length, Option, Some, None, refl, sym, subst, arith}
 use Rattle.std.specs.Prelude.{ℤ, pos, negsuc, ◌+ℤ◌, cond, min, nat_le, nat_lt}
 use Rattle.std.proofs.lemmas.Bool.Decides.{nat_tests}
 use Rattle.life_types.specs.Types.{Types}
@@ -19,7 +19,7 @@ use Rattle.life_pset.specs.declared.element.Root.{Root}
 use Rattle.life_rules.specs.Matching.{fact_at}
 use Rattle.life_store.specs.Content.{Content}
 use Rattle.life_store.specs.Doing.{advanced, count_in, cursor, cut, element, type_if}
-use Rattle.life_store.specs.Effects.{Attempt, Got, GotTrap, GotFault, GotLost, Effect, Next, Traps, Faults, Strays, Setting, cell, on_got, on_number, put_cell, then_get, type_of}
+use Rattle.life_store.specs.Effects.{Attempt, Got, GotTrap, GotFault, GotLost, Effect, Setting, cell, on_got, on_number, put_cell, then_get, type_of}
 use Rattle.life_store.specs.Held.{slots_at}
 use Rattle.life_store.specs.Iterators.{at_index, below_if, chosen, count_of, directed, element_of, end_index, index_in, iterator, standing, stepped, up_to}
 use Rattle.life_store.specs.Parts.{location_type}
@@ -29,7 +29,7 @@ use Rattle.life_store.specs.Views.{is_span, part_count, part_of, seen_count, tex
 use Rattle.life_store.specs.declared.run.TrapKind.TheVariants as trap
 use Rattle.life_forest.specs.Forest.{IsForest}
 use Rattle.life_forest.specs.Kinds.{kinds_of}
-use Rattle.life_cover.specs.Covers.{IsCovered, Look}
+use Rattle.life_cover.specs.Covers.{IsCovered}
 use Rattle.life_cover.specs.Frames.{look_at}
 use Rattle.life_cover.specs.Regions.{Region}
 use Rattle.life_cover.proofs.Pointers.{HasPosition, IfRight, OnRight, advanced_right, part_right, right_then, used_right}

@@ -1,5 +1,5 @@
 -- Places, covered pointers and kills, worked out by hand.
-use Rattle.std.proofs.Common.{◌≡◌, ℕ, inl, inr, false, true, [], ◌∷◌, length, Option, Some, None, refl, sym, ap, ◌∙◌, arith}
+use Rattle.std.proofs.Common.{◌≡◌, ℕ, inl, inr, false, true, [], ◌∷◌, length, Option, Some, refl, sym, ap, ◌∙◌, arith}
 use Rattle.std.proofs.lemmas.Bool.{false≢true}
 use Rattle.life_types.specs.Types.{Types}
 use Rattle.life_types.specs.declared.ty.Ty.TheVariants as variant
@@ -10,11 +10,11 @@ use Rattle.life_pset.specs.Places.{member_place, owned_place, path}
 use Rattle.life_pset.specs.declared.element.Element.TheVariants as element
 use Rattle.life_pset.specs.declared.element.Root.{Root}
 use Rattle.life_pset.specs.declared.element.Root.TheVariants as root
-use Rattle.life_store.specs.Cells.{at, unset, at-unset_same}
+use Rattle.life_store.specs.Cells.{at, at-unset_same}
 use Rattle.life_store.specs.Content.{Slot, Object, Content, is_valid_in, resized, without}
 use Rattle.life_store.specs.Held.{slots_if}
-use Rattle.life_store.specs.State.{Target, To, Null, Wild}
-use Rattle.life_cover.specs.Covers.{Covers, Holds, Look, PointsTo}
+use Rattle.life_store.specs.State.{Target, To, Null}
+use Rattle.life_cover.specs.Covers.{Covers, Holds, Look}
 use Rattle.life_cover.specs.Kills.{is_hit}
 use Rattle.life_cover.specs.Regions.{Lies, Region}
 
@@ -108,9 +108,10 @@ view i n = record { object = 8; index = i; word = 0; count = n; moment = 5 }
 
 -- it sees the characters, and at the end none
 seen : (c : Content) → at c.objects 8 ≡ Some buffer → Holds c true (view 0 3) × Holds c true (view 3 0)
-seen c there =
-    (record { settled = ap (is_valid_in 0 3 5) there; single = λ e. absurd (false≢true (sym e)); within = λ e. rw there (omega arith) },
-    record { settled = ap (is_valid_in 3 0 5) there; single = λ e. absurd (false≢true (sym e)); within = λ e. rw there (omega arith) })
+seen c there = (
+  record { settled = ap (is_valid_in 0 3 5) there; single = λ e. absurd (false≢true (sym e)); within = λ e. rw there (omega arith) },
+  record { settled = ap (is_valid_in 3 0 5) there; single = λ e. absurd (false≢true (sym e)); within = λ e. rw there (omega arith) },
+)
 
 -- the end isn't among what is seen
 behind_end : (c : Content) → at c.objects 8 ≡ Some buffer → Holds c true (view 2 2) → ⊥

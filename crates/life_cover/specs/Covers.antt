@@ -11,7 +11,7 @@ use Rattle.life_rules.specs.Matching.{fact_at}
 use Rattle.life_store.specs.Cells.{at}
 use Rattle.life_store.specs.Content.{Content, is_valid_in}
 use Rattle.life_store.specs.Held.{slots_at}
-use Rattle.life_store.specs.State.{Target, Pointer, Null, Wild, To, Static}
+use Rattle.life_store.specs.State.{Target, Pointer, Null, To, Static}
 use Rattle.life_cover.specs.Regions.{Region, IsAt}
 
 -- ---- a pointer of a type

@@ -1,9 +1,7 @@
 -- Where the places of a frame lie, and that its facts cover what its pointers hold.
-use Rattle.std.specs.Prelude.{◌≡◌, ℕ, Bool, List, Option, Some, None, slice_get}
+use Rattle.std.specs.Prelude.{◌≡◌, ℕ, Bool, List, Some, slice_get}
 use Rattle.life_types.specs.TypeTests.{is_constant}
 use Rattle.life_types.specs.Types.{Types}
-use Rattle.life_types.specs.declared.ty.Ty.{Ty}
-use Rattle.life_types.specs.declared.ty.TyId.{TyId}
 use Rattle.life_core.specs.Function.{Function}
 use Rattle.life_proper.specs.OperandTypes.{is_range}
 use Rattle.life_proper.specs.Placed.{type_at}

@@ -1,5 +1,5 @@
 -- What must be true of the roots of a function's places.
-use Rattle.std.specs.Prelude.{◌≡◌, ◌≢◌, ℕ, ◌+◌, ◌≤◌, Bool, true}
+use Rattle.std.specs.Prelude.{◌≡◌, ◌≢◌, ◌+◌, ◌≤◌, Bool, true}
 use Rattle.std.proofs.Common.{◌⊎◌}
 use Rattle.life_types.specs.Types.{Types}
 use Rattle.life_pset.specs.declared.element.Root.{Root}
