@@ -12,6 +12,7 @@ pub mod Owned
 pub mod OwnerElements
 pub mod OwnerKinds
 pub mod OwnerPointers
+pub mod OwnersStay
 pub mod PointerKinds
 pub mod Pointers
 pub mod Putting

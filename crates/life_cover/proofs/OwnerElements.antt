@@ -21,13 +21,13 @@ use Rattle.life_cover.proofs.Stepping.{HasRoom, goes_at, stepped_root}
 
 -- ---- the word of an owner
 
-first_of : (ws : List ℕ) (w : ℕ) → slice_index (take 1 (drop w ws)) 0 ≡ slice_index ws w
+pub first_of : (ws : List ℕ) (w : ℕ) → slice_index (take 1 (drop w ws)) 0 ≡ slice_index ws w
 first_of [] zero = refl
 first_of [] (suc w) = refl
 first_of (x ∷ xs) zero = refl
 first_of (x ∷ xs) (suc w) = first_of xs w
 
-word_there : (ss : List Slot) (i w : ℕ) → slice_index (words_if (slice_get ss i)) w ≡ word_in (slice_get ss i) w
+pub word_there : (ss : List Slot) (i w : ℕ) → slice_index (words_if (slice_get ss i)) w ≡ word_in (slice_get ss i) w
 word_there ss i w = go (slice_get ss i)
   where
     go : (s : Option Slot) → slice_index (words_if s) w ≡ word_in s w
