@@ -82,6 +82,9 @@ module _ (kinds : Seen) (kind : Kinds) (alike : AreAlike kinds kind) (depth : â„
         (Î» k x at_k. can.sized k x (each_was kind (ended_number kind depth) (number_was kind depth) (held spot.slot spot.word owners can.object) (seen kinds c rows) k x at_k))
         (zeroed_sized kinds spot.slot spot.word owners can.object (can.sized spot.object.birth can.object can.there)))
 
+    pub still_forest : IsForest kind can.hand (seen kinds d new)
+    still_forest = subst (IsForest kind can.hand) (sym (shows.is âˆ™ apart)) (emptied_forest kind depth spot.object.birth spot.slot can.hand spot.word owners (seen kinds c rows) can.object here can.deep words)
+
     -- .. and can give up more
     pub still_giving : IsGiving kinds kind depth spot.object d new
     still_giving = record {
@@ -89,7 +92,7 @@ module _ (kinds : Seen) (kind : Kinds) (alike : AreAlike kinds kind) (depth : â„
       placed = still_placed kinds c d rows new shows.housed later spot.object.birth spot.object.row (zeroed spot.slot spot.word owners can.object) (can.housed.below spot.object.birth spot.object.row can.placed) can.placed there_then;
       sized = sized_then;
       hand = can.hand;
-      forest = subst (IsForest kind can.hand) (sym (shows.is âˆ™ apart)) (emptied_forest kind depth spot.object.birth spot.slot can.hand spot.word owners (seen kinds c rows) can.object here can.deep words);
+      forest = still_forest;
       object = zeroed spot.slot spot.word owners can.object;
       there = there_then;
       deep = let t = ap kind.rank (zeroed_like spot.slot spot.word owners can.object).ty in let k = can.deep in omega (arith, t, k);

@@ -1,5 +1,6 @@
 pub mod AlikeKinds
 pub mod Beginning
+pub mod CharactersWritten
 pub mod ClearedMeant
 pub mod Clearing
 pub mod CopiedGood
@@ -26,10 +27,13 @@ pub mod ReadWords
 pub mod Recopying
 pub mod Renewed
 pub mod Renewing
+pub mod ReplacedMeant
 pub mod SeenAs
 pub mod SlotsCleared
 pub mod TakenLeaves
 pub mod TakenMeant
+pub mod TakenOver
+pub mod TextsBorn
 pub mod WordsCopied
 pub mod Zeroing
 pub mod Zeros

@@ -7,5 +7,7 @@ pub mod Fresh
 pub mod Good
 pub mod Layouts
 pub mod Popped
+pub mod Replaced
 pub mod Taken
+pub mod Texts
 pub mod Zeroed
