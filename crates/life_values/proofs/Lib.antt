@@ -1,5 +1,7 @@
 pub mod AlikeKinds
 pub mod Beginning
+pub mod CharactersGiven
+pub mod CharactersMeant
 pub mod CharactersWritten
 pub mod ClearedMeant
 pub mod Clearing
@@ -33,6 +35,7 @@ pub mod SlotsCleared
 pub mod TakenLeaves
 pub mod TakenMeant
 pub mod TakenOver
+pub mod TextForest
 pub mod TextsBorn
 pub mod WordsCopied
 pub mod Zeroing

@@ -1,11 +1,10 @@
 -- Where a word takes another object, what it owned ends as the meaning ends it by the parts of its type. A string's old buffer just goes.
 use Rattle.std.proofs.Common.{◌≡◌, ℕ, suc, ◌+◌, ◌≤◌, List, [], ◌∷◌, Option, Some, refl, sym, ap, ◌∙◌, arith}
-use Rattle.std.specs.Prelude.{slice_index}
 use Rattle.life_types.specs.declared.ty.TyId.{TyId}
 use Rattle.life_store.specs.Cells.{at}
 use Rattle.life_store.specs.Content.{Slot, Object, Content, with_object, with_word, without}
 use Rattle.life_store.specs.Edits.{owned_at, owns}
-use Rattle.life_store.specs.Held.{owned_in, owner_word, slots_at, with_words, words_at, wrote, wrote_if}
+use Rattle.life_store.specs.Held.{owner_word, slots_at, words_at, wrote, wrote_if}
 use Rattle.life_store.specs.Owners.{ended, ended_owned, ended_slots}
 use Rattle.life_store.specs.Parts.{Parts, Text, width}
 use Rattle.life_forest.specs.Forest.{IsForest}

@@ -1,9 +1,9 @@
 -- A store goes the way of the meaning where a word takes another object in place of what it owns.
-use Rattle.std.proofs.Common.{◌≡◌, ℕ, suc, ◌+◌, ◌<◌, List, [], ◌∷◌, length, Option, Some, IfSome, refl, sym, ap, subst, ◌∙◌, arith}
+use Rattle.std.proofs.Common.{◌≡◌, ℕ, suc, ◌+◌, List, [], ◌∷◌, length, Option, Some, IfSome, sym, ap, subst, ◌∙◌, arith}
 use Rattle.std.specs.Prelude.{option_map, slice_get}
 use Rattle.life_store.specs.Cells.{at}
 use Rattle.life_store.specs.Content.{Object, Content, with_object, with_word}
-use Rattle.life_store.specs.Held.{owner_word, wrote_if}
+use Rattle.life_store.specs.Held.{wrote_if}
 use Rattle.life_store.specs.Kinds.{Owner}
 use Rattle.life_store.specs.References.{Rows, object_of, HasWord}
 use Rattle.life_store.specs.declared.object.ObjRef.{ObjRef}
@@ -16,7 +16,7 @@ use Rattle.life_seen.specs.Seen.{object_seen, seen}
 use Rattle.life_seen.proofs.References.{found_seen, later_then}
 use Rattle.life_seen.proofs.Resizing.{count_seen}
 use Rattle.life_words.specs.Owning.{number_of, with_owner, CanOwn, IsOwner}
-use Rattle.life_values.specs.Emptied.{emptied_each, CanEmpty}
+use Rattle.life_values.specs.Emptied.{emptied_each}
 use Rattle.life_values.specs.Ended.{ended_number, AreAlike}
 use Rattle.life_values.specs.Replaced.{replaced_by, CanReplace}
 use Rattle.life_values.specs.Zeroed.{zeroed}

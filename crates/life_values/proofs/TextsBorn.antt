@@ -1,9 +1,9 @@
 -- The buffer of a string comes to life in a store as in the meaning.
-use Rattle.std.proofs.Common.{◌≡◌, ℕ, ◌+◌, ◌*◌, ◌<◌, ◌≤◌, List, [], length, Option, Some, None, Ok, Err, refl, sym, ap, subst, ◌∙◌, arith}
+use Rattle.std.proofs.Common.{◌≡◌, ℕ, ◌+◌, ◌*◌, ◌<◌, ◌≤◌, List, [], length, Option, Some, Ok, Err, refl, sym, ap, ◌∙◌, arith}
 use Rattle.std.specs.Prelude.{map}
 use Rattle.life_types.specs.declared.ty.TyId.{TyId}
 use Rattle.life_store.specs.Cells.{Cells, at, at-set_same}
-use Rattle.life_store.specs.Content.{Slot, Object, Content, live_words_of, newborn, resized, with_birth, without}
+use Rattle.life_store.specs.Content.{Object, Content, live_words_of, newborn, resized, with_birth, without}
 use Rattle.life_store.specs.Edits.{one_word, owns, rewritten}
 use Rattle.life_store.specs.Effects.{Setting, Attempt, Got, GotTrap, GotFault, GotLost, then_get}
 use Rattle.life_store.specs.Held.{filled, filled_if, resized_at, resized_if}
@@ -22,10 +22,10 @@ use Rattle.life_seen.proofs.References.{later_then}
 use Rattle.life_values.specs.Texts.{text_born, with_characters, CanWrite, IsText}
 use Rattle.life_values.proofs.Beginning.{birth_full, birth_room}
 
-abbrev characters_in : List ℕ → ℕ × Content → Attempt (ℕ × Content)
+abbrev pub characters_in : List ℕ → ℕ × Content → Attempt (ℕ × Content)
 characters_in ws f = Got (f.0, with_characters f.0 ws f.1)
 
-abbrev all_slots : ℕ → ℕ × Content → Attempt (ℕ × Content)
+abbrev pub all_slots : ℕ → ℕ × Content → Attempt (ℕ × Content)
 all_slots size b = Got (b.0, resized_at b.0 size 0 b.1)
 
 module _ (kinds : Kinds) (ty : TyId) (ws : List ℕ) (limit : ℕ) (c : Content) (rows : Rows) where

@@ -8,6 +8,7 @@ pub mod Good
 pub mod Layouts
 pub mod Popped
 pub mod Replaced
+pub mod Rewritten
 pub mod Taken
 pub mod Texts
 pub mod Zeroed

@@ -1,5 +1,5 @@
 -- How the buffer of a string comes to life with its characters.
-use Rattle.std.specs.Prelude.{◌≡◌, ◌<◌, ◌^◌, ℕ, List, Some, Result, Ok, Err, length, map}
+use Rattle.std.specs.Prelude.{◌≡◌, ℕ, List, Some, Result, Ok, Err, length, map}
 use Rattle.life_types.specs.declared.ty.TyId.{TyId}
 use Rattle.life_store.specs.Cells.{at}
 use Rattle.life_store.specs.Content.{Object, Content}
