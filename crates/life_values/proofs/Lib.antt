@@ -37,6 +37,7 @@ pub mod TakenMeant
 pub mod TakenOver
 pub mod TextForest
 pub mod TextsBorn
+pub mod Widening
 pub mod WordsCopied
 pub mod Zeroing
 pub mod Zeros

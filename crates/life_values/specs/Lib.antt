@@ -11,4 +11,5 @@ pub mod Replaced
 pub mod Rewritten
 pub mod Taken
 pub mod Texts
+pub mod Widened
 pub mod Zeroed
