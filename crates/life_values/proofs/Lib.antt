@@ -22,6 +22,7 @@ pub mod GoodSteps
 pub mod HeldWords
 pub mod Joining
 pub mod Meant
+pub mod OneOwner
 pub mod Owners
 pub mod PoppedMeant
 pub mod Popping
