@@ -1,5 +1,5 @@
 -- Declarations in a block and loops over ranges are well typed, if they are served.
-use Rattle.std.proofs.Common.{◌≡◌, true, [], Box, ◌∷◌, List, Ok, length, refl, sym, ap, subst, ◌∙◌}
+use Rattle.std.proofs.Common.{◌≡◌, true, [], Box, ◌∷◌, Ok, length, sym, ap, subst, ◌∙◌}
 use Rattle.std.proofs.lemmas.Bool.{and_parts}
 use Rattle.std.specs.declared.alloc.Global.{Global}
 use Rattle.life_types.specs.Types.{Types}

@@ -1,10 +1,10 @@
 -- Whole files: what is resolved and built is well typed.
-use Rattle.std.proofs.Common.{◌≡◌, inr, ⊎_elim, ℕ, zero, suc, Bool, true, false, Option, Some, Ok, Err, List, [], ◌∷◌, length, slice_get, refl, sym, ap, subst, ◌∙◌, arith}
+use Rattle.std.proofs.Common.{◌≡◌, ◌<◌, inr, ⊎_elim, ℕ, zero, suc, Bool, true, false, Option, None, Some, Ok, Err, List, [], ◌∷◌, length, slice_get, refl, sym, ap, subst, ◌∙◌, arith}
 use Rattle.std.specs.Prelude.{unwrap_or}
 use Rattle.std.proofs.lemmas.Bool.{and_parts}
 use Rattle.std.proofs.lemmas.Option.{slice_get_within}
 use Rattle.life_types.specs.Trees.{HasPartsBelow, IsOrdered}
-use Rattle.life_types.specs.Types.{HasType, Types}
+use Rattle.life_types.specs.Types.{HasEachOnce, HasType, Types}
 use Rattle.life_types.specs.declared.ty.Ty.{Ty}
 use Rattle.life_types.specs.declared.ty.Ty.TheVariants as ty
 use Rattle.life_types.specs.declared.ty.TyId.{TyId}
@@ -31,7 +31,7 @@ use Rattle.life_typing_laws.proofs.Counted.{Goes, IsCounted, definitions_go, str
 use Rattle.life_typing_laws.proofs.Each.{EachHolds}
 use Rattle.life_typing_laws.specs.Served.{are_served_functions, is_served}
 use Rattle.life_typing_laws.proofs.FromBuilt.{body_served, served_program}
-use Rattle.life_typing_laws.proofs.Growing.{grows_not}
+use Rattle.life_typing_laws.proofs.Growing.{once_more, grows_not}
 use Rattle.life_typing_laws.proofs.Known.{HasBody, HasInEnd, KnownAt}
 use Rattle.life_typing_laws.proofs.Steps.{answered, same_some, same_answer}
 use Rattle.life_typing_laws.proofs.Visible.{IsUnderway}
@@ -145,6 +145,24 @@ no_structs_there : (ss : List StructForm) → has_no_structs ss ≡ true → ss 
 no_structs_there [] e = refl
 no_structs_there (s ∷ ss) e = absurd (cc)
 
+-- the types without parts stand once
+base_once : HasEachOnce base_types
+base_once =
+    once_more [] (ty.Void ∷ ty.Bool ∷ ty.Char ∷ ty.Int ∷ ty.Long ∷ ty.Size ∷ ty.Text ∷ []) ty.View refl
+    (once_more [] (ty.Void ∷ ty.Bool ∷ ty.Char ∷ ty.Int ∷ ty.Long ∷ ty.Size ∷ []) ty.Text refl
+    (once_more [] (ty.Void ∷ ty.Bool ∷ ty.Char ∷ ty.Int ∷ ty.Long ∷ []) ty.Size refl
+    (once_more [] (ty.Void ∷ ty.Bool ∷ ty.Char ∷ ty.Int ∷ []) ty.Long refl
+    (once_more [] (ty.Void ∷ ty.Bool ∷ ty.Char ∷ []) ty.Int refl
+    (once_more [] (ty.Void ∷ ty.Bool ∷ []) ty.Char refl
+    (once_more [] (ty.Void ∷ []) ty.Bool refl
+    (once_more [] [] ty.Void refl (λ m n t here there. absurd (nothing_at m t here)))))))))
+  where
+    nothing_at : (m : ℕ) (t : Ty) → ◌≡◌ {A = Option Ty} None (Some t) → ⊥
+    nothing_at m t e = cc
+
+no_members : (number : ℕ) (ids : List TyId) → ◌≡◌ {A = Option (List TyId)} None (Some ids) → 0 < length ids
+no_members number ids e = absurd (cc)
+
 -- all that is known of a resolved program
 abbrev pub IsWhole : ProgramForm → Type 0
 IsWhole p = IsWellTyped p × (HasResults p × (HasIntMain p × HasTable p))
@@ -196,9 +214,14 @@ module _ (tree : Program) (q : ProgressView) (ends : Ends (bodies_of tree) (text
       let named : is_main q.scope.names k.form.name ≡ true = ap (λ (g : FunctionForm). is_main q.scope.names g.name) same ∙ ap (λ (ns : List (List ℕ)). is_main ns f.name) ends.texts ∙ is in
       ap (λ (g : FunctionForm). type_at q.types g.result) (sym same) ∙ ap (type_at q.types) (k.is.main named) ∙ ap (λ (o : Option Ty). unwrap_or o ty.Void) (ends.under.sound.based.types 3 ty.Int refl)
 
-  -- each type of the table comes behind its parts, and there are no structs
+  -- each type of the table comes behind its parts and stands once, and there are no structs
   table_well : HasTable p
-  table_well = record { ordered = ends.under.sound.ordered; structs = ends.under.sound.based.structs }
+  table_well = record {
+    ordered = ends.under.sound.ordered;
+    once = ends.under.sound.based.once base_once;
+    members = λ number ids there. no_members number ids (subst (λ (ss : List (List TyId)). slice_get ss number ≡ Some ids) ends.under.sound.based.structs there);
+    structs = ends.under.sound.based.structs;
+  }
 
   all_well : IsWhole p
   all_well = (each_well p q.functions function_well, (each_gives q.types q.functions function_gives, (each_int p.names q.types q.functions int_main, table_well)))

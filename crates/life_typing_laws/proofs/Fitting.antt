@@ -4,7 +4,7 @@ use Rattle.std.proofs.lemmas.Bool.{and_from}
 use Rattle.std.specs.Prelude.{nat_eq}
 use Rattle.life_types.proofs.TreeLemmas.{tree_stays}
 use Rattle.life_types.specs.Trees.{IsOrdered, TypeTree, holds_unique, tree_at}
-use Rattle.life_types.specs.TypeTests.{is_raw, is_value}
+use Rattle.life_types.specs.TypeTests.{is_value}
 use Rattle.life_types.specs.Types.{Types, HasParts, HasType, HasTypes}
 use Rattle.life_types.specs.declared.ty.Ty.{Ty}
 use Rattle.life_types.specs.declared.ty.Ty.TheVariants as ty
@@ -21,7 +21,7 @@ use Rattle.life_typed.specs.declared.typed_expr.ExprType.TheVariants.{Of, NullPo
 use Rattle.life_names.specs.declared.fault.IllKind.{IllKind}
 use Rattle.life_type_expr.specs.Lists.{Targets, fits_at_all, is_taken, lower_kind, misfit_of, misfits, one_misfit, parameters}
 use Rattle.life_well_typed.specs.Expressions.{are_given}
-use Rattle.life_well_typed.specs.Given.{is_asked, is_given}
+use Rattle.life_well_typed.specs.Given.{is_asked, is_given, is_said}
 use Rattle.life_typing_laws.proofs.Growing.{same_type_at, type_is}
 use Rattle.life_typing_laws.proofs.Typed.{PlaceThere}
 
@@ -36,16 +36,13 @@ if_asked true fine e = e
 if_asked false fine e = refl
 
 -- but for structs, what initialises a type hangs on no table
-same_initialised : (few more : Types) (t : Ty) (e : ExprType) (c : Category) → (is_value t || is_raw t) ≡ true → initialised more t e c ≡ initialised few t e c
+same_initialised : (few more : Types) (t : Ty) (e : ExprType) (c : Category) → (is_value t || is_said t) ≡ true → initialised more t e c ≡ initialised few t e c
 same_initialised few more t NullPointer c asked = refl
 same_initialised few more t TextLiteral c asked = refl
 same_initialised few more (ty.Struct number) (Of source) c asked = absurd (cc)
 same_initialised few more _ (Of source) c asked = refl
 
-value_asked : (t : Ty) → is_value t ≡ true → (is_value t || is_raw t) ≡ true
-value_asked t e = rw e refl
-
-initialised_later : (few more : Types) (asked : Bool) (t : Ty) (e : ExprType) (c : Category) → (asked ≡ true → (is_value t || is_raw t) ≡ true) → initialised few t e c ≡ Ok tt
+initialised_later : (few more : Types) (asked : Bool) (t : Ty) (e : ExprType) (c : Category) → (asked ≡ true → (is_value t || is_said t) ≡ true) → initialised few t e c ≡ Ok tt
     → (if asked then fits_at_all (initialised more t e c) else true) ≡ true
 initialised_later few more true t e c asked fine = fit_at_all (initialised more t e c) (same_initialised few more t e c (asked refl) ∙ fine)
 initialised_later few more false t e c asked fine = refl
@@ -58,24 +55,24 @@ void_never types TextLiteral c fine = absurd (cc)
 
 module _ (few more : Types) (grows : Grows few more) where
   -- a const reference's target is there, unless a place of its type is given
-  const_later : (target : TyId) (e : ExprType) (c : Category) → bound_const few target e c ≡ Ok tt → (if is_value (type_at more target) then fits_at_all (bound_const more target e c) else true) ≡ true
+  const_later : (target : TyId) (e : ExprType) (c : Category) → bound_const few target e c ≡ Ok tt → (if is_value (type_at more target) || is_said (type_at more target) then fits_at_all (bound_const more target e c) else true) ≡ true
   const_later target e c fine = by (is_place_of c target) fine
     where
       there : (o : Option Ty) → slice_get few.types target.0 ≡ o → initialised few (unwrap_or o ty.Void) e c ≡ Ok tt
-          → (if is_value (type_at more target) then fits_at_all (initialised more (type_at more target) e c) else true) ≡ true
+          → (if is_value (type_at more target) || is_said (type_at more target) then fits_at_all (initialised more (type_at more target) e c) else true) ≡ true
       there None is fine = void_never few e c fine
-      there (Some t) is fine = subst (λ (u : Ty). (if is_value u then fits_at_all (initialised more u e c) else true) ≡ true) (sym (type_is more target t (grows.types target.0 t is)))
-          (initialised_later few more (is_value t) t e c (value_asked t) fine)
+      there (Some t) is fine = subst (λ (u : Ty). (if is_value u || is_said u then fits_at_all (initialised more u e c) else true) ≡ true) (sym (type_is more target t (grows.types target.0 t is)))
+          (initialised_later few more (is_value t || is_said t) t e c (λ asked. asked) fine)
 
       by : (place : Bool) → (if place then fitting else initialised few (type_at few target) e c) ≡ Ok tt
-          → (if is_value (type_at more target) then fits_at_all (if place then fitting else initialised more (type_at more target) e c) else true) ≡ true
-      by true fine = if_asked (is_value (type_at more target)) true refl
+          → (if is_value (type_at more target) || is_said (type_at more target) then fits_at_all (if place then fitting else initialised more (type_at more target) e c) else true) ≡ true
+      by true fine = if_asked (is_value (type_at more target) || is_said (type_at more target)) true refl
       by false fine = there (slice_get few.types target.0) refl fine
 
   type_later : (t : Ty) (e : ExprType) (c : Category) → fits few t e c ≡ Ok tt → (if is_asked more t then fits_at_all (fits more t e c) else true) ≡ true
-  type_later (ty.Reference target false) e c fine = if_asked (is_value (type_at more target)) (fits_at_all (bound target e c)) (fit_at_all (bound target e c) fine)
+  type_later (ty.Reference target false) e c fine = if_asked (is_value (type_at more target) || is_said (type_at more target)) (fits_at_all (bound target e c)) (fit_at_all (bound target e c) fine)
   type_later (ty.Reference target true) e c fine = const_later target e c fine
-  type_later t e c fine = initialised_later few more (is_value t || is_raw t) t e c (λ asked. asked) fine
+  type_later t e c fine = initialised_later few more (is_value t || is_said t) t e c (λ asked. asked) fine
 
   -- what fits in a table is given in each that it grows to
   pub given_later : (t : Ty) (e : Typed) → fits few t e.ty e.category ≡ Ok tt → is_given more t e ≡ true

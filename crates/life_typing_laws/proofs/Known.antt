@@ -101,7 +101,7 @@ module _ (names : List (List ℕ)) (types : Types) (signatures : List SignatureV
             form_there = stays_in forms (form ∷ []) n k.form k.form_there;
             declared_there = stays_in ds (d ∷ []) n k.declared k.declared_there;
             is = known_on names types types signatures (signatures ++ s ∷ []) k.form k.declared t
-                (record { types = λ _ _ there. there; structs = refl }) (λ m u there. stays_in signatures (s ∷ []) m u there) k.is;
+                (record { types = λ _ _ there. there; once = λ h. h; structs = refl }) (λ m u there. stays_in signatures (s ∷ []) m u there) k.is;
           }
 
       at_end : {A : Type 0} (xs : List A) (x : A) (n : ℕ) → n ≡ length signatures → length xs ≡ length signatures → slice_get (xs ++ x ∷ []) n ≡ Some x

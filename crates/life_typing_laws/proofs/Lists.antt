@@ -1,5 +1,5 @@
 -- A list that initialises an object is well typed, if it is served; so far there are no structs.
-use Rattle.std.proofs.Common.{◌≡◌, ℕ, suc, Bool, true, false, Option, None, Some, Ok, List, [], ◌∷◌, length, slice_get, refl, sym, ap, subst, ◌∙◌}
+use Rattle.std.proofs.Common.{◌≡◌, ℕ, suc, true, false, Option, None, Some, Ok, List, [], ◌∷◌, length, slice_get, refl, sym, ap, subst, ◌∙◌}
 use Rattle.std.proofs.lemmas.Bool.{and_from, false≢true}
 use Rattle.life_types.specs.Types.{Types, HasParts, HasType}
 use Rattle.life_types.specs.declared.ty.Ty.{Ty}

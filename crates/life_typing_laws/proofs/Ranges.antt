@@ -1,6 +1,5 @@
 -- Loops over ranges are well typed, if they are served.
-use Rattle.std.proofs.Common.{◌≡◌, ℕ, Bool, true, false, Option, None, Some, List, [], ◌∷◌, Ok, length, slice_get, refl, sym, ap, subst, ◌∙◌}
-use Rattle.std.proofs.lemmas.Bool.{and_parts}
+use Rattle.std.proofs.Common.{◌≡◌, ℕ, Bool, true, false, Option, None, Some, List, [], ◌∷◌, Ok, length, sym, ap, subst, ◌∙◌}
 use Rattle.life_types.specs.Trees.{IsOrdered}
 use Rattle.life_types.specs.Types.{Types, HasType}
 use Rattle.life_types.specs.declared.place.Place.{Place}

@@ -1,5 +1,5 @@
 -- Expressions in statements: what decides, what is printed, a target, and what is given to a type.
-use Rattle.std.proofs.Common.{◌≡◌, Bool, true, false, Option, None, Some, List, Ok, refl, sym, ap, subst, ◌∙◌, true≢false}
+use Rattle.std.proofs.Common.{◌≡◌, Bool, true, false, Option, None, Some, List, Ok, refl, sym, ap, subst, ◌∙◌}
 use Rattle.life_types.specs.Types.{Types}
 use Rattle.life_types.specs.declared.ty.Ty.{Ty}
 use Rattle.life_tree.specs.declared.declaration.InitialValue.{InitialValue}
@@ -7,20 +7,19 @@ use Rattle.life_tree.specs.declared.declaration.InitialValue.TheVariants as init
 use Rattle.life_tree.specs.declared.declaration.Initializer.{Initializer}
 use Rattle.life_tree.specs.declared.declaration.Initializer.TheVariants as initializer
 use Rattle.life_tree.specs.declared.expr.Expr.{Expr}
-use Rattle.life_tree.specs.declared.expr.InitList.{InitList}
 use Rattle.life_tree.specs.declared.primary.Postfix.{Postfix}
 use Rattle.life_tree.specs.declared.simple.Target.{Target}
 use Rattle.life_typed.specs.Operators.{is_condition}
 use Rattle.life_typed.specs.Programs.{ProgramForm}
 use Rattle.life_typed.specs.TypedForm.{Typed}
-use Rattle.life_typed.specs.TypedStatement.{InitialForm, ListForm, one, several}
+use Rattle.life_typed.specs.TypedStatement.{InitialForm, one}
 use Rattle.life_typed.specs.declared.typed_program.TypedLocal.{TypedLocal}
 use Rattle.life_names.specs.Checked.{Checked, ◌>>=◌}
 use Rattle.life_names.specs.Environment.{Scope}
 use Rattle.life_names.specs.Found.{allowed, given}
 use Rattle.life_names.specs.declared.fault.IllKind.{IllKind}
 use Rattle.life_names.specs.declared.fault.IllKind.TheVariants as kinds
-use Rattle.life_type_expr.specs.Expressions.{expr_meaning, list_checked, postfix_meaning, target_meaning}
+use Rattle.life_type_expr.specs.Expressions.{expr_meaning, postfix_meaning, target_meaning}
 use Rattle.life_type_expr.specs.Lists.{Meaning, is_taken}
 use Rattle.life_type_expr.specs.Operands.{literal_allowed}
 use Rattle.life_type_stmt.specs.Conditions.{condition, unless}

@@ -1,7 +1,7 @@
 -- What holds where a construct stands as checking goes on, and what the finished program has of it.
 use Rattle.std.specs.Prelude.{◌≡◌, ℕ, List, [], Some, Contains, length, slice_get}
 use Rattle.life_types.specs.Trees.{IsOrdered}
-use Rattle.life_types.specs.Types.{Types, HasType, HasTypes}
+use Rattle.life_types.specs.Types.{Types, HasEachOnce, HasType, HasTypes}
 use Rattle.life_typed.specs.BaseTypes.{base_types}
 use Rattle.life_typed.specs.Programs.{FunctionForm, ProgramForm}
 use Rattle.life_typed.specs.declared.typed_program.TypedLocal.{TypedLocal}
@@ -15,10 +15,11 @@ use Rattle.life_well_typed.specs.Visible.{Visible}
 abbrev pub Keeps : {A : Type 0} → List A → List A → Type 0
 Keeps {A = A} xs ys = (n : ℕ) (x : A) → slice_get xs n ≡ Some x → slice_get ys n ≡ Some x
 
--- ---- tables in which older numbers stay, and to which no struct is added
+-- ---- tables in which older numbers stay, to which no type is added that is there, and no struct
 
 pub record Grows (old new : Types) : Type 0 where
   pub types : Keeps old.types new.types
+  pub once : HasEachOnce old → HasEachOnce new
   pub structs : new.structs ≡ old.structs
 
 -- ---- what holds of a scope and a table as checking goes on, where so much is declared and visible
