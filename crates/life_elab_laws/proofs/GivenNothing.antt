@@ -15,9 +15,10 @@ use Rattle.life_core.specs.Function.{Function}
 use Rattle.life_core.specs.Operands.{Argument, Value, GivenOver, PointerOf, Slot, Base, Location, Operand, Name, Through, Source}
 use Rattle.life_core.specs.Operands as source
 use Rattle.life_core.specs.Step.{Step, Move, Aim, Element, Cursor, Changes, Make, Call, Change, Erase}
+use Rattle.life_core.specs.Touched.{by_members}
 use Rattle.life_core.specs.Tree.{Tree, Skip, Then, Acts, Asks, Both, Either, Negated, Choice, Turns, Breaks, Continues, Returns, Stops, Node, Action, Spot, spots}
 use Rattle.life_pset.specs.Shapes.{location_type, member_of, member_type, members_type, target_of, target_type, ty_if}
-use Rattle.life_proper.specs.GivenOver.{all_keep_given, given_argument, given_in, given_spot, given_step, is_kept, is_kept_argument, is_kept_base, is_kept_change, is_kept_place, is_kept_source, keeps_given, node_keeps_given, spot_keeps_given}
+use Rattle.life_proper.specs.GivenOver.{all_keep_given, given_argument, given_in, given_node, given_spot, given_step, is_handed_in, is_kept, is_kept_argument, is_kept_base, is_kept_change, is_kept_place, is_kept_source, keeps_given, keeps_target, node_keeps_given, spot_keeps_given}
 use Rattle.life_proper.specs.OperandTypes.{is_composed, owned_target, same}
 use Rattle.life_proper.specs.Placed.{is_consumed, is_given, object_at, result_at, slot_at, type_at, type_in, type_of}
 use Rattle.life_proper.specs.WellFormed.{are_arguments_for, goes_to, have_own_slots, is_argument_for, is_call, is_change_of, is_made_for, is_well_formed_step, is_well_formed_tree, types_taken}
@@ -156,6 +157,10 @@ module _ (types : Types) (texts : ℕ) (fs : List Function) (f : Function) (flat
 
 -- ---- what is kept
 
+both_empty : (xs ys : List ℕ) → xs ++ ys ≡ [] → (xs ≡ []) × (ys ≡ [])
+both_empty [] ys e = (refl, e)
+both_empty (x ∷ xs) ys e = cc e
+
 module _ (types : Types) (f : Function) (none : given_in f ≡ []) where
   kept : (x : ℕ) → is_kept types f x ≡ true
   kept x = ap (λ (xs : List ℕ). not (object_at types f x && list_any (nat_eq x) xs)) none ∙ go (object_at types f x)
@@ -189,22 +194,33 @@ module _ (types : Types) (f : Function) (none : given_in f ≡ []) where
   kept_change o (Erase at into) = kept_place o
   kept_change o _ = refl
 
-  step_keeps : (i : Step) → keeps_given types f i ≡ true
-  step_keeps (Move to y) = kept y
-  step_keeps (Aim p s) = kept_source s
-  step_keeps (Element p b which) = kept_base b
-  step_keeps (Cursor p b end) = kept_base b
-  step_keeps (Changes o c) = kept_change o c
-  step_keeps (Call target g xs) = kept_arguments xs
-  step_keeps _ = refl
+  -- a member that is written goes with nothing that is given over
+  kept_target : (target : Option Location) (xs : List Argument) → flat_map given_argument xs ≡ [] → keeps_target target xs ≡ true
+  kept_target None xs nothing = refl
+  kept_target (Some l) xs nothing = go l.members
+    where
+      go : (ms : List ℕ) → not (list_any (is_handed_in xs) (by_members ms [] (l.local ∷ []))) ≡ true
+      go [] = refl
+      go (m ∷ ms) = rw nothing refl
 
-  node_keeps : (n : Node) → node_keeps_given types f n ≡ true
-  node_keeps (Action i) = step_keeps i
-  node_keeps _ = refl
+  step_keeps : (i : Step) → given_step i ≡ [] → keeps_given types f i ≡ true
+  step_keeps (Move to y) nothing = kept y
+  step_keeps (Aim p s) nothing = kept_source s
+  step_keeps (Element p b which) nothing = kept_base b
+  step_keeps (Cursor p b end) nothing = kept_base b
+  step_keeps (Changes o c) nothing = kept_change o c
+  step_keeps (Call target g xs) nothing = and_from (list_all (is_kept_argument types f) xs) (keeps_target target xs) (kept_arguments xs) (kept_target target xs nothing)
+  step_keeps _ nothing = refl
 
-  spots_keep : (xs : List Spot) → list_all (spot_keeps_given types f) xs ≡ true
-  spots_keep [] = refl
-  spots_keep (x ∷ xs) = and_from (spot_keeps_given types f x) (list_all (spot_keeps_given types f) xs) (node_keeps x.node) (spots_keep xs)
+  node_keeps : (n : Node) → given_node n ≡ [] → node_keeps_given types f n ≡ true
+  node_keeps (Action i) nothing = step_keeps i nothing
+  node_keeps _ nothing = refl
+
+  spots_keep : (xs : List Spot) → flat_map given_spot xs ≡ [] → list_all (spot_keeps_given types f) xs ≡ true
+  spots_keep [] nothing = refl
+  spots_keep (x ∷ xs) nothing =
+      let parts = both_empty (given_spot x) (flat_map given_spot xs) nothing in
+      and_from (spot_keeps_given types f x) (list_all (spot_keeps_given types f) xs) (node_keeps x.node parts.0) (spots_keep xs parts.1)
 
   pub keeps_all : all_keep_given types f ≡ true
-  keeps_all = spots_keep (spots f.body)
+  keeps_all = spots_keep (spots f.body) none

@@ -18,7 +18,7 @@ use Rattle.life_core.specs.Touched.{argument_leaves, argument_uses, by_members, 
 use Rattle.life_core.specs.Tree.{Action}
 use Rattle.life_core.specs.declared.exits.Exits.{Exits}
 use Rattle.life_core.specs.declared.program.FnId.{FnId}
-use Rattle.life_core.proofs.ReadyLemmas.{bits_left}
+use Rattle.life_core.proofs.ReadyLemmas.{bits_left, bits_right}
 use Rattle.life_proper.specs.GivenOver.{all_keep_given}
 use Rattle.life_proper.specs.Placed.{object_at, slot_at, type_in}
 use Rattle.life_proper.specs.WellFormed.{are_arguments_for, goes_to, have_own_slots, is_call, types_taken}
@@ -46,7 +46,7 @@ use Rattle.life_forest.proofs.HeldPoints.{poised}
 use Rattle.life_forest.proofs.HeldPointers.{pointers_aim, pointers_fit}
 use Rattle.life_forest.proofs.Holding.{KeepsWaiting}
 use Rattle.life_forest.proofs.Keeping.{Keeps, keeps_more, keeps_then}
-use Rattle.life_forest.proofs.KeptSlots.{slots_kept}
+use Rattle.life_forest.proofs.KeptSlots.{slots_kept, target_kept}
 use Rattle.life_forest.proofs.LaterFrames.{behind_sound}
 use Rattle.life_forest.proofs.LentFrames.{IsLent, lent_less}
 use Rattle.life_forest.proofs.SeenTypes.{pointer_parts, pointer_solid}
@@ -71,11 +71,6 @@ GoodCalled types g rest c (Quit stop w) = IsNoStray stop
 abbrev pub GoodCallee : Types → List Function → Callee → Type 0
 GoodCallee types fs call = (k : ℕ) (g : Function) (rest : ℕ → ℕ) (xs : List Cell) (n : ℕ) (w : World) → slice_get fs k ≡ Some g → AreHandedTo types w.content (types_held types g) xs → IsStore types (λ k. times (named_in xs) k + rest k) w.content
     → GoodCalled types g rest w.content (call k xs n w)
-
--- the object of which a member is given a call's result isn't given over by the call
-abbrev pub KeepsTargets : Types → Function → Type 0
-KeepsTargets types f = (b : ℕ) (bits : Ready) (place : Place) (l : Location) (g : FnId) (xs : List Argument) (to : Option ℕ) → Reaches types f b bits → numbered (code_of f) b ≡ Some (record { spot = spot_at place (Action (Call (Some l) g xs)); leads = goes to })
-    → (m : ℕ) (ms : List ℕ) → l.members ≡ m ∷ ms → IsThere (set_bits false (flat_map (argument_leaves f) xs) bits) l.local
 
 -- ---- bits and lists
 
@@ -111,7 +106,7 @@ result_later types loose hand c d store keeps id vs waits (inr r) =
     inr (r.0, r.1, (later types loose hand c d store keeps (id ∷ []) (r.0 ∷ []) (λ n lt. waits n (let a = ap (λ (ws : List Cell). times (named_in ws) n) r.1 in omega (arith, a, lt))) (r.2, tt)).0)
 
 module _ (types : Types) (ordered : IsOrdered types) (once : HasEachOnce types) (some : HaveMembers types) (names texts : ℕ) (fs : List Function) (f : Function) (formed : is_well_formed_function types names texts fs f ≡ true) (points : ArePointsFormed types texts fs f)
-    (ready : HasReadyWays types f) (rest : ℕ → ℕ) (before : Content) (s : Setting) (call : Callee) (callees : GoodCallee types fs call) (free : (k : ℕ) (g : Function) → slice_get fs k ≡ Some g → ArePointerSlots types (types_taken g)) (given : all_keep_given types f ≡ true) (kept : KeepsTargets types f) where
+    (ready : HasReadyWays types f) (rest : ℕ → ℕ) (before : Content) (s : Setting) (call : Callee) (callees : GoodCallee types fs call) (free : (k : ℕ) (g : Function) → slice_get fs k ≡ Some g → ArePointerSlots types (types_taken g)) (given : all_keep_given types f ≡ true) where
   shaped : IsShaped types f
   shaped = locals_shaped types ordered names f (formed_parts types names texts fs f formed).locals
 
@@ -153,7 +148,7 @@ module _ (types : Types) (ordered : IsOrdered types) (once : HasEachOnce types) 
       target_ready st3 same = record {
         births = subst (λ (bits : Ready). AreBits false bits (target_births f target)) (sym (same ∙ loan.bits)) (still_all (ready_of st) (flat_map (argument_leaves f) xs) (target_births f target) are.births);
         object = λ l at_l m ms k. subst (λ (bits : Ready). IsThere bits l.local) (sym (same ∙ loan.bits))
-            (kept b (ready_of st) place l g xs x.next inv.reached (subst (λ (t : Option Location). numbered (code_of f) b ≡ Some (record { spot = spot_at place (Action (Call t g xs)); leads = goes x.next })) at_l here) m ms k);
+            (target_kept types f given b (ready_of st) place target g xs x.next here (bits_right true (ready_of st) (flat_map (argument_uses f) xs) (target_uses target) are.uses) l at_l m ms k);
         slots = λ l at_l whole object. not_there l at_l whole object (slot_at types f l.local) refl;
       }
         where

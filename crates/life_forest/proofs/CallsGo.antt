@@ -20,7 +20,7 @@ use Rattle.life_forest.specs.Frames.{named_in}
 use Rattle.life_forest.specs.Owned.{times}
 use Rattle.life_forest.specs.Typed.{IsStore}
 use Rattle.life_forest.proofs.BodiesGo.{IsLeft, SoundAnswer, body_goes}
-use Rattle.life_forest.proofs.CallersGo.{GoodCalled, GoodCallee, KeepsTargets, calls_sound}
+use Rattle.life_forest.proofs.CallersGo.{GoodCalled, GoodCallee, calls_sound}
 use Rattle.life_forest.proofs.EnteredFrames.{GivesOn}
 use Rattle.life_forest.proofs.EntryFrames.{entry_gives, taking_all, types_held}
 use Rattle.life_forest.proofs.GivenResults.{results_given}
@@ -41,7 +41,6 @@ pub record GoesWell (types : Types) (names texts : ℕ) (fs : List Function) (f 
   pub ready : HasReadyWays types f
   pub free : ArePointerSlots types (types_taken f)
   pub given : all_keep_given types f ≡ true
-  pub kept : KeepsTargets types f
 
 module _ (types : Types) (ordered : IsOrdered types) (once : HasEachOnce types) (some : HaveMembers types) (names texts : ℕ) (fs : List Function) (all : (k : ℕ) (g : Function) → slice_get fs k ≡ Some g → GoesWell types names texts fs g) (s : Setting) where
   module _ (call : Callee) (callees : GoodCallee types fs call) (f : Function) (well : GoesWell types names texts fs f) (rest : ℕ → ℕ) where
@@ -77,7 +76,7 @@ module _ (types : Types) (ordered : IsOrdered types) (once : HasEachOnce types) 
         (taking_all types names f shaped (formed_at types ordered once some names texts fs f well.formed well.points well.ready) well.free) store suits)
         (λ st next. finish_good w.content (exec s types f call f.body n st)
         (body_goes types ordered once some names texts fs f well.formed well.points well.ready rest w.content s call
-        (calls_sound types ordered once some names texts fs f well.formed well.points well.ready rest w.content s call callees (λ k g is. (all k g is).free) well.given well.kept)
+        (calls_sound types ordered once some names texts fs f well.formed well.points well.ready rest w.content s call callees (λ k g is. (all k g is).free) well.given)
         n st next.bits next.sound next.waits))
 
 -- ---- all calls of a program

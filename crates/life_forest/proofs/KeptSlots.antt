@@ -1,5 +1,5 @@
--- What is handed over as a slot isn't given over by the same call.
-use Rattle.std.proofs.Common.{◌≡◌, ℕ, zero, suc, Bool, true, false, ◌&&◌, ◌||◌, not, if◌then◌else◌, List, [], ◌∷◌, ◌++◌, Option, Some, refl, sym, ap, ◌∙◌, arith}
+-- What is handed over as a slot isn't given over by the same call, nor is what the call writes a member of.
+use Rattle.std.proofs.Common.{◌≡◌, ℕ, zero, suc, Bool, true, false, ◌&&◌, ◌||◌, not, if◌then◌else◌, List, [], ◌∷◌, ◌++◌, Option, Some, refl, sym, ap, subst, ◌∙◌, arith}
 use Rattle.std.proofs.lemmas.Bool.{and_parts, false≢true}
 use Rattle.std.proofs.lemmas.Bool.Decides.{nat_tests}
 use Rattle.std.specs.List.{list_all, list_any}
@@ -10,12 +10,12 @@ use Rattle.life_core.specs.Linked.{code_of, goes, numbered, spot_at}
 use Rattle.life_core.specs.Operands.{Argument, GivenOver, Location, PointerOf, Slot, Value}
 use Rattle.life_core.specs.Ready.{AreBits, IsThere, Ready, set_bits}
 use Rattle.life_core.specs.Step.{Call}
-use Rattle.life_core.specs.Touched.{argument_leaves, argument_uses}
+use Rattle.life_core.specs.Touched.{argument_leaves, argument_uses, by_members, target_uses}
 use Rattle.life_core.specs.Tree.{Action, Spot, spots}
 use Rattle.life_core.specs.declared.program.FnId.{FnId}
 use Rattle.life_core.proofs.ReadyLemmas.{bits_right}
 use Rattle.life_types.specs.declared.place.Place.{Place}
-use Rattle.life_proper.specs.GivenOver.{all_keep_given, given_argument, given_in, given_spot, is_kept, is_kept_argument, spot_keeps_given}
+use Rattle.life_proper.specs.GivenOver.{all_keep_given, given_argument, given_in, given_spot, is_handed_in, is_kept, is_kept_argument, keeps_target, spot_keeps_given}
 use Rattle.life_proper.specs.Placed.{object_at}
 use Rattle.life_proper.proofs.SpotTests.{point_tested}
 use Rattle.life_forest.proofs.SlotsGo.{AreSlotsThere}
@@ -90,6 +90,10 @@ module _ (types : Types) (f : Function) where
       one false e = ap (λ (c : Bool). is_among y (if c then x ∷ [] else [])) e
       one true e = ap (λ (c : Bool). is_among y (if c then x ∷ [] else [])) e ∙ neither (nat_eq y x) false (other (nat_eq y x) refl e) refl
 
+  not_true : (b : Bool) → not b ≡ true → b ≡ false
+  not_true true k = absurd (false≢true k)
+  not_true false k = refl
+
   not_among : (a b : Bool) → not (a && b) ≡ true → a ≡ true → b ≡ false
   not_among true true e h = absurd (false≢true e)
   not_among true false e h = refl
@@ -101,10 +105,9 @@ module _ (types : Types) (f : Function) where
         not_true (is_among y (flat_map given_argument all))
         (point_tested (λ s. not (is_among y (given_spot s))) f b (record { spot = spot_at place (Action (Call target g all)); leads = goes to })
         (given_nowhere y (spots f.body) (not_among (object_at types f y) (is_among y (given_in f)) kept object)) here)
-      where
-        not_true : (b : Bool) → not b ≡ true → b ≡ false
-        not_true true k = absurd (false≢true k)
-        not_true false k = refl
+
+    keeps : (list_all (is_kept_argument types f) all && keeps_target target all) ≡ true
+    keeps = point_tested (spot_keeps_given types f) f b (record { spot = spot_at place (Action (Call target g all)); leads = goes to }) given here
 
     each_there : (xs : List Argument) → list_all (is_kept_argument types f) xs ≡ true → AreBits true bits (flat_map (argument_uses f) xs) → AreSlotsThere (set_bits false (flat_map (argument_leaves f) all) bits) xs
     each_there [] kept uses = tt
@@ -116,4 +119,12 @@ module _ (types : Types) (f : Function) where
         (stays_there (flat_map (argument_leaves f) all) bits l.local uses.0 (leaves_apart l.local all (kept_here l.local both.0)), each_there xs both.1 uses.1)
 
     pub slots_kept : AreBits true bits (flat_map (argument_uses f) all) → AreSlotsThere (set_bits false (flat_map (argument_leaves f) all) bits) all
-    slots_kept uses = each_there all (point_tested (spot_keeps_given types f) f b (record { spot = spot_at place (Action (Call target g all)); leads = goes to }) given here) uses
+    slots_kept uses = each_there all (and_parts (list_all (is_kept_argument types f) all) (keeps_target target all) keeps).0 uses
+
+    pub target_kept : AreBits true bits (target_uses target) → (l : Location) → target ≡ Some l → (m : ℕ) (ms : List ℕ) → l.members ≡ m ∷ ms → IsThere (set_bits false (flat_map (argument_leaves f) all) bits) l.local
+    target_kept uses l at m ms members =
+        stays_there (flat_map (argument_leaves f) all) bits l.local (subst (AreBits true bits) used uses).0
+        (leaves_apart l.local all (λ object. (both_false (is_handed_in all l.local) false (not_true (is_handed_in all l.local || false) (subst (λ (ys : List ℕ). not (list_any (is_handed_in all) ys) ≡ true) used (and_parts (list_all (is_kept_argument types f) all) (keeps_target target all) keeps).1))).0))
+      where
+        used : target_uses target ≡ l.local ∷ []
+        used = ap target_uses at ∙ ap (λ (ns : List ℕ). by_members ns [] (l.local ∷ [])) members

@@ -31,7 +31,7 @@ use Rattle.life_store.specs.State.{World}
 use Rattle.life_store.proofs.CellLemmas.{none_some, some_same}
 use Rattle.life_forest.specs.Frames.{named_in}
 use Rattle.life_forest.specs.Owned.{times}
-use Rattle.life_forest.proofs.CallersGo.{GoodCalled, KeepsTargets}
+use Rattle.life_forest.proofs.CallersGo.{GoodCalled}
 use Rattle.life_forest.proofs.CallsGo.{GoesWell, calls_good}
 use Rattle.life_forest.proofs.FrameChanges.{lt_of}
 use Rattle.life_forest.proofs.Frames.{less_in_hand}
@@ -140,10 +140,9 @@ called_found types f entry before c (Quit (Faulted kind place) w) g = tt
 called_found types f entry before c (Quit Stray w) g = g
 called_found types f entry before c (Quit Exhausted w) g = tt
 
--- a program in which each slot is one of a pointer, and no call gives over of what it writes a member
+-- a program in which each slot is one of a pointer
 pub record HandsPointerSlots (p : Program) : Type 0 where
   pub free : (k : ℕ) (g : Function) → slice_get p.functions k ≡ Some g → ArePointerSlots p.types (types_taken g)
-  pub kept : (k : ℕ) (g : Function) → slice_get p.functions k ≡ Some g → KeepsTargets p.types g
 
 pub never_strays : (p : Program) (given : Given) (entry : ℕ) (f : Function) (input : List ℤ) (n : ℕ) → IsWellFormedProgram p → HasEachOnce p.types → IsReadyProgram p → keeps_all_given p ≡ true → HandsPointerSlots p → slice_get p.functions entry ≡ Some f → IsAdmitted p f input
     → IsFound (run_of given p entry f input n).outcome
@@ -163,7 +162,6 @@ never_strays p given entry f input n well once ready apart hands is admitted =
       ready = ways_at p.types p.functions k g ready at;
       free = hands.free k g at;
       given = all_at (all_keep_given p.types) p.functions k g apart at;
-      kept = hands.kept k g at;
     }
 
     solid : (i : ℕ) (l : Local) → slice_get f.locals i ≡ Some l → is_void (ty_of p.types l.ty) ≡ false

@@ -1,3 +1,4 @@
+pub mod GivenRows
 pub mod HeldSorts
 pub mod Joining
 pub mod Lists

@@ -1,5 +1,5 @@
 -- Locals that are given over to an owner or a call: nothing else takes what they hold, and nothing points into them.
-use Rattle.std.specs.Prelude.{ℕ, Bool, true, ◌&&◌, not, nat_eq, List, [], ◌∷◌, flat_map}
+use Rattle.std.specs.Prelude.{ℕ, Bool, true, ◌&&◌, not, nat_eq, List, [], ◌∷◌, Option, flat_map}
 use Rattle.std.specs.List.{list_all, list_any}
 use Rattle.life_types.specs.Types.{Types}
 use Rattle.life_core.specs.declared.instr.Made.{Made}
@@ -8,6 +8,7 @@ use Rattle.life_core.specs.Function.{Function, Program}
 use Rattle.life_core.specs.Operands.{Argument, GivenOver, Slot, Base, Location, Operand, Name, Through, Source}
 use Rattle.life_core.specs.Operands as source
 use Rattle.life_core.specs.Step.{Step, Move, Aim, Element, Cursor, Changes, Make, Call, Change, PushBack, Erase}
+use Rattle.life_core.specs.Touched.{target_uses}
 use Rattle.life_core.specs.Tree.{Node, Action, Spot, spots}
 use Rattle.life_proper.specs.Placed.{object_at}
 
@@ -44,6 +45,14 @@ given_in f = flat_map given_spot (spots f.body)
 
 -- ---- what doesn't touch them
 
+-- whether a call gives this local over
+abbrev pub is_handed_in : List Argument → ℕ → Bool
+is_handed_in xs x = list_any (nat_eq x) (flat_map given_argument xs)
+
+-- a call that writes a member gives over no object that the member is of: it would be gone when the result comes
+abbrev pub keeps_target : Option Location → List Argument → Bool
+keeps_target target xs = not (list_any (is_handed_in xs) (target_uses target))
+
 module _ (types : Types) (f : Function) where
   abbrev pub is_kept : ℕ → Bool
   is_kept x = not (object_at types f x && list_any (nat_eq x) (given_in f))
@@ -77,7 +86,7 @@ module _ (types : Types) (f : Function) where
   keeps_given (Element p b which) = is_kept_base b
   keeps_given (Cursor p b end) = is_kept_base b
   keeps_given (Changes o c) = is_kept_change o c
-  keeps_given (Call target g xs) = list_all is_kept_argument xs
+  keeps_given (Call target g xs) = list_all is_kept_argument xs && keeps_target target xs
   keeps_given _ = true
 
   abbrev pub node_keeps_given : Node → Bool

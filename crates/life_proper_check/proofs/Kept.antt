@@ -1,15 +1,16 @@
 -- Where no more than what is served is done, nothing is given over, so nothing touches what is.
-use Rattle.std.proofs.Common.{◌≡◌, ℕ, Bool, true, false, ◌&&◌, not, flat_map, List, [], ◌∷◌, refl}
+use Rattle.std.proofs.Common.{◌≡◌, ℕ, Bool, true, false, ◌&&◌, not, flat_map, List, [], ◌∷◌, Option, Some, None, refl}
 use Rattle.std.proofs.lemmas.Bool.{and_from, and_parts, false≢true}
-use Rattle.std.specs.List.{list_all}
+use Rattle.std.specs.List.{list_all, list_any}
 use Rattle.life_types.specs.Types.{Types}
 use Rattle.life_core.specs.Function.{Function, Program}
 use Rattle.life_core.specs.Operands.{Argument, Value, GivenOver, PointerOf, Slot, Base, Location, Operand, Name, Through, Source}
 use Rattle.life_core.specs.Operands as source
 use Rattle.life_core.specs.Served.{is_served, is_served_argument, is_served_local, is_served_node, is_served_program, is_served_spot, is_served_step, is_served_target}
 use Rattle.life_core.specs.Step.{Step, Move, Aim, Element, Cursor, Changes, Make, Call}
+use Rattle.life_core.specs.Touched.{by_members}
 use Rattle.life_core.specs.Tree.{Node, Action, Spot, spots}
-use Rattle.life_proper.specs.GivenOver.{all_keep_given, given_argument, given_in, given_node, given_spot, given_step, is_kept, is_kept_argument, is_kept_place, is_kept_source, keeps_all_given, keeps_given, node_keeps_given, spot_keeps_given}
+use Rattle.life_proper.specs.GivenOver.{all_keep_given, given_argument, given_in, given_node, given_spot, given_step, is_handed_in, is_kept, is_kept_argument, is_kept_place, is_kept_source, keeps_all_given, keeps_given, keeps_target, node_keeps_given, spot_keeps_given}
 use Rattle.life_proper.specs.Placed.{object_at}
 
 -- ---- nothing is given over
@@ -20,6 +21,15 @@ no_arguments (Value r ∷ xs) e = no_arguments xs (and_parts (is_served_argument
 no_arguments (GivenOver x ∷ xs) e = absurd (false≢true e)
 no_arguments (PointerOf l ∷ xs) e = no_arguments xs (and_parts (is_served_argument (PointerOf l)) (list_all is_served_argument xs) e).1
 no_arguments (Slot l ∷ xs) e = absurd (false≢true e)
+
+-- .. so no member that is written goes with it
+targets_kept : (target : Option Location) (xs : List Argument) → flat_map given_argument xs ≡ [] → keeps_target target xs ≡ true
+targets_kept None xs none = refl
+targets_kept (Some l) xs none = go l.members
+  where
+    go : (ms : List ℕ) → not (list_any (is_handed_in xs) (by_members ms [] (l.local ∷ []))) ≡ true
+    go [] = refl
+    go (m ∷ ms) = rw none refl
 
 module _ (types : Types) (f : Function) where
   step_gives : (i : Step) → is_served_step types f i ≡ true → given_step i ≡ []
@@ -71,7 +81,7 @@ module _ (types : Types) (f : Function) (none : given_in f ≡ []) where
   step_keeps (Element p b which) e = absurd (false≢true e)
   step_keeps (Cursor p b end) e = absurd (false≢true e)
   step_keeps (Changes o c) e = absurd (false≢true e)
-  step_keeps (Call target g xs) e = arguments_kept xs
+  step_keeps (Call target g xs) e = and_from _ _ (arguments_kept xs) (targets_kept target xs (no_arguments xs (and_parts (is_served_target target) (list_all is_served_argument xs) e).1))
   step_keeps _ e = refl
 
   node_keeps : (n : Node) → is_served_node types f n ≡ true → node_keeps_given types f n ≡ true
