@@ -1,23 +1,25 @@
--- A table stays ordered as the types of registers are added: each type comes behind its parts, and no struct comes in.
+-- A table stays ordered as the types of registers are added: each type comes behind its parts and stands once, and no struct comes in.
 use Rattle.std.proofs.Common.{◌≡◌, ◌≤◌, ◌⊎◌, inl, inr, ℕ, zero, suc, Bool, true, false, List, [], ◌∷◌, ◌++◌, length, slice_get, Some, if◌then◌else◌, refl, sym, ap, ◌∙◌, subst, arith, length-append}
 use Rattle.std.specs.List.{list_any}
 use Rattle.std.proofs.lemmas.Option.{none-some, same_Some}
 use Rattle.life_types.specs.Trees.{AllBelow, HasPartsBelow, IsOrdered}
-use Rattle.life_types.specs.Types.{Types, with_type}
+use Rattle.life_types.specs.Types.{Types, HasEachOnce, with_type}
 use Rattle.life_types.specs.contracts.ty.TyPartialEq.TheImpl.{ghosts as compared}
 use Rattle.life_types.specs.declared.ty.Ty.{Ty}
 use Rattle.life_types.specs.declared.ty.Ty.TheVariants as ty
 use Rattle.life_types.specs.declared.ty.TyId.{TyId}
+use Rattle.life_well_typed.proofs.Once.{once_with}
 
 pub record KeepsOrder (few more : Types) : Type 0 where
   pub structs : more.structs ≡ few.structs
   pub ordered : IsOrdered few → IsOrdered more
+  pub once : HasEachOnce few → HasEachOnce more
 
 pub order_none : (table : Types) → KeepsOrder table table
-order_none table = record { structs = refl; ordered = λ h. h }
+order_none table = record { structs = refl; ordered = λ h. h; once = λ h. h }
 
 pub order_then : (a b c : Types) → KeepsOrder a b → KeepsOrder b c → KeepsOrder a c
-order_then a b c first second = record { structs = second.structs ∙ first.structs; ordered = λ h. second.ordered (first.ordered h) }
+order_then a b c first second = record { structs = second.structs ∙ first.structs; ordered = λ h. second.ordered (first.ordered h); once = λ h. second.once (first.once h) }
 
 -- ---- one more type
 
@@ -48,7 +50,7 @@ module _ (table : Types) (t : Ty) (below : HasPartsBelow table (length table.typ
   }
 
   pub type_ordered : KeepsOrder table (record table { types = with_type table.types t })
-  type_ordered = record { structs = refl; ordered = λ h. go (list_any (compared.eq t) table.types) h }
+  type_ordered = record { structs = refl; ordered = λ h. go (list_any (compared.eq t) table.types) h; once = once_with table t }
     where
       go : (b : Bool) → IsOrdered table → IsOrdered (record table { types = if b then table.types else table.types ++ t ∷ [] })
       go true h = h

@@ -17,7 +17,7 @@ use Rattle.life_elab_laws.proofs.WrittenResults.{program_writes_results}
 
 pub translation_proper : (p : ProgramForm) → IsWellTyped p → HasResults p → HasTable p → HasNames p → HasIntMain p → is_built p ≡ true → IsProgramWithinLimits (translated p) → IsProperProgram (translated p)
 translation_proper p typed results table names mains built limits = record {
-  well_formed = program_well_formed p typed results names table.ordered table.structs built;
+  well_formed = program_well_formed p typed results names table.ordered table.once table.structs built;
   ready = ready_program (translated p) (program_checked p typed (functions_built p built) results);
   results = program_writes_results p typed results mains built;
   breaks = program_breaks p typed (functions_built p built) results;

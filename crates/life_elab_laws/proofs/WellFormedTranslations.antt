@@ -3,7 +3,7 @@ use Rattle.std.proofs.Common.{◌≡◌, ◌⊎◌, inl, inr, ℕ, true, List, [
 use Rattle.std.specs.List.{list_all}
 use Rattle.std.proofs.lemmas.Bool.{and_from, and_parts}
 use Rattle.life_types.specs.Trees.{IsOrdered}
-use Rattle.life_types.specs.Types.{Types, class}
+use Rattle.life_types.specs.Types.{HasEachOnce, Types, class}
 use Rattle.life_types.specs.declared.ty.Ty.{Ty}
 use Rattle.life_types.specs.declared.ty.TyId.{TyId}
 use Rattle.life_built.specs.Built.{are_built_functions, has_built_types, has_no_structs, is_built, is_built_variable}
@@ -102,11 +102,12 @@ module _ (p : ProgramForm) (typed : IsWellTyped p) (built : are_built_functions 
   program_serves : is_served_program (translated p) ≡ true
   program_serves = passed_by_all p typed built results (is_served types) (list_all (is_served types)) refl (λ core cores. refl) one_served
 
-  program_formed : HasNames p → IsOrdered p.types → p.types.structs ≡ [] → has_no_structs p.structs ≡ true → IsWellFormedProgram (translated p)
-  program_formed named ordered structs none =
+  program_formed : HasNames p → IsOrdered p.types → HasEachOnce p.types → p.types.structs ≡ [] → has_no_structs p.structs ≡ true → IsWellFormedProgram (translated p)
+  program_formed named ordered once structs none =
       let order = whole_order p typed built results in
       record {
         table = order.ordered ordered;
+        once = order.once once;
         members = no_members names types.structs p.structs (order.structs ∙ structs) none;
         own_names = own_names p types p.functions functions (each_written p typed built results) ∙ named.own;
         functions =
@@ -114,9 +115,9 @@ module _ (p : ProgramForm) (typed : IsWellTyped p) (built : are_built_functions 
             (λ n f at core w. one_formed n f at core w named);
       }
 
-pub program_well_formed : (p : ProgramForm) → IsWellTyped p → HasResults p → HasNames p → IsOrdered p.types → p.types.structs ≡ [] → is_built p ≡ true → IsWellFormedProgram (translated p)
-program_well_formed p typed results named ordered structs b =
-    program_formed p typed (functions_built p b) results named ordered structs (and_parts (has_no_structs p.structs) (are_built_functions p.types p.functions) (and_parts (has_built_types p.types) _ b).1).0
+pub program_well_formed : (p : ProgramForm) → IsWellTyped p → HasResults p → HasNames p → IsOrdered p.types → HasEachOnce p.types → p.types.structs ≡ [] → is_built p ≡ true → IsWellFormedProgram (translated p)
+program_well_formed p typed results named ordered once structs b =
+    program_formed p typed (functions_built p b) results named ordered once structs (and_parts (has_no_structs p.structs) (are_built_functions p.types p.functions) (and_parts (has_built_types p.types) _ b).1).0
 
 pub program_served : (p : ProgramForm) → IsWellTyped p → HasResults p → is_built p ≡ true → is_served_program (translated p) ≡ true
 program_served p typed results b = program_serves p typed (functions_built p b) results

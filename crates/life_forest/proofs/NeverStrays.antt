@@ -5,7 +5,7 @@ use Rattle.std.specs.Prelude.{ℤ, map, nat_eq, nat_lt, not, slice_get, take}
 use Rattle.std.specs.List.{list_all}
 use Rattle.life_types.specs.Pointees.{or_void, ty_of}
 use Rattle.life_types.specs.TypeTests.{is_value, is_void}
-use Rattle.life_types.specs.Types.{HasEachOnce, Types, class}
+use Rattle.life_types.specs.Types.{Types, class}
 use Rattle.life_types.specs.declared.place.Place.{Place}
 use Rattle.life_types.specs.declared.ty.NameId.{NameId}
 use Rattle.life_types.specs.declared.ty.Ty.{Ty}
@@ -144,11 +144,11 @@ called_found types f entry before c (Quit Exhausted w) g = tt
 pub record HandsPointerSlots (p : Program) : Type 0 where
   pub free : (k : ℕ) (g : Function) → slice_get p.functions k ≡ Some g → ArePointerSlots p.types (types_taken g)
 
-pub never_strays : (p : Program) (given : Given) (entry : ℕ) (f : Function) (input : List ℤ) (n : ℕ) → IsWellFormedProgram p → HasEachOnce p.types → IsReadyProgram p → keeps_all_given p ≡ true → HandsPointerSlots p → slice_get p.functions entry ≡ Some f → IsAdmitted p f input
+pub never_strays : (p : Program) (given : Given) (entry : ℕ) (f : Function) (input : List ℤ) (n : ℕ) → IsWellFormedProgram p → IsReadyProgram p → keeps_all_given p ≡ true → HandsPointerSlots p → slice_get p.functions entry ≡ Some f → IsAdmitted p f input
     → IsFound (run_of given p entry f input n).outcome
-never_strays p given entry f input n well once ready apart hands is admitted =
+never_strays p given entry f input n well ready apart hands is admitted =
     called_found p.types f f.place (first_world f input) empty_content (first_called given p entry f input n)
-    (calls_good (setting_of given p) p well.table once (have_members p.types (length p.names) p.members well.members) (length p.names) (length p.texts) each given.depth entry f (λ k. 0) (entry_arguments p.types f 0 f.parameters input) n (first_world f input) is
+    (calls_good (setting_of given p) p well.table well.once (have_members p.types (length p.names) p.members well.members) (length p.names) (length p.texts) each given.depth entry f (λ k. 0) (entry_arguments p.types f 0 f.parameters input) n (first_world f input) is
     (numbers_handed p.types f empty_content f.parameters f.locals 0 input admitted.values admitted.room admitted.enough solid)
     (less_in_hand p.types (λ k. 0) (λ k. times (named_in (entry_arguments p.types f 0 f.parameters input)) k + 0) empty_content (λ k. let z = none_named p.types f empty_content 0 f.parameters input k in omega (arith, z)) (empty_store p.types)))
   where

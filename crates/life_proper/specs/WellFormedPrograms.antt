@@ -4,7 +4,7 @@ use Rattle.std.specs.List.{list_all, list_any}
 use Rattle.life_types.specs.Pointees.{ty_of}
 use Rattle.life_types.specs.Trees.{IsOrdered, TypeTree, Void, Vector, Unique, Raw, Reference, Iterator, Span, Member, is_plain, tree_at}
 use Rattle.life_types.specs.TypeTests.{is_pointer, is_value, is_void}
-use Rattle.life_types.specs.Types.{Types}
+use Rattle.life_types.specs.Types.{Types, HasEachOnce}
 use Rattle.life_types.specs.declared.ty.NameId.{NameId}
 use Rattle.life_types.specs.declared.ty.Ty.{Ty}
 use Rattle.life_types.specs.declared.ty.Ty.TheVariants as ty
@@ -117,6 +117,8 @@ have_names names _ _ = false
 pub record IsWellFormedProgram (p : Program) : Type 0 where
   -- the parts of each type are in the table
   pub table : IsOrdered p.types
+  -- no type has two numbers
+  pub once : HasEachOnce p.types
   pub members : have_names (length p.names) p.types.structs p.members ≡ true
   pub own_names : have_own_names p.functions ≡ true
   pub functions : list_all (is_well_formed_function p.types (length p.names) (length p.texts) p.functions) p.functions ≡ true

@@ -6,7 +6,7 @@ use Rattle.std.specs.List.{list_all}
 use Rattle.life_types.specs.Pointees.{ty_of}
 use Rattle.life_types.specs.Trees.{IsOrdered, TypeTree, is_plain, tree_at, tree_of}
 use Rattle.life_types.specs.TypeTests.{is_void}
-use Rattle.life_types.specs.Types.{Types, is_slot_at}
+use Rattle.life_types.specs.Types.{HasEachOnce, Types, is_slot_at}
 use Rattle.life_types.specs.declared.ty.NameId.{NameId}
 use Rattle.life_types.specs.declared.ty.Ty.{Ty}
 use Rattle.life_types.specs.declared.ty.Ty.TheVariants as ty
@@ -191,13 +191,14 @@ none_of (x ∷ xs) e = absurd (grind (arith, nat_tests))
 none_named : (names : ℕ) (structs : List (List TyId)) (members : List (List NameId)) → nat_eq (length structs) 0 ≡ true → nat_eq (length members) 0 ≡ true → have_names names structs members ≡ true
 none_named names structs members a b = rw (none_of structs a, none_of members b) refl
 
-pub program_formed : (p : Program) → IsOrdered p.types → is_served_program p ≡ true → is_formed_program p ≡ true → IsWellFormedProgram p
-program_formed p ordered served e =
+pub program_formed : (p : Program) → IsOrdered p.types → HasEachOnce p.types → is_served_program p ≡ true → is_formed_program p ≡ true → IsWellFormedProgram p
+program_formed p ordered once served e =
     let a = and_parts (has_no_structs p) _ e in
     let none = and_parts (nat_eq (length p.types.structs) 0) (nat_eq (length p.members) 0) a.0 in
     let b = and_parts (have_own_names p.functions) _ a.1 in
     record {
       table = ordered;
+      once = once;
       members = none_named (length p.names) p.types.structs p.members none.0 none.1;
       own_names = b.0;
       functions = functions_formed p.types ordered (length p.names) (length p.texts) p.functions p.functions served b.1;

@@ -6,5 +6,6 @@ pub mod Handed
 pub mod Kept
 pub mod Parts
 pub mod Points
+pub mod Tables
 pub mod Within
 pub mod Written

@@ -1,6 +1,7 @@
 -- The parts of a proper program, as they are tested.
 use Rattle.std.proofs.Common.{◌≡◌, subst, sym, true}
 use Rattle.life_types.specs.Trees.{IsOrdered}
+use Rattle.life_types.specs.Types.{HasEachOnce}
 use Rattle.life_core.specs.ByValue.{calls_by_value}
 use Rattle.life_core.specs.Function.{Program}
 use Rattle.life_core.specs.Served.{is_served_program}
@@ -13,10 +14,10 @@ use Rattle.life_proper_check.specs.ServedForms.{is_formed_program}
 use Rattle.life_proper_check.proofs.Formed.{program_formed}
 use Rattle.life_proper_check.proofs.Kept.{program_keeps}
 
-pub parts_proper : (p : Program) → is_served_program p ≡ true → calls_by_value p ≡ true → IsOrdered p.types → is_formed_program p ≡ true → have_own_breaks p ≡ true
+pub parts_proper : (p : Program) → is_served_program p ≡ true → calls_by_value p ≡ true → IsOrdered p.types → HasEachOnce p.types → is_formed_program p ≡ true → have_own_breaks p ≡ true
     → IsProgramWithinLimits p → checked p ≡ true → WritesResults p → IsProperProgram p
-parts_proper p served plain ordered formed breaks within ready results = record {
-  well_formed = program_formed p ordered served formed;
+parts_proper p served plain ordered once formed breaks within ready results = record {
+  well_formed = program_formed p ordered once served formed;
   ready = ready_program p ready;
   results = results;
   breaks = breaks;

@@ -5,6 +5,7 @@ ghost use Rattle.life_core.specs.Function.{function_of, program_of};
 ghost use Rattle.life_core.specs.Node.{spot_seen};
 ghost use Rattle.life_core.specs.Served.{is_served, is_served_local, is_served_program, is_served_spot};
 ghost use Rattle.life_types.specs.Trees.{IsOrdered};
+ghost use Rattle.life_types.specs.Types.{HasEachOnce};
 ghost use Rattle.life_pset.specs.Limits.{IsProgramWithinLimits};
 ghost use Rattle.life_proper.specs.ProperPrograms.{IsProperProgram, has_own_breaks};
 ghost use Rattle.life_proper.specs.ResultsWritten.{WritesResults};
@@ -21,7 +22,7 @@ use crate::served::{is_served_local, is_served_node};
 use life_core::{CoreFn, CoreProgram, SpotRef, spots};
 use life_proper::{is_plain_program, is_proper};
 use life_pset::is_within_limits;
-use life_types::{NoMemory, TyId, TypeTable};
+use life_types::{NoMemory, Ty, TyId, TypeTable};
 use std::alloc::Global;
 
 /// A part of what is asked of a proper program.
@@ -80,10 +81,12 @@ fn first_unmet(alloc: Global, p: &CoreProgram) -> Result<Option<Part>, NoMemory>
     let formed = is_formed_program(alloc, p)?;
     let limits = is_within(alloc, p)?;
     let ready = is_proper(alloc, p)?;
+    let once = has_each_once(alloc, &p.types)?;
     Ok(first_of(Met {
         served,
         by_value: is_plain_program(p),
         typed: has_types(&p.types),
+        once,
         formed,
         breaks: have_own_breaks(&p.functions),
         limits,
@@ -97,6 +100,7 @@ struct Met {
     served: bool,
     by_value: bool,
     typed: bool,
+    once: bool,
     formed: bool,
     breaks: bool,
     limits: bool,
@@ -104,13 +108,13 @@ struct Met {
 }
 
 fn first_of(met: Met) -> Option<Part>
-    ensures { result ≡ None → (met.served ≡ true) × ((met.by_value ≡ true) × ((met.typed ≡ true) × ((met.formed ≡ true) × ((met.breaks ≡ true) × ((met.limits ≡ true) × (met.ready ≡ true)))))) }
+    ensures { result ≡ None → (met.served ≡ true) × ((met.by_value ≡ true) × ((met.typed ≡ true) × ((met.once ≡ true) × ((met.formed ≡ true) × ((met.breaks ≡ true) × ((met.limits ≡ true) × (met.ready ≡ true))))))) }
 {
     if !met.served {
         Some(Part::Served)
     } else if !met.by_value {
         Some(Part::ByValue)
-    } else if !met.typed || !met.formed {
+    } else if !met.typed || !met.once || !met.formed {
         Some(Part::WellFormed)
     } else if !met.breaks {
         Some(Part::Breaks)
@@ -176,6 +180,22 @@ fn has_types(types: &TypeTable) -> bool
         Some(_) => {
             let _ = types.ty(TyId(0));
             true
+        }
+    }
+}
+
+// Whether the table has room for one more type, so that none has two numbers: a table to which one was added has
+// each once, and this is tried on a copy.
+#[tactic(auto, using(crate::proofs::Tables::once_before))]
+fn has_each_once(alloc: Global, types: &TypeTable) -> Result<bool, NoMemory>
+    ensures { IfOk result (λ answer. answer ≡ true → HasEachOnce types.now) }
+{
+    match types.get(TyId(u32::MAX - 1)) {
+        Some(_) => Ok(false),
+        None => {
+            let mut copy = types.copied(alloc)?;
+            copy.add(Ty::Void)?;
+            Ok(true)
         }
     }
 }

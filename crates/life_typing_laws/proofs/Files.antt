@@ -31,7 +31,8 @@ use Rattle.life_typing_laws.proofs.Counted.{Goes, IsCounted, definitions_go, str
 use Rattle.life_typing_laws.proofs.Each.{EachHolds}
 use Rattle.life_typing_laws.specs.Served.{are_served_functions, is_served}
 use Rattle.life_typing_laws.proofs.FromBuilt.{body_served, served_program}
-use Rattle.life_typing_laws.proofs.Growing.{once_more, grows_not}
+use Rattle.life_typing_laws.proofs.Growing.{grows_not}
+use Rattle.life_well_typed.proofs.Once.{once_more}
 use Rattle.life_typing_laws.proofs.Known.{HasBody, HasInEnd, KnownAt}
 use Rattle.life_typing_laws.proofs.Steps.{answered, same_some, same_answer}
 use Rattle.life_typing_laws.proofs.Visible.{IsUnderway}

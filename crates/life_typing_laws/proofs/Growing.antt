@@ -1,17 +1,17 @@
 -- The table of types grows: what was there stays, what is added has its number, and the parts of each type are there.
-use Rattle.std.proofs.Common.{◌≡◌, ⊎_elim, ℕ, zero, suc, ◌<◌, ◌-◌, ◌^◌, Bool, true, false, Option, None, Some, List, [], ◌∷◌, ◌++◌, Ok, length, slice_get, if◌then◌else◌, refl, sym, ap, subst, ◌∙◌, arith, rules, true≢false}
+use Rattle.std.proofs.Common.{◌≡◌, ℕ, ◌<◌, ◌-◌, ◌^◌, Bool, true, false, Option, None, Some, List, [], ◌∷◌, ◌++◌, Ok, length, slice_get, refl, sym, ap, subst, ◌∙◌, arith, rules}
 use Rattle.std.specs.List.{list_any}
 use Rattle.std.specs.Prelude.{nat_lt}
 use Rattle.std.proofs.lemmas.Bool.{and_parts, ltb-true}
 use Rattle.std.proofs.lemmas.Option.{slice_get_within}
 use Rattle.life_types.specs.Trees.{IsOrdered, HasPartsBelow}
-use Rattle.life_types.specs.Types.{Types, HasEachOnce, HasType, HasTypes, HasParts, with_type}
+use Rattle.life_types.specs.Types.{Types, HasType, HasTypes, HasParts, with_type}
 use Rattle.life_types.specs.contracts.ty.TyPartialEq.TheImpl.{ghosts as compared}
 use Rattle.life_types.specs.declared.place.Place.{Place}
 use Rattle.life_types.specs.declared.ty.Ty.{Ty}
 use Rattle.life_types.specs.declared.ty.Ty.TheVariants as ty
 use Rattle.life_types.specs.declared.ty.TyId.{TyId}
-use Rattle.life_types.proofs.TreeLemmas.{grows_more, in_more, ordered_more, IsThere, within}
+use Rattle.life_types.proofs.TreeLemmas.{grows_more, ordered_more, IsThere, within}
 use Rattle.life_typed.specs.BaseTypes.{type_at}
 use Rattle.life_names.specs.Checked.{Checked, broken}
 use Rattle.life_names.specs.Table.{can_add, has_parts, number_of, type_added}
@@ -19,6 +19,7 @@ use Rattle.life_names.specs.WrittenTypes.{sound}
 use Rattle.life_names.specs.declared.fault.IllKind.{IllKind}
 use Rattle.life_names.specs.declared.fault.IllKind.TheVariants as kinds
 use Rattle.life_typing_laws.specs.Sound.{Grows}
+use Rattle.life_well_typed.proofs.Once.{once_more, same_type}
 
 -- ---- growing
 
@@ -66,9 +67,6 @@ parts_there types id ordered there =
 
 -- ---- a type is added
 
-same_type : (t : Ty) → compared.eq t t ≡ true
-same_type t = search rules
-
 same_types : (t u : Ty) → compared.eq t u ≡ true → t ≡ u
 same_types t u e = search rules
 
@@ -88,28 +86,6 @@ any_last (x ∷ xs) t = go (compared.eq t x) refl (any_last xs t)
     go : (b : Bool) → compared.eq t x ≡ b → list_any (compared.eq t) (xs ++ t ∷ []) ≡ true → list_any (compared.eq t) (x ∷ (xs ++ t ∷ [])) ≡ true
     go true is rest = rw is refl
     go false is rest = rw is rest
-
--- a type that is there is found
-found_among : (xs : List Ty) (n : ℕ) (t : Ty) → slice_get xs n ≡ Some t → list_any (compared.eq t) xs ≡ true
-found_among [] n t e = absurd (cc)
-found_among (x ∷ xs) zero t e =
-    let same : x ≡ t = cc in
-    let here : compared.eq t x ≡ true = subst (λ (y : Ty). compared.eq t y ≡ true) (sym same) (same_type t) in
-    rw here refl
-found_among (x ∷ xs) (suc n) t e = go (compared.eq t x) refl (found_among xs n t e)
-  where
-    go : (b : Bool) → compared.eq t x ≡ b → list_any (compared.eq t) xs ≡ true → list_any (compared.eq t) (x ∷ xs) ≡ true
-    go true is rest = rw is refl
-    go false is rest = rw is rest
-
--- .. so each stands once where one is added that isn't there
-pub once_more : (structs : List (List TyId)) (xs : List Ty) (t : Ty) → list_any (compared.eq t) xs ≡ false → HasEachOnce (record { types = xs; structs = structs })
-    → HasEachOnce (record { types = xs ++ t ∷ []; structs = structs })
-once_more structs xs t new once m n u first second =
-    ⊎_elim (λ a. ⊎_elim (λ b. once m n u a b) (λ b. never m a b.1) (in_more xs t n u second)) (λ a. ⊎_elim (λ b. never n b a.1) (λ b. a.0 ∙ sym b.0) (in_more xs t n u second)) (in_more xs t m u first)
-  where
-    never : {P : Type 0} (k : ℕ) → slice_get xs k ≡ Some u → t ≡ u → P
-    never k there same = absurd (true≢false (sym (found_among xs k t (subst (λ (w : Ty). slice_get xs k ≡ Some w) (sym same) there)) ∙ new))
 
 parts_are_there : (types : Types) (t : Ty) → has_parts types t ≡ true → HasParts types t
 parts_are_there types (ty.Vector element) e = ltb-true element.0 (length types.types) e
