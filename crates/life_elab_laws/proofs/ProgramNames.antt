@@ -1,5 +1,5 @@
 -- The functions of a core program have the names of the typed ones, in their order, so no two of them have one.
-use Rattle.std.proofs.Common.{◌≡◌, ℕ, true, ◌&&◌, ◌||◌, not, List, [], ◌∷◌, map, nat_eq, refl, ap, ◌∙◌, Bool}
+use Rattle.std.proofs.Common.{◌≡◌, ℕ, true, ◌&&◌, ◌||◌, not, List, [], ◌∷◌, length, map, nat_eq, refl, ap, ◌∙◌, Bool, arith}
 use Rattle.std.specs.List.{list_any}
 use Rattle.std.proofs.lemmas.Bool.{false≢true}
 use Rattle.life_types.specs.Types.{Types}
@@ -29,7 +29,13 @@ module _ (p : ProgramForm) (types : Types) where
       ∙ ap (λ (b : Bool). not (list_any (typed.is_of_name f.name) fs) && b) (own_names fs cores h.1)
   own_names _ _ h = absurd h
 
--- where there are no structs, there are no members
+-- where there are no structs, the table has none
+pub no_structs_there : (forms : List StructForm) (structs : List (List TyId)) → has_no_structs forms ≡ true → length forms ≡ length structs → structs ≡ []
+no_structs_there [] [] b count = refl
+no_structs_there [] (ids ∷ structs) b count = absurd (omega (arith, count))
+no_structs_there (s ∷ ss) structs b count = absurd (false≢true b)
+
+-- .. and there are no members
 pub no_members : (names : ℕ) (structs : List (List TyId)) (forms : List StructForm) → structs ≡ [] → has_no_structs forms ≡ true → have_names names structs (map member_names forms) ≡ true
 no_members names structs [] none b = ap (λ (s : List (List TyId)). have_names names s []) none
 no_members names structs (s ∷ ss) none b = absurd (false≢true b)

@@ -28,7 +28,7 @@ use Rattle.life_elab_laws.proofs.Fronts.{IsFront}
 use Rattle.life_elab_laws.proofs.ServedLocals.{all_pass, local_served, register_served, variable_served}
 use Rattle.life_elab_laws.proofs.FlatLocals.{IsLocalType, flat_locals, variable_typed}
 use Rattle.life_elab_laws.proofs.GivenNothing.{gives_nothing, keeps_all}
-use Rattle.life_elab_laws.proofs.ProgramNames.{no_members, own_names}
+use Rattle.life_elab_laws.proofs.ProgramNames.{no_members, no_structs_there, own_names}
 use Rattle.life_elab_laws.proofs.Programs.{IsWritten, each_written, front, functions_built, grows, of_program, one_body, one_head, passed_by_all, whole, whole_order}
 use Rattle.life_elab_laws.proofs.Shaped.{variable_later}
 use Rattle.life_elab_laws.proofs.WrittenLocals.{IsIntermediate, IsOwn, fits_later}
@@ -115,9 +115,10 @@ module _ (p : ProgramForm) (typed : IsWellTyped p) (built : are_built_functions 
             (λ n f at core w. one_formed n f at core w named);
       }
 
-pub program_well_formed : (p : ProgramForm) → IsWellTyped p → HasResults p → HasNames p → IsOrdered p.types → HasEachOnce p.types → p.types.structs ≡ [] → is_built p ≡ true → IsWellFormedProgram (translated p)
-program_well_formed p typed results named ordered once structs b =
-    program_formed p typed (functions_built p b) results named ordered once structs (and_parts (has_no_structs p.structs) (are_built_functions p.types p.functions) (and_parts (has_built_types p.types) _ b).1).0
+pub program_well_formed : (p : ProgramForm) → IsWellTyped p → HasResults p → HasNames p → IsOrdered p.types → HasEachOnce p.types → length p.structs ≡ length p.types.structs → is_built p ≡ true → IsWellFormedProgram (translated p)
+program_well_formed p typed results named ordered once count b =
+    let none = (and_parts (has_no_structs p.structs) (are_built_functions p.types p.functions) (and_parts (has_built_types p.types) _ b).1).0 in
+    program_formed p typed (functions_built p b) results named ordered once (no_structs_there p.structs p.types.structs none count) none
 
 pub program_served : (p : ProgramForm) → IsWellTyped p → HasResults p → is_built p ≡ true → is_served_program (translated p) ≡ true
 program_served p typed results b = program_serves p typed (functions_built p b) results

@@ -1,6 +1,5 @@
--- Declarations in a block and loops over ranges are well typed, if they are served.
-use Rattle.std.proofs.Common.{◌≡◌, true, [], Box, ◌∷◌, Ok, length, sym, ap, subst, ◌∙◌}
-use Rattle.std.proofs.lemmas.Bool.{and_parts}
+-- Declarations in a block and loops over ranges are well typed.
+use Rattle.std.proofs.Common.{◌≡◌, [], Box, ◌∷◌, Ok, length, ap, subst, ◌∙◌}
 use Rattle.std.specs.declared.alloc.Global.{Global}
 use Rattle.life_types.specs.Types.{Types}
 use Rattle.life_types.specs.declared.place.Place.{Place}
@@ -15,7 +14,6 @@ use Rattle.life_type_stmt.specs.Ranges.{RangeHead, range_head}
 use Rattle.life_type_stmt.specs.Statements.{ItemPart, Part, in_loop, item_step, range_for_step}
 use Rattle.life_typing_laws.proofs.Domains.{Around}
 use Rattle.life_typing_laws.proofs.Declarations.{IsNew, declaration_new}
-use Rattle.life_typing_laws.specs.Served.{is_served_form, is_served_statement}
 use Rattle.life_typing_laws.specs.Sound.{IsFinal}
 use Rattle.life_well_typed.specs.Visible.{after, with_next}
 use Rattle.life_typing_laws.proofs.Growing.{stays_there}
@@ -33,7 +31,7 @@ abbrev pub behind_head : open_stmt.RangeFor-F ItemPart Part Part Part Part Part 
 behind_head f around x = f.body.value (in_loop around) x.0.1 x.1 >>= ranged f x.0.0
 
 pub range_good : (f : open_stmt.RangeFor-F ItemPart Part Part Part Part Part Part Part Part Part) → GoodPart f.body.value → Alone f.body.value → GoodPart (range_for_step f)
-range_good f good one around v scope types x h served sound there =
+range_good f good one around v scope types x h sound there =
     let first = bound (range_head f.ty f.name f.colon f.range.value scope types) (behind_head f around) x h in
     let second = bound (f.body.value (in_loop around) first.value.0.1 first.value.1) (ranged f first.value.0.0) x first.behind in
     whole first.value second.value first.gave second.gave
@@ -53,14 +51,11 @@ range_good f good one around v scope types x h served sound there =
               );
         })
       where
-        parts : (is_served_form a.0.0.range.form ≡ true) × (is_served_statement b.0.0 ≡ true)
-        parts = and_parts (is_served_form a.0.0.range.form) (is_served_statement b.0.0) (subst (λ (y : (StmtForm × Scope) × Types). is_served_statement y.0.0 ≡ true) (sym same) served)
-
         head : IsHead f.name v scope types a
-        head = head_is f.name scope f.ty f.colon f.range.value v types a sound a_gave parts.0
+        head = head_is f.name scope f.ty f.colon f.range.value v types a sound a_gave
 
         inner : IsPart [] (in_loop around) (with_next v) a.0.1 a.1 b
-        inner = good (in_loop around) (with_next v) a.0.1 a.1 b b_gave parts.1 head.sound (stays_there types a.1 around.result head.moves.types there)
+        inner = good (in_loop around) (with_next v) a.0.1 a.1 b b_gave head.sound (stays_there types a.1 around.result head.moves.grown.grows there)
 
         left : Moves [] scope (forgotten (f.name.id ∷ []) b.0.1) types b.1
         left = moves_behind (f.name.id ∷ []) scope b.0.1 types b.1 (moves_on (f.name.id ∷ []) [] scope a.0.1 b.0.1 types a.1 b.1 head.moves inner.moves)
@@ -68,9 +63,8 @@ range_good f good one around v scope types x h served sound there =
 -- ---- parts of a block
 
 pub declare_good : (d : Box Declaration Global) (semicolon : Place) → GoodItem (item_step (open_stmt.Declare d semicolon))
-declare_good d semicolon around v scope types x h served sound there =
+declare_good d semicolon around v scope types x h sound there =
     let step = bound {B = StmtForm × Scope} (declaration d.value scope types) (λ y. Ok ((typed.declaration y.0.0 semicolon, y.0.1), y.1)) x h in
     let same = same_value {A = StmtForm × Scope} ((typed.declaration step.value.0.0 semicolon, step.value.0.1), step.value.1) x step.behind in
-    let new : IsNew d.value.name v scope types step.value =
-    declaration_new d.value v scope types step.value sound step.gave (subst (λ (y : (StmtForm × Scope) × Types). is_served_statement y.0.0 ≡ true) (sym same) served) in
+    let new : IsNew d.value.name v scope types step.value = declaration_new d.value v scope types step.value sound step.gave in
     subst (IsPart (d.value.name.id ∷ []) around v scope types) same (record { moves = new.moves; sound = new.sound; is = λ p locals final. new.is p locals around.result final })

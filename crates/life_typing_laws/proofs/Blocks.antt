@@ -134,7 +134,7 @@ item_layer (open_stmt.Declare d semicolon) = record {
       yields_ok (Said (λ n. IsNamedTree n whole) false (d.value.name.id ∷ []) scope) (typed.declaration x.0.0 semicolon, x.0.1) x.1
       (record { stays = b.stays; named = λ n named. b.named n named.0.1.0; is = record { alone = λ none. absurd (cc); ended = refl } }));
 }
-item_layer (open_stmt.Stmt s) = record { good = λ around v scope types x h served sound there. s.1.good around v scope types x h served sound there; says = λ around scope types. again scope (s.1.says around scope types) (λ n named. named) }
+item_layer (open_stmt.Stmt s) = record { good = λ around v scope types x h sound there. s.1.good around v scope types x h sound there; says = λ around scope types. again scope (s.1.says around scope types) (λ n named. named) }
 
 -- ---- statements
 

@@ -18,7 +18,6 @@ use Rattle.life_type_stmt.specs.Ends.{block_ends}
 use Rattle.life_type_stmt.specs.Statements.{block_of}
 use Rattle.life_well_typed.specs.Statements.{IsStatement}
 use Rattle.life_well_typed.specs.Visible.{Visible}
-use Rattle.life_typing_laws.specs.Served.{is_served_statement}
 use Rattle.life_typing_laws.specs.Sound.{IsFinal, IsSound}
 use Rattle.life_typing_laws.proofs.Domains.{Around}
 use Rattle.life_typing_laws.proofs.Blocks.{block_laws}
@@ -47,9 +46,9 @@ pub body_said : (result : TyId) (is_main : Bool) (b : Block) (scope : Scope) (ty
 body_said result is_main b scope types x h = (block_laws b).says (around_body result) scope types x (body_reads result is_main b scope types x h)
 
 pub body_part : (result : TyId) (is_main : Bool) (b : Block) (v : Visible) (scope : Scope) (types : Types) (x : (StmtForm × Scope) × Types) → body result is_main b scope types ≡ Ok x
-    → is_served_statement x.0.0 ≡ true → IsSound v scope types → HasType types result → IsPart [] (around_body result) v scope types x
-body_part result is_main b v scope types x h served sound there =
-    (block_laws b).good.good (around_body result) v scope types x (body_reads result is_main b scope types x h) served sound there
+    → IsSound v scope types → HasType types result → IsPart [] (around_body result) v scope types x
+body_part result is_main b v scope types x h sound there =
+    (block_laws b).good.good (around_body result) v scope types x (body_reads result is_main b scope types x h) sound there
 
 pub body_block : (result : TyId) (is_main : Bool) (b : Block) (scope : Scope) (types : Types) (x : (StmtForm × Scope) × Types) → body result is_main b scope types ≡ Ok x → is_block x.0.0 ≡ true
 body_block result is_main b scope types x h = (block_laws b).good.block (around_body result) scope types x (body_reads result is_main b scope types x h)
@@ -66,6 +65,6 @@ body_ends result is_main b scope types x h =
 
 -- a body is well typed in a program that has in the end what there is behind it
 pub bodies : (p : ProgramForm) (locals : List TypedLocal) (result : TyId) (is_main : Bool) (b : Block) (v : Visible) (scope : Scope) (types : Types) (x : (StmtForm × Scope) × Types)
-    → body result is_main b scope types ≡ Ok x → is_served_statement x.0.0 ≡ true → IsSound v scope types → HasType types result → IsFinal p locals x.0.1 x.1
+    → body result is_main b scope types ≡ Ok x → IsSound v scope types → HasType types result → IsFinal p locals x.0.1 x.1
     → IsStatement p locals result x.0.0 false v
-bodies p locals result is_main b v scope types x h served sound there final = (body_part result is_main b v scope types x h served sound there).is p locals final
+bodies p locals result is_main b v scope types x h sound there final = (body_part result is_main b v scope types x h sound there).is p locals final

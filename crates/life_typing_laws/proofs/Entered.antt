@@ -80,6 +80,7 @@ pub record Entered (bodies : List Bool) (f : Function) (p : ProgressView) (h : P
   pub keeps : KeepsFunctions (names_of f.parameters.items) p.scope y.1.scope
   pub named : (IsIn (names_of f.parameters.items) f.name.id.0 → ⊥) × (slice_get y.1.scope.visible f.name.id.0 ≡ Some (entity.Function y.0))
   pub size : length y.1.scope.visible ≡ length bodies
+  pub structs : length y.1.structs ≡ length y.1.types.structs
   pub free : has_body f.body ≡ true → (d : DeclaredView) → slice_get y.1.declared y.0 ≡ Some d → d.has_body ≡ false
   pub came : (m : ℕ) (d : DeclaredView) → slice_get y.1.declared m ≡ Some d → (slice_get p.declared m ≡ Some d) ⊎ IsBegun bodies f p y.0 m
 
@@ -103,7 +104,8 @@ signature_sound : (s : SignatureView) (v : Visible) (scope : Scope) (types : Typ
 signature_sound s v scope types sound result parameters = record {
   ordered = sound.ordered;
   based = sound.based;
-  no_structs = sound.no_structs;
+  structs_there = sound.structs_there;
+  structs_count = sound.structs_count;
   locals_there = sound.locals_there;
   results_there = λ n t e. ⊎_elim (λ old. sound.results_there n t old) (λ new. subst (λ (u : SignatureView). HasType types u.result) new.1 result) (in_more scope.functions s n t e);
   parameters_there = λ n t e. ⊎_elim (λ old. sound.parameters_there n t old) (λ new. subst (λ (u : SignatureView). HasTypes types u.parameters) new.1 parameters) (in_more scope.functions s n t e);
@@ -126,6 +128,10 @@ module _ (bodies : List Bool) (f : Function) (p : ProgressView) (under : IsUnder
   still_known = subst (λ (ns : List (List ℕ)). AreKnown ns h.types h.scope.functions p.functions p.declared) (sym visible.texts)
       (subst (λ (fs : List SignatureView). AreKnown p.scope.names h.types fs p.functions p.declared) (sym visible.functions)
       (known_grown p.scope.names p.types h.types p.scope.functions p.functions p.declared visible.grows under.known))
+
+  -- .. and no struct comes
+  still_structs : length p.structs ≡ length h.types.structs
+  still_structs = under.structs ∙ ap length (sym visible.structs)
 
   again : (number : ℕ) → meaning p.scope f.name.id ≡ entity.Function number → AgreesAt h number → Entered bodies f p (parts h) (number, with_header h)
   again number is agree = made
@@ -168,6 +174,7 @@ module _ (bodies : List Bool) (f : Function) (p : ProgressView) (under : IsUnder
         keeps = keeps;
         named = keeps f.name.id.0 number is_it;
         size = visible.size ∙ under.size;
+        structs = still_structs;
         free = λ bodied d e. subst (λ (c : DeclaredView). c.has_body ≡ false) (same_some agree.d d (sym agree.noted_there ∙ e)) (no_second (said h) (has_body f.body) agree.d agree.says bodied);
         came = λ m d e. inl e;
       }
@@ -212,6 +219,7 @@ module _ (bodies : List Bool) (f : Function) (p : ProgressView) (under : IsUnder
     keeps = λ k n e. let kept = visible.keeps k n (still k n e) in (kept.0, set_else h.scope.visible f.name.id.0 k (entity.Function (length h.scope.functions)) (other k n e) ∙ kept.1);
     named = (named.0, set_there h.scope.visible f.name.id.0 (entity.Function 0) (entity.Function (length h.scope.functions)) named.1);
     size = set_length h.scope.visible f.name.id.0 (entity.Function (length h.scope.functions)) ∙ visible.size ∙ under.size;
+    structs = still_structs;
     free = λ bodied d e. ap (λ (c : DeclaredView). c.has_body) (sym (same_some (noted h) d (sym noted_last ∙ e)));
     came = λ m d e. ⊎_elim (λ old. inl old) (λ last. inr (record { is = last.0 ∙ still_known.declared_count; flagged = flagged; free = free })) (in_more p.declared (noted h) m d e);
   }

@@ -1,7 +1,6 @@
--- Whole files: what is resolved and built is well typed.
-use Rattle.std.proofs.Common.{◌≡◌, ◌<◌, inr, ⊎_elim, ℕ, zero, suc, Bool, true, false, Option, None, Some, Ok, Err, List, [], ◌∷◌, length, slice_get, refl, sym, ap, subst, ◌∙◌, arith}
+-- Whole files: what is resolved is well typed.
+use Rattle.std.proofs.Common.{◌≡◌, ◌<◌, inr, ⊎_elim, ℕ, zero, suc, Bool, true, false, Option, None, Some, Ok, List, [], ◌∷◌, length, slice_get, refl, sym, ap, subst, ◌∙◌, arith}
 use Rattle.std.specs.Prelude.{unwrap_or}
-use Rattle.std.proofs.lemmas.Bool.{and_parts}
 use Rattle.std.proofs.lemmas.Option.{slice_get_within}
 use Rattle.life_types.specs.Trees.{HasPartsBelow, IsOrdered}
 use Rattle.life_types.specs.Types.{HasEachOnce, HasType, Types}
@@ -13,30 +12,27 @@ use Rattle.life_tree.specs.declared.program.Definition.{Definition}
 use Rattle.life_tree.specs.declared.program.Definition.TheVariants as definition
 use Rattle.life_tree.specs.declared.program.Program.{Program}
 use Rattle.life_typed.specs.BaseTypes.{base_types, type_at}
-use Rattle.life_typed.specs.Programs.{FunctionForm, ProgramForm, StructForm, is_main}
+use Rattle.life_typed.specs.Programs.{FunctionForm, ProgramForm, is_main}
 use Rattle.life_names.specs.Environment.{SignatureView, unseen_names}
 use Rattle.life_names.specs.declared.environment.Entity.TheVariants as entity
-use Rattle.life_built.specs.Built.{has_no_structs, is_built}
-use Rattle.life_typing.specs.Answers.{Answer, ◌>>◌}
 use Rattle.life_typing.specs.Functions.{with_function}
 use Rattle.life_typing.specs.Names.{DeclaredView}
 use Rattle.life_typing.specs.Progress.{ProgressView, nothing_defined}
 use Rattle.life_typing.specs.Resolves.{bodies_of, finished, no_flags, resolved, texts_of, with_definitions}
-use Rattle.life_typing.specs.Structs.{with_structure}
+use Rattle.life_typing.specs.Structs.{types_of, with_structure}
 use Rattle.life_well_typed.specs.Functions.{AreWellTyped, IsWellTyped, IsWellTypedFunction}
 use Rattle.life_well_typed.specs.Mains.{HasIntMain, HaveIntMains}
 use Rattle.life_well_typed.specs.Results.{HasResults, HasTable, HaveResults}
 use Rattle.life_typing_laws.proofs.BodiesCome.{BodiesCome, all_flags_size, bodies_come_on, flag_comes, no_flag}
-use Rattle.life_typing_laws.proofs.Counted.{Goes, IsCounted, definitions_go, struct_adds}
 use Rattle.life_typing_laws.proofs.Each.{EachHolds}
-use Rattle.life_typing_laws.specs.Served.{are_served_functions, is_served}
-use Rattle.life_typing_laws.proofs.FromBuilt.{body_served, served_program}
 use Rattle.life_typing_laws.proofs.Growing.{grows_not}
 use Rattle.life_well_typed.proofs.Once.{once_more}
 use Rattle.life_typing_laws.proofs.Known.{HasBody, HasInEnd, KnownAt}
 use Rattle.life_typing_laws.proofs.Steps.{answered, same_some, same_answer}
+use Rattle.life_typing_laws.proofs.StructsDefined.{StructWent, bodies_come_then, struct_went}
 use Rattle.life_typing_laws.proofs.Visible.{IsUnderway}
-use Rattle.life_typing_laws.proofs.Went.{AreServed, Went, function_went}
+use Rattle.life_typing_laws.proofs.Went.{Went, function_went}
+use Rattle.life_typing_laws.specs.Sound.{HasStruct}
 
 -- ---- at the beginning
 
@@ -73,7 +69,8 @@ begins tree = record {
   sound = record {
     ordered = base_ordered;
     based = grows_not base_types;
-    no_structs = refl;
+    structs_there = λ n s e. absurd (nothing_there n s e);
+    structs_count = refl;
     locals_there = λ n l e. absurd (nothing_there n l e);
     results_there = λ n s e. absurd (nothing_there n s e);
     parameters_there = λ n s e. absurd (nothing_there n s e);
@@ -83,6 +80,7 @@ begins tree = record {
   known = record { forms_count = refl; declared_count = refl; each = λ n s e. absurd (nothing_there n s e) };
   named = λ k n e. absurd (no_function (texts_of tree) k n e);
   size = names_count (texts_of tree) ∙ sym (all_flags_size tree.definitions.items (no_flags (texts_of tree)));
+  structs = refl;
 }
 
 all_come : (tree : Program) → BodiesCome (bodies_of tree) (nothing_defined (texts_of tree)) tree.definitions.items
@@ -98,35 +96,16 @@ pub record Ends (bodies : List Bool) (names : List (List ℕ)) (q : ProgressView
   pub under : IsUnderway bodies q
   pub come : BodiesCome bodies q []
 
--- one step, as several
-one_step : (first : Answer ProgressView) (x : ProgressView) → first ≡ Ok x → (first >> (λ y. Ok y)) ≡ Ok x
-one_step (Ok y) x e = e
-one_step (Err fault) x e = e
-
-counted_of : (bodies : List Bool) (p : ProgressView) → IsUnderway bodies p → IsCounted p
-counted_of bodies p under = record { forms = under.known.forms_count; declared = under.known.declared_count }
-
-goes_on : (bodies : List Bool) (names : List (List ℕ)) (ds : List Definition) (p q : ProgressView) → p.scope.names ≡ names → IsUnderway bodies p → BodiesCome bodies p ds → with_definitions bodies ds p ≡ Ok q → AreServed q.functions q.declared → q.structs ≡ []
-    → Ends bodies names q
-goes_on bodies names [] p q texts under come e served none = subst (Ends bodies names) (same_answer p q e) (record { texts = texts; under = under; come = come })
-goes_on bodies names (definition.Function f ∷ ds) p q texts under come e served none =
+goes_on : (bodies : List Bool) (names : List (List ℕ)) (ds : List Definition) (p q : ProgressView) → p.scope.names ≡ names → IsUnderway bodies p → BodiesCome bodies p ds → with_definitions bodies ds p ≡ Ok q → Ends bodies names q
+goes_on bodies names [] p q texts under come e = subst (Ends bodies names) (same_answer p q e) (record { texts = texts; under = under; come = come })
+goes_on bodies names (definition.Function f ∷ ds) p q texts under come e =
     let step = answered (with_function bodies f p) (with_definitions bodies ds) q e in
-    let first : Goes p step.value = definitions_go bodies (definition.Function f ∷ []) p step.value (counted_of bodies p under) (one_step (with_function bodies f p) step.value step.gave) in
-    let rest : Goes step.value q = definitions_go bodies ds step.value q first.counted step.behind in
-    let served_now : AreServed step.value.functions step.value.declared =
-    λ n form d there noted has. let kept = rest.bodies n form d there noted has in served n form d kept.0 kept.1 has in
-    let went : Went bodies f p step.value = function_went bodies f p step.value under step.gave served_now in
-    goes_on bodies names ds step.value q (went.texts ∙ texts) went.under (bodies_come_on bodies f ds p step.value come went) step.behind served none
-goes_on bodies names (definition.Struct s ∷ ds) p q texts under come e served none =
+    let went : Went bodies f p step.value = function_went bodies f p step.value under step.gave in
+    goes_on bodies names ds step.value q (went.texts ∙ texts) went.under (bodies_come_on bodies f ds p step.value come went) step.behind
+goes_on bodies names (definition.Struct s ∷ ds) p q texts under come e =
     let step = answered (with_structure s p) (with_definitions bodies ds) q e in
-    let adds = struct_adds s p step.value step.gave in
-    let counted : IsCounted step.value = record {
-      forms = ap length adds.functions ∙ under.known.forms_count ∙ ap length (sym adds.signatures);
-      declared = ap length adds.declared ∙ under.known.declared_count ∙ ap length (sym adds.signatures);
-    } in
-    let rest : Goes step.value q = definitions_go bodies ds step.value q counted step.behind in
-    let nothing : length q.structs ≡ 0 = ap length none in
-    absurd (omega (arith, rest.structs, adds.structs, nothing))
+    let went : StructWent bodies p step.value = struct_went bodies s p step.value under step.gave in
+    goes_on bodies names ds step.value q (went.texts ∙ texts) went.under (bodies_come_then bodies s ds p step.value come went) step.behind
 
 -- ---- at the end
 
@@ -142,10 +121,6 @@ each_well : (p : ProgramForm) (fs : List FunctionForm) → ((n : ℕ) (f : Funct
 each_well p [] well = tt
 each_well p (f ∷ fs) well = (well 0 f refl, each_well p fs (λ n g e. well (suc n) g e))
 
-no_structs_there : (ss : List StructForm) → has_no_structs ss ≡ true → ss ≡ []
-no_structs_there [] e = refl
-no_structs_there (s ∷ ss) e = absurd (cc)
-
 -- the types without parts stand once
 base_once : HasEachOnce base_types
 base_once =
@@ -160,9 +135,6 @@ base_once =
   where
     nothing_at : (m : ℕ) (t : Ty) → ◌≡◌ {A = Option Ty} None (Some t) → ⊥
     nothing_at m t e = cc
-
-no_members : (number : ℕ) (ids : List TyId) → ◌≡◌ {A = Option (List TyId)} None (Some ids) → 0 < length ids
-no_members number ids e = absurd (cc)
 
 -- all that is known of a resolved program
 abbrev pub IsWhole : ProgramForm → Type 0
@@ -215,29 +187,27 @@ module _ (tree : Program) (q : ProgressView) (ends : Ends (bodies_of tree) (text
       let named : is_main q.scope.names k.form.name ≡ true = ap (λ (g : FunctionForm). is_main q.scope.names g.name) same ∙ ap (λ (ns : List (List ℕ)). is_main ns f.name) ends.texts ∙ is in
       ap (λ (g : FunctionForm). type_at q.types g.result) (sym same) ∙ ap (type_at q.types) (k.is.main named) ∙ ap (λ (o : Option Ty). unwrap_or o ty.Void) (ends.under.sound.based.types 3 ty.Int refl)
 
-  -- each type of the table comes behind its parts and stands once, and there are no structs
+  -- each struct has a member
+  struct_members : (number : ℕ) (ids : List TyId) → slice_get q.types.structs number ≡ Some ids → 0 < length ids
+  struct_members number ids e =
+      let found : IsThere q.scope.structs number = within q.scope.structs number (omega (arith, slice_get_within q.types.structs number ids e, ends.under.sound.structs_count)) in
+      let has : HasStruct q.types number found.item = ends.under.sound.structs_there number found.item found.there in
+      subst (λ (xs : List TyId). 0 < length xs) (same_some (types_of found.item.members) ids (sym has.members ∙ e)) has.some
+
+  -- each type of the table comes behind its parts and stands once
   table_well : HasTable p
   table_well = record {
     ordered = ends.under.sound.ordered;
     once = ends.under.sound.based.once base_once;
-    members = λ number ids there. no_members number ids (subst (λ (ss : List (List TyId)). slice_get ss number ≡ Some ids) ends.under.sound.based.structs there);
-    structs = ends.under.sound.based.structs;
+    members = struct_members;
+    structs = ends.under.structs;
   }
 
   all_well : IsWhole p
   all_well = (each_well p q.functions function_well, (each_gives q.types q.functions function_gives, (each_int p.names q.types q.functions int_main, table_well)))
 
-pub served_well_typed : (tree : Program) (p : ProgramForm) → resolved tree ≡ Ok p → is_served p ≡ true → IsWhole p
-served_well_typed tree p e served =
+pub resolved_well_typed : (tree : Program) (p : ProgramForm) → resolved tree ≡ Ok p → IsWhole p
+resolved_well_typed tree p e =
     let step = answered (with_definitions (bodies_of tree) tree.definitions.items (nothing_defined (texts_of tree))) (λ q. Ok (finished tree q)) p e in
-    let same : finished tree step.value ≡ p = same_answer (finished tree step.value) p step.behind in
-    subst IsWhole same (all_well tree step.value (of step.value step.gave (subst (λ (r : ProgramForm). is_served r ≡ true) (sym same) served)))
-  where
-    of : (q : ProgressView) → with_definitions (bodies_of tree) tree.definitions.items (nothing_defined (texts_of tree)) ≡ Ok q → is_served (finished tree q) ≡ true → Ends (bodies_of tree) (texts_of tree) q
-    of q gave served =
-        let parts = and_parts (has_no_structs q.structs) (are_served_functions q.functions) served in
-        goes_on (bodies_of tree) (texts_of tree) tree.definitions.items (nothing_defined (texts_of tree)) q refl (begins tree) (all_come tree) gave
-        (λ n form d there noted has. body_served q.functions n form parts.1 there) (no_structs_there q.structs parts.0)
-
-pub resolved_well_typed : (tree : Program) (p : ProgramForm) → resolved tree ≡ Ok p → is_built p ≡ true → IsWhole p
-resolved_well_typed tree p e built = served_well_typed tree p e (served_program p built)
+    subst IsWhole (same_answer (finished tree step.value) p step.behind) (all_well tree step.value
+    (goes_on (bodies_of tree) (texts_of tree) tree.definitions.items (nothing_defined (texts_of tree)) step.value refl (begins tree) (all_come tree) step.gave))

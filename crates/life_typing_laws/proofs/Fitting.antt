@@ -87,7 +87,7 @@ misfit_none general (Err m) e = absurd (cc)
 -- a type's tree stays, so what fits in a table fits in each that it grows to
 module _ (few more : Types) (ordered : IsOrdered few) (grows : Grows few more) where
   pub same_tree_at : (id : TyId) → HasType few id → tree_at more id ≡ tree_at few id
-  same_tree_at id there = tree_stays few more ordered (record { types = grows.types; structs = λ n ids e. subst (λ (ss : List (List TyId)). slice_get ss n ≡ Some ids) (sym grows.structs) e }) id there
+  same_tree_at id there = tree_stays few more ordered (record { types = grows.types; structs = grows.structs }) id there
 
   same_copied : (c : Category) → PlaceThere few c → copied more c ≡ copied few c
   same_copied category.Value there = refl

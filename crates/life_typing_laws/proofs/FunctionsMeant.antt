@@ -34,7 +34,6 @@ use Rattle.life_typing_laws.proofs.Parameters.{names_of}
 use Rattle.life_typing_laws.proofs.Scopes.{IsFree, IsIn, forgotten_functions, forgotten_keeps, forgotten_size, set_else, set_length, set_other, set_there}
 use Rattle.life_typing_laws.proofs.Staying.{Stays, StaysIn, free_not_seen, free_unseen, seen_keeps, stays_on}
 use Rattle.life_typing_laws.proofs.Yields.{Finds, Yields, finds_behind, finds_ok, finds_then}
-use Rattle.life_typing_laws.proofs.Counted.{changed_size}
 use Rattle.life_typing_laws.proofs.Went.{forgotten_are}
 
 -- ---- each function is what its name means
@@ -133,6 +132,14 @@ left size f z meant =
 
 body_stays : (returned : TyId) (main : Bool) (b : Block) (scope : Scope) (types : Types) → Yields (StaysIn {A = StmtForm} [] scope) (body returned main b scope types)
 body_stays returned main b scope types x e = (body_said returned main b scope types x e).stays
+
+-- there are as many
+changed_size : {A : Type 0} (number : ℕ) (change : A → A) (all : List A) → length (changed number change all) ≡ length all
+changed_size {A = A} number change all = of (slice_get all number)
+  where
+    of : (o : Option A) → length (changed_at number change all o) ≡ length all
+    of None = refl
+    of (Some x) = set_length all number (change x)
 
 body_meant : (size : ℕ) (f : Function) (number : ℕ) (q : ProgressView) (w : (StmtForm × Scope) × Types) → AreMeant size (names_of f.parameters.items) q → Stays [] q.scope w.0.1
     → AreMeant size (names_of f.parameters.items) (body_kept f number q w.0.0 w.0.1 w.1)

@@ -14,20 +14,34 @@ use Rattle.life_types.specs.declared.ty.TyId.{TyId}
 use Rattle.life_types.proofs.TreeLemmas.{grows_more, ordered_more, IsThere, within}
 use Rattle.life_typed.specs.BaseTypes.{type_at}
 use Rattle.life_names.specs.Checked.{Checked, broken}
+use Rattle.life_names.specs.Environment.{StructureView}
 use Rattle.life_names.specs.Table.{can_add, has_parts, number_of, type_added}
 use Rattle.life_names.specs.WrittenTypes.{sound}
 use Rattle.life_names.specs.declared.fault.IllKind.{IllKind}
 use Rattle.life_names.specs.declared.fault.IllKind.TheVariants as kinds
-use Rattle.life_typing_laws.specs.Sound.{Grows}
+use Rattle.life_typing.specs.Structs.{types_of}
+use Rattle.life_typing_laws.specs.Sound.{Grows, HasStruct, HasStructs}
 use Rattle.life_well_typed.proofs.Once.{once_more, same_type}
 
 -- ---- growing
 
 pub grows_not : (types : Types) → Grows types types
-grows_not types = record { types = λ n t e. e; once = λ h. h; structs = refl }
+grows_not types = record { types = λ n t e. e; once = λ h. h; structs = λ n ids e. e }
 
 pub grows_on : (a b c : Types) → Grows a b → Grows b c → Grows a c
-grows_on a b c first second = record { types = λ n t e. second.types n t (first.types n t e); once = λ h. second.once (first.once h); structs = second.structs ∙ first.structs }
+grows_on a b c first second = record { types = λ n t e. second.types n t (first.types n t e); once = λ h. second.once (first.once h); structs = λ n ids e. second.structs n ids (first.structs n ids e) }
+
+-- a table that has grown, with the same structs, and is in order
+pub record IsGrown (few more : Types) : Type 0 where
+  pub grows : Grows few more
+  pub ordered : IsOrdered more
+  pub structs : more.structs ≡ few.structs
+
+pub grown_not : (types : Types) → IsOrdered types → IsGrown types types
+grown_not types ordered = record { grows = grows_not types; ordered = ordered; structs = refl }
+
+pub grown_on : (a b c : Types) → IsGrown a b → IsGrown b c → IsGrown a c
+grown_on a b c first second = record { grows = grows_on a b c first.grows second.grows; ordered = second.ordered; structs = second.structs ∙ first.structs }
 
 -- a type that is there keeps its number
 pub stays_there : (old new : Types) (id : TyId) → Grows old new → HasType old id → HasType new id
@@ -41,6 +55,13 @@ stay_there old new (id ∷ ids) grows there = (stays_there old new id grows ther
 
 pub type_is : (types : Types) (id : TyId) (t : Ty) → slice_get types.types id.0 ≡ Some t → type_at types id ≡ t
 type_is types id t e = rw e refl
+
+-- .. a struct too
+pub struct_stays : (old new : Types) (number : ℕ) (s : StructureView) → Grows old new → HasStruct old number s → HasStruct new number s
+struct_stays old new number s grows has = record { type = grows.types s.ty.0 (ty.Struct number) has.type; members = grows.structs number (types_of s.members) has.members; some = has.some }
+
+pub structs_stay : (old new : Types) (structs : List StructureView) → Grows old new → HasStructs old structs → HasStructs new structs
+structs_stay old new structs grows has n s e = struct_stays old new n s grows (has n s e)
 
 -- .. and stays what it is
 pub same_type_at : (old new : Types) (id : TyId) → Grows old new → HasType old id → type_at new id ≡ type_at old id
@@ -59,6 +80,19 @@ parts_below types n (ty.Iterator target constant) few below = omega (arith, belo
 parts_below types n (ty.Span target constant) few below = omega (arith, below)
 parts_below types n (ty.Struct number) few below = slice_get_within types.structs number below.members below.there
 parts_below types n _ few below = tt
+
+-- .. stay there
+pub parts_stay : (old new : Types) (t : Ty) → Grows old new → HasParts old t → HasParts new t
+parts_stay old new (ty.Vector element) grows there = stays_there old new element grows there
+parts_stay old new (ty.Unique target) grows there = stays_there old new target grows there
+parts_stay old new (ty.Raw target constant) grows there = stays_there old new target grows there
+parts_stay old new (ty.Reference target constant) grows there = stays_there old new target grows there
+parts_stay old new (ty.Iterator target constant) grows there = stays_there old new target grows there
+parts_stay old new (ty.Span target constant) grows there = stays_there old new target grows there
+parts_stay old new (ty.Struct number) grows there =
+    let found : IsThere old.structs number = within old.structs number there in
+    slice_get_within new.structs number found.item (grows.structs number found.item found.there)
+parts_stay old new _ grows there = tt
 
 pub parts_there : (types : Types) (id : TyId) → IsOrdered types → HasType types id → HasParts types (type_at types id)
 parts_there types id ordered there =
@@ -99,17 +133,16 @@ parts_are_there types _ e = tt
 
 -- a type of which this is said, and the table behind it
 pub record IsAdded (t : Ty) (types : Types) (x : TyId × Types) : Type 0 where
-  pub grows : Grows types x.1
-  pub ordered : IsOrdered x.1
+  pub grown : IsGrown types x.1
   pub is : slice_get x.1.types x.0.0 ≡ Some t
 
 abbrev over : Types → Ty → List Ty → TyId × Types
 over types t ts = (record { 0 = number_of ts t }, record types { types = ts })
 
-abbrev grown_by : Types → Ty → TyId × Types
+abbrev pub grown_by : Types → Ty → TyId × Types
 grown_by types t = over types t (with_type types.types t)
 
-with_added : (types : Types) (t : Ty) → IsOrdered types → HasParts types t → IsAdded t types (grown_by types t)
+pub with_added : (types : Types) (t : Ty) → IsOrdered types → HasParts types t → IsAdded t types (grown_by types t)
 with_added types t ordered there = go (list_any (compared.eq t) types.types) refl
   where
     old : list_any (compared.eq t) types.types ≡ true → with_type types.types t ≡ types.types
@@ -119,9 +152,16 @@ with_added types t ordered there = go (list_any (compared.eq t) types.types) ref
     new is = ap (λ b. if b then types.types else types.types ++ t ∷ []) is
 
     go : (b : Bool) → list_any (compared.eq t) types.types ≡ b → IsAdded t types (over types t (with_type types.types t))
-    go true is = subst (λ (ts : List Ty). IsAdded t types (over types t ts)) (sym (old is)) (record { grows = grows_not types; ordered = ordered; is = number_in types.types t is })
+    go true is = subst (λ (ts : List Ty). IsAdded t types (over types t ts)) (sym (old is)) (record { grown = grown_not types ordered; is = number_in types.types t is })
     go false is = subst (λ (ts : List Ty). IsAdded t types (over types t ts)) (sym (new is))
-        (record { grows = record { types = (grows_more types ordered t there).types; once = once_more types.structs types.types t is; structs = refl }; ordered = ordered_more types ordered t there; is = number_in (types.types ++ t ∷ []) t (any_last types.types t) })
+        (record {
+          grown = record {
+            grows = record { types = (grows_more types ordered t there).types; once = once_more types.structs types.types t is; structs = λ n ids e. e };
+            ordered = ordered_more types ordered t there;
+            structs = refl;
+          };
+          is = number_in (types.types ++ t ∷ []) t (any_last types.types t);
+        })
 
 pub added : (place : Place) (t : Ty) (types : Types) (x : TyId × Types) → IsOrdered types → type_added place t types ≡ Ok x → IsAdded t types x
 unfolding type_added

@@ -1,6 +1,5 @@
--- `e[i]` is well typed, if it is served.
-use Rattle.std.proofs.Common.{◌≡◌, Bool, true, false, Option, None, Some, Ok, List, refl, sym, ap, subst, ◌∙◌, if◌then◌else◌, arith}
-use Rattle.std.proofs.lemmas.Bool.{and_parts}
+-- `e[i]` is well typed.
+use Rattle.std.proofs.Common.{◌≡◌, Bool, true, false, Option, None, Some, Ok, List, refl, ap, subst, ◌∙◌, if◌then◌else◌, arith}
 use Rattle.life_types.specs.Types.{Types, HasType}
 use Rattle.life_types.specs.declared.place.Place.{Place}
 use Rattle.life_types.specs.declared.ty.Ty.TheVariants as ty
@@ -20,11 +19,11 @@ use Rattle.life_type_expr.specs.Lists.{Meaning}
 use Rattle.life_type_expr.specs.Members.{element_of, index_part, indexed_at, indexed_to, is_position}
 use Rattle.life_type_expr.specs.Operands.{is_constant, literal_allowed, place_of}
 use Rattle.life_well_typed.specs.Visible.{Visible}
-use Rattle.life_typing_laws.specs.Served.{is_served_form}
 use Rattle.life_typing_laws.specs.Sound.{Grows, IsFinal, IsSound}
 use Rattle.life_typing_laws.proofs.Growing.{parts_there, same_type_at, stays_there}
+use Rattle.life_typing_laws.proofs.Scopes.{sound_now}
 use Rattle.life_typing_laws.proofs.Steps.{bound, found_ok, given_ok}
-use Rattle.life_typing_laws.proofs.Typed.{Good, GoodBehind, IsGood, IsGoodBehind, IsTyped, PartsThere}
+use Rattle.life_typing_laws.proofs.Typed.{Good, GoodBehind, IsGood, IsGoodBehind, IsTyped, PartsThere, typed_stays}
 
 -- ---- the type of an element is there
 
@@ -95,18 +94,15 @@ module _ (p : ProgramForm) (locals : List TypedLocal) (v : Visible) (scope : Sco
       stays = rw (same_type_at types p.types at.element.0 final.grown there) refl
 
 pub index_good : (opening : Place) (position : Meaning) (closing : Place) → Good position → GoodBehind (index_part opening position closing)
-index_good opening position closing good base scope types x e served = made (indexes_of opening position closing base scope types x e)
+index_good opening position closing good v base scope types x e sound = made (indexes_of opening position closing base scope types x e)
   where
-    made : Indexes opening position closing base scope types x → IsGoodBehind base scope types x
-    made i = record {
-      back = both.0;
-      same = sym i.table ∙ right.same;
-      is = λ p locals v sound final left.
-          indexed_typed p locals v scope types sound final opening base i.right.0 closing x.0 (subst (λ (t : Types). IsIndexed t opening base i.right.0 closing x.0) right.same i.at) left (right.is p locals v sound final);
-    }
+    made : Indexes opening position closing base scope types x → IsGoodBehind v base scope types x
+    made i = subst (λ (s : Types). IsGoodBehind v base scope types (x.0, s)) i.table (record {
+      grown = right.grown;
+      is = λ p locals final left.
+          indexed_typed p locals v scope i.right.1 (sound_now v scope types i.right.1 sound right.grown) final opening base i.right.0 closing x.0 i.at
+          (typed_stays types i.right.1 right.grown.grows p locals v base left) (right.is p locals final);
+    })
       where
-        both : (is_served_form base.form ≡ true) × (is_served_form i.right.0.form ≡ true)
-        both = and_parts (is_served_form base.form) (is_served_form i.right.0.form) (subst (λ (y : Typed). is_served_form y.form ≡ true) (sym i.at.is) served)
-
-        right : IsGood scope types i.right
-        right = good scope types i.right i.reads both.1
+        right : IsGood v scope types i.right
+        right = good v scope types i.right i.reads sound

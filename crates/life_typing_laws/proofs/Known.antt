@@ -10,7 +10,7 @@ use Rattle.life_typing.specs.Names.{DeclaredView}
 use Rattle.life_well_typed.specs.Expressions.{parameter_types}
 use Rattle.life_well_typed.specs.Functions.{IsWellTypedFunction}
 use Rattle.life_typing_laws.proofs.Steps.{same_some}
-use Rattle.life_typing_laws.proofs.Growing.{grows_on}
+use Rattle.life_typing_laws.proofs.Growing.{grows_not, grows_on}
 use Rattle.life_typing_laws.proofs.Pieces.{CountIs, parameter_piece}
 use Rattle.life_typing_laws.proofs.Scopes.{set_else, set_length, set_there}
 use Rattle.life_typing_laws.specs.Sound.{Grows, HasFunction, Keeps}
@@ -101,7 +101,7 @@ module _ (names : List (List ℕ)) (types : Types) (signatures : List SignatureV
             form_there = stays_in forms (form ∷ []) n k.form k.form_there;
             declared_there = stays_in ds (d ∷ []) n k.declared k.declared_there;
             is = known_on names types types signatures (signatures ++ s ∷ []) k.form k.declared t
-                (record { types = λ _ _ there. there; once = λ h. h; structs = refl }) (λ m u there. stays_in signatures (s ∷ []) m u there) k.is;
+                (grows_not types) (λ m u there. stays_in signatures (s ∷ []) m u there) k.is;
           }
 
       at_end : {A : Type 0} (xs : List A) (x : A) (n : ℕ) → n ≡ length signatures → length xs ≡ length signatures → slice_get (xs ++ x ∷ []) n ≡ Some x

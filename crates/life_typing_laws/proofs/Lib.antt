@@ -6,7 +6,6 @@ pub mod BodiesCome
 pub mod Chains
 pub mod Combining
 pub mod Constructing
-pub mod Counted
 pub mod DeclarationLaws
 pub mod Declarations
 pub mod Declaring
@@ -16,7 +15,6 @@ pub mod Entered
 pub mod Expressions
 pub mod Files
 pub mod Fitting
-pub mod FromBuilt
 pub mod FunctionNames
 pub mod FunctionsMeant
 pub mod Growing
@@ -27,7 +25,9 @@ pub mod Indexing
 pub mod Known
 pub mod Lists
 pub mod Loops
+pub mod Making
 pub mod Members
+pub mod MembersListed
 pub mod MethodTables
 pub mod Methods
 pub mod Moving
@@ -46,11 +46,11 @@ pub mod StatementLaws
 pub mod Statements
 pub mod Staying
 pub mod Steps
+pub mod StructsDefined
 pub mod Targets
 pub mod Texts
 pub mod Turns
 pub mod Typed
-pub mod Unserved
 pub mod Values
 pub mod Visible
 pub mod Went

@@ -1,6 +1,5 @@
--- A call of a member function is well typed, if it is served.
+-- A call of a member function is well typed.
 use Rattle.std.proofs.Common.{◌≡◌, ℕ, Bool, true, false, Option, None, Some, Ok, List, length, refl, sym, subst, ◌∙◌, if◌then◌else◌}
-use Rattle.std.proofs.lemmas.Bool.{and_parts}
 use Rattle.life_types.specs.Types.{Types, HasParts}
 use Rattle.life_types.specs.declared.place.Place.{Place}
 use Rattle.life_types.specs.declared.ty.Ty.{Ty}
@@ -27,14 +26,14 @@ use Rattle.life_type_expr.specs.Operands.{is_constant}
 use Rattle.life_well_typed.specs.Expressions.{AreExpressions}
 use Rattle.life_well_typed.specs.Members.{IsCalled, are_passed, are_taken}
 use Rattle.life_well_typed.specs.Visible.{Visible}
-use Rattle.life_typing_laws.specs.Served.{is_served_form}
 use Rattle.life_typing_laws.specs.Sound.{IsFinal, IsSound}
 use Rattle.life_typing_laws.proofs.Domains.{Called}
 use Rattle.life_typing_laws.proofs.Fitting.{first_none, lower_none}
 use Rattle.life_typing_laws.proofs.MethodTables.{IsThere, all_taken, method_there, parameter_there, same_method_answer, same_parameters}
 use Rattle.life_typing_laws.proofs.Reading.{IsPassed, PlacesThere, passed_is}
+use Rattle.life_typing_laws.proofs.Scopes.{sound_now}
 use Rattle.life_typing_laws.proofs.Steps.{bound, found_ok, given_ok}
-use Rattle.life_typing_laws.proofs.Typed.{GoodBehind, GoodList, IsGoodBehind, IsTyped, PartsThere}
+use Rattle.life_typing_laws.proofs.Typed.{GoodBehind, GoodList, IsGoodBehind, IsTyped, PartsThere, typed_stays}
 
 -- ---- the member function that is called
 
@@ -98,20 +97,20 @@ abbrev on : Ty → Method → MethodParameters → Called
 on t m p = record { base = t; method = m; parameters = p }
 
 -- a call whose arguments were passed
-pub record Calls (name : Identifier) (arguments : ListMeaning) (base : Typed) (scope : Scope) (types : Types) (x : Typed × Types) : Type 0 where
+pub record Calls (name : Identifier) (arguments : ListMeaning) (base : Typed) (v : Visible) (scope : Scope) (types : Types) (x : Typed × Types) : Type 0 where
   pub object : Ty
   pub named : Method
   pub takes : MethodParameters
   pub ty : base.ty ≡ Of object
   pub has : method_parameters types object named ≡ Some takes
   pub y : List Typed × Types
-  pub passed : IsPassed kinds.WrongArguments (change_fault named base.category) (lists.method_parameters takes) scope types y
+  pub passed : IsPassed v kinds.WrongArguments (change_fault named base.category) (lists.method_parameters takes) scope types y
   pub is : IsAnswered (on object named takes) y.1 name.place base y.0 arguments.delimiters x.0
   pub table : y.1 ≡ x.1
 
-module _ (name : Identifier) (arguments : ListMeaning) (good : GoodList arguments) where
-  with_found : (called : Called) (base : Typed) (scope : Scope) (types : Types) (x : Typed × Types) → IsOn base.ty types called → method_called called name.place arguments base scope types ≡ Ok x → Calls name arguments base scope types x
-  with_found called base scope types x o h =
+module _ (name : Identifier) (arguments : ListMeaning) (good : GoodList arguments) (v : Visible) (scope : Scope) (types : Types) (sound : IsSound v scope types) where
+  with_found : (called : Called) (base : Typed) (x : Typed × Types) → IsOn base.ty types called → method_called called name.place arguments base scope types ≡ Ok x → Calls name arguments base v scope types x
+  with_found called base x o h =
       let calls : method_called (on o.object o.named o.takes) name.place arguments base scope types ≡ Ok x = subst (λ (c : Called). method_called c name.place arguments base scope types ≡ Ok x) (sym o.is) h in
       let step = bound (passed kinds.WrongArguments (change_fault o.named base.category) name.place (lists.method_parameters o.takes) arguments.list scope types)
       (λ y. found_in y.1 (answered (on o.object o.named o.takes) y.1 name.place base y.0 arguments.delimiters)) x calls in
@@ -123,15 +122,15 @@ module _ (name : Identifier) (arguments : ListMeaning) (good : GoodList argument
         ty = o.ty;
         has = o.has;
         y = step.value;
-        passed = passed_is kinds.WrongArguments (change_fault o.named base.category) name.place (lists.method_parameters o.takes) arguments.list scope types step.value good step.gave;
+        passed = passed_is kinds.WrongArguments (change_fault o.named base.category) name.place (lists.method_parameters o.takes) arguments.list v scope types step.value good step.gave sound;
         is = answered_is (on o.object o.named o.takes) step.value.1 name.place base step.value.0 arguments.delimiters x.0 last.0;
         table = last.1;
       }
 
-  method_calls : (base : Typed) (scope : Scope) (types : Types) (x : Typed × Types) → method_call name arguments base scope types ≡ Ok x → Calls name arguments base scope types x
-  method_calls base scope types x e =
+  method_calls : (base : Typed) (x : Typed × Types) → method_call name arguments base scope types ≡ Ok x → Calls name arguments base v scope types x
+  method_calls base x e =
       let found = given_ok (called_of base.ty name scope types) (λ c. method_called c name.place arguments base scope types) x e in
-      with_found found.value base scope types x (on_is name base.ty scope types found.value found.gave) found.behind
+      with_found found.value base x (on_is name base.ty scope types found.value found.gave) found.behind
 
 -- what it gives, where the arguments are over the same table
 module _ (q : ProgramForm) (locals : List TypedLocal) (v : Visible) (scope : Scope) (types : Types) (sound : IsSound v scope types) (final : IsFinal q locals scope types) where
@@ -169,27 +168,18 @@ module _ (q : ProgramForm) (locals : List TypedLocal) (v : Visible) (scope : Sco
       there = method_there types sound.ordered t (is_constant base.category) m a parts gives
 
 pub method_good : (name : Identifier) (arguments : ListMeaning) → GoodList arguments → GoodBehind (method_call name arguments)
-method_good name arguments good base scope types x e served = made (method_calls name arguments good base scope types x e)
+method_good name arguments good v base scope types x e sound = made (method_calls name arguments good v scope types sound base x e)
   where
-    made : Calls name arguments base scope types x → IsGoodBehind base scope types x
-    made c = record {
-      back = both.0;
-      same = sym c.table ∙ table;
-      is = λ q locals v sound final left.
-          subst (IsTyped q locals v types) c.is.is (method_typed q locals v scope types sound final name.place arguments.delimiters base c.object c.named c.takes c.y.0 c.is.answer c.ty c.has
-          (subst (λ (s : Types). method_answer s c.object (is_constant base.category) c.named ≡ Some c.is.answer) table c.is.gives)
-          left
-          (subst (λ (es : List Typed). AreExpressions q locals v.visible (forms es)) (sym c.passed.read.all) (c.passed.read.are q locals v served_all sound final))
-          (subst (PlacesThere types) (sym c.passed.read.all) (c.passed.read.places q locals v served_all sound final))
-          (subst (λ (s : Types). misfits kinds.WrongArguments (lists.method_parameters c.takes) s (lower_kind (change_fault c.named base.category) (count_fault kinds.WrongArguments (lists.method_parameters c.takes) (length c.y.0))) 0 c.y.0 ≡ None)
-          table c.passed.fine));
-    }
-      where
-        both : (is_served_form base.form ≡ true) × (is_served_form (forms c.y.0) ≡ true)
-        both = and_parts (is_served_form base.form) (is_served_form (forms c.y.0)) (subst (λ (z : Typed). is_served_form z.form ≡ true) (sym c.is.is) served)
-
-        served_all : is_served_form (forms c.passed.read.more) ≡ true
-        served_all = subst (λ (es : List Typed). is_served_form (forms es) ≡ true) c.passed.read.all both.1
-
-        table : c.y.1 ≡ types
-        table = c.passed.read.same served_all
+    made : Calls name arguments base v scope types x → IsGoodBehind v base scope types x
+    made c = subst (λ (s : Types). IsGoodBehind v base scope types (x.0, s)) c.table (record {
+      grown = c.passed.read.grown;
+      is = λ q locals final left.
+          let left_now : IsTyped q locals v c.y.1 base = typed_stays types c.y.1 c.passed.read.grown.grows q locals v base left in
+          subst (IsTyped q locals v c.y.1) c.is.is (method_typed q locals v scope c.y.1 (sound_now v scope types c.y.1 sound c.passed.read.grown) final name.place arguments.delimiters base c.object c.named c.takes c.y.0 c.is.answer c.ty
+          (same_parameters types c.y.1 c.passed.read.grown.grows c.object c.named (subst (PartsThere types) c.ty left.parts) ∙ c.has)
+          c.is.gives
+          left_now
+          (subst (λ (es : List Typed). AreExpressions q locals v.visible (forms es)) (sym c.passed.read.all) (c.passed.read.are q locals final))
+          (subst (PlacesThere c.y.1) (sym c.passed.read.all) (c.passed.read.places q locals final))
+          c.passed.fine);
+    })

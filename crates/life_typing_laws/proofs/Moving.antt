@@ -14,10 +14,10 @@ use Rattle.life_type_expr.specs.Named.{local_named}
 use Rattle.life_type_expr.specs.Operands.{move_fault_of, moved, moved_unless, value}
 use Rattle.life_well_typed.specs.Expressions.{IsMoved}
 use Rattle.life_typing_laws.specs.Sound.{Grows}
-use Rattle.life_typing_laws.proofs.Growing.{parts_there, same_type_at}
+use Rattle.life_typing_laws.proofs.Growing.{grown_not, parts_there, same_type_at}
 use Rattle.life_typing_laws.proofs.Operands.{local_is}
 use Rattle.life_typing_laws.proofs.Steps.{found_ok, given_ok}
-use Rattle.life_typing_laws.proofs.Typed.{Good, IsTyped}
+use Rattle.life_typing_laws.proofs.Typed.{Good, IsGood, IsTyped}
 
 abbrev pub move_part : Place → Identifier → Meaning
 move_part place name scope types = given (local_named name scope) (λ l. found_in types (moved types place l))
@@ -42,15 +42,15 @@ same_moved old new place l grows there =
     go (Some kind) = refl
 
 pub move_good : (place : Place) (name : Identifier) → Good (move_part place name)
-move_good place name scope types x e served =
+move_good place name v scope types x e sound =
     let found = given_ok (local_named name scope) (λ l. found_in types (moved types place l)) x e in
     let l = found.value in
     let last = found_ok types (moved types place l) x found.behind in
     let is = moved_is types place l x.0 last.0 in
     let l_is = local_is name scope l found.gave in
-    record {
-      same = sym last.1;
-      is = λ p locals v sound final.
+    subst (λ (s : Types). IsGood v scope types (x.0, s)) last.1 (record {
+      grown = grown_not types sound.ordered;
+      is = λ p locals final.
           let there : HasType types l.1.ty = sound.locals_there l.0 l.1 l_is.there in
           let parts : HasParts types (type_at types l.1.ty) = parts_there types l.1.ty sound.ordered there in
           let stays : moved p.types place l ≡ Ok (value place (type_at types l.1.ty) (move l.0)) =
@@ -63,4 +63,4 @@ move_good place name scope types x e served =
             parts = parts;
             place = tt;
           });
-    }
+    })

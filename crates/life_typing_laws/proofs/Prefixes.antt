@@ -30,9 +30,9 @@ use Rattle.life_well_typed.specs.Visible.{Visible}
 use Rattle.life_typing_laws.proofs.Combining.{negated_parts}
 use Rattle.life_typing_laws.proofs.Growing.{parts_there, same_type_at}
 use Rattle.life_typing_laws.specs.Sound.{IsFinal, IsSound}
-use Rattle.life_typing_laws.specs.Served.{is_served_form}
+use Rattle.life_typing_laws.proofs.Scopes.{sound_now}
 use Rattle.life_typing_laws.proofs.Steps.{bound, found_ok, given_ok}
-use Rattle.life_typing_laws.proofs.Typed.{Good, IsTyped, PartsThere, PlaceThere}
+use Rattle.life_typing_laws.proofs.Typed.{Good, IsGood, IsTyped, PartsThere, PlaceThere}
 
 -- ---- addresses
 
@@ -108,34 +108,6 @@ module _ (p : ProgramForm) (locals : List TypedLocal) (v : Visible) (scope : Sco
       go category.Value cat there h = absurd (cc)
       go (category.Place id constant) cat there h = plain id constant cat (subst (PlaceThere types) cat there) (is_plain (tree_at types id)) refl h
 
--- .. has an operand that is served, if it is served itself
-pub prefixed_served : (operator : PrefixOperator) (types : Types) (place : Place) (inner e : Typed) → prefixed_by operator types place inner ≡ Ok e → is_served_form e.form ≡ true → is_served_form inner.form ≡ true
-prefixed_served prefix.Not types place inner e h served = go (is_condition inner.ty) h
-  where
-    go : (b : Bool) → ◌≡◌ {A = Found Typed} (if b then Ok (value place ty.Bool (negation (whole inner))) else not_found kinds.WrongType place) (Ok e) → is_served_form inner.form ≡ true
-    go true h = let same : value place ty.Bool (negation (whole inner)) ≡ e = cc in subst (λ (y : Typed). is_served_form y.form ≡ true) (sym same) served
-    go false h = absurd (cc)
-prefixed_served prefix.Negate types place inner e h served = go (negated inner.ty) h
-  where
-    go : (r : Result Ty Misfit) → negated_to r place inner ≡ Ok e → is_served_form inner.form ≡ true
-    go (Ok t) h = let same : value place t (negate (whole inner)) ≡ e = cc in subst (λ (y : Typed). is_served_form y.form ≡ true) (sym same) served
-    go (Err m) h = absurd (cc)
-prefixed_served prefix.Dereference types place inner e h served = go (dereferenced inner.ty) h
-  where
-    go : (o : Option (TyId × Bool)) → dereferenced_to o types place inner ≡ Ok e → is_served_form inner.form ≡ true
-    go None h = absurd (cc)
-    go (Some target) h = let same : place_of types target.0 target.1 place (dereference (whole inner)) ≡ e = cc in subst (λ (y : Typed). is_served_form y.form ≡ true) (sym same) served
-prefixed_served prefix.AddressOf types place inner e h served = go inner.category h
-  where
-    plain : (id : TyId) (constant : Bool) (b : Bool)
-        → ◌≡◌ {A = Found Typed} (if b then Ok (value place (ty.Raw id constant) (address_of (whole inner))) else not_found kinds.NotPlain place) (Ok e) → is_served_form inner.form ≡ true
-    plain id constant true h = let same : value place (ty.Raw id constant) (address_of (whole inner)) ≡ e = cc in subst (λ (y : Typed). is_served_form y.form ≡ true) (sym same) served
-    plain id constant false h = absurd (cc)
-
-    go : (c : Category) → address_to c types place inner ≡ Ok e → is_served_form inner.form ≡ true
-    go category.Value h = absurd (cc)
-    go (category.Place id constant) h = plain id constant (is_plain (tree_at types id)) h
-
 -- an operand behind an operator
 abbrev pub prefix_of : PrefixOperator → Place → Meaning → Meaning
 prefix_of operator place operand scope types = operand scope types >>= prefixed operator place
@@ -155,14 +127,13 @@ prefixed_is operator place operand scope types x e =
     record { inner = step.value; reads = step.gave; is = found.0; table = found.1 }
 
 pub prefix_good : (operator : PrefixOperator) (place : Place) (operand : Meaning) → Good operand → Good (prefix_of operator place operand)
-prefix_good operator place operand good scope types x e served =
+prefix_good operator place operand good v scope types x e sound =
     let q = prefixed_is operator place operand scope types x e in
-    let inner = good scope types q.inner q.reads (prefixed_served operator q.inner.1 place q.inner.0 x.0 q.is served) in
-    record {
-      same = sym q.table ∙ inner.same;
-      is = λ p locals v sound final.
-          prefixed_typed p locals v scope types sound final operator place q.inner.0 x.0 (subst (λ (t : Types). prefixed_by operator t place q.inner.0 ≡ Ok x.0) inner.same q.is) (inner.is p locals v sound final);
-    }
+    let inner = good v scope types q.inner q.reads sound in
+    subst (λ (s : Types). IsGood v scope types (x.0, s)) q.table (record {
+      grown = inner.grown;
+      is = λ p locals final. prefixed_typed p locals v scope q.inner.1 (sound_now v scope types q.inner.1 sound inner.grown) final operator place q.inner.0 x.0 q.is (inner.is p locals final);
+    })
 
 -- ---- parentheses
 
@@ -188,12 +159,12 @@ paren_is closing operand scope types x e =
     same_found a b h = cc
 
 pub paren_good : (closing : Place) (operand : Meaning) → Good operand → Good (paren_of closing operand)
-paren_good closing operand good scope types x e served =
+paren_good closing operand good v scope types x e sound =
     let q = paren_is closing operand scope types x e in
-    let inner = good scope types q.inner q.reads (subst (λ (y : Typed). is_served_form y.form ≡ true) (sym q.is) served) in
-    record {
-      same = sym q.table ∙ inner.same;
-      is = λ p locals v sound final.
-          let typed = inner.is p locals v sound final in
-          subst (IsTyped p locals v types) q.is (record { is = (refl, typed.is); parts = typed.parts; place = typed.place });
-    }
+    let inner = good v scope types q.inner q.reads sound in
+    subst (λ (s : Types). IsGood v scope types (x.0, s)) q.table (record {
+      grown = inner.grown;
+      is = λ p locals final.
+          let typed = inner.is p locals final in
+          subst (IsTyped p locals v q.inner.1) q.is (record { is = (refl, typed.is); parts = typed.parts; place = typed.place });
+    })

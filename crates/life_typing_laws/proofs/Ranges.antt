@@ -1,6 +1,5 @@
--- Loops over ranges are well typed, if they are served.
+-- Loops over ranges are well typed.
 use Rattle.std.proofs.Common.{◌≡◌, ℕ, Bool, true, false, Option, None, Some, List, [], ◌∷◌, Ok, length, sym, ap, subst, ◌∙◌}
-use Rattle.life_types.specs.Trees.{IsOrdered}
 use Rattle.life_types.specs.Types.{Types, HasType}
 use Rattle.life_types.specs.declared.place.Place.{Place}
 use Rattle.life_types.specs.declared.ty.Ty.{Ty}
@@ -33,13 +32,12 @@ use Rattle.life_type_stmt.specs.Given.{value_fault}
 use Rattle.life_type_stmt.specs.Ranges.{RangeForm, RangeHead, auto_head, element_place, element_type, elements_of, range_head, range_of, written_head}
 use Rattle.life_well_typed.specs.Statements.{IsRange, TakesElements}
 use Rattle.life_well_typed.specs.Visible.{Visible, with_next}
-use Rattle.life_typing_laws.specs.Served.{is_served_form}
 use Rattle.life_typing_laws.specs.Sound.{Grows, IsFinal, IsSound}
 use Rattle.life_typing_laws.proofs.Declarations.{IsAuto, IsWritten, auto_is, free_of, local_written}
 use Rattle.life_typing_laws.proofs.Fitting.{fit_at_all, misfit_none, same_fits}
-use Rattle.life_typing_laws.proofs.Growing.{grows_not, parts_there, same_type_at, stays_there}
+use Rattle.life_typing_laws.proofs.Growing.{IsGrown, grown_not, grown_on, parts_there, same_type_at, stays_there, structs_stay}
 use Rattle.life_typing_laws.proofs.Indexing.{indexed_there}
-use Rattle.life_typing_laws.proofs.Scopes.{IsDeclared, IsFree, Moves, behind_declared, declared_is, declared_moves, declared_sound, declared_there, final_before, moves_on, sound_grown, table_moves}
+use Rattle.life_typing_laws.proofs.Scopes.{IsDeclared, IsFree, Moves, behind_declared, declared_is, declared_moves, declared_sound, declared_there, final_before, final_then, moves_after, sound_now}
 use Rattle.life_typing_laws.proofs.Steps.{allowed_ok, bound, given_ok, same_value}
 use Rattle.life_typing_laws.proofs.Typed.{IsGood, IsTyped}
 use Rattle.life_typing_laws.proofs.Wholes.{expr_good}
@@ -92,14 +90,17 @@ pub record IsHead (name : Identifier) (v : Visible) (scope : Scope) (types : Typ
   pub sound : IsSound (with_next v) x.0.1 x.1
   pub is : (p : ProgramForm) (locals : List TypedLocal) (result : TyId) → IsFinal p locals x.0.1 x.1 → IsRange p locals result x.0.0.local x.0.0.range v
 
+-- what is gone over, between two tables, is well typed over the second
+abbrev RangeTyped : Visible → Scope → Types → Typed → Type 0
+RangeTyped v scope middle range = (p : ProgramForm) (locals : List TypedLocal) → IsFinal p locals scope middle → IsTyped p locals v middle range
+
 module _ (name : Identifier) (v : Visible) (scope : Scope) (types : Types) (sound : IsSound v scope types) where
   -- over what is read in the middle table, it is declared over the last
-  new_head : (w : Written) (r : RangeForm) (middle after : Types) (n : ℕ × Scope) → Grows types middle → IsOrdered middle → Grows middle after → IsOrdered after → HasType after w.ty
-      → ((p : ProgramForm) (locals : List TypedLocal) → IsSound v scope middle → IsFinal p locals scope middle → IsTyped p locals v middle r.range)
+  new_head : (w : Written) (r : RangeForm) (middle after : Types) (n : ℕ × Scope) → IsGrown types middle → IsGrown middle after → HasType after w.ty → RangeTyped v scope middle r.range
       → range_element r.range.ty (is_constant r.range.category) ≡ Some r.element
       → value_fault kinds.WrongType after (type_at after w.ty) (element_type middle r.element) (element_place r.element) ≡ None → IsFree name.id scope → declared (local_of name w) scope ≡ Ok n
       → IsHead name v scope types ((record { local = n.0; range = r.range }, n.1), after)
-  new_head w r middle after n early middle_ordered late ordered there typed elements fault free h =
+  new_head w r middle after n early late there typed elements fault free h =
       subst (λ (m : ℕ). IsHead name v scope types ((record { local = m; range = r.range }, n.1), after)) (sym d.number)
       (subst (λ (s : Scope). IsHead name v scope types ((record { local = length scope.locals; range = r.range }, s), after)) (sym d.behind) made)
     where
@@ -107,24 +108,21 @@ module _ (name : Identifier) (v : Visible) (scope : Scope) (types : Types) (soun
       d = declared_is (local_of name w) scope n h
 
       sound_middle : IsSound v scope middle
-      sound_middle = sound_grown v scope types middle sound early middle_ordered
+      sound_middle = sound_now v scope types middle sound early
 
       sound_after : IsSound v scope after
-      sound_after = sound_grown v scope middle after sound_middle late ordered
+      sound_after = sound_now v scope middle after sound_middle late
 
       last : Moves (name.id ∷ []) scope (behind_declared (local_of name w) scope) after after
       last = declared_moves (local_of name w) v scope after sound_after there free
-
-      from_middle : Moves (name.id ∷ []) scope (behind_declared (local_of name w) scope) middle after
-      from_middle = moves_on [] (name.id ∷ []) scope scope (behind_declared (local_of name w) scope) middle after after (table_moves v scope middle after sound_middle late ordered) last
 
       fits_element : (p : ProgramForm) → Grows after p.types → HasType middle r.element.0
           → fits_at_all (fits p.types (type_at p.types w.ty) (element_type p.types r.element) (element_place r.element)) ≡ true
       fits_element p grown element_there = fit_at_all (fits p.types (type_at p.types w.ty) (element_type p.types r.element) (element_place r.element))
           (ap (λ (t : Ty). fits p.types t (element_type p.types r.element) (element_place r.element)) (same_type_at after p.types w.ty grown there)
           ∙ (ap (λ (t : Ty). fits p.types (type_at after w.ty) (Of t) (element_place r.element))
-          (same_type_at after p.types r.element.0 grown (stays_there middle after r.element.0 late element_there) ∙ same_type_at middle after r.element.0 late element_there)
-          ∙ (same_fits after p.types ordered grown (type_at after w.ty) (element_type middle r.element) (element_place r.element) (parts_there after w.ty ordered there) (stays_there middle after r.element.0 late element_there)
+          (same_type_at after p.types r.element.0 grown (stays_there middle after r.element.0 late.grows element_there) ∙ same_type_at middle after r.element.0 late.grows element_there)
+          ∙ (same_fits after p.types late.ordered grown (type_at after w.ty) (element_type middle r.element) (element_place r.element) (parts_there after w.ty late.ordered there) (stays_there middle after r.element.0 late.grows element_there)
           ∙ misfit_none kinds.WrongType (fits after (type_at after w.ty) (element_type middle r.element) (element_place r.element)) fault)))
 
       counted : length scope.locals ≡ v.declared
@@ -132,10 +130,11 @@ module _ (name : Identifier) (v : Visible) (scope : Scope) (types : Types) (soun
 
       made : IsHead name v scope types ((record { local = length scope.locals; range = r.range }, behind_declared (local_of name w) scope), after)
       made = record {
-        moves = moves_on [] (name.id ∷ []) scope scope (behind_declared (local_of name w) scope) types middle after (table_moves v scope types middle sound early middle_ordered) from_middle;
+        moves = moves_after v (name.id ∷ []) scope (behind_declared (local_of name w) scope) types after after sound (grown_on types middle after early late) last;
         sound = declared_sound (local_of name w) v scope after sound_after there;
         is = λ p locals result final.
-            let range_typed = typed p locals sound_middle (final_before p locals (name.id ∷ []) scope (behind_declared (local_of name w) scope) middle after from_middle final) in
+            let final_after : IsFinal p locals scope after = final_before p locals (name.id ∷ []) scope (behind_declared (local_of name w) scope) after after last final in
+            let range_typed = typed p locals (final_then p locals scope middle after late final_after) in
             let element_there = indexed_there middle sound_middle.based r.range.ty (is_constant r.range.category) r.element range_typed.parts elements in (
               counted,
               subst (λ (o : Option TypedLocal). TakesElements p locals result o (range_element r.range.ty (is_constant r.range.category)))
@@ -159,58 +158,52 @@ module _ (name : Identifier) (scope : Scope) where
       given (allowed (value_fault kinds.WrongType r.1 (type_at types w.ty) (element_type r.1 r.0.element) (element_place r.0.element)) name.place) (λ _. declared_over w r.0 r.1)
 
   written_is : (t : TypeName) (colon : Place) (e : Expr) (v : Visible) (types : Types) (x : (RangeHead × Scope) × Types) → IsSound v scope types → written_head t name colon e scope types ≡ Ok x
-      → is_served_form x.0.0.range.form ≡ true → IsHead name v scope types x
-  written_is t colon e v types x sound h served =
+      → IsHead name v scope types x
+  written_is t colon e v types x sound h =
       let w = bound (written_local t name.place scope types) (λ y. range_of name colon e scope y.1 >>= element_given y.0 y.1) x h in
       let r = bound (range_of name colon e scope w.value.1) (element_given w.value.0 w.value.1) x w.behind in
       let fine = allowed_ok (value_fault kinds.WrongType r.value.1 (type_at w.value.1 w.value.0.ty) (element_type r.value.1 r.value.0.element) (element_place r.value.0.element)) name.place (λ _. declared_over w.value.0 r.value.0 r.value.1) x r.behind in
       let n = given_ok (declared (local_of name w.value.0) scope) (finished r.value.0 r.value.1) x fine.1 in
-      of w.value r.value n.value (local_written t name.place scope types w.value sound.ordered sound.based sound.no_structs w.gave) (gone_over name colon e scope w.value.1 r.value r.gave) fine.0 n.gave
-      (same_value {A = RangeHead × Scope} ((record { local = n.value.0; range = r.value.0.range }, n.value.1), r.value.1) x n.behind)
+      subst (IsHead name v scope types) (same_value {A = RangeHead × Scope} ((record { local = n.value.0; range = r.value.0.range }, n.value.1), r.value.1) x n.behind)
+      (of w.value r.value n.value (local_written t name.place scope types w.value sound.ordered sound.based sound.structs_there w.gave) (gone_over name colon e scope w.value.1 r.value r.gave) fine.0 n.gave)
     where
       of : (w : Written × Types) (r : RangeForm × Types) (n : ℕ × Scope) → IsWritten types w → IsGoneOver name e scope w.1 r
           → value_fault kinds.WrongType r.1 (type_at w.1 w.0.ty) (element_type r.1 r.0.element) (element_place r.0.element) ≡ None → declared (local_of name w.0) scope ≡ Ok n
-          → ◌≡◌ {A = (RangeHead × Scope) × Types} ((record { local = n.0; range = r.0.range }, n.1), r.1) x → IsHead name v scope types x
-      of w r n is gone fault number same =
-          subst (IsHead name v scope types) same
-          (subst (λ (s : Types). IsHead name v scope types ((record { local = n.0; range = r.0.range }, n.1), s)) (sym table)
-          (new_head name v scope types sound w.0 r.0 w.1 w.1 n is.grows is.ordered (grows_not w.1) is.ordered is.there
-          (λ p locals sound_now final. range.is p locals v sound_now final) gone.elements
-          (subst (λ (s : Types). value_fault kinds.WrongType s (type_at w.1 w.0.ty) (element_type s r.0.element) (element_place r.0.element) ≡ None) table fault) (free_of name.id scope gone.free) number))
+          → IsHead name v scope types ((record { local = n.0; range = r.0.range }, n.1), r.1)
+      of w r n is gone fault number =
+          new_head name v scope types sound w.0 r.0 r.1 r.1 n (grown_on types w.1 r.1 is.grown range.grown) (grown_not r.1 range.grown.ordered) (stays_there w.1 r.1 w.0.ty range.grown.grows is.there)
+          (λ p locals final. range.is p locals final) gone.elements
+          (subst (λ (u : Ty). value_fault kinds.WrongType r.1 u (element_type r.1 r.0.element) (element_place r.0.element) ≡ None) (sym (same_type_at w.1 r.1 w.0.ty range.grown.grows is.there)) fault)
+          (free_of name.id scope gone.free) number
         where
-          range : IsGood scope w.1 (r.0.range, r.1)
-          range = expr_good e scope w.1 (r.0.range, r.1) gone.reads (subst (λ (y : (RangeHead × Scope) × Types). is_served_form y.0.0.range.form ≡ true) (sym same) served)
-
-          table : r.1 ≡ w.1
-          table = range.same
+          range : IsGood v scope w.1 (r.0.range, r.1)
+          range = expr_good e v scope w.1 (r.0.range, r.1) gone.reads (sound_now v scope types w.1 sound is.grown)
 
   abbrev behind_auto : RangeForm → Written × Types → Checked (RangeHead × Scope)
   behind_auto r w = declared_over w.0 r w.1
 
   auto_head_is : (a : AutoType) (colon : Place) (e : Expr) (v : Visible) (types : Types) (x : (RangeHead × Scope) × Types) → IsSound v scope types → auto_head a name colon e scope types ≡ Ok x
-      → is_served_form x.0.0.range.form ≡ true → IsHead name v scope types x
-  auto_head_is a colon e v types x sound h served =
+      → IsHead name v scope types x
+  auto_head_is a colon e v types x sound h =
       let r = bound (range_of name colon e scope types) (λ y. auto_written a name.place (element_type y.1 y.0.element) (element_place y.0.element) scope y.1 >>= behind_auto y.0) x h in
       let w = bound (auto_written a name.place (element_type r.value.1 r.value.0.element) (element_place r.value.0.element) scope r.value.1) (behind_auto r.value.0) x r.behind in
       let n = given_ok (declared (local_of name w.value.0) scope) (finished r.value.0 w.value.1) x w.behind in
-      of r.value w.value n.value (gone_over name colon e scope types r.value r.gave) w.gave n.gave (same_value {A = RangeHead × Scope} ((record { local = n.value.0; range = r.value.0.range }, n.value.1), w.value.1) x n.behind)
+      subst (IsHead name v scope types) (same_value {A = RangeHead × Scope} ((record { local = n.value.0; range = r.value.0.range }, n.value.1), w.value.1) x n.behind)
+      (of r.value w.value n.value (gone_over name colon e scope types r.value r.gave) w.gave n.gave)
     where
       of : (r : RangeForm × Types) (w : Written × Types) (n : ℕ × Scope) → IsGoneOver name e scope types r
           → auto_written a name.place (element_type r.1 r.0.element) (element_place r.0.element) scope r.1 ≡ Ok w → declared (local_of name w.0) scope ≡ Ok n
-          → ◌≡◌ {A = (RangeHead × Scope) × Types} ((record { local = n.0; range = r.0.range }, n.1), w.1) x → IsHead name v scope types x
-      of r w n gone gave number same =
-          subst (IsHead name v scope types) same
-          (new_head name v scope types sound w.0 r.0 types w.1 n (grows_not types) sound.ordered auto.grows auto.ordered auto.there
-          (λ p locals sound_now final. range.is p locals v sound_now final) gone.elements auto.given (free_of name.id scope gone.free) number)
+          → IsHead name v scope types ((record { local = n.0; range = r.0.range }, n.1), w.1)
+      of r w n gone gave number =
+          new_head name v scope types sound w.0 r.0 r.1 w.1 n range.grown auto.grown auto.there (λ p locals final. range.is p locals final) gone.elements auto.given (free_of name.id scope gone.free) number
         where
-          range : IsGood scope types (r.0.range, r.1)
-          range = expr_good e scope types (r.0.range, r.1) gone.reads (subst (λ (y : (RangeHead × Scope) × Types). is_served_form y.0.0.range.form ≡ true) (sym same) served)
+          range : IsGood v scope types (r.0.range, r.1)
+          range = expr_good e v scope types (r.0.range, r.1) gone.reads sound
 
-          auto : IsAuto types (element_type types r.0.element) (element_place r.0.element) w
-          auto = auto_is a name.place (element_type types r.0.element) (element_place r.0.element) scope types w sound.ordered sound.no_structs
-              (subst (λ (s : Types). auto_written a name.place (element_type s r.0.element) (element_place r.0.element) scope s ≡ Ok w) range.same gave)
+          auto : IsAuto r.1 (element_type r.1 r.0.element) (element_place r.0.element) w
+          auto = auto_is a name.place (element_type r.1 r.0.element) (element_place r.0.element) scope r.1 w range.grown.ordered (structs_stay types r.1 scope.structs range.grown.grows sound.structs_there) gave
 
   pub head_is : (t : DeclaredType) (colon : Place) (e : Expr) (v : Visible) (types : Types) (x : (RangeHead × Scope) × Types) → IsSound v scope types → range_head t name colon e scope types ≡ Ok x
-      → is_served_form x.0.0.range.form ≡ true → IsHead name v scope types x
-  head_is (declared_type.Written t) colon e v types x sound h served = written_is t colon e v types x sound h served
-  head_is (declared_type.Auto a) colon e v types x sound h served = auto_head_is a colon e v types x sound h served
+      → IsHead name v scope types x
+  head_is (declared_type.Written t) colon e v types x sound h = written_is t colon e v types x sound h
+  head_is (declared_type.Auto a) colon e v types x sound h = auto_head_is a colon e v types x sound h

@@ -2,19 +2,18 @@
 use Rattle.std.proofs.Common.{◌≡◌, ◌⊎◌, inl, inr, ⊎_elim, ℕ, zero, suc, ◌-◌, ◌^◌, Bool, true, false, List, [], ◌∷◌, ◌++◌, Some, Ok, Contains, length, slice_get, slice_set, refl, sym, ap, subst, ◌∙◌, arith, length-append}
 use Rattle.std.specs.Prelude.{Result, Err, nat_lt, if◌then◌else◌}
 use Rattle.std.proofs.lemmas.List.Elements.{Contains-append_left, Contains-append_right}
-use Rattle.life_types.specs.Trees.{IsOrdered}
 use Rattle.life_types.specs.Types.{Types, HasType}
 use Rattle.life_types.specs.declared.ty.NameId.{NameId}
 use Rattle.life_types.proofs.TreeLemmas.{in_more, last_in, stays_in}
 use Rattle.life_typed.specs.Programs.{ProgramForm}
 use Rattle.life_typed.specs.declared.typed_program.TypedLocal.{TypedLocal}
 use Rattle.life_names.specs.Checked.{Ill}
-use Rattle.life_names.specs.Environment.{Scope, SignatureView, declared, forgotten, seen_as, with_local}
+use Rattle.life_names.specs.Environment.{Scope, SignatureView, StructureView, declared, forgotten, seen_as, with_local}
 use Rattle.life_names.specs.declared.environment.Entity.TheVariants as entity
 use Rattle.life_names.specs.declared.fault.IllKind.TheVariants as kinds
 use Rattle.life_well_typed.specs.Visible.{Visible, with_next}
-use Rattle.life_typing_laws.proofs.Growing.{grows_not, grows_on, stays_there, stay_there}
-use Rattle.life_typing_laws.specs.Sound.{Grows, IsFinal, IsSound, Keeps}
+use Rattle.life_typing_laws.proofs.Growing.{IsGrown, grown_not, grown_on, grows_on, stay_there, stays_there, struct_stays}
+use Rattle.life_typing_laws.specs.Sound.{IsFinal, IsSound, Keeps}
 
 -- ---- lists in which one element is changed
 
@@ -123,8 +122,7 @@ forgotten_texts (name ∷ names) scope = forgotten_texts names (seen_as name ent
 -- ---- what a step of checking changes
 
 pub record Moves (names : List NameId) (before after : Scope) (old new : Types) : Type 0 where
-  pub types : Grows old new
-  pub ordered : IsOrdered new
+  pub grown : IsGrown old new
   pub locals : Keeps before.locals after.locals
   pub locals_there : (n : ℕ) (l : TypedLocal) → slice_get after.locals n ≡ Some l → HasType new l.ty
   pub functions : after.functions ≡ before.functions
@@ -138,8 +136,7 @@ pub record Moves (names : List NameId) (before after : Scope) (old new : Types) 
 -- .. nothing, where the table stays too
 pub moves_not : (v : Visible) (scope : Scope) (types : Types) → IsSound v scope types → Moves [] scope scope types types
 moves_not v scope types sound = record {
-  types = grows_not types;
-  ordered = sound.ordered;
+  grown = grown_not types sound.ordered;
   locals = λ n l e. e;
   locals_there = sound.locals_there;
   functions = refl;
@@ -167,8 +164,7 @@ not_in_both (x ∷ xs) ys k no_first no_second among =
 
 pub moves_on : (first second : List NameId) (a b c : Scope) (s t u : Types) → Moves first a b s t → Moves second b c t u → Moves (first ++ second) a c s u
 moves_on first second a b c s t u m n = record {
-  types = grows_on s t u m.types n.types;
-  ordered = n.ordered;
+  grown = grown_on s t u m.grown n.grown;
   locals = λ k l e. n.locals k l (m.locals k l e);
   locals_there = n.locals_there;
   functions = n.functions ∙ m.functions;
@@ -183,8 +179,7 @@ moves_on first second a b c s t u m n = record {
 -- .. behind a block
 pub moves_behind : (names : List NameId) (a b : Scope) (s t : Types) → Moves names a b s t → Moves [] a (forgotten names b) s t
 moves_behind names a b s t m = record {
-  types = m.types;
-  ordered = m.ordered;
+  grown = m.grown;
   locals = λ n l e. subst (λ (ls : List TypedLocal). slice_get ls n ≡ Some l) (sym (forgotten_locals names b)) (m.locals n l e);
   locals_there = λ n l e. m.locals_there n l (subst (λ (ls : List TypedLocal). slice_get ls n ≡ Some l) (forgotten_locals names b) e);
   functions = forgotten_functions names b ∙ m.functions;
@@ -201,23 +196,23 @@ moves_behind names a b s t m = record {
 -- behind what declares nothing that is visible behind it
 pub sound_behind : (v w : Visible) (a b : Scope) (s t : Types) → IsSound v a s → Moves [] a b s t → length b.locals ≡ w.declared → IsSound (record { declared = w.declared; visible = v.visible }) b t
 sound_behind v w a b s t sound m count = record {
-  ordered = m.ordered;
-  based = grows_on _ s t sound.based m.types;
-  no_structs = m.structs ∙ sound.no_structs;
+  ordered = m.grown.ordered;
+  based = grows_on _ s t sound.based m.grown.grows;
+  structs_there = λ n x e. struct_stays s t n x m.grown.grows (sound.structs_there n x (subst (λ (xs : List StructureView). slice_get xs n ≡ Some x) m.structs e));
+  structs_count = ap length m.grown.structs ∙ sound.structs_count ∙ ap length (sym m.structs);
   locals_there = m.locals_there;
-  results_there = λ n f e. stays_there s t f.result m.types (sound.results_there n f (subst (λ (fs : List SignatureView). slice_get fs n ≡ Some f) m.functions e));
-  parameters_there = λ n f e. stay_there s t f.parameters m.types (sound.parameters_there n f (subst (λ (fs : List SignatureView). slice_get fs n ≡ Some f) m.functions e));
+  results_there = λ n f e. stays_there s t f.result m.grown.grows (sound.results_there n f (subst (λ (fs : List SignatureView). slice_get fs n ≡ Some f) m.functions e));
+  parameters_there = λ n f e. stay_there s t f.parameters m.grown.grows (sound.parameters_there n f (subst (λ (fs : List SignatureView). slice_get fs n ≡ Some f) m.functions e));
   declared = count;
   visible = λ k n e. ⊎_elim (λ none. absurd none) (λ old. sound.visible k n old) (m.shows k n e);
 }
 
 -- .. where the table alone grows
-pub table_moves : (v : Visible) (scope : Scope) (old new : Types) → IsSound v scope old → Grows old new → IsOrdered new → Moves [] scope scope old new
-table_moves v scope old new sound grows ordered = record {
-  types = grows;
-  ordered = ordered;
+pub table_moves : (v : Visible) (scope : Scope) (old new : Types) → IsSound v scope old → IsGrown old new → Moves [] scope scope old new
+table_moves v scope old new sound grown = record {
+  grown = grown;
   locals = λ n l e. e;
-  locals_there = λ n l e. stays_there old new l.ty grows (sound.locals_there n l e);
+  locals_there = λ n l e. stays_there old new l.ty grown.grows (sound.locals_there n l e);
   functions = refl;
   structs = refl;
   shows = λ k n e. inr e;
@@ -227,13 +222,21 @@ table_moves v scope old new sound grows ordered = record {
   size = refl;
 }
 
-pub sound_grown : (v : Visible) (scope : Scope) (old new : Types) → IsSound v scope old → Grows old new → IsOrdered new → IsSound v scope new
-sound_grown v scope old new sound grows ordered = sound_behind v v scope scope old new sound (table_moves v scope old new sound grows ordered) sound.declared
+pub sound_now : (v : Visible) (scope : Scope) (old new : Types) → IsSound v scope old → IsGrown old new → IsSound v scope new
+sound_now v scope old new sound grown = sound_behind v v scope scope old new sound (table_moves v scope old new sound grown) sound.declared
 
--- what the program has in the end was there before a step
+-- .. and then a step is taken
+pub moves_after : (v : Visible) (names : List NameId) (a b : Scope) (s t u : Types) → IsSound v a s → IsGrown s t → Moves names a b t u → Moves names a b s u
+moves_after v names a b s t u sound grown m = moves_on [] names a a b s t u (table_moves v a s t sound grown) m
+
+-- what the program has in the end was there before the table grew
+pub final_then : (p : ProgramForm) (locals : List TypedLocal) (scope : Scope) (s t : Types) → IsGrown s t → IsFinal p locals scope t → IsFinal p locals scope s
+final_then p locals scope s t grown final = record { grown = grows_on s t p.types grown.grows final.grown; kept = final.kept; functions = final.functions }
+
+-- .. and before a step
 pub final_before : (p : ProgramForm) (locals : List TypedLocal) (names : List NameId) (a b : Scope) (s t : Types) → Moves names a b s t → IsFinal p locals b t → IsFinal p locals a s
 final_before p locals names a b s t m final = record {
-  grown = grows_on s t p.types m.types final.grown;
+  grown = grows_on s t p.types m.grown.grows final.grown;
   kept = λ n l e. final.kept n l (m.locals n l e);
   functions = λ n f e. final.functions n f (subst (λ (fs : List SignatureView). slice_get fs n ≡ Some f) (sym m.functions) e);
 }
@@ -275,8 +278,7 @@ declared_locals l v scope types sound there n x e = ⊎_elim (λ old. sound.loca
 pub declared_moves : (l : TypedLocal) (v : Visible) (scope : Scope) (types : Types) → IsSound v scope types → HasType types l.ty → IsFree l.name scope
     → Moves (l.name ∷ []) scope (behind_declared l scope) types types
 declared_moves l v scope types sound there free = record {
-  types = grows_not types;
-  ordered = sound.ordered;
+  grown = grown_not types sound.ordered;
   locals = λ n x e. stays_in scope.locals (l ∷ []) n x e;
   locals_there = declared_locals l v scope types sound there;
   functions = refl;
@@ -298,7 +300,8 @@ pub declared_sound : (l : TypedLocal) (v : Visible) (scope : Scope) (types : Typ
 declared_sound l v scope types sound there = record {
   ordered = sound.ordered;
   based = sound.based;
-  no_structs = sound.no_structs;
+  structs_there = sound.structs_there;
+  structs_count = sound.structs_count;
   locals_there = declared_locals l v scope types sound there;
   results_there = sound.results_there;
   parameters_there = sound.parameters_there;

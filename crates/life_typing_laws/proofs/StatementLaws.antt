@@ -51,7 +51,7 @@ SaysOf t e names part = Says (λ n. IsNamedTree n t) e names part
 
 -- ---- what holds of a part
 
--- what it gives is well typed, if it is served
+-- what it gives is well typed
 pub record PartLaws (part : Part) (t : Tree) (e : Bool) : Type 0 where
   pub good : GoodPart part
   pub says : SaysOf t e [] part

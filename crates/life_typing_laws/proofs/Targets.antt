@@ -1,4 +1,4 @@
--- What a target gives is well typed, if it is built.
+-- What a target gives is well typed.
 use Rattle.life_tree.specs.declared.operator.PrefixOperator.TheVariants as prefix_operators
 use Rattle.life_tree.specs.declared.simple.Target.{Target, roll-Target}
 use Rattle.life_tree.specs.declared.simple.Target.TheFolds.{fold-roll-Target, ind-Target, map-Target}

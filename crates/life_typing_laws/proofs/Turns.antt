@@ -1,6 +1,5 @@
 -- Statements one after the other: in blocks, and the branches of an `if`.
-use Rattle.std.proofs.Common.{◌≡◌, true, Option, None, Some, List, [], ◌∷◌, ◌++◌, Ok, length, refl, sym, ap, subst, ◌∙◌}
-use Rattle.std.proofs.lemmas.Bool.{and_parts}
+use Rattle.std.proofs.Common.{◌≡◌, true, Option, None, Some, List, [], ◌∷◌, ◌++◌, Ok, length, refl, ap, subst, ◌∙◌}
 use Rattle.life_types.specs.Types.{Types, HasType}
 use Rattle.life_types.specs.declared.place.Place.{Place}
 use Rattle.life_types.specs.declared.ty.NameId.{NameId}
@@ -18,7 +17,6 @@ use Rattle.life_typing_laws.proofs.Each.{EachHolds}
 use Rattle.life_typing_laws.proofs.Growing.{stays_there}
 use Rattle.life_typing_laws.proofs.Scopes.{Moves, final_before, final_remembered, forgotten_locals, moves_not, moves_on, moves_behind, sound_behind}
 use Rattle.life_typing_laws.specs.Sound.{IsFinal, IsSound}
-use Rattle.life_typing_laws.specs.Served.{is_served_statement}
 use Rattle.life_typing_laws.proofs.Statements.{GoodBlock, GoodItem, Gives, IsPart, is_block}
 use Rattle.life_typing_laws.proofs.Steps.{bound, same_value}
 
@@ -40,19 +38,17 @@ name_joined None names = refl
 name_joined (Some name) names = refl
 
 parts_are : (is : List ItemPart) (around : Around) (v : Visible) (scope : Scope) (types : Types) (x : (List StmtForm × Scope) × Types) → EachHolds GoodItem is → in_turn (parts_of is) around scope types ≡ Ok x
-    → is_served_statement (stmt_forms x.0.0) ≡ true → IsSound v scope types → HasType types around.result → AreParts (names_of is) around v scope types x
-parts_are [] around v scope types x good h served sound there =
+    → IsSound v scope types → HasType types around.result → AreParts (names_of is) around v scope types x
+parts_are [] around v scope types x good h sound there =
     subst (AreParts [] around v scope types) (same_value {A = List StmtForm × Scope} (([], scope), types) x h)
     (record { moves = moves_not v scope types sound; sound = sound; are = λ p locals final. tt })
-parts_are (i ∷ is) around v scope types x good h served sound there =
+parts_are (i ∷ is) around v scope types x good h sound there =
     let first = bound (i.part around scope types) (with_others (parts_of is) around) x h in
     let rest = bound (in_turn (parts_of is) around first.value.0.1 first.value.1) (with_first first.value) x first.behind in
     let same = same_value {A = List StmtForm × Scope} ((first.value.0.0 ∷ rest.value.0.0, rest.value.0.1), rest.value.1) x rest.behind in
-    let parts = and_parts (is_served_statement first.value.0.0) (is_served_statement (stmt_forms rest.value.0.0))
-    (subst (λ (z : (List StmtForm × Scope) × Types). is_served_statement (stmt_forms z.0.0) ≡ true) (sym same) served) in
-    let one : IsPart (name_before i.declares []) around v scope types first.value = good.0 around v scope types first.value first.gave parts.0 sound there in
+    let one : IsPart (name_before i.declares []) around v scope types first.value = good.0 around v scope types first.value first.gave sound there in
     let others : AreParts (names_of is) around (after first.value.0.0 v) first.value.0.1 first.value.1 rest.value =
-    parts_are is around (after first.value.0.0 v) first.value.0.1 first.value.1 rest.value good.1 rest.gave parts.1 one.sound (stays_there types first.value.1 around.result one.moves.types there) in
+    parts_are is around (after first.value.0.0 v) first.value.0.1 first.value.1 rest.value good.1 rest.gave one.sound (stays_there types first.value.1 around.result one.moves.grown.grows there) in
     subst (AreParts (name_before i.declares (names_of is)) around v scope types) same (record {
       moves = subst (λ (ns : List NameId). Moves ns scope rest.value.0.1 types rest.value.1) (name_joined i.declares (names_of is))
           (moves_on (name_before i.declares []) (names_of is) scope first.value.0.1 rest.value.0.1 types first.value.1 rest.value.1 one.moves others.moves);
@@ -72,10 +68,10 @@ block_good is closing good = record {
 }
   where
     gives : Gives [] (block_part is closing)
-    gives around v scope types x h served sound there =
+    gives around v scope types x h sound there =
         let step = bound (in_turn (parts_of is) around scope types) (closed is closing) x h in
         let same = same_value {A = StmtForm × Scope} ((typed.block (stmt_forms step.value.0.0) closing, forgotten (names_of is) step.value.0.1), step.value.1) x step.behind in
-        let inner = parts_are is around v scope types step.value good step.gave (subst (λ (y : (StmtForm × Scope) × Types). is_served_statement y.0.0 ≡ true) (sym same) served) sound there in
+        let inner = parts_are is around v scope types step.value good step.gave sound there in
         let out : Moves [] scope (forgotten (names_of is) step.value.0.1) types step.value.1 = moves_behind (names_of is) scope step.value.0.1 types step.value.1 inner.moves in
         subst (IsPart [] around v scope types) same (record {
           moves = out;
@@ -94,7 +90,7 @@ pub record IsBranch (around : Around) (v : Visible) (scope : Scope) (types : Typ
 
 abbrev pub GoodBranch : Part → Type 0
 GoodBranch part =
-    (around : Around) (v : Visible) (scope : Scope) (types : Types) (x : (StmtForm × Scope) × Types) → part around scope types ≡ Ok x → is_served_statement x.0.0 ≡ true
+    (around : Around) (v : Visible) (scope : Scope) (types : Types) (x : (StmtForm × Scope) × Types) → part around scope types ≡ Ok x
     → IsSound v scope types → HasType types around.result → IsBranch around v scope types x
 
 pub record BranchesAre (around : Around) (v : Visible) (scope : Scope) (types : Types) (x : (List StmtForm × Scope) × Types) : Type 0 where
@@ -103,19 +99,17 @@ pub record BranchesAre (around : Around) (v : Visible) (scope : Scope) (types : 
   pub are : (p : ProgramForm) (locals : List TypedLocal) → IsFinal p locals x.0.1 x.1 → AreBranches p locals around.result (stmt_forms x.0.0) around.in_loop v
 
 pub branches_are : (ps : List Part) (around : Around) (v : Visible) (scope : Scope) (types : Types) (x : (List StmtForm × Scope) × Types) → EachHolds GoodBranch ps → in_turn ps around scope types ≡ Ok x
-    → is_served_statement (stmt_forms x.0.0) ≡ true → IsSound v scope types → HasType types around.result → BranchesAre around v scope types x
-branches_are [] around v scope types x good h served sound there =
+    → IsSound v scope types → HasType types around.result → BranchesAre around v scope types x
+branches_are [] around v scope types x good h sound there =
     subst (BranchesAre around v scope types) (same_value {A = List StmtForm × Scope} (([], scope), types) x h)
     (record { moves = moves_not v scope types sound; sound = sound; are = λ p locals final. tt })
-branches_are (part ∷ ps) around v scope types x good h served sound there =
+branches_are (part ∷ ps) around v scope types x good h sound there =
     let first = bound (part around scope types) (with_others ps around) x h in
     let rest = bound (in_turn ps around first.value.0.1 first.value.1) (with_first first.value) x first.behind in
     let same = same_value {A = List StmtForm × Scope} ((first.value.0.0 ∷ rest.value.0.0, rest.value.0.1), rest.value.1) x rest.behind in
-    let parts = and_parts (is_served_statement first.value.0.0) (is_served_statement (stmt_forms rest.value.0.0))
-    (subst (λ (z : (List StmtForm × Scope) × Types). is_served_statement (stmt_forms z.0.0) ≡ true) (sym same) served) in
-    let one : IsBranch around v scope types first.value = good.0 around v scope types first.value first.gave parts.0 sound there in
+    let one : IsBranch around v scope types first.value = good.0 around v scope types first.value first.gave sound there in
     let others : BranchesAre around (after first.value.0.0 v) first.value.0.1 first.value.1 rest.value =
-    branches_are ps around (after first.value.0.0 v) first.value.0.1 first.value.1 rest.value good.1 rest.gave parts.1 one.sound (stays_there types first.value.1 around.result one.moves.types there) in
+    branches_are ps around (after first.value.0.0 v) first.value.0.1 first.value.1 rest.value good.1 rest.gave one.sound (stays_there types first.value.1 around.result one.moves.grown.grows there) in
     subst (BranchesAre around v scope types) same (record {
       moves = moves_on [] [] scope first.value.0.1 rest.value.0.1 types first.value.1 rest.value.1 one.moves others.moves;
       sound = others.sound;

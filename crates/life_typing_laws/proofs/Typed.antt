@@ -1,8 +1,8 @@
--- What is to hold of the meaning of an expression, and of what stands behind an operand: what they give where they succeed is well typed, if it is served.
-use Rattle.std.proofs.Common.{◌≡◌, true, false, List, Ok, sym, ◌∙◌}
+-- What is to hold of the meaning of an expression, and of what stands behind an operand: what they give where they succeed is well typed.
+use Rattle.std.proofs.Common.{◌≡◌, List, Ok}
 use Rattle.life_types.specs.Types.{Types, HasType, HasParts}
 use Rattle.life_typed.specs.Programs.{ProgramForm}
-use Rattle.life_typed.specs.TypedForm.{Form, Typed, whole}
+use Rattle.life_typed.specs.TypedForm.{Typed, whole}
 use Rattle.life_typed.specs.declared.typed_expr.Category.{Category}
 use Rattle.life_typed.specs.declared.typed_expr.Category.TheVariants as category
 use Rattle.life_typed.specs.declared.typed_expr.ExprType.{ExprType}
@@ -14,8 +14,8 @@ use Rattle.life_type_expr.specs.Lists.{ListMeaning, Meaning}
 use Rattle.life_well_typed.specs.Expressions.{IsExpression}
 use Rattle.life_well_typed.specs.Visible.{Visible}
 use Rattle.life_typing_laws.proofs.Each.{EachHolds}
-use Rattle.life_typing_laws.specs.Served.{is_served_form}
-use Rattle.life_typing_laws.specs.Sound.{IsFinal, IsSound}
+use Rattle.life_typing_laws.proofs.Growing.{IsGrown, parts_stay, stays_there}
+use Rattle.life_typing_laws.specs.Sound.{Grows, IsFinal, IsSound}
 
 -- ---- an expression
 
@@ -35,33 +35,39 @@ pub record IsTyped (p : ProgramForm) (locals : List TypedLocal) (v : Visible) (t
   pub parts : PartsThere types e.ty
   pub place : PlaceThere types e.category
 
+-- ---- .. over a table that has grown
+
+module _ (old new : Types) (grows : Grows old new) where
+  pub expression_parts_stay : (t : ExprType) → PartsThere old t → PartsThere new t
+  expression_parts_stay (Of t) there = parts_stay old new t grows there
+  expression_parts_stay NullPointer there = tt
+  expression_parts_stay TextLiteral there = tt
+
+  pub place_stays : (c : Category) → PlaceThere old c → PlaceThere new c
+  place_stays category.Value there = tt
+  place_stays (category.Place id constant) there = stays_there old new id grows there
+
+  pub typed_stays : (p : ProgramForm) (locals : List TypedLocal) (v : Visible) (e : Typed) → IsTyped p locals v old e → IsTyped p locals v new e
+  typed_stays p locals v e typed = record { is = typed.is; parts = expression_parts_stay e.ty typed.parts; place = place_stays e.category typed.place }
+
 -- ---- what gives one
 
--- .. leaves the table as it was, and gives what is well typed in the end
-pub record IsGood (scope : Scope) (types : Types) (x : Typed × Types) : Type 0 where
-  pub same : x.1 ≡ types
-  pub is : (p : ProgramForm) (locals : List TypedLocal) (v : Visible) → IsSound v scope types → IsFinal p locals scope types → IsTyped p locals v types x.0
+-- .. leaves a table that has grown, and gives what is well typed in the end
+pub record IsGood (v : Visible) (scope : Scope) (types : Types) (x : Typed × Types) : Type 0 where
+  pub grown : IsGrown types x.1
+  pub is : (p : ProgramForm) (locals : List TypedLocal) → IsFinal p locals scope x.1 → IsTyped p locals v x.1 x.0
 
 abbrev pub Good : Meaning → Type 0
-Good m = (scope : Scope) (types : Types) (x : Typed × Types) → m scope types ≡ Ok x → is_served_form x.0.form ≡ true → IsGood scope types x
+Good m = (v : Visible) (scope : Scope) (types : Types) (x : Typed × Types) → m scope types ≡ Ok x → IsSound v scope types → IsGood v scope types x
 
--- .. behind an operand: what is served has a served operand
-pub record IsGoodBehind (left : Typed) (scope : Scope) (types : Types) (x : Typed × Types) : Type 0 where
-  pub back : is_served_form left.form ≡ true
-  pub same : x.1 ≡ types
-  pub is : (p : ProgramForm) (locals : List TypedLocal) (v : Visible) → IsSound v scope types → IsFinal p locals scope types → IsTyped p locals v types left → IsTyped p locals v types x.0
+-- .. behind an operand
+pub record IsGoodBehind (v : Visible) (left : Typed) (scope : Scope) (types : Types) (x : Typed × Types) : Type 0 where
+  pub grown : IsGrown types x.1
+  pub is : (p : ProgramForm) (locals : List TypedLocal) → IsFinal p locals scope x.1 → IsTyped p locals v types left → IsTyped p locals v x.1 x.0
 
 abbrev pub GoodBehind : PartMeaning → Type 0
-GoodBehind q = (left : Typed) (scope : Scope) (types : Types) (x : Typed × Types) → q left scope types ≡ Ok x → is_served_form x.0.form ≡ true → IsGoodBehind left scope types x
+GoodBehind q = (v : Visible) (left : Typed) (scope : Scope) (types : Types) (x : Typed × Types) → q left scope types ≡ Ok x → IsSound v scope types → IsGoodBehind v left scope types x
 
 -- .. each of a list
 abbrev pub GoodList : ListMeaning → Type 0
 GoodList l = EachHolds Good l.list
-
--- ---- what isn't served
-
-both : true ≡ false → ⊥
-both e = cc
-
-pub not_served : {P : Type 0} (f : Form) → is_served_form f ≡ false → is_served_form f ≡ true → P
-not_served f no_form e = absurd (both (sym e ∙ no_form))

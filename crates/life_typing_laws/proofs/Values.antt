@@ -27,7 +27,7 @@ use Rattle.life_type_stmt.specs.Given.{given_expr, given_first, given_list, give
 use Rattle.life_type_stmt.specs.Simples.{operand, target}
 use Rattle.life_well_typed.specs.Visible.{Visible}
 use Rattle.life_typing_laws.specs.Sound.{IsFinal, IsSound}
-use Rattle.life_typing_laws.specs.Served.{is_served_first, is_served_form, is_served_value}
+use Rattle.life_typing_laws.proofs.Growing.{IsGrown}
 use Rattle.life_typing_laws.proofs.Lists.{IsList, list_is}
 use Rattle.life_typing_laws.proofs.Steps.{allowed_ok, bound, given_ok, same_value}
 use Rattle.life_typing_laws.proofs.Typed.{IsTyped}
@@ -78,69 +78,56 @@ given_expr_reads t e scope types x h =
     let literal = given_ok (literal_allowed (is_taken step.value.1 (Some t) step.value.0) step.value.0) (λ _. Ok step.value) x step.behind in
     step.gave ∙ ap (λ (y : Typed × Types). Ok y) (same_value step.value x literal.behind)
 
--- an expression, which is well typed, and the same table
-pub record IsOne (scope : Scope) (types : Types) (x : InitialForm × Types) : Type 0 where
+-- an expression, which is well typed, over a table that has grown
+pub record IsOne (v : Visible) (scope : Scope) (types : Types) (x : InitialForm × Types) : Type 0 where
   pub value : Typed
   pub is : one value ≡ x.0
-  pub same : x.1 ≡ types
-  pub typed : (p : ProgramForm) (locals : List TypedLocal) (v : Visible) → IsSound v scope types → IsFinal p locals scope types → IsTyped p locals v types value
+  pub grown : IsGrown types x.1
+  pub typed : (p : ProgramForm) (locals : List TypedLocal) → IsFinal p locals scope x.1 → IsTyped p locals v x.1 value
 
 -- an expression that was read
-pub one_read : (e : Expr) (scope : Scope) (types : Types) (y : Typed × Types) (x : InitialForm × Types) → expr_meaning e scope types ≡ Ok y → ◌≡◌ {A = Checked InitialForm} (Ok (one y.0, y.1)) (Ok x)
-    → is_served_value x.0 ≡ true → IsOne scope types x
-one_read e scope types y x read h served =
-    let same : ◌≡◌ {A = InitialForm × Types} (one y.0, y.1) x = same_value (one y.0, y.1) x h in
-    let form : one y.0 ≡ x.0 = ap (λ (z : InitialForm × Types). z.0) same in
-    let served_value : is_served_form y.0.form ≡ true = subst (λ (i : InitialForm). is_served_value i ≡ true) (sym form) served in
-    record {
-      value = y.0;
-      is = form;
-      same = ap (λ (z : InitialForm × Types). z.1) (sym same) ∙ (expr_good e scope types y read served_value).same;
-      typed = λ p locals v sound final. (expr_good e scope types y read served_value).is p locals v sound final;
-    }
+pub one_read : (e : Expr) (v : Visible) (scope : Scope) (types : Types) (y : Typed × Types) (x : InitialForm × Types) → expr_meaning e scope types ≡ Ok y → ◌≡◌ {A = Checked InitialForm} (Ok (one y.0, y.1)) (Ok x)
+    → IsSound v scope types → IsOne v scope types x
+one_read e v scope types y x read h sound =
+    let good = expr_good e v scope types y read sound in
+    subst (IsOne v scope types) (same_value (one y.0, y.1) x h) (record { value = y.0; is = refl; grown = good.grown; typed = good.is })
 
 -- an expression or a list
-pub data ValueRead (t : Ty) (scope : Scope) (types : Types) (x : InitialForm × Types) : Type 0 where
-  One : IsOne scope types x → ValueRead t scope types x
-  Several : IsList t scope types x → ValueRead t scope types x
+pub data ValueRead (v : Visible) (t : Ty) (scope : Scope) (types : Types) (x : InitialForm × Types) : Type 0 where
+  One : IsOne v scope types x → ValueRead v t scope types x
+  Several : IsList v t scope types x → ValueRead v t scope types x
 
-pub value_is : (t : Ty) (i : InitialValue) (scope : Scope) (types : Types) (x : InitialForm × Types) → given_value t i scope types ≡ Ok x → is_served_value x.0 ≡ true → ValueRead t scope types x
-value_is t (initial_value.Expr e) scope types x h served =
+pub value_is : (t : Ty) (i : InitialValue) (v : Visible) (scope : Scope) (types : Types) (x : InitialForm × Types) → given_value t i scope types ≡ Ok x → IsSound v scope types → ValueRead v t scope types x
+value_is t (initial_value.Expr e) v scope types x h sound =
     let step = bound (given_expr t e.value scope types) (λ y. Ok (one y.0, y.1)) x h in
-    One (one_read e.value scope types step.value x (given_expr_reads t e.value scope types step.value step.gave) step.behind served)
-value_is t (initial_value.List l) scope types x h served = Several (list_is t l scope types x h served)
+    One (one_read e.value v scope types step.value x (given_expr_reads t e.value scope types step.value step.gave) step.behind sound)
+value_is t (initial_value.List l) v scope types x h sound = Several (list_is t l v scope types x h sound)
 
 -- nothing, or a value
-pub record IsFirst (t : Ty) (scope : Scope) (types : Types) (value : InitialForm) (x : Option InitialForm × Types) : Type 0 where
+pub record IsFirst (v : Visible) (t : Ty) (scope : Scope) (types : Types) (value : InitialForm) (x : Option InitialForm × Types) : Type 0 where
   pub is : x.0 ≡ Some value
-  pub read : ValueRead t scope types (value, x.1)
+  pub read : ValueRead v t scope types (value, x.1)
 
-pub data FirstRead (t : Ty) (scope : Scope) (types : Types) (x : Option InitialForm × Types) : Type 0 where
-  Nothing : x.0 ≡ None → x.1 ≡ types → FirstRead t scope types x
-  Value : (value : InitialForm) → IsFirst t scope types value x → FirstRead t scope types x
+pub data FirstRead (v : Visible) (t : Ty) (scope : Scope) (types : Types) (x : Option InitialForm × Types) : Type 0 where
+  Nothing : x.0 ≡ None → x.1 ≡ types → FirstRead v t scope types x
+  Value : (value : InitialForm) → IsFirst v t scope types value x → FirstRead v t scope types x
 
-pub some_read : (t : Ty) (scope : Scope) (types : Types) (y : InitialForm × Types) (x : Option InitialForm × Types) → ◌≡◌ {A = Checked (Option InitialForm)} (Ok (Some y.0, y.1)) (Ok x)
-    → (is_served_value y.0 ≡ true → ValueRead t scope types y) → is_served_first x.0 ≡ true → FirstRead t scope types x
-some_read t scope types y x h read served =
+pub some_read : (v : Visible) (t : Ty) (scope : Scope) (types : Types) (y : InitialForm × Types) (x : Option InitialForm × Types) → ◌≡◌ {A = Checked (Option InitialForm)} (Ok (Some y.0, y.1)) (Ok x)
+    → ValueRead v t scope types y → FirstRead v t scope types x
+some_read v t scope types y x h read =
     let same : ◌≡◌ {A = Option InitialForm × Types} (Some y.0, y.1) x = same_value (Some y.0, y.1) x h in
-    let first : Some y.0 ≡ x.0 = ap (λ (z : Option InitialForm × Types). z.0) same in
-    let table : y.1 ≡ x.1 = ap (λ (z : Option InitialForm × Types). z.1) same in
-    Value y.0 (record {
-      is = sym first;
-      read = subst (λ (s : Types). ValueRead t scope types (y.0, s)) table (read (subst (λ (o : Option InitialForm). is_served_first o ≡ true) (sym first) served));
-    })
+    subst (FirstRead v t scope types) same (Value y.0 (record { is = refl; read = read }))
 
-pub none_read : (t : Ty) (scope : Scope) (types : Types) (x : Option InitialForm × Types) → ◌≡◌ {A = Checked (Option InitialForm)} (Ok (None, types)) (Ok x) → FirstRead t scope types x
-none_read t scope types x h =
+pub none_read : (v : Visible) (t : Ty) (scope : Scope) (types : Types) (x : Option InitialForm × Types) → ◌≡◌ {A = Checked (Option InitialForm)} (Ok (None, types)) (Ok x) → FirstRead v t scope types x
+none_read v t scope types x h =
     let same : ◌≡◌ {A = Option InitialForm × Types} (None, types) x = same_value (None, types) x h in
     Nothing (ap (λ (z : Option InitialForm × Types). z.0) (sym same)) (ap (λ (z : Option InitialForm × Types). z.1) (sym same))
 
-pub first_is : (t : Ty) (i : Option Initializer) (scope : Scope) (types : Types) (x : Option InitialForm × Types) → given_first t i scope types ≡ Ok x → is_served_first x.0 ≡ true
-    → FirstRead t scope types x
-first_is t None scope types x h served = none_read t scope types x h
-first_is t (Some (initializer.Equals equals value)) scope types x h served =
+pub first_is : (t : Ty) (i : Option Initializer) (v : Visible) (scope : Scope) (types : Types) (x : Option InitialForm × Types) → given_first t i scope types ≡ Ok x → IsSound v scope types → FirstRead v t scope types x
+first_is t None v scope types x h sound = none_read v t scope types x h
+first_is t (Some (initializer.Equals equals value)) v scope types x h sound =
     let step = bound (given_value t value scope types) (λ y. Ok (Some y.0, y.1)) x h in
-    some_read t scope types step.value x step.behind (λ s. value_is t value scope types step.value step.gave s) served
-first_is t (Some (initializer.List l)) scope types x h served =
+    some_read v t scope types step.value x step.behind (value_is t value v scope types step.value step.gave sound)
+first_is t (Some (initializer.List l)) v scope types x h sound =
     let step = bound (given_list t l scope types) (λ y. Ok (Some y.0, y.1)) x h in
-    some_read t scope types step.value x step.behind (λ s. Several (list_is t l scope types step.value step.gave s)) served
+    some_read v t scope types step.value x step.behind (Several (list_is t l v scope types step.value step.gave sound))

@@ -18,7 +18,7 @@ use Rattle.life_typing_laws.proofs.Headers.{HeaderIs}
 use Rattle.life_typing_laws.proofs.Known.{AreKnown}
 use Rattle.life_typing_laws.proofs.FunctionNames.{AreNamed}
 use Rattle.life_typing_laws.proofs.Parameters.{AreParameters, HideNothing, hides_count, ids_known, names_of, nothing_hidden, parameter_ids, parameters_are}
-use Rattle.life_typing_laws.proofs.Scopes.{IsIn, KeepsFunctions, MeansNoMore, set_length, set_other, sound_grown}
+use Rattle.life_typing_laws.proofs.Scopes.{IsIn, KeepsFunctions, MeansNoMore, set_length, set_other, sound_now}
 use Rattle.life_typing_laws.specs.Sound.{Grows, IsSound}
 
 -- ---- between functions
@@ -29,6 +29,7 @@ pub record IsUnderway (bodies : List Bool) (p : ProgressView) : Type 0 where
   pub known : AreKnown p.scope.names p.types p.scope.functions p.functions p.declared
   pub named : AreNamed p.scope p.functions
   pub size : length p.scope.visible ≡ length bodies
+  pub structs : length p.structs ≡ length p.types.structs
 
 -- ---- the function's name means a function
 
@@ -37,7 +38,8 @@ pub seen_sound : (name : NameId) (number : ℕ) (v : Visible) (scope : Scope) (t
 seen_sound name number v scope types sound = record {
   ordered = sound.ordered;
   based = sound.based;
-  no_structs = sound.no_structs;
+  structs_there = sound.structs_there;
+  structs_count = sound.structs_count;
   locals_there = sound.locals_there;
   results_there = sound.results_there;
   parameters_there = sound.parameters_there;
@@ -71,6 +73,7 @@ no_items (x ∷ xs) e = absurd (omega (arith, e))
 
 pub record AreVisible (f : Function) (p : ProgressView) (returned : Returned) (known : Known) (types : Types) (scope : Scope) : Type 0 where
   pub grows : Grows p.types types
+  pub structs : types.structs ≡ p.types.structs
   pub sound : IsSound (with_parameters (length f.parameters.items)) scope types
   pub result : HasType types returned.ty
   pub there : HasTypes types known.types
@@ -87,9 +90,9 @@ pub header_visible : (bodies : List Bool) (before : Entity) (f : Function) (p : 
     → AreVisible f p h.returned h.known h.types h.scope
 header_visible bodies before f p x h under =
     let read : HeaderRead f.parameters.items p.types h.returned h.known h.types =
-    header_read p.pointing f p.scope p.types h.returned h.known h.types under.sound.ordered under.sound.based under.sound.no_structs h.read in
+    header_read p.pointing f p.scope p.types h.returned h.known h.types under.sound.ordered under.sound.based under.sound.structs_there h.read in
     let seen : IsSeen f (with_parameters 0) p.scope (function_seen f p.scope) h.types =
-    function_is_seen f (with_parameters 0) p.scope h.types (sound_grown (with_parameters 0) p.scope p.types h.types under.sound read.grows read.ordered) in
+    function_is_seen f (with_parameters 0) p.scope h.types (sound_now (with_parameters 0) p.scope p.types h.types under.sound read.grown) in
     let all : length h.hides ≡ 0 + length f.parameters.items = hides_count h.known.types f.parameters.items [] (function_seen f p.scope) (h.hides, h.scope) h.declares in
     let hidden : HideNothing h.hides = nothing_hidden h.scope h.known.reaches h.hides f.parameters.items h.kept read.reaches_count (omega (arith, all)) h.parameters in
     let them : AreParameters h.known.types 0 f.parameters.items (function_seen f p.scope) h.types (h.hides, h.scope) =
@@ -97,7 +100,8 @@ header_visible bodies before f p x h under =
     let none : 0 + length f.parameters.items ≡ length f.parameters.items = omega arith in
     let no_locals : (function_seen f p.scope).locals ≡ [] = no_items (function_seen f p.scope).locals seen.sound.declared in
     record {
-      grows = read.grows;
+      grows = read.grown.grows;
+      structs = read.grown.structs;
       sound = subst (λ (n : ℕ). IsSound (with_parameters n) h.scope h.types) none them.sound;
       result = read.result;
       there = read.there;

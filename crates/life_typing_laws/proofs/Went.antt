@@ -17,7 +17,7 @@ use Rattle.life_typed.specs.Programs as programs
 use Rattle.life_typed.specs.Programs.{FunctionForm, ProgramForm}
 use Rattle.life_typed.specs.TypedStatement.{StmtForm, block}
 use Rattle.life_typed.specs.declared.typed_program.TypedLocal.{TypedLocal}
-use Rattle.life_names.specs.Environment.{Scope, SignatureView, forgotten, seen_as, without_locals}
+use Rattle.life_names.specs.Environment.{Scope, SignatureView, StructureView, forgotten, seen_as, without_locals}
 use Rattle.life_names.specs.declared.environment.Entity.TheVariants as entity
 use Rattle.life_type_stmt.specs.Bodies.{body, return_fault}
 use Rattle.life_typing.specs.Functions.{PartsView, behind_header, behind_header_as, body_kept, changed_at, with_function, with_parameters_forgotten}
@@ -39,7 +39,6 @@ use Rattle.life_typing_laws.proofs.Scopes.{IsIn, forgotten_functions, forgotten_
 use Rattle.life_typing_laws.proofs.Statements.{IsPart, is_block}
 use Rattle.life_typing_laws.proofs.Steps.{answered, same_some, same_answer, not_both}
 use Rattle.life_typing_laws.proofs.Visible.{IsUnderway}
-use Rattle.life_typing_laws.specs.Served.{is_served_statement}
 use Rattle.life_typing_laws.specs.Sound.{IsSound, Keeps}
 
 -- ---- behind it no parameter and no variable is visible
@@ -56,7 +55,8 @@ ended_sound : (names : List NameId) (v : Visible) (scope : Scope) (types : Types
 ended_sound names v scope types sound shows = record {
   ordered = sound.ordered;
   based = sound.based;
-  no_structs = forgotten_structs names (without_locals scope) ∙ sound.no_structs;
+  structs_there = λ n s e. sound.structs_there n s (subst (λ (ss : List StructureView). slice_get ss n ≡ Some s) (forgotten_structs names (without_locals scope)) e);
+  structs_count = sound.structs_count ∙ ap length (sym (forgotten_structs names (without_locals scope)));
   locals_there = λ n l e. absurd (never n l (subst (λ (ls : List TypedLocal). slice_get ls n ≡ Some l) (forgotten_locals names (without_locals scope)) e));
   results_there = λ n s e. sound.results_there n s (subst (λ (fs : List SignatureView). slice_get fs n ≡ Some s) (forgotten_functions names (without_locals scope)) e);
   parameters_there = λ n s e. sound.parameters_there n s (subst (λ (fs : List SignatureView). slice_get fs n ≡ Some s) (forgotten_functions names (without_locals scope)) e);
@@ -90,10 +90,6 @@ kept_count (x ∷ xs) (y ∷ ys) keeps = let rest : length xs ≤ length ys = ke
 
 -- ---- what holds behind a function
 
--- each body is served
-abbrev pub AreServed : List FunctionForm → List DeclaredView → Type 0
-AreServed forms ds = (n : ℕ) (form : FunctionForm) (d : DeclaredView) → slice_get forms n ≡ Some form → slice_get ds n ≡ Some d → d.has_body ≡ true → is_served_statement form.body ≡ true
-
 pub record Went (bodies : List Bool) (f : Function) (p q : ProgressView) : Type 0 where
   pub under : IsUnderway bodies q
   pub number : ℕ
@@ -109,14 +105,15 @@ module _ (bodies : List Bool) (f : Function) (p : ProgressView) (h : PartsView) 
 
   -- what is visible behind it, from what is visible behind its body
   shut : (scope : Scope) (types : Types) (forms : List FunctionForm) (ds : List DeclaredView) (v : Visible) → IsSound v scope types → AreKnown scope.names types scope.functions forms ds
-      → AreNamed scope forms → ((k n : ℕ) → slice_get scope.visible k ≡ Some (entity.Local n) → IsIn names k) → length scope.visible ≡ length bodies
+      → AreNamed scope forms → ((k n : ℕ) → slice_get scope.visible k ≡ Some (entity.Local n) → IsIn names k) → length scope.visible ≡ length bodies → types.structs ≡ y.1.types.structs
       → IsUnderway bodies (record y.1 { scope = ended names scope; types = types; functions = forms; declared = ds })
-  shut scope types forms ds v sound known named shows size = record {
+  shut scope types forms ds v sound known named shows size structs = record {
     sound = ended_sound names v scope types sound shows;
     known = subst (λ (ns : List (List ℕ)). AreKnown ns types (ended names scope).functions forms ds) (sym (forgotten_texts names (without_locals scope)))
         (subst (λ (fs : List SignatureView). AreKnown scope.names types fs forms ds) (sym (forgotten_functions names (without_locals scope))) known);
     named = λ k n e. named k n (forgotten_meant names (without_locals scope) k n e);
     size = forgotten_size names (without_locals scope) ∙ size;
+    structs = entered.structs ∙ ap length (sym structs);
   }
 
   -- a name that means a function behind the body means it behind the function too
@@ -127,7 +124,7 @@ module _ (bodies : List Bool) (f : Function) (p : ProgressView) (h : PartsView) 
 
   declared_went : has_body f.body ≡ false → Went bodies f p (record y.1 { scope = ended names y.1.scope })
   declared_went bodiless = record {
-    under = shut y.1.scope y.1.types y.1.functions y.1.declared (with_parameters (length f.parameters.items)) entered.sound entered.known entered.forms entered.shows entered.size;
+    under = shut y.1.scope y.1.types y.1.functions y.1.declared (with_parameters (length f.parameters.items)) entered.sound entered.known entered.forms entered.shows entered.size refl;
     number = y.0;
     texts = forgotten_texts names (without_locals y.1.scope) ∙ entered.texts;
     keeps = λ k n e. let kept = entered.keeps k n e in stays y.1.scope k n kept.0 kept.1;
@@ -154,7 +151,7 @@ module _ (bodies : List Bool) (f : Function) (p : ProgressView) (h : PartsView) 
   abbrev main : Bool
   main = is_main y.1.scope f.name.id
 
-  module _ (b : Block) (w : (StmtForm × Scope) × Types) (checked : body h.returned main b y.1.scope y.1.types ≡ Ok w) (served : is_served_statement w.0.0 ≡ true) where
+  module _ (b : Block) (w : (StmtForm × Scope) × Types) (checked : body h.returned main b y.1.scope y.1.types ≡ Ok w) where
     abbrev form : FunctionForm
     form = with_body w
 
@@ -162,7 +159,7 @@ module _ (bodies : List Bool) (f : Function) (p : ProgressView) (h : PartsView) 
     v = with_parameters (length f.parameters.items)
 
     part : IsPart [] (around_body h.returned) v y.1.scope y.1.types w
-    part = body_part h.returned main b v y.1.scope y.1.types w checked served entered.sound entered.result_there
+    part = body_part h.returned main b v y.1.scope y.1.types w checked entered.sound entered.result_there
 
     -- the parameters are its first locals
     locals_count : length at.form.parameters ≡ length y.1.scope.locals
@@ -197,7 +194,7 @@ module _ (bodies : List Bool) (f : Function) (p : ProgressView) (h : PartsView) 
       -- no return is missing at its end
       ends_as : HasInEnd P w.0.1.names w.1 w.0.1.functions → return_fault (programs.is_main P.names at.form.name) (is_void (type_at P.types at.form.result)) (ends w.0.0) ≡ None
       ends_as final =
-          let there : HasType w.1 h.returned = stays_there y.1.types w.1 h.returned part.moves.types entered.result_there in
+          let there : HasType w.1 h.returned = stays_there y.1.types w.1 h.returned part.moves.grown.grows entered.result_there in
           subst (λ (m : Bool). return_fault m (is_void (type_at P.types at.form.result)) (ends w.0.0) ≡ None) (sym (main_is final.named))
           (subst (λ (t : TyId). return_fault main (is_void (type_at P.types t)) (ends w.0.0) ≡ None) result_is
           (subst (λ (t : Ty). return_fault main (is_void t) (ends w.0.0) ≡ None) (sym (same_type_at w.1 P.types h.returned final.grown there))
@@ -227,13 +224,13 @@ module _ (bodies : List Bool) (f : Function) (p : ProgressView) (h : PartsView) 
         grown : AreKnown w.0.1.names w.1 w.0.1.functions y.1.functions y.1.declared
         grown = subst (λ (ns : List (List ℕ)). AreKnown ns w.1 w.0.1.functions y.1.functions y.1.declared) (sym part.moves.texts)
             (subst (λ (fs : List SignatureView). AreKnown y.1.scope.names w.1 fs y.1.functions y.1.declared) (sym part.moves.functions)
-            (known_grown y.1.scope.names y.1.types w.1 y.1.scope.functions y.1.functions y.1.declared part.moves.types entered.known))
+            (known_grown y.1.scope.names y.1.types w.1 y.1.scope.functions y.1.functions y.1.declared part.moves.grown.grows entered.known))
 
     bodied_went : has_body f.body ≡ true → Went bodies f p (behind_body w)
     bodied_went bodied = record {
       under = shut w.0.1 w.1 (slice_set y.1.functions y.0 form) (slice_set y.1.declared y.0 noted) (after w.0.0 v) part.sound known_behind
           (named_changed w.0.1 y.1.functions y.0 at.form form at.form_there refl (λ k n e. entered.forms k n (part.moves.means k n e)))
-          (λ k n e. ⊎_elim (λ none. absurd none) (λ old. entered.shows k n old) (part.moves.shows k n e)) (part.moves.size ∙ entered.size);
+          (λ k n e. ⊎_elim (λ none. absurd none) (λ old. entered.shows k n old) (part.moves.shows k n e)) (part.moves.size ∙ entered.size) part.moves.grown.structs;
       number = y.0;
       texts = forgotten_texts names (without_locals w.0.1) ∙ part.moves.texts ∙ entered.texts;
       keeps = λ k n e. let kept = entered.keeps k n e in stays w.0.1 k n kept.0 (part.moves.keeps k n kept.1).1;
@@ -256,7 +253,7 @@ module _ (bodies : List Bool) (f : Function) (p : ProgressView) (h : PartsView) 
 -- ---- the whole step
 
 module _ (bodies : List Bool) (f : Function) (p q : ProgressView) (h : PartsView) (y : ℕ × ProgressView) (entered : Entered bodies f p h y) (z : ProgressView)
-    (same : with_parameters_forgotten f z ≡ q) (served : AreServed q.functions q.declared) where
+    (same : with_parameters_forgotten f z ≡ q) where
   -- what is changed at the function's number
   abbrev changed_form : (StmtForm × Scope) × Types → FunctionForm → FunctionForm
   changed_form w g = record g { place = f.name.place; locals = w.0.1.locals; body = w.0.0 }
@@ -282,12 +279,6 @@ module _ (bodies : List Bool) (f : Function) (p q : ProgressView) (h : PartsView
         ∙ ap (λ (u : ProgressView). with_parameters_forgotten f u) kept
         ∙ same
 
-    body_served : is_served_statement w.0.0 ≡ true
-    body_served = served y.0 (changed_form w k.form) (changed_note k.declared)
-        (subst (λ (u : ProgressView). slice_get u.functions y.0 ≡ Some (changed_form w k.form)) behind_it (set_there y.1.functions y.0 k.form (changed_form w k.form) k.form_there))
-        (subst (λ (u : ProgressView). slice_get u.declared y.0 ≡ Some (changed_note k.declared)) behind_it (set_there y.1.declared y.0 k.declared (changed_note k.declared) k.declared_there))
-        refl
-
   behind_header_went : behind_header f y.0 h.returned y.1 ≡ Ok z → Went bodies f p q
   behind_header_went e = go f.body refl e
     where
@@ -301,10 +292,10 @@ module _ (bodies : List Bool) (f : Function) (p q : ProgressView) (h : PartsView
           let step = answered (body h.returned (is_main y.1.scope f.name.id) b y.1.scope y.1.types) (λ x. Ok (body_kept f y.0 y.1 (x.0).0 (x.0).1 x.1)) z e in
           let kept = same_answer (body_kept f y.0 y.1 step.value.0.0 step.value.0.1 step.value.1) z step.behind in
           subst (Went bodies f p) (behind_it step.value kept)
-          (bodied_went bodies f p h y entered b step.value step.gave (body_served step.value kept) (ap (λ (c : FunctionBody). has_body c) is))
+          (bodied_went bodies f p h y entered b step.value step.gave (ap (λ (c : FunctionBody). has_body c) is))
 
 -- so a function that is read leaves all as it should be
-pub function_went : (bodies : List Bool) (f : Function) (p q : ProgressView) → IsUnderway bodies p → with_function bodies f p ≡ Ok q → AreServed q.functions q.declared → Went bodies f p q
-function_went bodies f p q under e served =
+pub function_went : (bodies : List Bool) (f : Function) (p q : ProgressView) → IsUnderway bodies p → with_function bodies f p ≡ Ok q → Went bodies f p q
+function_went bodies f p q under e =
     let it = function_is bodies f p q e in
-    behind_header_went bodies f p q (parts it.h) it.y (enters bodies f p under it.x it.h it.y it.declared) it.z it.is served it.behind
+    behind_header_went bodies f p q (parts it.h) it.y (enters bodies f p under it.x it.h it.y it.declared) it.z it.is it.behind

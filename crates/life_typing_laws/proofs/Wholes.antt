@@ -39,15 +39,15 @@ use Rattle.life_unique.proofs.ExpressionLayers.{parts_part, parts_primary, parts
 use Rattle.life_unique.specs.SettledExpressions.{Opened-PostfixPart, Opened-Primary, Opened-Unary, Opened-Additive, Opened-AdditivePart, Opened-Multiplicative, Opened-MultiplicativePart, Opened-Equality, Opened-EqualityPart, Opened-Relational, Opened-RelationalPart, Opened-AndPart, Opened-Arguments, Opened-Expr, Opened-InitList, Opened-LogicalAnd, Opened-OrPart, Opened-Postfix}
 use Rattle.life_typing_laws.proofs.Chains.{chain_good, operand_good}
 use Rattle.life_typing_laws.proofs.Constructing.{construct_good}
-use Rattle.life_typing_laws.proofs.Expressions.{alone_good, call_good, name_good, never_good}
+use Rattle.life_typing_laws.proofs.Expressions.{alone_good, call_good, name_good}
 use Rattle.life_typing_laws.proofs.Indexing.{index_good}
+use Rattle.life_typing_laws.proofs.Making.{unique_good}
 use Rattle.life_typing_laws.proofs.Members.{arrow_good, dot_good}
 use Rattle.life_typing_laws.proofs.Moving.{move_good}
 use Rattle.life_typing_laws.proofs.Texts.{text_good}
 use Rattle.life_typing_laws.proofs.Each.{each_of, made_alone}
 use Rattle.life_typing_laws.proofs.Prefixes.{paren_good, prefix_good}
 use Rattle.life_typing_laws.proofs.Typed.{Good, GoodBehind, GoodList}
-use Rattle.life_typing_laws.proofs.Unserved.{unique_none}
 
 -- an int or a long has no parts
 number_parts : (types : Types) (n : ℕ) → HasParts types (number_type n)
@@ -125,7 +125,7 @@ primary_layer (open_expr.Call name l) = call_good name (arguments_meaning l.0) l
 primary_layer (open_expr.Construct name l) = construct_good name (init_list_meaning l.0) l.1
 primary_layer (open_expr.Paren opening inner closing) = paren_good closing (expr_meaning inner.value.0) inner.value.1
 primary_layer (open_expr.Move name opening moved closing) = move_good name.word moved
-primary_layer (open_expr.MakeUnique name element l) = never_good _ (unique_none name.word element (arguments_meaning l.0))
+primary_layer (open_expr.MakeUnique name element l) = unique_good name.word element (arguments_meaning l.0) l.1
 primary_layer (open_expr.TextOf name opening inner closing) = text_good name.word closing (expr_meaning inner.value.0) inner.value.1
 primary_layer (open_expr.Input name opening closing) =
     alone_good (primary_step (open_expr.Input name opening closing)) (value name.word ty.Long input) (λ scope types. refl) (λ p locals v types. record { is = refl; parts = tt; place = tt })

@@ -1,12 +1,14 @@
 -- What holds where a construct stands as checking goes on, and what the finished program has of it.
-use Rattle.std.specs.Prelude.{◌≡◌, ℕ, List, [], Some, Contains, length, slice_get}
+use Rattle.std.specs.Prelude.{◌≡◌, ℕ, ◌<◌, List, Some, Contains, length, slice_get}
 use Rattle.life_types.specs.Trees.{IsOrdered}
 use Rattle.life_types.specs.Types.{Types, HasEachOnce, HasType, HasTypes}
+use Rattle.life_types.specs.declared.ty.Ty.TheVariants as ty
 use Rattle.life_typed.specs.BaseTypes.{base_types}
 use Rattle.life_typed.specs.Programs.{FunctionForm, ProgramForm}
 use Rattle.life_typed.specs.declared.typed_program.TypedLocal.{TypedLocal}
-use Rattle.life_names.specs.Environment.{Scope, SignatureView}
+use Rattle.life_names.specs.Environment.{Scope, SignatureView, StructureView}
 use Rattle.life_names.specs.declared.environment.Entity.TheVariants as entity
+use Rattle.life_typing.specs.Structs.{types_of}
 use Rattle.life_well_typed.specs.Expressions.{parameter_types}
 use Rattle.life_well_typed.specs.Visible.{Visible}
 
@@ -15,19 +17,29 @@ use Rattle.life_well_typed.specs.Visible.{Visible}
 abbrev pub Keeps : {A : Type 0} → List A → List A → Type 0
 Keeps {A = A} xs ys = (n : ℕ) (x : A) → slice_get xs n ≡ Some x → slice_get ys n ≡ Some x
 
--- ---- tables in which older numbers stay, to which no type is added that is there, and no struct
+-- ---- tables in which older numbers stay, and to which no type is added that is there
 
 pub record Grows (old new : Types) : Type 0 where
   pub types : Keeps old.types new.types
   pub once : HasEachOnce old → HasEachOnce new
-  pub structs : new.structs ≡ old.structs
+  pub structs : Keeps old.structs new.structs
+
+-- the table has a struct under this number: its type, and its members, of which there is one at least
+pub record HasStruct (types : Types) (number : ℕ) (s : StructureView) : Type 0 where
+  pub type : slice_get types.types s.ty.0 ≡ Some (ty.Struct number)
+  pub members : slice_get types.structs number ≡ Some (types_of s.members)
+  pub some : 0 < length (types_of s.members)
+
+abbrev pub HasStructs : Types → List StructureView → Type 0
+HasStructs types structs = (n : ℕ) (s : StructureView) → slice_get structs n ≡ Some s → HasStruct types n s
 
 -- ---- what holds of a scope and a table as checking goes on, where so much is declared and visible
 
 pub record IsSound (v : Visible) (scope : Scope) (types : Types) : Type 0 where
   pub ordered : IsOrdered types
   pub based : Grows base_types types
-  pub no_structs : scope.structs ≡ []
+  pub structs_there : HasStructs types scope.structs
+  pub structs_count : length types.structs ≡ length scope.structs
   pub locals_there : (n : ℕ) (l : TypedLocal) → slice_get scope.locals n ≡ Some l → HasType types l.ty
   pub results_there : (n : ℕ) (s : SignatureView) → slice_get scope.functions n ≡ Some s → HasType types s.result
   pub parameters_there : (n : ℕ) (s : SignatureView) → slice_get scope.functions n ≡ Some s → HasTypes types s.parameters

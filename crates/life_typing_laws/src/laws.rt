@@ -1,5 +1,4 @@
 // What checking gives is well typed, and its names are in the tree's table.
-ghost use Rattle.life_built.specs.Built.{is_built};
 ghost use Rattle.life_keys.specs.NamedTokens.{are_named};
 ghost use Rattle.life_names.specs.Environment.{Scope};
 ghost use Rattle.life_tree.specs.Tree.{tokens_of};
@@ -13,12 +12,10 @@ ghost use Rattle.life_typed.specs.Programs.{ProgramForm};
 ghost use Rattle.life_typed.specs.TypedForm.{Typed, whole};
 ghost use Rattle.life_typed.specs.TypedStatement.{StmtForm};
 ghost use Rattle.life_typed.specs.declared.typed_program.TypedLocal.{TypedLocal};
-ghost use Rattle.life_types.specs.Trees.{IsOrdered};
 ghost use Rattle.life_types.specs.Types.{HasType, Types};
 ghost use Rattle.life_types.specs.declared.ty.TyId.{TyId};
 ghost use Rattle.life_typing.specs.Resolves.{resolved};
-ghost use Rattle.life_typing_laws.specs.Served.{is_served, is_served_form, is_served_statement};
-ghost use Rattle.life_typing_laws.specs.Sound.{IsFinal, IsSound};
+ghost use Rattle.life_typing_laws.specs.Sound.{Grows, IsFinal, IsSound};
 ghost use Rattle.life_well_typed.specs.Expressions.{IsExpression};
 ghost use Rattle.life_well_typed.specs.Functions.{IsWellTyped};
 ghost use Rattle.life_well_typed.specs.Mains.{HasIntMain};
@@ -28,34 +25,25 @@ ghost use Rattle.life_well_typed.specs.Statements.{IsStatement};
 ghost use Rattle.life_well_typed.specs.Visible.{Visible};
 ghost use Rattle.std.specs.Prelude.{◌≡◌, Bool, List, Ok, false, length, true};
 
-/// An expression is well typed, where it is checked in a sound scope and table and served, in each program and function that have in the end what there is here; and it adds no types.
+/// An expression is well typed, where it is checked in a sound scope and table, in each program and function that have in the end what there is behind it; what was in the table stays there.
 pub fn expressions_are_well_typed()
-    ensures { (p : ProgramForm) (locals : List TypedLocal) (e : Expr) (v : Visible) (scope : Scope) (types : Types) (x : Typed × Types)
-        → expr_meaning e scope types ≡ Ok x → is_served_form x.0.form ≡ true → IsSound v scope types → IsFinal p locals scope types
-        → (x.1 ≡ types) × IsExpression p locals v.visible (whole x.0) }
+    ensures grows { (e : Expr) (v : Visible) (scope : Scope) (types : Types) (x : Typed × Types) → expr_meaning e scope types ≡ Ok x → IsSound v scope types → Grows types x.1 }
+    ensures well_typed { (p : ProgramForm) (locals : List TypedLocal) (e : Expr) (v : Visible) (scope : Scope) (types : Types) (x : Typed × Types)
+        → expr_meaning e scope types ≡ Ok x → IsSound v scope types → IsFinal p locals scope x.1 → IsExpression p locals v.visible (whole x.0) }
 {}
 
-/// A function's body is well typed, where it is checked in a sound scope and table and served, in each program and function that have in the end what there is behind it.
+/// A function's body is well typed, where it is checked in a sound scope and table, in each program and function that have in the end what there is behind it.
 pub fn bodies_are_well_typed()
     ensures { (p : ProgramForm) (locals : List TypedLocal) (result : TyId) (is_main : Bool) (b : Block) (v : Visible) (scope : Scope) (types : Types) (x : (StmtForm × Scope) × Types)
-        → body result is_main b scope types ≡ Ok x → is_served_statement x.0.0 ≡ true → IsSound v scope types → HasType types result → IsFinal p locals x.0.1 x.1
-        → IsStatement p locals result x.0.0 false v }
+        → body result is_main b scope types ≡ Ok x → IsSound v scope types → HasType types result → IsFinal p locals x.0.1 x.1 → IsStatement p locals result x.0.0 false v }
 {}
 
-/// The typed program of a tree is well typed, where it is served so far: it has no structs, and no `std::make_unique`. `main` gives back an int; and the table, which is in order and has no structs, has the type of what each function gives back.
-pub fn served_programs_are_well_typed()
-    ensures well_typed { (tree : Program) (p : ProgramForm) → resolved tree ≡ Ok p → is_served p ≡ true → IsWellTyped p }
-    ensures results { (tree : Program) (p : ProgramForm) → resolved tree ≡ Ok p → is_served p ≡ true → HasResults p }
-    ensures mains { (tree : Program) (p : ProgramForm) → resolved tree ≡ Ok p → is_served p ≡ true → HasIntMain p }
-    ensures table { (tree : Program) (p : ProgramForm) → resolved tree ≡ Ok p → is_served p ≡ true → HasTable p }
-{}
-
-/// The typed program of a tree is well typed, where it is built so far; `main` gives back an int; and the table, which is in order and has no structs, has the type of what each function gives back.
+/// The typed program of a tree is well typed; `main` gives back an int; and the table, which is in order and has each struct, has the type of what each function gives back.
 pub fn resolved_programs_are_well_typed()
-    ensures well_typed { (tree : Program) (p : ProgramForm) → resolved tree ≡ Ok p → is_built p ≡ true → IsWellTyped p }
-    ensures results { (tree : Program) (p : ProgramForm) → resolved tree ≡ Ok p → is_built p ≡ true → HasResults p }
-    ensures mains { (tree : Program) (p : ProgramForm) → resolved tree ≡ Ok p → is_built p ≡ true → HasIntMain p }
-    ensures table { (tree : Program) (p : ProgramForm) → resolved tree ≡ Ok p → is_built p ≡ true → HasTable p }
+    ensures well_typed { (tree : Program) (p : ProgramForm) → resolved tree ≡ Ok p → IsWellTyped p }
+    ensures results { (tree : Program) (p : ProgramForm) → resolved tree ≡ Ok p → HasResults p }
+    ensures mains { (tree : Program) (p : ProgramForm) → resolved tree ≡ Ok p → HasIntMain p }
+    ensures table { (tree : Program) (p : ProgramForm) → resolved tree ≡ Ok p → HasTable p }
 {}
 
 /// Where the names in a tree are in its table of names, so are those of its typed program: each function's, and those of its parameters and variables; and no two functions have one name.

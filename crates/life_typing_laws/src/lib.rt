@@ -5,5 +5,5 @@ mod laws;
 
 pub use laws::{
     bodies_are_well_typed, expressions_are_well_typed, resolved_programs_are_well_typed,
-    resolved_programs_have_names, served_programs_are_well_typed,
+    resolved_programs_have_names,
 };

@@ -19,5 +19,5 @@ pub record HasTable (p : ProgramForm) : Type 0 where
   pub once : HasEachOnce p.types
   -- each struct has a member
   pub members : (number : ℕ) (ids : List TyId) → slice_get p.types.structs number ≡ Some ids → 0 < length ids
-  -- what a program that is built has, beside this: no structs
-  pub structs : p.types.structs ≡ []
+  -- it has each struct, and no others
+  pub structs : length p.structs ≡ length p.types.structs
