@@ -1,5 +1,5 @@
 -- The functions of a core program have the names of the typed ones, in their order, so no two of them have one.
-use Rattle.std.proofs.Common.{◌≡◌, ℕ, true, ◌&&◌, ◌||◌, not, List, [], ◌∷◌, length, map, nat_eq, refl, ap, ◌∙◌, Bool, arith}
+use Rattle.std.proofs.Common.{◌≡◌, ℕ, true, ◌&&◌, ◌||◌, not, List, [], ◌∷◌, map, nat_eq, refl, ap, ◌∙◌, Bool}
 use Rattle.std.specs.List.{list_any}
 use Rattle.std.proofs.lemmas.Bool.{false≢true}
 use Rattle.life_types.specs.Types.{Types}
@@ -10,6 +10,7 @@ use Rattle.life_core.specs.Function.{Function}
 use Rattle.life_elab.specs.Programs.{member_names}
 use Rattle.life_typed.specs.Programs.{FunctionForm, ProgramForm, StructForm}
 use Rattle.life_well_typed.specs.Names as typed
+use Rattle.life_well_typed.specs.Results.{HaveMembers}
 use Rattle.life_proper.specs.WellFormedPrograms.{have_names, have_own_names, is_of_name}
 use Rattle.life_elab_laws.proofs.Programs.{AreWritten}
 
@@ -30,10 +31,10 @@ module _ (p : ProgramForm) (types : Types) where
   own_names _ _ h = absurd h
 
 -- where there are no structs, the table has none
-pub no_structs_there : (forms : List StructForm) (structs : List (List TyId)) → has_no_structs forms ≡ true → length forms ≡ length structs → structs ≡ []
-no_structs_there [] [] b count = refl
-no_structs_there [] (ids ∷ structs) b count = absurd (omega (arith, count))
-no_structs_there (s ∷ ss) structs b count = absurd (false≢true b)
+pub no_structs_there : (forms : List StructForm) (structs : List (List TyId)) → has_no_structs forms ≡ true → HaveMembers forms structs → structs ≡ []
+no_structs_there [] [] b have = refl
+no_structs_there [] (ids ∷ structs) b have = absurd have
+no_structs_there (s ∷ ss) structs b have = absurd (false≢true b)
 
 -- .. and there are no members
 pub no_members : (names : ℕ) (structs : List (List TyId)) (forms : List StructForm) → structs ≡ [] → has_no_structs forms ≡ true → have_names names structs (map member_names forms) ≡ true

@@ -18,7 +18,7 @@ use Rattle.life_proper.specs.WellFormed.{is_well_formed_tree}
 use Rattle.life_proper.specs.WellFormedPrograms.{IsWellFormedProgram, are_well_formed_locals, is_name, is_result_of, is_well_formed_function, names_parameters}
 use Rattle.life_well_typed.specs.Functions.{IsWellTyped}
 use Rattle.life_well_typed.specs.Names.{HasNames}
-use Rattle.life_well_typed.specs.Results.{HasResults}
+use Rattle.life_well_typed.specs.Results.{HasResults, HaveMembers}
 use Rattle.life_writer.specs.Variables.{kind}
 use Rattle.life_elab.specs.ProgramForms.{translated, written}
 use Rattle.life_elab.specs.Programs.{around, texts_of}
@@ -115,10 +115,10 @@ module _ (p : ProgramForm) (typed : IsWellTyped p) (built : are_built_functions 
             (λ n f at core w. one_formed n f at core w named);
       }
 
-pub program_well_formed : (p : ProgramForm) → IsWellTyped p → HasResults p → HasNames p → IsOrdered p.types → HasEachOnce p.types → length p.structs ≡ length p.types.structs → is_built p ≡ true → IsWellFormedProgram (translated p)
-program_well_formed p typed results named ordered once count b =
+pub program_well_formed : (p : ProgramForm) → IsWellTyped p → HasResults p → HasNames p → IsOrdered p.types → HasEachOnce p.types → HaveMembers p.structs p.types.structs → is_built p ≡ true → IsWellFormedProgram (translated p)
+program_well_formed p typed results named ordered once have b =
     let none = (and_parts (has_no_structs p.structs) (are_built_functions p.types p.functions) (and_parts (has_built_types p.types) _ b).1).0 in
-    program_formed p typed (functions_built p b) results named ordered once (no_structs_there p.structs p.types.structs none count) none
+    program_formed p typed (functions_built p b) results named ordered once (no_structs_there p.structs p.types.structs none have) none
 
 pub program_served : (p : ProgramForm) → IsWellTyped p → HasResults p → is_built p ≡ true → is_served_program (translated p) ≡ true
 program_served p typed results b = program_serves p typed (functions_built p b) results

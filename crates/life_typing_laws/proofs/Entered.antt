@@ -23,6 +23,7 @@ use Rattle.life_typing.specs.Names.{DeclaredView, fits_main, gets_body, has_body
 use Rattle.life_typing.specs.Progress.{ProgressView}
 use Rattle.life_typing.specs.Promises.{parameter_promises}
 use Rattle.life_well_typed.specs.Expressions.{type_of}
+use Rattle.life_well_typed.specs.Results.{HaveMembers}
 use Rattle.life_well_typed.specs.Visible.{Visible, with_parameters}
 use Rattle.life_typing_laws.proofs.Declaring.{AgreesAt, behind_first, by_way, main_fits, no_second, noted, parts, said, signature, with_header}
 use Rattle.life_typing_laws.proofs.Headers.{HeaderIs}
@@ -80,7 +81,7 @@ pub record Entered (bodies : List Bool) (f : Function) (p : ProgressView) (h : P
   pub keeps : KeepsFunctions (names_of f.parameters.items) p.scope y.1.scope
   pub named : (IsIn (names_of f.parameters.items) f.name.id.0 → ⊥) × (slice_get y.1.scope.visible f.name.id.0 ≡ Some (entity.Function y.0))
   pub size : length y.1.scope.visible ≡ length bodies
-  pub structs : length y.1.structs ≡ length y.1.types.structs
+  pub structs : HaveMembers y.1.structs y.1.types.structs
   pub free : has_body f.body ≡ true → (d : DeclaredView) → slice_get y.1.declared y.0 ≡ Some d → d.has_body ≡ false
   pub came : (m : ℕ) (d : DeclaredView) → slice_get y.1.declared m ≡ Some d → (slice_get p.declared m ≡ Some d) ⊎ IsBegun bodies f p y.0 m
 
@@ -130,8 +131,8 @@ module _ (bodies : List Bool) (f : Function) (p : ProgressView) (under : IsUnder
       (known_grown p.scope.names p.types h.types p.scope.functions p.functions p.declared visible.grows under.known))
 
   -- .. and no struct comes
-  still_structs : length p.structs ≡ length h.types.structs
-  still_structs = under.structs ∙ ap length (sym visible.structs)
+  still_structs : HaveMembers p.structs h.types.structs
+  still_structs = subst (HaveMembers p.structs) (sym visible.structs) under.structs
 
   again : (number : ℕ) → meaning p.scope f.name.id ≡ entity.Function number → AgreesAt h number → Entered bodies f p (parts h) (number, with_header h)
   again number is agree = made

@@ -1,5 +1,5 @@
 -- Whole files: what is resolved is well typed.
-use Rattle.std.proofs.Common.{◌≡◌, ◌<◌, inr, ⊎_elim, ℕ, zero, suc, Bool, true, false, Option, None, Some, Ok, List, [], ◌∷◌, length, slice_get, refl, sym, ap, subst, ◌∙◌, arith}
+use Rattle.std.proofs.Common.{◌≡◌, inr, ⊎_elim, ℕ, zero, suc, Bool, true, false, Option, None, Some, Ok, List, [], ◌∷◌, length, slice_get, refl, sym, ap, subst, ◌∙◌, arith}
 use Rattle.std.specs.Prelude.{unwrap_or}
 use Rattle.std.proofs.lemmas.Option.{slice_get_within}
 use Rattle.life_types.specs.Trees.{HasPartsBelow, IsOrdered}
@@ -19,7 +19,7 @@ use Rattle.life_typing.specs.Functions.{with_function}
 use Rattle.life_typing.specs.Names.{DeclaredView}
 use Rattle.life_typing.specs.Progress.{ProgressView, nothing_defined}
 use Rattle.life_typing.specs.Resolves.{bodies_of, finished, no_flags, resolved, texts_of, with_definitions}
-use Rattle.life_typing.specs.Structs.{types_of, with_structure}
+use Rattle.life_typing.specs.Structs.{with_structure}
 use Rattle.life_well_typed.specs.Functions.{AreWellTyped, IsWellTyped, IsWellTypedFunction}
 use Rattle.life_well_typed.specs.Mains.{HasIntMain, HaveIntMains}
 use Rattle.life_well_typed.specs.Results.{HasResults, HasTable, HaveResults}
@@ -32,7 +32,6 @@ use Rattle.life_typing_laws.proofs.Steps.{answered, same_some, same_answer}
 use Rattle.life_typing_laws.proofs.StructsDefined.{StructWent, bodies_come_then, struct_went}
 use Rattle.life_typing_laws.proofs.Visible.{IsUnderway}
 use Rattle.life_typing_laws.proofs.Went.{Went, function_went}
-use Rattle.life_typing_laws.specs.Sound.{HasStruct}
 
 -- ---- at the beginning
 
@@ -80,7 +79,7 @@ begins tree = record {
   known = record { forms_count = refl; declared_count = refl; each = λ n s e. absurd (nothing_there n s e) };
   named = λ k n e. absurd (no_function (texts_of tree) k n e);
   size = names_count (texts_of tree) ∙ sym (all_flags_size tree.definitions.items (no_flags (texts_of tree)));
-  structs = refl;
+  structs = tt;
 }
 
 all_come : (tree : Program) → BodiesCome (bodies_of tree) (nothing_defined (texts_of tree)) tree.definitions.items
@@ -187,19 +186,11 @@ module _ (tree : Program) (q : ProgressView) (ends : Ends (bodies_of tree) (text
       let named : is_main q.scope.names k.form.name ≡ true = ap (λ (g : FunctionForm). is_main q.scope.names g.name) same ∙ ap (λ (ns : List (List ℕ)). is_main ns f.name) ends.texts ∙ is in
       ap (λ (g : FunctionForm). type_at q.types g.result) (sym same) ∙ ap (type_at q.types) (k.is.main named) ∙ ap (λ (o : Option Ty). unwrap_or o ty.Void) (ends.under.sound.based.types 3 ty.Int refl)
 
-  -- each struct has a member
-  struct_members : (number : ℕ) (ids : List TyId) → slice_get q.types.structs number ≡ Some ids → 0 < length ids
-  struct_members number ids e =
-      let found : IsThere q.scope.structs number = within q.scope.structs number (omega (arith, slice_get_within q.types.structs number ids e, ends.under.sound.structs_count)) in
-      let has : HasStruct q.types number found.item = ends.under.sound.structs_there number found.item found.there in
-      subst (λ (xs : List TyId). 0 < length xs) (same_some (types_of found.item.members) ids (sym has.members ∙ e)) has.some
-
   -- each type of the table comes behind its parts and stands once
   table_well : HasTable p
   table_well = record {
     ordered = ends.under.sound.ordered;
     once = ends.under.sound.based.once base_once;
-    members = struct_members;
     structs = ends.under.structs;
   }
 

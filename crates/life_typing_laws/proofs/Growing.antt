@@ -58,7 +58,7 @@ type_is types id t e = rw e refl
 
 -- .. a struct too
 pub struct_stays : (old new : Types) (number : ℕ) (s : StructureView) → Grows old new → HasStruct old number s → HasStruct new number s
-struct_stays old new number s grows has = record { type = grows.types s.ty.0 (ty.Struct number) has.type; members = grows.structs number (types_of s.members) has.members; some = has.some }
+struct_stays old new number s grows has = record { type = grows.types s.ty.0 (ty.Struct number) has.type; members = grows.structs number (types_of s.members) has.members }
 
 pub structs_stay : (old new : Types) (structs : List StructureView) → Grows old new → HasStructs old structs → HasStructs new structs
 structs_stay old new structs grows has n s e = struct_stays old new n s grows (has n s e)

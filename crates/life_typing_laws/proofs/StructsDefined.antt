@@ -1,5 +1,5 @@
 -- A struct is defined: what is known behind it.
-use Rattle.std.proofs.Common.{◌≡◌, ⊎_elim, inl, inr, ℕ, ◌+◌, ◌<◌, ◌-◌, ◌^◌, Bool, true, false, not, ◌&&◌, Some, Ok, List, [], ◌∷◌, ◌++◌, length, slice_get, if◌then◌else◌, refl, sym, ap, subst, ◌∙◌, arith, length-append}
+use Rattle.std.proofs.Common.{◌≡◌, ⊎_elim, inl, inr, ℕ, suc, ◌+◌, ◌<◌, ◌-◌, ◌^◌, Bool, true, false, not, ◌&&◌, Some, Ok, List, [], ◌∷◌, ◌++◌, length, slice_get, if◌then◌else◌, refl, sym, ap, subst, ◌∙◌, arith, length-append}
 use Rattle.std.specs.Prelude.{nat_lt}
 use Rattle.life_types.specs.Trees.{IsOrdered}
 use Rattle.life_types.specs.Types.{Types, HasTypes}
@@ -13,6 +13,7 @@ use Rattle.life_tree.specs.declared.program.Definition.TheVariants as definition
 use Rattle.life_tree.specs.declared.program.Member.{Member}
 use Rattle.life_tree.specs.declared.program.StructDefinition.{StructDefinition}
 use Rattle.life_typed.specs.BaseTypes.{base_types}
+use Rattle.life_typed.specs.Programs.{StructForm}
 use Rattle.life_names.specs.Checked.{Checked, ◌>>=◌, broken}
 use Rattle.life_names.specs.Environment.{Scope, StructureView, seen_as, structure_declared}
 use Rattle.life_names.specs.Environment as environment
@@ -25,7 +26,8 @@ use Rattle.life_typing.specs.Names.{DeclaredView}
 use Rattle.life_typing.specs.Parameters.{is_seen}
 use Rattle.life_typing.specs.Progress.{ProgressView}
 use Rattle.life_typing.specs.StructTypes.{are_there, number_added}
-use Rattle.life_typing.specs.Structs.{added_unless_empty, found_structure, is_reference, member_type, member_types, members_behind, name_added, named_structure, pointing_of_members, reference_member, structure_form, structure_with, types_of, unless, value_member, with_structure}
+use Rattle.life_typing.specs.Structs.{added_unless_empty, found_structure, is_reference, member_type, member_types, members_behind, name_added, named_structure, names_of, pointing_of_members, reference_member, structure_form, structure_with, types_of, unless, value_member, with_structure}
+use Rattle.life_well_typed.specs.Results.{HaveMembers}
 use Rattle.life_well_typed.specs.Visible.{with_parameters}
 use Rattle.life_typing_laws.proofs.BodiesCome.{BodiesCome, Comes}
 use Rattle.life_typing_laws.proofs.Declaring.{numbered_is}
@@ -159,6 +161,17 @@ defined_is bodies s p x under e =
 
 -- ---- behind it
 
+-- one more struct, with a name for each member
+have_more : (ss : List StructForm) (structs : List (List TyId)) (s : StructForm) (ids : List TyId) → HaveMembers ss structs → 0 < length ids → length s.members ≡ length ids → HaveMembers (ss ++ s ∷ []) (structs ++ ids ∷ [])
+have_more [] [] s ids all some count = (some, count, tt)
+have_more [] (first ∷ structs) s ids all some count = absurd all
+have_more (x ∷ ss) [] s ids all some count = absurd all
+have_more (x ∷ ss) (first ∷ structs) s ids all some count = (all.0, all.1, have_more ss structs s ids all.2 some count)
+
+as_many_names : (ms : List MemberType) → length (names_of ms) ≡ length (types_of ms)
+as_many_names [] = refl
+as_many_names (m ∷ ms) = ap suc (as_many_names ms)
+
 pub record StructWent (bodies : List Bool) (p q : ProgressView) : Type 0 where
   pub under : IsUnderway bodies q
   pub texts : q.scope.names ≡ p.scope.names
@@ -201,7 +214,6 @@ module _ (bodies : List Bool) (s : StructDefinition) (p : ProgressView) (under :
   newest = subst (λ (n : ℕ). HasStruct d.y.1 n view) same_number (record {
     type = d.type.added.is;
     members = subst (λ (ss : List (List TyId)). slice_get ss (length d.members.1.structs) ≡ Some (types_of d.members.0)) (sym structs_are) (last_in d.members.1.structs (types_of d.members.0));
-    some = d.type.some;
   })
 
   counted : {A B : Type 0} (xs : List A) (x : A) (ys : List B) (y : B) → length xs ≡ length ys → length (xs ++ x ∷ []) ≡ length (ys ++ y ∷ [])
@@ -235,7 +247,8 @@ module _ (bodies : List Bool) (s : StructDefinition) (p : ProgressView) (under :
     known = known_grown p.scope.names p.types d.y.1 p.scope.functions p.functions p.declared grows under.known;
     named = λ k n e. ⊎_elim (λ here. absurd (no_function n here.1)) (λ old. under.named k n old) (set_other p.scope.visible s.name.id.0 k (entity.Structure number) (entity.Function n) e);
     size = set_length p.scope.visible s.name.id.0 (entity.Structure number) ∙ under.size;
-    structs = counted p.structs (structure_form s d.members.0) d.members.1.structs (types_of d.members.0) (under.structs ∙ ap length (sym d.read.grown.structs)) ∙ ap length (sym structs_are);
+    structs = subst (HaveMembers (p.structs ++ structure_form s d.members.0 ∷ [])) (sym structs_are)
+        (have_more p.structs d.members.1.structs (structure_form s d.members.0) (types_of d.members.0) (subst (HaveMembers p.structs) (sym d.read.grown.structs) under.structs) d.type.some (as_many_names d.members.0));
   }
     where
       no_function : (n : ℕ) → entity.Structure number ≡ entity.Function n → ⊥

@@ -11,6 +11,7 @@ use Rattle.life_typing.specs.Functions.{PartsView}
 use Rattle.life_typing.specs.Headers.{Known, function_seen}
 use Rattle.life_typing.specs.Progress.{ProgressView}
 use Rattle.life_well_typed.specs.Expressions.{type_of}
+use Rattle.life_well_typed.specs.Results.{HaveMembers}
 use Rattle.life_well_typed.specs.Visible.{Visible, with_parameters}
 use Rattle.life_typing_laws.proofs.Domains.{Returned}
 use Rattle.life_typing_laws.proofs.HeaderTypes.{HeaderRead, header_read, by_seen}
@@ -29,7 +30,7 @@ pub record IsUnderway (bodies : List Bool) (p : ProgressView) : Type 0 where
   pub known : AreKnown p.scope.names p.types p.scope.functions p.functions p.declared
   pub named : AreNamed p.scope p.functions
   pub size : length p.scope.visible ≡ length bodies
-  pub structs : length p.structs ≡ length p.types.structs
+  pub structs : HaveMembers p.structs p.types.structs
 
 -- ---- the function's name means a function
 

@@ -26,6 +26,7 @@ use Rattle.life_typing.specs.Parameters.{parameters_forgotten}
 use Rattle.life_typing.specs.Progress.{ProgressView}
 use Rattle.life_well_typed.specs.Expressions.{parameter_types, type_of}
 use Rattle.life_well_typed.specs.Functions.{IsBody, IsWellTypedFunction}
+use Rattle.life_well_typed.specs.Results.{HaveMembers}
 use Rattle.life_well_typed.specs.Statements.{IsStatement}
 use Rattle.life_well_typed.specs.Visible.{Visible, after, with_parameters}
 use Rattle.life_typing_laws.proofs.Declaring.{function_is, parts}
@@ -113,7 +114,7 @@ module _ (bodies : List Bool) (f : Function) (p : ProgressView) (h : PartsView) 
         (subst (λ (fs : List SignatureView). AreKnown scope.names types fs forms ds) (sym (forgotten_functions names (without_locals scope))) known);
     named = λ k n e. named k n (forgotten_meant names (without_locals scope) k n e);
     size = forgotten_size names (without_locals scope) ∙ size;
-    structs = entered.structs ∙ ap length (sym structs);
+    structs = subst (HaveMembers y.1.structs) (sym structs) entered.structs;
   }
 
   -- a name that means a function behind the body means it behind the function too

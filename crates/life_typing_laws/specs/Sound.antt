@@ -1,5 +1,5 @@
 -- What holds where a construct stands as checking goes on, and what the finished program has of it.
-use Rattle.std.specs.Prelude.{◌≡◌, ℕ, ◌<◌, List, Some, Contains, length, slice_get}
+use Rattle.std.specs.Prelude.{◌≡◌, ℕ, List, Some, Contains, length, slice_get}
 use Rattle.life_types.specs.Trees.{IsOrdered}
 use Rattle.life_types.specs.Types.{Types, HasEachOnce, HasType, HasTypes}
 use Rattle.life_types.specs.declared.ty.Ty.TheVariants as ty
@@ -24,11 +24,10 @@ pub record Grows (old new : Types) : Type 0 where
   pub once : HasEachOnce old → HasEachOnce new
   pub structs : Keeps old.structs new.structs
 
--- the table has a struct under this number: its type, and its members, of which there is one at least
+-- the table has a struct under this number: its type, and its members
 pub record HasStruct (types : Types) (number : ℕ) (s : StructureView) : Type 0 where
   pub type : slice_get types.types s.ty.0 ≡ Some (ty.Struct number)
   pub members : slice_get types.structs number ≡ Some (types_of s.members)
-  pub some : 0 < length (types_of s.members)
 
 abbrev pub HasStructs : Types → List StructureView → Type 0
 HasStructs types structs = (n : ℕ) (s : StructureView) → slice_get structs n ≡ Some s → HasStruct types n s
