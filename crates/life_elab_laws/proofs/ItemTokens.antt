@@ -1,26 +1,37 @@
 -- An expression in which `&&` and `||` stand in parentheses, brackets and lists alone is written in one way, whatever token stands behind it. Such is each item of `std::cout << a << b`, which is a sum: so nothing ends at the `<<` behind it.
-use Rattle.std.proofs.Common.{◌≡◌, ℕ, false, cond, List, [], ◌∷◌, Option, Some, None, refl, ap, ◌∙◌, true≢false}
+use Rattle.std.proofs.Common.{◌≡◌, ℕ, Bool, true, false, not as isnt, ◌&&◌, cond, if◌then◌else◌, List, [], ◌∷◌, Option, Some, None, refl, sym, ap, ◌∙◌, true≢false}
+use Rattle.std.proofs.lemmas.Bool.{and_parts}
 use Rattle.life_types.specs.declared.place.Place.{Place}
-use Rattle.life_types.specs.TypeTests.{is_value}
+use Rattle.life_types.specs.TypeTests.{is_iterator, is_value}
 use Rattle.life_types.specs.declared.ty.Ty.{Ty}
 use Rattle.life_types.specs.declared.ty.Ty.TheVariants as ty
+use Rattle.life_types.specs.declared.ty.TyId.{TyId}
+use Rattle.life_typed.specs.Programs.{ProgramForm}
 use Rattle.life_typed.specs.TypedForm.{Form, binary, method, negate, not, text_of, typed, whole}
 use Rattle.life_typed.specs.Delimiters.{DelimitersForm}
+use Rattle.life_typed.specs.declared.typed_expr.BinaryOperator.{BinaryOperator}
+use Rattle.life_typed.specs.declared.typed_expr.BinaryOperator.TheVariants as operators
 use Rattle.life_typed.specs.declared.typed_expr.Category.{Category}
 use Rattle.life_typed.specs.declared.typed_expr.Category.TheVariants as category
 use Rattle.life_typed.specs.declared.typed_expr.ExprType.{ExprType}
 use Rattle.life_typed.specs.declared.typed_expr.Method.{Method}
 use Rattle.life_typed.specs.declared.typed_expr.Method.TheVariants as methods
 use Rattle.life_typed.specs.TypedStatement.{ItemForm, printed, line_end}
+use Rattle.life_typed.specs.declared.typed_program.TypedLocal.{TypedLocal}
+use Rattle.life_well_typed.specs.Apart.{is_apart, joins as joins_operands}
+use Rattle.life_well_typed.specs.Statements.{AreItems}
+use Rattle.life_core.specs.declared.instr.Direction.TheVariants.{Forward, Backward}
+use Rattle.life_core.specs.declared.operation.Operator.{Operator}
+use Rattle.life_core.specs.declared.operation.Operator.TheVariants as core
 use Rattle.life_core.specs.Step.{Ports, Writes, WritesView}
-use Rattle.life_writer.specs.Around.{Around, own_type}
+use Rattle.life_writer.specs.Around.{Around, operand_type, own_type}
 use Rattle.life_writer.specs.Characters.{seen, viewed}
 use Rattle.life_writer.specs.Conditions.{negation}
 use Rattle.life_writer.specs.ExpressionForms.{all_uses, binary_uses, form_uses, uses}
 use Rattle.life_writer.specs.MethodForms.{method_uses}
 use Rattle.life_writer.specs.OwnerForms.{string_of, string_of_string}
 use Rattle.life_writer.specs.Registers.{as_type, computed}
-use Rattle.life_writer.specs.Rows.{joins, row_between}
+use Rattle.life_writer.specs.Rows.{added, beside_null, common, compared, joins, row_between, row_of, subtracted, unless_null}
 use Rattle.life_writer.specs.Uses.{Uses, own}
 use Rattle.life_writer.specs.Using.{condition, condition_by, nullable, value}
 use Rattle.life_writer.specs.Values as values
@@ -28,6 +39,7 @@ use Rattle.life_writer.specs.Writing.{State, Gives, ◌>>◌, emit}
 use Rattle.life_writer.specs.declared.behind.Behind.{Behind}
 use Rattle.life_writer.specs.declared.rows.Row.{Row}
 use Rattle.life_writer.specs.declared.rows.Row.TheVariants as row
+use Rattle.life_writer.specs.declared.rows.Side.{Side}
 use Rattle.life_elab.specs.StatementForms.{items}
 
 -- no `&&` and no `||` stands in it but in parentheses, brackets and lists
@@ -192,3 +204,65 @@ module _ (a : Around) (one other : Place) where
       (same_value (whole e) h.0 (own_type e.ty) None s)
       ∙ same_items is h.1 _
   same_items (line_end place ∷ is) h s = same_items is h _
+
+-- ---- typing gives items that are apart
+
+compared_joins : (by : Operator) (equal : Bool) (left right : ExprType) → joins (compared by equal left right) ≡ false
+compared_joins by equal left right = go (is_value (own_type left))
+  where
+    go : (b : Bool) → joins (if b then row.Computed by (common left right) else row.Compared equal) ≡ false
+    go true = refl
+    go false = refl
+
+unless_joins : (side : Option Side) (null : Side → Row) (otherwise : Row) → ((s : Side) → joins (null s) ≡ false) → joins otherwise ≡ false → joins (unless_null side null otherwise) ≡ false
+unless_joins None null otherwise tested other = other
+unless_joins (Some side) null otherwise tested other = tested side
+
+added_joins : (left right : ExprType) → joins (added left right) ≡ false
+added_joins left right = go (is_iterator (own_type left)) (is_value (own_type left) && is_value (own_type right))
+  where
+    go : (a b : Bool) → joins (if a then row.Advanced Forward else (if b then row.Computed core.Add (common left right) else row.Concatenated)) ≡ false
+    go true b = refl
+    go false true = refl
+    go false false = refl
+
+subtracted_joins : (left right : ExprType) → joins (subtracted left right) ≡ false
+subtracted_joins left right = go (is_iterator (own_type left))
+  where
+    go : (a : Bool) → joins (if a then row.Advanced Backward else row.Computed core.Subtract (common left right)) ≡ false
+    go true = refl
+    go false = refl
+
+row_joins : (o : BinaryOperator) (left right : ExprType) → joins_operands o ≡ false → joins (row_of o left right) ≡ false
+row_joins operators.Or left right h = absurd (true≢false h)
+row_joins operators.And left right h = absurd (true≢false h)
+row_joins operators.Equal left right h = unless_joins (beside_null left right) row.IsNull (compared core.Equal true left right) (λ s. refl) (compared_joins core.Equal true left right)
+row_joins operators.NotEqual left right h = unless_joins (beside_null left right) row.NotNull (compared core.NotEqual false left right) (λ s. refl) (compared_joins core.NotEqual false left right)
+row_joins operators.Less left right h = refl
+row_joins operators.LessEqual left right h = refl
+row_joins operators.Greater left right h = refl
+row_joins operators.GreaterEqual left right h = refl
+row_joins operators.Add left right h = added_joins left right
+row_joins operators.Subtract left right h = subtracted_joins left right
+row_joins operators.Multiply left right h = refl
+row_joins operators.Divide left right h = refl
+row_joins operators.Remainder left right h = refl
+
+isnt_true : (b : Bool) → isnt b ≡ true → b ≡ false
+isnt_true true h = absurd (true≢false (sym h))
+isnt_true false h = refl
+
+apart_form : (e : Form) → is_apart e ≡ true → IsApart e
+apart_form (typed place t c form) h = apart_form form h
+apart_form (negate e) h = apart_form e h
+apart_form (not e) h = apart_form e h
+apart_form (binary o left right) h =
+    let own = and_parts (isnt (joins_operands o)) (is_apart left && is_apart right) h in
+    let both = and_parts (is_apart left) (is_apart right) own.1 in
+    (row_joins o (operand_type left) (operand_type right) (isnt_true (joins_operands o) own.0), apart_form left both.0, apart_form right both.1)
+apart_form _ h = tt
+
+pub items_apart : (p : ProgramForm) (locals : List TypedLocal) (result : TyId) (visible : List ℕ) (is : List ItemForm) → AreItems p locals result visible is → AreApart is
+items_apart p locals result visible [] h = tt
+items_apart p locals result visible (printed e ∷ is) h = (apart_form e.form h.0.1, items_apart p locals result visible is h.1)
+items_apart p locals result visible (line_end place ∷ is) h = items_apart p locals result visible is h.1

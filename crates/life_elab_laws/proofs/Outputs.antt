@@ -91,5 +91,5 @@ module _ (a : Around) (visible : List ℕ) (types : Types) (texts : ℕ) (fs : L
       (λ n k p. uses_ready k (w.given ∷ []) [] (one_there k w.given p.1)) (λ n m k p. keeps_all f m None k)))
 
   pub item_part : nat_lt (end_line a) texts ≡ true → (i : ItemForm) (behind : Place) (s : State) → is_built_item i ≡ true → IsItem a.program a.function.locals a.function.result visible i → Stands a visible s → Acts a visible types texts fs f setting s (item a i behind s)
-  item_part lines (printed e) behind s b h stands = let is = whole_expression a visible types texts fs f setting (whole_form e) b h.1 in printed_part e behind s is (printed_number a.program.types e is.kind.kind h.0) stands
+  item_part lines (printed e) behind s b h stands = let is = whole_expression a visible types texts fs f setting (whole_form e) b h.2 in printed_part e behind s is (printed_number a.program.types e is.kind.kind h.0) stands
   item_part lines (line_end place) behind s b h stands = line_part place behind s lines stands

@@ -1,3 +1,4 @@
+pub mod Apart
 pub mod Behind
 pub mod BlockParts
 pub mod Blocks
@@ -23,6 +24,7 @@ pub mod Headers
 pub mod HeadersStay
 pub mod Indexing
 pub mod Known
+pub mod Layers
 pub mod Lists
 pub mod Loops
 pub mod Making
@@ -46,6 +48,7 @@ pub mod StatementLaws
 pub mod Statements
 pub mod Staying
 pub mod Steps
+pub mod StructNames
 pub mod StructsDefined
 pub mod Targets
 pub mod Texts

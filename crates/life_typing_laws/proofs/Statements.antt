@@ -30,7 +30,7 @@ use Rattle.life_typing_laws.proofs.Scopes.{Moves, final_then, sound_now, table_m
 use Rattle.life_typing_laws.specs.Sound.{IsFinal, IsSound}
 use Rattle.life_typing_laws.proofs.Steps.{allowed_ok, bound, same_value}
 use Rattle.life_typing_laws.proofs.Values.{condition_reads, unless_none}
-use Rattle.life_typing_laws.proofs.Wholes.{additive_good, expr_good}
+use Rattle.life_typing_laws.proofs.Wholes.{additive_apart, additive_good, expr_good}
 
 -- ---- what a part of a tree does
 
@@ -124,7 +124,7 @@ item_is (print_item.Value e) v scope types x h sound =
     let good = additive_good e v scope types step.value step.gave sound in
     subst (IsPrinted v scope types) (same_value {A = ItemForm} (typed.printed step.value.0, step.value.1) x fine.1) (record {
       grown = good.grown;
-      is = λ p locals result final. (unless_none (is_printed step.value.0.ty) kinds.WrongType fine.0, (good.is p locals final).is);
+      is = λ p locals result final. (unless_none (is_printed step.value.0.ty) kinds.WrongType fine.0, additive_apart e scope types step.value step.gave, (good.is p locals final).is);
     })
 item_is (print_item.EndLine name) v scope types x h sound =
     subst (IsPrinted v scope types) (same_value {A = ItemForm} (typed.line_end name.word, types) x h) (record { grown = grown_not types sound.ordered; is = λ p locals result final. tt })

@@ -1,146 +1,46 @@
--- Whole expressions: each rule of the grammar keeps that a meaning is good, and so each expression's is.
-use Rattle.std.proofs.Common.{◌≡◌, ℕ, Bool, true, false, None, Some, refl, if◌then◌else◌}
-use Rattle.std.specs.Prelude.{nat_le}
-use Rattle.life_types.specs.Types.{Types, HasParts}
-use Rattle.life_types.specs.declared.ty.Ty.TheVariants as ty
+-- Whole expressions: each rule of the grammar keeps that a meaning is good, and so each expression's is; and what a sum gives is apart.
+use Rattle.std.proofs.Common.{◌≡◌}
 use Rattle.life_tree.specs.declared.arithmetic.Additive.{Additive, roll-Additive}
-use Rattle.life_tree.specs.declared.arithmetic.AdditivePart.{AdditivePart, roll-AdditivePart}
-use Rattle.life_tree.specs.declared.arithmetic.Multiplicative.{Multiplicative, roll-Multiplicative}
-use Rattle.life_tree.specs.declared.arithmetic.MultiplicativePart.{MultiplicativePart, roll-MultiplicativePart}
-use Rattle.life_tree.specs.declared.comparison.Equality.{Equality, roll-Equality}
-use Rattle.life_tree.specs.declared.comparison.EqualityPart.{EqualityPart, roll-EqualityPart}
-use Rattle.life_tree.specs.declared.comparison.Relational.{Relational, roll-Relational}
-use Rattle.life_tree.specs.declared.comparison.RelationalPart.{RelationalPart, roll-RelationalPart}
-use Rattle.life_tree.specs.declared.expr.AndPart.{AndPart, roll-AndPart}
-use Rattle.life_tree.specs.declared.expr.Arguments.{Arguments, roll-Arguments}
+use Rattle.life_tree.specs.declared.arithmetic.AdditivePart.{roll-AdditivePart}
+use Rattle.life_tree.specs.declared.arithmetic.Multiplicative.{roll-Multiplicative}
+use Rattle.life_tree.specs.declared.arithmetic.MultiplicativePart.{roll-MultiplicativePart}
+use Rattle.life_tree.specs.declared.comparison.Equality.{roll-Equality}
+use Rattle.life_tree.specs.declared.comparison.EqualityPart.{roll-EqualityPart}
+use Rattle.life_tree.specs.declared.comparison.Relational.{roll-Relational}
+use Rattle.life_tree.specs.declared.comparison.RelationalPart.{roll-RelationalPart}
+use Rattle.life_tree.specs.declared.expr.AndPart.{roll-AndPart}
+use Rattle.life_tree.specs.declared.expr.Arguments.{roll-Arguments}
 use Rattle.life_tree.specs.declared.expr.Expr.{Expr, roll-Expr}
 use Rattle.life_tree.specs.declared.expr.InitList.{InitList, roll-InitList}
-use Rattle.life_tree.specs.declared.expr.LogicalAnd.{LogicalAnd, roll-LogicalAnd}
-use Rattle.life_tree.specs.declared.expr.OrPart.{OrPart, roll-OrPart}
-use Rattle.life_tree.specs.declared.primary.PostfixPart.{PostfixPart, roll-PostfixPart}
-use Rattle.life_tree.specs.declared.primary.Primary.{Primary, roll-Primary}
-use Rattle.life_tree.specs.declared.primary.Unary.{Unary, roll-Unary}
+use Rattle.life_tree.specs.declared.expr.LogicalAnd.{roll-LogicalAnd}
+use Rattle.life_tree.specs.declared.expr.OrPart.{roll-OrPart}
+use Rattle.life_tree.specs.declared.primary.PostfixPart.{roll-PostfixPart}
+use Rattle.life_tree.specs.declared.primary.Primary.{roll-Primary}
+use Rattle.life_tree.specs.declared.primary.Unary.{roll-Unary}
 use Rattle.life_tree.specs.declared.primary.Postfix.{Postfix, roll-Postfix}
 use Rattle.life_tree.specs.declared.primary.PostfixPart.TheFolds.{fold-roll-PostfixPart, fold-roll-Primary, fold-roll-Unary, fold-roll-Additive, fold-roll-AdditivePart, fold-roll-Multiplicative, fold-roll-MultiplicativePart, fold-roll-Equality, fold-roll-EqualityPart, fold-roll-Relational, fold-roll-RelationalPart, fold-roll-AndPart, fold-roll-Arguments, fold-roll-Expr, fold-roll-InitList, fold-roll-LogicalAnd, fold-roll-OrPart, fold-roll-Postfix}
 use Rattle.life_tree.specs.declared.primary.PostfixPart.TheFolds.{ind-Additive, ind-Expr, ind-InitList, ind-Postfix}
-use Rattle.life_tree.specs.declared.primary.PostfixPart.TheFolds.{map-PostfixPart, map-Primary, map-Unary}
-use Rattle.life_tree.specs.declared.primary.PostfixPart.TheOpen as open_expr
-use Rattle.life_typed.specs.TypedForm.{boolean, character, input, null, number, text}
 use Rattle.life_typed.specs.declared.typed_expr.BinaryOperator.TheVariants as operators
-use Rattle.life_typed.specs.declared.typed_expr.Category.TheVariants as category
-use Rattle.life_typed.specs.declared.typed_expr.ExprType.TheVariants as expr_type
 use Rattle.life_type_expr.specs.Expressions.{PartMeaning, additive_operator, equality_operator, multiplicative_operator, relational_operator}
 use Rattle.life_type_expr.specs.Expressions.{part_step, primary_step, unary_step, additive_step, additive_part, multiplicative_step, multiplicative_part, equality_step, equality_part, relational_step, relational_part, and_part, arguments_step, expr_step, init_list_step, logical_and_step, or_part, postfix_step}
 use Rattle.life_type_expr.specs.Expressions.{part_meaning, primary_meaning, unary_meaning, additive_meaning, additive_part_meaning, multiplicative_meaning, multiplicative_part_meaning, equality_meaning, equality_part_meaning, relational_meaning, relational_part_meaning, and_part_meaning, arguments_meaning, expr_meaning, init_list_meaning, logical_and_meaning, or_part_meaning, postfix_meaning}
 use Rattle.life_type_expr.specs.Lists.{ListMeaning, Meaning}
-use Rattle.life_type_expr.specs.Operands.{number_type, value}
-use Rattle.life_unique.proofs.ExpressionLayers.{Claims, Layer-PostfixPart, Layer-Primary, Layer-Unary, Layer-Additive, Layer-AdditivePart, Layer-Multiplicative, Layer-MultiplicativePart, Layer-Equality, Layer-EqualityPart, Layer-Relational, Layer-RelationalPart, Layer-AndPart, Layer-Arguments, Layer-Expr, Layer-InitList, Layer-LogicalAnd, Layer-OrPart, Layer-Postfix}
+use Rattle.life_unique.proofs.ExpressionLayers.{Layer-PostfixPart, Layer-Primary, Layer-Unary, Layer-Additive, Layer-AdditivePart, Layer-Multiplicative, Layer-MultiplicativePart, Layer-Equality, Layer-EqualityPart, Layer-Relational, Layer-RelationalPart, Layer-AndPart, Layer-Arguments, Layer-Expr, Layer-InitList, Layer-LogicalAnd, Layer-OrPart, Layer-Postfix}
 use Rattle.life_unique.proofs.ExpressionLayers.{parts_part, parts_primary, parts_unary, parts_additive, parts_additive_part, parts_multiplicative, parts_multiplicative_part, parts_equality, parts_equality_part, parts_relational, parts_relational_part, parts_and_part, parts_arguments, parts_expr, parts_init_list, parts_logical_and, parts_or_part, parts_postfix}
 use Rattle.life_unique.specs.SettledExpressions.{Opened-PostfixPart, Opened-Primary, Opened-Unary, Opened-Additive, Opened-AdditivePart, Opened-Multiplicative, Opened-MultiplicativePart, Opened-Equality, Opened-EqualityPart, Opened-Relational, Opened-RelationalPart, Opened-AndPart, Opened-Arguments, Opened-Expr, Opened-InitList, Opened-LogicalAnd, Opened-OrPart, Opened-Postfix}
+use Rattle.life_typing_laws.proofs.Apart.{GivesApart, GivesApartBehind, chain_apart, operand_apart}
 use Rattle.life_typing_laws.proofs.Chains.{chain_good, operand_good}
-use Rattle.life_typing_laws.proofs.Constructing.{construct_good}
-use Rattle.life_typing_laws.proofs.Expressions.{alone_good, call_good, name_good}
-use Rattle.life_typing_laws.proofs.Indexing.{index_good}
-use Rattle.life_typing_laws.proofs.Making.{unique_good}
-use Rattle.life_typing_laws.proofs.Members.{arrow_good, dot_good}
-use Rattle.life_typing_laws.proofs.Moving.{move_good}
-use Rattle.life_typing_laws.proofs.Texts.{text_good}
 use Rattle.life_typing_laws.proofs.Each.{each_of, made_alone}
-use Rattle.life_typing_laws.proofs.Prefixes.{paren_good, prefix_good}
 use Rattle.life_typing_laws.proofs.Typed.{Good, GoodBehind, GoodList}
-
--- an int or a long has no parts
-number_parts : (types : Types) (n : ℕ) → HasParts types (number_type n)
-number_parts types n = go (nat_le n 2147483647)
-  where
-    go : (b : Bool) → HasParts types (if b then ty.Int else ty.Long)
-    go true = tt
-    go false = tt
-
--- what is claimed of each
-abbrev claims : Claims
-claims = record {
-  part = λ x. GoodBehind (part_meaning x);
-  primary = λ x. Good (primary_meaning x);
-  unary = λ x. Good (unary_meaning x);
-  additive = λ x. Good (additive_meaning x);
-  additive_part = λ x. GoodBehind (additive_part_meaning x);
-  multiplicative = λ x. Good (multiplicative_meaning x);
-  multiplicative_part = λ x. GoodBehind (multiplicative_part_meaning x);
-  equality = λ x. Good (equality_meaning x);
-  equality_part = λ x. GoodBehind (equality_part_meaning x);
-  relational = λ x. Good (relational_meaning x);
-  relational_part = λ x. GoodBehind (relational_part_meaning x);
-  and_part = λ x. GoodBehind (and_part_meaning x);
-  arguments = λ x. GoodList (arguments_meaning x);
-  expr = λ x. Good (expr_meaning x);
-  init_list = λ x. GoodList (init_list_meaning x);
-  logical_and = λ x. Good (logical_and_meaning x);
-  or_part = λ x. GoodBehind (or_part_meaning x);
-  postfix = λ x. Good (postfix_meaning x);
-}
-
--- ---- the rules with several forms
-
-abbrev of_parts_part : Opened-PostfixPart → open_expr.PostfixPart-F PartMeaning Meaning Meaning Meaning PartMeaning Meaning PartMeaning Meaning PartMeaning Meaning PartMeaning PartMeaning ListMeaning Meaning ListMeaning Meaning PartMeaning Meaning
-of_parts_part = map-PostfixPart PostfixPart Primary Unary Additive AdditivePart Multiplicative MultiplicativePart Equality EqualityPart Relational RelationalPart AndPart Arguments Expr InitList LogicalAnd OrPart Postfix
-    PartMeaning Meaning Meaning Meaning PartMeaning Meaning PartMeaning Meaning PartMeaning Meaning PartMeaning PartMeaning ListMeaning Meaning ListMeaning Meaning PartMeaning Meaning
-    part_meaning primary_meaning unary_meaning additive_meaning additive_part_meaning multiplicative_meaning multiplicative_part_meaning equality_meaning equality_part_meaning relational_meaning
-    relational_part_meaning and_part_meaning arguments_meaning expr_meaning init_list_meaning logical_and_meaning or_part_meaning postfix_meaning
-
-abbrev of_parts_primary : Opened-Primary → open_expr.Primary-F PartMeaning Meaning Meaning Meaning PartMeaning Meaning PartMeaning Meaning PartMeaning Meaning PartMeaning PartMeaning ListMeaning Meaning ListMeaning Meaning PartMeaning Meaning
-of_parts_primary = map-Primary PostfixPart Primary Unary Additive AdditivePart Multiplicative MultiplicativePart Equality EqualityPart Relational RelationalPart AndPart Arguments Expr InitList LogicalAnd OrPart Postfix
-    PartMeaning Meaning Meaning Meaning PartMeaning Meaning PartMeaning Meaning PartMeaning Meaning PartMeaning PartMeaning ListMeaning Meaning ListMeaning Meaning PartMeaning Meaning
-    part_meaning primary_meaning unary_meaning additive_meaning additive_part_meaning multiplicative_meaning multiplicative_part_meaning equality_meaning equality_part_meaning relational_meaning
-    relational_part_meaning and_part_meaning arguments_meaning expr_meaning init_list_meaning logical_and_meaning or_part_meaning postfix_meaning
-
-abbrev of_parts_unary : Opened-Unary → open_expr.Unary-F PartMeaning Meaning Meaning Meaning PartMeaning Meaning PartMeaning Meaning PartMeaning Meaning PartMeaning PartMeaning ListMeaning Meaning ListMeaning Meaning PartMeaning Meaning
-of_parts_unary = map-Unary PostfixPart Primary Unary Additive AdditivePart Multiplicative MultiplicativePart Equality EqualityPart Relational RelationalPart AndPart Arguments Expr InitList LogicalAnd OrPart Postfix
-    PartMeaning Meaning Meaning Meaning PartMeaning Meaning PartMeaning Meaning PartMeaning Meaning PartMeaning PartMeaning ListMeaning Meaning ListMeaning Meaning PartMeaning Meaning
-    part_meaning primary_meaning unary_meaning additive_meaning additive_part_meaning multiplicative_meaning multiplicative_part_meaning equality_meaning equality_part_meaning relational_meaning
-    relational_part_meaning and_part_meaning arguments_meaning expr_meaning init_list_meaning logical_and_meaning or_part_meaning postfix_meaning
-
-part_layer : (l : Layer-PostfixPart claims) → GoodBehind (part_step (of_parts_part (parts_part claims l)))
-part_layer (open_expr.Member mark name None) = dot_good name None tt
-part_layer (open_expr.Member mark name (Some l)) = dot_good name (Some (arguments_meaning l.0)) l.1
-part_layer (open_expr.Arrow mark name None) = arrow_good name None tt
-part_layer (open_expr.Arrow mark name (Some l)) = arrow_good name (Some (arguments_meaning l.0)) l.1
-part_layer (open_expr.Index opening position closing) = index_good opening (expr_meaning position.value.0) closing position.value.1
-
-primary_layer : (l : Layer-Primary claims) → Good (primary_step (of_parts_primary (parts_primary claims l)))
-primary_layer (open_expr.Number n place) =
-    alone_good (primary_step (open_expr.Number n place)) (value place (number_type n) (number n)) (λ scope types. refl) (λ p locals v types. record { is = refl; parts = number_parts types n; place = tt })
-primary_layer (open_expr.Char c place) =
-    alone_good (primary_step (open_expr.Char c place)) (value place ty.Char (character c)) (λ scope types. refl) (λ p locals v types. record { is = refl; parts = tt; place = tt })
-primary_layer (open_expr.Text n place) =
-    alone_good (primary_step (open_expr.Text n place)) (record { place = place; ty = expr_type.TextLiteral; category = category.Value; form = text n }) (λ scope types. refl) (λ p locals v types. record { is = (refl, refl); parts = tt; place = tt })
-primary_layer (open_expr.True place) =
-    alone_good (primary_step (open_expr.True place)) (value place ty.Bool (boolean true)) (λ scope types. refl) (λ p locals v types. record { is = refl; parts = tt; place = tt })
-primary_layer (open_expr.False place) =
-    alone_good (primary_step (open_expr.False place)) (value place ty.Bool (boolean false)) (λ scope types. refl) (λ p locals v types. record { is = refl; parts = tt; place = tt })
-primary_layer (open_expr.Null place) =
-    alone_good (primary_step (open_expr.Null place)) (record { place = place; ty = expr_type.NullPointer; category = category.Value; form = null }) (λ scope types. refl) (λ p locals v types. record { is = (refl, refl); parts = tt; place = tt })
-primary_layer (open_expr.Name name) = name_good name
-primary_layer (open_expr.Call name l) = call_good name (arguments_meaning l.0) l.1
-primary_layer (open_expr.Construct name l) = construct_good name (init_list_meaning l.0) l.1
-primary_layer (open_expr.Paren opening inner closing) = paren_good closing (expr_meaning inner.value.0) inner.value.1
-primary_layer (open_expr.Move name opening moved closing) = move_good name.word moved
-primary_layer (open_expr.MakeUnique name element l) = unique_good name.word element (arguments_meaning l.0) l.1
-primary_layer (open_expr.TextOf name opening inner closing) = text_good name.word closing (expr_meaning inner.value.0) inner.value.1
-primary_layer (open_expr.Input name opening closing) =
-    alone_good (primary_step (open_expr.Input name opening closing)) (value name.word ty.Long input) (λ scope types. refl) (λ p locals v types. record { is = refl; parts = tt; place = tt })
-
-unary_layer : (l : Layer-Unary claims) → Good (unary_step (of_parts_unary (parts_unary claims l)))
-unary_layer (open_expr.Prefix operator place operand) = prefix_good operator place (unary_meaning operand.value.0) operand.value.1
-unary_layer (open_expr.Plain operand) = operand.1
+use Rattle.life_typing_laws.proofs.Layers.{IsSum, IsSumBehind, claims, no_join_added, no_join_multiplied, part_layer, primary_layer, unary_layer}
 
 -- ---- each expression
 
 record All : Type 0 where
-  additive : (x : Additive) → Good (additive_meaning x)
+  additive : (x : Additive) → IsSum (additive_meaning x)
   expr : (x : Expr) → Good (expr_meaning x)
   init_list : (x : InitList) → GoodList (init_list_meaning x)
-  postfix : (x : Postfix) → Good (postfix_meaning x)
+  postfix : (x : Postfix) → IsSum (postfix_meaning x)
 
 all : All
 unfolding part_meaning primary_meaning unary_meaning additive_meaning additive_part_meaning multiplicative_meaning multiplicative_part_meaning equality_meaning equality_part_meaning relational_meaning relational_part_meaning and_part_meaning arguments_meaning expr_meaning init_list_meaning logical_and_meaning or_part_meaning postfix_meaning
@@ -168,53 +68,65 @@ all = record {
 }
   where
     part_made : (x : Opened-PostfixPart) (l : Layer-PostfixPart claims) → parts_part claims l ≡ x → claims.part (roll-PostfixPart x)
-    part_made x l = made_alone GoodBehind roll-PostfixPart part_meaning (parts_part claims l) x
+    part_made x l = made_alone IsSumBehind roll-PostfixPart part_meaning (parts_part claims l) x
         (fold-roll-PostfixPart PartMeaning Meaning Meaning Meaning PartMeaning Meaning PartMeaning Meaning PartMeaning Meaning PartMeaning PartMeaning ListMeaning Meaning ListMeaning Meaning PartMeaning Meaning
         part_step primary_step unary_step additive_step additive_part multiplicative_step multiplicative_part equality_step equality_part relational_step
         relational_part and_part arguments_step expr_step init_list_step logical_and_step or_part postfix_step (parts_part claims l))
         (part_layer l)
 
     primary_made : (x : Opened-Primary) (l : Layer-Primary claims) → parts_primary claims l ≡ x → claims.primary (roll-Primary x)
-    primary_made x l = made_alone Good roll-Primary primary_meaning (parts_primary claims l) x
+    primary_made x l = made_alone IsSum roll-Primary primary_meaning (parts_primary claims l) x
         (fold-roll-Primary PartMeaning Meaning Meaning Meaning PartMeaning Meaning PartMeaning Meaning PartMeaning Meaning PartMeaning PartMeaning ListMeaning Meaning ListMeaning Meaning PartMeaning Meaning
         part_step primary_step unary_step additive_step additive_part multiplicative_step multiplicative_part equality_step equality_part relational_step
         relational_part and_part arguments_step expr_step init_list_step logical_and_step or_part postfix_step (parts_primary claims l))
         (primary_layer l)
 
     unary_made : (x : Opened-Unary) (l : Layer-Unary claims) → parts_unary claims l ≡ x → claims.unary (roll-Unary x)
-    unary_made x l = made_alone Good roll-Unary unary_meaning (parts_unary claims l) x
+    unary_made x l = made_alone IsSum roll-Unary unary_meaning (parts_unary claims l) x
         (fold-roll-Unary PartMeaning Meaning Meaning Meaning PartMeaning Meaning PartMeaning Meaning PartMeaning Meaning PartMeaning PartMeaning ListMeaning Meaning ListMeaning Meaning PartMeaning Meaning
         part_step primary_step unary_step additive_step additive_part multiplicative_step multiplicative_part equality_step equality_part relational_step
         relational_part and_part arguments_step expr_step init_list_step logical_and_step or_part postfix_step (parts_unary claims l))
         (unary_layer l)
 
     additive_made : (x : Opened-Additive) (l : Layer-Additive claims) → parts_additive claims l ≡ x → claims.additive (roll-Additive x)
-    additive_made x l = made_alone Good roll-Additive additive_meaning (parts_additive claims l) x
+    additive_made x l = made_alone IsSum roll-Additive additive_meaning (parts_additive claims l) x
         (fold-roll-Additive PartMeaning Meaning Meaning Meaning PartMeaning Meaning PartMeaning Meaning PartMeaning Meaning PartMeaning PartMeaning ListMeaning Meaning ListMeaning Meaning PartMeaning Meaning
         part_step primary_step unary_step additive_step additive_part multiplicative_step multiplicative_part equality_step equality_part relational_step
         relational_part and_part arguments_step expr_step init_list_step logical_and_step or_part postfix_step (parts_additive claims l))
-        (chain_good (multiplicative_meaning l.first.0) _ l.first.1 (each_of claims.additive_part GoodBehind additive_part_meaning (λ x good. good) l.more.items))
+        (record {
+          good = chain_good (multiplicative_meaning l.first.0) _ l.first.1.good (each_of claims.additive_part GoodBehind additive_part_meaning (λ x part. part.good) l.more.items);
+          apart = chain_apart (multiplicative_meaning l.first.0) _ l.first.1.apart (each_of claims.additive_part GivesApartBehind additive_part_meaning (λ x part. part.apart) l.more.items);
+        })
 
     additive_part_made : (x : Opened-AdditivePart) (l : Layer-AdditivePart claims) → parts_additive_part claims l ≡ x → claims.additive_part (roll-AdditivePart x)
-    additive_part_made x l = made_alone GoodBehind roll-AdditivePart additive_part_meaning (parts_additive_part claims l) x
+    additive_part_made x l = made_alone IsSumBehind roll-AdditivePart additive_part_meaning (parts_additive_part claims l) x
         (fold-roll-AdditivePart PartMeaning Meaning Meaning Meaning PartMeaning Meaning PartMeaning Meaning PartMeaning Meaning PartMeaning PartMeaning ListMeaning Meaning ListMeaning Meaning PartMeaning Meaning
         part_step primary_step unary_step additive_step additive_part multiplicative_step multiplicative_part equality_step equality_part relational_step
         relational_part and_part arguments_step expr_step init_list_step logical_and_step or_part postfix_step (parts_additive_part claims l))
-        (operand_good (additive_operator l.operator) l.place (multiplicative_meaning l.operand.0) l.operand.1)
+        (record {
+          good = operand_good (additive_operator l.operator) l.place (multiplicative_meaning l.operand.0) l.operand.1.good;
+          apart = operand_apart (additive_operator l.operator) l.place (multiplicative_meaning l.operand.0) (no_join_added l.operator) l.operand.1.apart;
+        })
 
     multiplicative_made : (x : Opened-Multiplicative) (l : Layer-Multiplicative claims) → parts_multiplicative claims l ≡ x → claims.multiplicative (roll-Multiplicative x)
-    multiplicative_made x l = made_alone Good roll-Multiplicative multiplicative_meaning (parts_multiplicative claims l) x
+    multiplicative_made x l = made_alone IsSum roll-Multiplicative multiplicative_meaning (parts_multiplicative claims l) x
         (fold-roll-Multiplicative PartMeaning Meaning Meaning Meaning PartMeaning Meaning PartMeaning Meaning PartMeaning Meaning PartMeaning PartMeaning ListMeaning Meaning ListMeaning Meaning PartMeaning Meaning
         part_step primary_step unary_step additive_step additive_part multiplicative_step multiplicative_part equality_step equality_part relational_step
         relational_part and_part arguments_step expr_step init_list_step logical_and_step or_part postfix_step (parts_multiplicative claims l))
-        (chain_good (unary_meaning l.first.0) _ l.first.1 (each_of claims.multiplicative_part GoodBehind multiplicative_part_meaning (λ x good. good) l.more.items))
+        (record {
+          good = chain_good (unary_meaning l.first.0) _ l.first.1.good (each_of claims.multiplicative_part GoodBehind multiplicative_part_meaning (λ x part. part.good) l.more.items);
+          apart = chain_apart (unary_meaning l.first.0) _ l.first.1.apart (each_of claims.multiplicative_part GivesApartBehind multiplicative_part_meaning (λ x part. part.apart) l.more.items);
+        })
 
     multiplicative_part_made : (x : Opened-MultiplicativePart) (l : Layer-MultiplicativePart claims) → parts_multiplicative_part claims l ≡ x → claims.multiplicative_part (roll-MultiplicativePart x)
-    multiplicative_part_made x l = made_alone GoodBehind roll-MultiplicativePart multiplicative_part_meaning (parts_multiplicative_part claims l) x
+    multiplicative_part_made x l = made_alone IsSumBehind roll-MultiplicativePart multiplicative_part_meaning (parts_multiplicative_part claims l) x
         (fold-roll-MultiplicativePart PartMeaning Meaning Meaning Meaning PartMeaning Meaning PartMeaning Meaning PartMeaning Meaning PartMeaning PartMeaning ListMeaning Meaning ListMeaning Meaning PartMeaning Meaning
         part_step primary_step unary_step additive_step additive_part multiplicative_step multiplicative_part equality_step equality_part relational_step
         relational_part and_part arguments_step expr_step init_list_step logical_and_step or_part postfix_step (parts_multiplicative_part claims l))
-        (operand_good (multiplicative_operator l.operator) l.place (unary_meaning l.operand.0) l.operand.1)
+        (record {
+          good = operand_good (multiplicative_operator l.operator) l.place (unary_meaning l.operand.0) l.operand.1.good;
+          apart = operand_apart (multiplicative_operator l.operator) l.place (unary_meaning l.operand.0) (no_join_multiplied l.operator) l.operand.1.apart;
+        })
 
     equality_made : (x : Opened-Equality) (l : Layer-Equality claims) → parts_equality claims l ≡ x → claims.equality (roll-Equality x)
     equality_made x l = made_alone Good roll-Equality equality_meaning (parts_equality claims l) x
@@ -235,14 +147,14 @@ all = record {
         (fold-roll-Relational PartMeaning Meaning Meaning Meaning PartMeaning Meaning PartMeaning Meaning PartMeaning Meaning PartMeaning PartMeaning ListMeaning Meaning ListMeaning Meaning PartMeaning Meaning
         part_step primary_step unary_step additive_step additive_part multiplicative_step multiplicative_part equality_step equality_part relational_step
         relational_part and_part arguments_step expr_step init_list_step logical_and_step or_part postfix_step (parts_relational claims l))
-        (chain_good (additive_meaning l.first.0) _ l.first.1 (each_of claims.relational_part GoodBehind relational_part_meaning (λ x good. good) l.more.items))
+        (chain_good (additive_meaning l.first.0) _ l.first.1.good (each_of claims.relational_part GoodBehind relational_part_meaning (λ x good. good) l.more.items))
 
     relational_part_made : (x : Opened-RelationalPart) (l : Layer-RelationalPart claims) → parts_relational_part claims l ≡ x → claims.relational_part (roll-RelationalPart x)
     relational_part_made x l = made_alone GoodBehind roll-RelationalPart relational_part_meaning (parts_relational_part claims l) x
         (fold-roll-RelationalPart PartMeaning Meaning Meaning Meaning PartMeaning Meaning PartMeaning Meaning PartMeaning Meaning PartMeaning PartMeaning ListMeaning Meaning ListMeaning Meaning PartMeaning Meaning
         part_step primary_step unary_step additive_step additive_part multiplicative_step multiplicative_part equality_step equality_part relational_step
         relational_part and_part arguments_step expr_step init_list_step logical_and_step or_part postfix_step (parts_relational_part claims l))
-        (operand_good (relational_operator l.operator) l.place (additive_meaning l.operand.0) l.operand.1)
+        (operand_good (relational_operator l.operator) l.place (additive_meaning l.operand.0) l.operand.1.good)
 
     and_part_made : (x : Opened-AndPart) (l : Layer-AndPart claims) → parts_and_part claims l ≡ x → claims.and_part (roll-AndPart x)
     and_part_made x l = made_alone GoodBehind roll-AndPart and_part_meaning (parts_and_part claims l) x
@@ -287,14 +199,21 @@ all = record {
         (operand_good operators.Or l.place (logical_and_meaning l.operand.0) l.operand.1)
 
     postfix_made : (x : Opened-Postfix) (l : Layer-Postfix claims) → parts_postfix claims l ≡ x → claims.postfix (roll-Postfix x)
-    postfix_made x l = made_alone Good roll-Postfix postfix_meaning (parts_postfix claims l) x
+    postfix_made x l = made_alone IsSum roll-Postfix postfix_meaning (parts_postfix claims l) x
         (fold-roll-Postfix PartMeaning Meaning Meaning Meaning PartMeaning Meaning PartMeaning Meaning PartMeaning Meaning PartMeaning PartMeaning ListMeaning Meaning ListMeaning Meaning PartMeaning Meaning
         part_step primary_step unary_step additive_step additive_part multiplicative_step multiplicative_part equality_step equality_part relational_step
         relational_part and_part arguments_step expr_step init_list_step logical_and_step or_part postfix_step (parts_postfix claims l))
-        (chain_good (primary_meaning l.primary.0) _ l.primary.1 (each_of claims.part GoodBehind part_meaning (λ x good. good) l.parts.items))
+        (record {
+          good = chain_good (primary_meaning l.primary.0) _ l.primary.1.good (each_of claims.part GoodBehind part_meaning (λ x part. part.good) l.parts.items);
+          apart = chain_apart (primary_meaning l.primary.0) _ l.primary.1.apart (each_of claims.part GivesApartBehind part_meaning (λ x part. part.apart) l.parts.items);
+        })
 
 pub additive_good : (x : Additive) → Good (additive_meaning x)
-additive_good = all.additive
+additive_good x = (all.additive x).good
+
+-- what is printed
+pub additive_apart : (x : Additive) → GivesApart (additive_meaning x)
+additive_apart x = (all.additive x).apart
 
 pub expr_good : (x : Expr) → Good (expr_meaning x)
 expr_good = all.expr
@@ -303,4 +222,4 @@ pub init_list_good : (x : InitList) → GoodList (init_list_meaning x)
 init_list_good = all.init_list
 
 pub postfix_good : (x : Postfix) → Good (postfix_meaning x)
-postfix_good = all.postfix
+postfix_good x = (all.postfix x).good

@@ -46,7 +46,7 @@ pub fn resolved_programs_are_well_typed()
     ensures table { (tree : Program) (p : ProgramForm) → resolved tree ≡ Ok p → HasTable p }
 {}
 
-/// Where the names in a tree are in its table of names, so are those of its typed program: each function's, and those of its parameters and variables; and no two functions have one name.
+/// Where the names in a tree are in its table of names, so are those of its typed program: each function's, those of its parameters and variables, and those of structs' members; and no two functions have one name.
 pub fn resolved_programs_have_names()
     ensures { (tree : Program) (p : ProgramForm) → resolved tree ≡ Ok p → are_named (length tree.names.items) (tokens_of (program_tree tree)) ≡ true → HasNames p }
 {}

@@ -1,3 +1,4 @@
+pub mod Apart
 pub mod Expressions
 pub mod Functions
 pub mod Given

@@ -16,6 +16,7 @@ use Rattle.life_type_expr.specs.Operands.{is_constant}
 use Rattle.life_type_stmt.specs.Declarations.{default_fault}
 use Rattle.life_type_stmt.specs.Ranges.{element_place, element_type}
 use Rattle.life_type_stmt.specs.Simples.{is_place, type_of}
+use Rattle.life_well_typed.specs.Apart.{is_apart}
 use Rattle.life_well_typed.specs.Expressions.{AreExpressions, IsExpression}
 use Rattle.life_well_typed.specs.Given.{is_given}
 use Rattle.life_well_typed.specs.Members.{is_listed}
@@ -62,8 +63,9 @@ module _ (p : ProgramForm) (locals : List TypedLocal) (result : TyId) where
   IsSimpleIfAny visible None = Unit {0}
   IsSimpleIfAny visible (Some it) = IsSimple visible it
 
+  -- what is printed is a sum: `&&` and `||` stand in parentheses
   abbrev pub IsItem : List ℕ → ItemForm → Type 0
-  IsItem visible (printed e) = (is_printed e.ty ≡ true) × IsWhole visible e
+  IsItem visible (printed e) = (is_printed e.ty ≡ true) × (is_apart e.form ≡ true) × IsWhole visible e
   IsItem visible (line_end place) = Unit {0}
 
   abbrev pub AreItems : List ℕ → List ItemForm → Type 0
