@@ -88,13 +88,17 @@ module _ (types : Types) (ordered : IsOrdered types) (hand : ℕ → ℕ) (c : C
     some_word : slice_index (spot_words c spot (width_at types item)) 0 ≡ suc b
     some_word = ap (λ p. slice_index (spot_words c spot (width p)) 0) is_vector ∙ number (slice_index (spot_words c spot 1) 0) b owned
 
-    type_is : buffer.0.ty ≡ ty
-    type_is = sym (some_same (sym (ap (λ p. owned_type p 0) is_vector) ∙ spot_flat types ordered hand c store n i w item o there within lt 0 b buffer.0 (ap (λ p. kind_in p 0) is_vector) some_word buffer.1))
+    pub buffer_type : buffer.0.ty ≡ ty
+    buffer_type = sym (some_same (sym (ap (λ p. owned_type p 0) is_vector) ∙ spot_flat types ordered hand c store n i w item o there within lt 0 b buffer.0 (ap (λ p. kind_in p 0) is_vector) some_word buffer.1))
+
+    -- .. whose parts are these
+    pub buffer_parts : parts_at types ty ≡ element
+    buffer_parts = made.1
 
     pub elements : IsOf (kinds_of types) element buffer.0 (Known (kinds_of types) c element)
     elements =
         object_known types ordered hand c store element (known_from types ordered hand c store (rank_of types ty) element made.2) b buffer.0 buffer.1
-        (ap (parts_at types) type_is ∙ made.1)
+        (ap (parts_at types) buffer_type ∙ made.1)
 
     own : OwnsBuffer (kinds_of types) ty element spot b c o buffer.0
     own = record {
@@ -102,7 +106,7 @@ module _ (types : Types) (ordered : IsOrdered types) (hand : ℕ → ℕ) (c : C
       owned = owned;
       there = buffer.1;
       is = elements;
-      same = type_is;
+      same = buffer_type;
       lower = lesser types ordered (rank_of types o.ty) (parts_at types o.ty) (made_at types ordered o.ty) (w + 0) ty
           (within.words 0 (let e = width_is in omega (arith, e)) ∙ ap (λ p. kind_in p 0) is_vector)
           (within.owners 0 (let e = width_is in omega (arith, e)) ∙ ap (λ p. owned_type p 0) is_vector);

@@ -40,7 +40,7 @@ module _ (types : Types) (ordered : IsOrdered types) (hand : ℕ → ℕ) (c d :
   place_guards S killed k may at_k place r names at_r low = under_place types ordered hand c store Stands owning rooted killed place k r may at_k at_r low
 
   -- any step that touches what is owned in a place, and kills what is under it
-  pub place_cover : (killed : AbsPlace) (k : Region) → owning killed.root ≡ true → IsAt types c Stands killed k → Touches (kinds_of types) (foot_of types k) c d → (written : AbsPlace → Bool) (S S' : Fact → Type 0) → LeftBy (under killed) written S S'
+  pub place_cover : (killed : AbsPlace) (k : Region) → owning killed.root ≡ true → IsAt types c Stands killed k → Touches (kinds_of types) (foot_of types k) c d → (written : AbsPlace → Bool) (S S' : Fact → Type 0) → LeftBy Stands (under killed) written S S'
       → (l : AbsPlace) (look : Look) (v : Pointer) → written l ≡ false → IsCovered types c Stands may_change S l look v → IsCovered types d Stands may_change S' l look v
   place_cover killed k may at_k touch written S S' left =
       cover_on types ordered hand c d store (foot_of types k) touch Stands Stands may_change (λ r a s. rooted.fits r a s) (under killed) written S S' left (place_guards S killed k may at_k) (λ place r names free s. s)
@@ -51,7 +51,7 @@ module _ (types : Types) (ordered : IsOrdered types) (hand : ℕ → ℕ) (c d :
         → (q : AbsPlace) (look : Look) (v : Pointer) → writes (Changes (named.Name l) change) q ≡ false → IsCovered types c Stands may_change S q look v → IsCovered types d Stands may_change S' q look v
     change_named l k closed may at_k touch =
         place_cover (located l) k may at_k touch (writes (Changes (named.Name l) change)) S S'
-        (left_by_name sigs types f place (Changes (named.Name l) change) S S' closed (record { owner = located l; cause = changed place l.local }) refl (λ e. refl) (at_head (element.Invalid (changed place l.local)) []))
+        (left_by_name sigs types f place (Changes (named.Name l) change) S S' closed Stands (record { owner = located l; cause = changed place l.local }) refl (λ e. refl) (at_head (element.Invalid (changed place l.local)) []))
 
     -- .. and through a pointer, whose value some fact covers
     pub change_through : (p : Location) (members : List ℕ) (a : AbsPlace) (k : Region) → Closed sigs types f place (Changes (named.Through p members) change) S S' → S (fact_at (located p) (element.At a)) → owning (members_place a members).root ≡ true
@@ -59,10 +59,9 @@ module _ (types : Types) (ordered : IsOrdered types) (hand : ℕ → ℕ) (c d :
         → (q : AbsPlace) (look : Look) (v : Pointer) → writes (Changes (named.Through p members) change) q ≡ false → IsCovered types c Stands may_change S q look v → IsCovered types d Stands may_change S' q look v
     change_through p members a k closed target may at_k touch =
         place_cover (members_place a members) k may at_k touch (writes (Changes (named.Through p members) change)) S S'
-        (left_through sigs types f place (Changes (named.Through p members) change) S S' closed p members a target (λ x y. refl) (λ e. refl) (at_head (element.Invalid (owner_changed place)) []))
+        (left_through sigs types f place (Changes (named.Through p members) change) S S' closed Stands p members a target (λ x y. refl) (λ e. refl) (at_head (element.Invalid (owner_changed place)) []))
 
 -- where a pointer points to a place, its member lies in the member's place
-pub member_pointed : (types : Types) (c : Content) (Stands : Root → Region → Type 0) (may_change : Root → Bool) (look : Look) (a : AbsPlace) (t : Target) (target item : TyId) (members : List ℕ) → PointsTo types c Stands may_change look a t → look.target ≡ Some target
-    → type_within types (Some target) members ≡ Some item → HasRoom (length members) a → AllSmall members → (r : Region) × IsAt types c Stands (members_place a members) r
-member_pointed types c Stands may_change look a t target item members h is typed room small =
-    (_, members_at types c Stands members a h.region item room small (subst (λ (o : Option TyId). type_within types o members ≡ Some item) (sym is ∙ h.type) typed) h.lies)
+pub member_pointed : (types : Types) (c : Content) (Stands : Root → Region → Type 0) (may_change : Root → Bool) (look : Look) (a : AbsPlace) (t : Target) (item : TyId) (members : List ℕ) → (h : PointsTo types c Stands may_change look a t)
+    → type_within types (Some h.region.ty) members ≡ Some item → HasRoom (length members) a → AllSmall members → (r : Region) × IsAt types c Stands (members_place a members) r
+member_pointed types c Stands may_change look a t item members h typed room small = (_, members_at types c Stands members a h.region item room small typed h.lies)

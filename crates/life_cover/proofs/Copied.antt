@@ -98,7 +98,7 @@ module _ (types : Types) (ordered : IsOrdered types) (hand : ℕ → ℕ) (c d :
       → (q : AbsPlace) (look : Look) (v : Pointer) → writes (Copy (named.Name l) from) q ≡ false → IsCovered types c Stands may_change S q look v → IsCovered types d Stands may_change S' q look v
   copy_named l k closed holds may at_k touch =
       place_cover types ordered hand c d store Stands may_change owning rooted (located l) k may at_k touch (writes (Copy (named.Name l) from)) S S'
-      (left_by_name sigs types f place (Copy (named.Name l) from) S S' closed (record { owner = located l; cause = changed place l.local })
+      (left_by_name sigs types f place (Copy (named.Name l) from) S S' closed Stands (record { owner = located l; cause = changed place l.local })
       (ap (λ b. if b then one_kill (named_kill place (named.Name l)) else one_kill None) holds) (λ e. refl) (at_head (element.Invalid (changed place l.local)) []))
 
   pub copy_through : (p : Location) (members : List ℕ) (a : AbsPlace) (k : Region) → Closed sigs types f place (Copy (named.Through p members) from) S S' → holds_owner (tree_if types (operand_type types f (named.Through p members))) ≡ true
@@ -106,6 +106,6 @@ module _ (types : Types) (ordered : IsOrdered types) (hand : ℕ → ℕ) (c d :
       → (q : AbsPlace) (look : Look) (v : Pointer) → writes (Copy (named.Through p members) from) q ≡ false → IsCovered types c Stands may_change S q look v → IsCovered types d Stands may_change S' q look v
   copy_through p members a k closed holds target may at_k touch =
       place_cover types ordered hand c d store Stands may_change owning rooted (members_place a members) k may at_k touch (writes (Copy (named.Through p members) from)) S S'
-      (left_through sigs types f place (Copy (named.Through p members) from) S S' closed p members a target
+      (left_through sigs types f place (Copy (named.Through p members) from) S S' closed Stands p members a target
       (λ x y. ap (λ b. if b then killed_through place (Copy (named.Through p members) from) (named.Through p members) x y else []) holds)
       (λ e. ap (λ b. is_killed (if b then one_kill None else one_kill None) e) holds) (at_head (element.Invalid (owner_changed place)) []))

@@ -20,7 +20,7 @@ use Rattle.life_cover.specs.Regions.{IsTrue, Region}
 use Rattle.life_cover.proofs.Beside.{at_on, holds_on}
 
 module _ (types : Types) (ordered : IsOrdered types) (hand : ℕ → ℕ) (c d : Content) (store : IsStore types hand c) (t : Foot) (touch : Touches (kinds_of types) t c d) (Stands Stands' : Root → Region → Type 0)
-    (may_change : Root → Bool) (fits : (r : Root) (a : Region) → Stands r a → IsTrue types c a) (killed written : AbsPlace → Bool) (S S' : Fact → Type 0) (left : LeftBy killed written S S') (guards : Guards types c Stands S killed t)
+    (may_change : Root → Bool) (fits : (r : Root) (a : Region) → Stands r a → IsTrue types c a) (killed written : AbsPlace → Bool) (S S' : Fact → Type 0) (left : LeftBy Stands killed written S S') (guards : Guards types c Stands S killed t)
     (roots : KeepsRoots Stands Stands' S killed) where
   -- a place that isn't killed is pointed to as before
   pub points_on : (look : Look) (place : AbsPlace) (p : Target) → Names S place → killed place ≡ false → PointsTo types c Stands may_change look place p → PointsTo types d Stands' may_change look place p
@@ -52,7 +52,7 @@ module _ (types : Types) (ordered : IsOrdered types) (hand : ℕ → ℕ) (c d :
   told_on l look (element.At place) (To p) free s h = go (killed place) refl
     where
       go : (b : Bool) → killed place ≡ b → IsTold types d Stands' may_change S' l look (To p)
-      go true e = let x = left.hit l place s free e in record { known = element.Invalid x.0; holds = x.1; covers = tt }
+      go true e = let x = left.hit l place h.lies.start s h.lies.stands free e in record { known = element.Invalid x.0; holds = x.1; covers = tt }
       go false e = record { known = element.At place; holds = left.kept l (element.At place) s free e; covers = points_on look place p (l, s) e h }
 
   -- a pointer that isn't written stays covered

@@ -16,6 +16,7 @@ use Rattle.life_pset.specs.declared.element.AbsPlace.{AbsPlace}
 use Rattle.life_pset.specs.declared.element.Element.{Element}
 use Rattle.life_pset.specs.declared.element.Element.TheVariants as element
 use Rattle.life_pset.specs.declared.element.Fact.{Fact}
+use Rattle.life_pset.specs.declared.element.Root.{Root}
 use Rattle.life_pset.proofs.Numbers.{is_of_iff, place_laws}
 use Rattle.life_contract.specs.Located.{located}
 use Rattle.life_contract.specs.Signatures.{Signature}
@@ -25,6 +26,7 @@ use Rattle.life_rules.specs.declared.kill.Kill.{Kill}
 use Rattle.life_rules.proofs.Giving.{at_head, in_tail}
 use Rattle.std.specs.Prelude.{Some}
 use Rattle.life_cover.specs.Kills.{Closed, LeftBy, is_hit}
+use Rattle.life_cover.specs.Regions.{Region}
 
 -- the element with a cause is one of the function's
 pub caused_of : (types : Types) (f : Function) (l : AbsPlace) (e e' : Element) → IsOf (table_of types f) (fact_at l e) → Contains (caused_elements f) e' → IsOf (table_of types f) (fact_at l e')
@@ -57,8 +59,8 @@ both_false : (a b : Bool) → a ≡ false → b ≡ false → (a || b) ≡ false
 both_false true b e f = e
 both_false false b e f = f
 
-module _ (sigs : List Signature) (types : Types) (f : Function) (place : Place) (i : Step) (S S' : Fact → Type 0) (closed : Closed sigs types f place i S S') where
-  kept_by : (l : AbsPlace) (e : Element) → S (fact_at l e) → drops types f place i (fact_at l e) ≡ false → S' (fact_at l e)
+module _ (sigs : List Signature) (types : Types) (f : Function) (place : Place) (i : Step) (S S' : Fact → Type 0) (closed : Closed sigs types f place i S S') (Stands : Root → Region → Type 0) where
+  pub kept_by : (l : AbsPlace) (e : Element) → S (fact_at l e) → drops types f place i (fact_at l e) ≡ false → S' (fact_at l e)
   kept_by l e s free =
       closed.one (fact_at l e) (fact_at l e) s (closed.of (fact_at l e) s)
       (Contains-append_left (unless (drops types f place i (fact_at l e)) (fact_at l e)) (killed_facts (kills types f place i) i (fact_at l e) ++ makes sigs types f place i (fact_at l e)) (fact_at l e)
@@ -66,10 +68,10 @@ module _ (sigs : List Signature) (types : Types) (f : Function) (place : Place) 
 
   -- what is changed by its name
   pub left_by_name : (k : Kill) → kills types f place i ≡ one_kill (Some k) → ((e : Element) → is_gone types f place i e ≡ is_killed (kills types f place i) e) → Contains (step_elements f place i) (element.Invalid k.cause)
-      → LeftBy (under k.owner) (writes i) S S'
+      → LeftBy Stands (under k.owner) (writes i) S S'
   left_by_name k is gone caused = record {
     kept = λ l e s free not_hit. kept_by l e s (both_false (is_gone types f place i e) (writes i l) (gone e ∙ ap (λ ks. is_killed ks e) is ∙ both_false (points_under k.owner e) false (sym (hit_under k.owner e) ∙ not_hit) refl) free);
-    hit = λ l a s free under_k. (
+    hit = λ l a r s stands free under_k. (
       k.cause,
       closed.one (fact_at l (element.At a)) (fact_at l (element.Invalid k.cause)) s
           (caused_of types f l (element.At a) (element.Invalid k.cause) (closed.of (fact_at l (element.At a)) s) (closed.causes (element.Invalid k.cause) caused))
@@ -83,10 +85,10 @@ module _ (sigs : List Signature) (types : Types) (f : Function) (place : Place) 
 
   -- .. and through a pointer that may point to a place
   pub left_through : (p : Location) (members : List ℕ) (a : AbsPlace) → S (fact_at (located p) (element.At a)) → ((x y : Fact) → from_two sigs types f place i x y ≡ killed_through place i (named.Through p members) x y)
-      → ((e : Element) → is_gone types f place i e ≡ false) → Contains (step_elements f place i) (element.Invalid (owner_changed place)) → LeftBy (under (members_place a members)) (writes i) S S'
+      → ((e : Element) → is_gone types f place i e ≡ false) → Contains (step_elements f place i) (element.Invalid (owner_changed place)) → LeftBy Stands (under (members_place a members)) (writes i) S S'
   left_through p members a target two gone caused = record {
     kept = λ l e s free not_hit. kept_by l e s (both_false (is_gone types f place i e) (writes i l) (gone e) free);
-    hit = λ l b s free under_a. (
+    hit = λ l b r s stands free under_a. (
       owner_changed place,
       closed.two (fact_at (located p) (element.At a)) (fact_at l (element.At b)) (fact_at l (element.Invalid (owner_changed place))) target s
           (caused_of types f l (element.At b) (element.Invalid (owner_changed place)) (closed.of (fact_at l (element.At b)) s) (closed.causes (element.Invalid (owner_changed place)) caused))

@@ -21,16 +21,16 @@ use Rattle.life_forest.proofs.Following.{in_hand}
 use Rattle.life_forest.proofs.Frames.{first_named}
 use Rattle.life_forest.proofs.Members.{within_self}
 use Rattle.life_forest.proofs.Steps.{alive_le, own_all}
-use Rattle.life_cover.specs.Frames.{RootStands}
+use Rattle.life_cover.specs.Frames.{NoInput, RootStands}
 use Rattle.life_cover.specs.Regions.{IsTrue, Region, foot_of}
 use Rattle.life_cover.specs.Roots.{AreRooted, IsApart}
 use Rattle.life_cover.proofs.Guarding.{same_region}
 
 -- a local names one object, and two name two
-named_once : {a b : ℕ} → Named a ≡ Named b → a ≡ b
+pub named_once : {a b : ℕ} → Named a ≡ Named b → a ≡ b
 named_once e = cc
 
-two_named : (cells : List Cell) (x y n : ℕ) → x ≢ y → slice_get cells x ≡ Some (Named n) → slice_get cells y ≡ Some (Named n) → 2 ≤ times (named_in cells) n
+pub two_named : (cells : List Cell) (x y n : ℕ) → x ≢ y → slice_get cells x ≡ Some (Named n) → slice_get cells y ≡ Some (Named n) → 2 ≤ times (named_in cells) n
 two_named [] x y n ne a b = absurd (none a)
   where
     none : ◌≡◌ {A = Option Cell} None (Some (Named n)) → ⊥
@@ -58,10 +58,6 @@ beneath_owned : (types : Types) (c : Content) (a : Region) (n : ℕ) → Beneath
 beneath_owned types c a n (whole _ e) = absurd (false≢true e)
 beneath_owned types c a n (part m _ own) = (m, own_all (kinds_of types) c ((foot_of types a).part m) m n own)
 beneath_owned types c a n (under m _ low own) = (m, own)
-
--- no input stands anywhere
-abbrev pub NoInput : Root → Region → Type 0
-NoInput r a = ⊥
 
 module _ (types : Types) (f : Function) (rest : ℕ → ℕ) (st : State) (store : HasStore types rest st) (frame : IsFrame types f st.world.content st.cells) where
   named_free : (x n : ℕ) (a : Region) → slice_get st.cells x ≡ Some (Named n) → Beneath (kinds_of types) st.world.content (foot_of types a) n → ⊥

@@ -14,7 +14,7 @@ use Rattle.life_store.specs.State.{Target}
 use Rattle.life_store.proofs.CellLemmas.{none_some, some_same}
 use Rattle.life_forest.specs.Forest.{IsForest}
 use Rattle.life_forest.specs.Kinds.{Kinds}
-use Rattle.life_cover.specs.Covers.{Holds, Look, PointsTo}
+use Rattle.life_cover.specs.Covers.{Holds, IsSeenAs, Look, PointsTo}
 use Rattle.life_cover.specs.Regions.{IsAt, Region, owned_in_type}
 use Rattle.life_cover.proofs.Fresh.{at_position, at_range, position_holds, range_holds}
 use Rattle.life_cover.proofs.Stepping.{HasRoom, goes_at, stepped_root}
@@ -54,7 +54,7 @@ module _ (types : Types) (c : Content) (Stands : Root → Region → Type 0) (ma
       goes_at types c Stands 0 a owned_step r (record { object = b; word = 0; ty = item }) room at_r
       (inr (record { owned = refl; type = type; holder = o; there = there; index = i; has = owner_word_is c r.object i r.word b o there owned; word = refl }))
 
-  module _ (look : Look) (target : look.target ≡ Some item) (change : look.constant ≡ false → may_change a.root ≡ true) where
+  module _ (look : Look) (target : IsSeenAs types look.target item) (change : look.constant ≡ false → may_change a.root ≡ true) where
     pub owned_pointed : (t : Target) → t.object ≡ b → t.word ≡ 0 → Holds c look.ranged t → PointsTo types c Stands may_change look (owned_place a) t
     owned_pointed t object word holds = record {
       region = record { object = b; word = 0; ty = item };

@@ -35,7 +35,7 @@ use Rattle.life_store.specs.Doing.{does}
 use Rattle.life_store.specs.Effects.{Effect, Next, Traps, Faults, Strays, Setting, cell}
 use Rattle.life_store.specs.State.{Named, Pointer, Points, State}
 use Rattle.life_forest.specs.Typed.{IsStore}
-use Rattle.life_cover.specs.Covers.{IsCovered}
+use Rattle.life_cover.specs.Covers.{IsCovered, Reseen}
 use Rattle.life_cover.specs.Frames.{LocalsCovered, RootStands, look_at}
 use Rattle.life_cover.specs.Kills.{Closed}
 use Rattle.life_cover.specs.Regions.{IsTrue, Region}
@@ -74,7 +74,7 @@ on_more Strays P Q h more = tt
 module _ (types : Types) (ordered : IsOrdered types) (f : Function) (hand : ℕ → ℕ) (st : State) (store : IsStore types hand st.world.content) (Input : Root → Region → Type 0) (may_change : Root → Bool)
     (fits : (r : Root) (a : Region) → RootStands types f Input st.cells r a → IsTrue types st.world.content a) (sigs : List Signature) (n : ℕ) (place : Place) (S S' : Fact → Type 0) (old : LocalsCovered types f Input may_change S st)
     (p q : ℕ) (v : Pointer) (there : cell st q ≡ Some (Points v)) (no_object : (k : ℕ) → cell st p ≡ Some (Named k) → ⊥) (listed : Contains (locations_of types f) (local_place p))
-    (target : (look_at types f p).target ≡ (look_at types f q).target) (constant : (look_at types f p).constant ≡ false → (look_at types f q).constant ≡ false) (s : Setting) where
+    (target : Reseen types (look_at types f q).target (look_at types f p).target) (constant : (look_at types f p).constant ≡ false → (look_at types f q).constant ≡ false) (s : Setting) where
   -- p takes what q has, and nothing is killed
   pub record IsTaking (i : Step) : Type 0 where
     pub clean : IsClean sigs types n f place i S

@@ -17,7 +17,7 @@ use Rattle.life_store.specs.Views.{part_of, seen_count, usable}
 use Rattle.life_store.specs.declared.run.FaultKind.TheVariants as fault
 use Rattle.life_forest.specs.Forest.{IsForest}
 use Rattle.life_forest.specs.Kinds.{kinds_of}
-use Rattle.life_cover.specs.Covers.{Covers, Holds, IsCovered, Look}
+use Rattle.life_cover.specs.Covers.{Covers, Holds, IsCovered, Look, Reseen}
 use Rattle.life_cover.specs.Regions.{Region}
 use Rattle.life_cover.proofs.Fresh.{advanced_holds, at_position, at_range, element_holds, part_holds, position_valid, range_valid}
 use Rattle.life_cover.proofs.Using.{NotInvalid, not_wild, points_again, to_place}
@@ -47,7 +47,7 @@ abbrev pub HasPosition : Content → Pointer → ℕ → Type 0
 HasPosition c (To t) i = i ≤ length (slots_at c t.object)
 HasPosition c _ i = Unit {0}
 
-module _ (types : Types) (c : Content) (Stands : Root → Region → Type 0) (may_change : Root → Bool) (S S' : Fact → Type 0) (l l' : AbsPlace) (look look' : Look) (right : NotInvalid S l) (target : look'.target ≡ look.target)
+module _ (types : Types) (c : Content) (Stands : Root → Region → Type 0) (may_change : Root → Bool) (S S' : Fact → Type 0) (l l' : AbsPlace) (look look' : Look) (right : NotInvalid S l) (target : Reseen types look.target look'.target)
     (constant : look'.constant ≡ false → look.constant ≡ false) (takes : (e : Element) → S (fact_at l e) → S' (fact_at l' e)) where
   -- another pointer to the same place
   pub again_covered : (t t' : Target) → t'.object ≡ t.object → t'.word ≡ t.word → (Holds c look.ranged t → Holds c look'.ranged t') → IsCovered types c Stands may_change S l look (To t) → IsCovered types c Stands may_change S' l' look' (To t')
@@ -92,7 +92,7 @@ module _ (types : Types) (c : Content) (Stands : Root → Region → Type 0) (ma
         (λ i le. again_covered t (at_position c t.object i t.word) refl refl (λ g. subst (λ b. Holds c b (at_position c t.object i t.word)) (sym is') (advanced_holds (kinds_of types) hand c forest t false i le holds)) h)
 
 -- a pointer that takes another's value is covered as that is, also where it may be null or invalid
-pub repointed_covered : (types : Types) (c : Content) (Stands : Root → Region → Type 0) (may_change : Root → Bool) (S S' : Fact → Type 0) (l l' : AbsPlace) (look look' : Look) → look'.target ≡ look.target → (look'.constant ≡ false → look.constant ≡ false) → look'.ranged ≡ look.ranged
+pub repointed_covered : (types : Types) (c : Content) (Stands : Root → Region → Type 0) (may_change : Root → Bool) (S S' : Fact → Type 0) (l l' : AbsPlace) (look look' : Look) → Reseen types look.target look'.target → (look'.constant ≡ false → look.constant ≡ false) → look'.ranged ≡ look.ranged
     → ((e : Element) → S (fact_at l e) → S' (fact_at l' e)) → (v : Pointer) → IsCovered types c Stands may_change S l look v → IsCovered types c Stands may_change S' l' look' v
 repointed_covered types c Stands may_change S S' l l' look look' target constant ranged takes v = go v
   where

@@ -33,7 +33,7 @@ use Rattle.life_cover.specs.Regions.{IsTrue, Region}
 use Rattle.life_cover.proofs.Unkilled.{no_foot, unkilled_cover}
 
 -- another cell is as it was
-set_other : {A : Type 0} (xs : List A) (x y : ℕ) (v : A) → x ≢ y → slice_get (slice_set xs x v) y ≡ slice_get xs y
+pub set_other : {A : Type 0} (xs : List A) (x y : ℕ) (v : A) → x ≢ y → slice_get (slice_set xs x v) y ≡ slice_get xs y
 set_other [] x y v ne = refl
 set_other (c ∷ cs) zero zero v ne = absurd (ne refl)
 set_other (c ∷ cs) zero (suc y) v ne = refl

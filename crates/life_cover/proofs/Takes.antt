@@ -12,6 +12,7 @@ use Rattle.life_pset.specs.Elements.{elements_of, locations_of}
 use Rattle.life_pset.specs.Table.{IsOf, table_of}
 use Rattle.life_pset.specs.declared.element.Element.{Element}
 use Rattle.life_pset.specs.declared.element.Fact.{Fact}
+use Rattle.life_pset.specs.declared.element.Root.{Root}
 use Rattle.life_pset.proofs.Numbers.{is_of_iff, place_laws}
 use Rattle.life_contract.specs.Located.{located}
 use Rattle.life_contract.specs.Signatures.{Signature}
@@ -19,9 +20,10 @@ use Rattle.life_rules.specs.Carrying.{drops, from_none, is_gone, killed_facts, k
 use Rattle.life_rules.specs.Matching.{fact_at, facts_at, facts_if, given_if, reached, unless}
 use Rattle.life_rules.proofs.Giving.{at_head}
 use Rattle.life_cover.specs.Kills.{Closed, LeftBy}
+use Rattle.life_cover.specs.Regions.{Region}
 
 module _ (sigs : List Signature) (types : Types) (f : Function) (place : Place) (i : Step) (S S' : Fact → Type 0) (closed : Closed sigs types f place i S S') where
-  made_of : (a x : Fact) → S a → IsOf (table_of types f) x → Contains (makes sigs types f place i a) x → S' x
+  pub made_of : (a x : Fact) → S a → IsOf (table_of types f) x → Contains (makes sigs types f place i a) x → S' x
   made_of a x s of has =
       closed.one a x s of
       (Contains-append_right (unless (drops types f place i a) a) (killed_facts (kills types f place i) i a ++ makes sigs types f place i a) x
@@ -50,12 +52,12 @@ module _ (sigs : List Signature) (types : Types) (f : Function) (place : Place) 
   named_fact p e has listed known = closed.none (fact_at (located p) e) ((is_of_iff types f (fact_at (located p) e)).1 (listed, known)) has
 
   -- what kills nothing leaves all that it doesn't write
-  pub left_all : ((e : Element) → is_gone types f place i e ≡ false) → LeftBy (λ a. false) (writes i) S S'
-  left_all gone = record {
+  pub left_all : (Stands : Root → Region → Type 0) → ((e : Element) → is_gone types f place i e ≡ false) → LeftBy Stands (λ a. false) (writes i) S S'
+  left_all Stands gone = record {
     kept = λ l e s free not_hit. closed.one (fact_at l e) (fact_at l e) s (closed.of (fact_at l e) s)
         (Contains-append_left (unless (drops types f place i (fact_at l e)) (fact_at l e)) (killed_facts (kills types f place i) i (fact_at l e) ++ makes sigs types f place i (fact_at l e)) (fact_at l e)
         (subst (λ t. Contains (unless t (fact_at l e)) (fact_at l e)) (sym (both_false (is_gone types f place i e) (writes i l) (gone e) free)) (at_head (fact_at l e) [])));
-    hit = λ l a s free never. absurd (clash never);
+    hit = λ l a r s stands free never. absurd (clash never);
   }
     where
       both_false : (a b : Bool) → a ≡ false → b ≡ false → (a || b) ≡ false

@@ -39,5 +39,5 @@ module _ (types : Types) (ordered : IsOrdered types) (hand : ℕ → ℕ) (c d :
     (roots : KeepsRoots Stands Stands' S (λ a. false)) where
   pub unkilled_cover : (l : AbsPlace) (look : Look) (v : Pointer) → writes i l ≡ false → IsCovered types c Stands may_change S l look v → IsCovered types d Stands' may_change S' l look v
   unkilled_cover =
-      cover_on types ordered hand c d store no_foot touch Stands Stands' may_change fits (λ a. false) (writes i) S S' (left_all sigs types f place i S S' closed gone)
+      cover_on types ordered hand c d store no_foot touch Stands Stands' may_change fits (λ a. false) (writes i) S S' (left_all sigs types f place i S S' closed Stands gone)
       (λ a r names at_r low. absurd (beneath_nothing types c r.object low)) roots

@@ -17,7 +17,7 @@ use Rattle.life_store.specs.Places.{Found, Here, Fixed, Outside, Wrong, Astray, 
 use Rattle.life_store.specs.State.{Target, Pointer, Null, Wild, To, Static}
 use Rattle.life_store.specs.Views.{usable}
 use Rattle.life_store.specs.declared.run.FaultKind.TheVariants as fault
-use Rattle.life_cover.specs.Covers.{Covers, Holds, IsCovered, Look, PointsTo}
+use Rattle.life_cover.specs.Covers.{Covers, Holds, IsCovered, Look, PointsTo, Reseen}
 use Rattle.life_cover.specs.Regions.{Region}
 use Rattle.life_cover.proofs.Fresh.{position_valid, range_valid}
 
@@ -116,13 +116,13 @@ module _ (types : Types) (c : Content) (Stands : Root → Region → Type 0) (ma
 -- ---- what is made of a pointer points to the same place
 
 pub points_again : (types : Types) (c : Content) (Stands : Root → Region → Type 0) (may_change : Root → Bool) (look look' : Look) (place : AbsPlace) (t t' : Target) → PointsTo types c Stands may_change look place t → t'.object ≡ t.object → t'.word ≡ t.word
-    → look'.target ≡ look.target → (look'.constant ≡ false → look.constant ≡ false) → Holds c look'.ranged t' → PointsTo types c Stands may_change look' place t'
+    → Reseen types look.target look'.target → (look'.constant ≡ false → look.constant ≡ false) → Holds c look'.ranged t' → PointsTo types c Stands may_change look' place t'
 points_again types c Stands may_change look look' place t t' h object word target constant holds = record {
   region = h.region;
   lies = h.lies;
   object = object ∙ h.object;
   word = word ∙ h.word;
-  type = target ∙ h.type;
+  type = target h.region.ty h.type;
   change = λ e. h.change (constant e);
   holds = holds;
 }

@@ -29,7 +29,7 @@ use Rattle.life_store.specs.Views.{is_span, part_count, part_of, seen_count, tex
 use Rattle.life_store.specs.declared.run.TrapKind.TheVariants as trap
 use Rattle.life_forest.specs.Forest.{IsForest}
 use Rattle.life_forest.specs.Kinds.{kinds_of}
-use Rattle.life_cover.specs.Covers.{IsCovered}
+use Rattle.life_cover.specs.Covers.{IsCovered, Reseen}
 use Rattle.life_cover.specs.Frames.{look_at}
 use Rattle.life_cover.specs.Regions.{Region}
 use Rattle.life_cover.proofs.Pointers.{HasPosition, IfRight, OnRight, advanced_right, part_right, right_then, used_right}
@@ -43,7 +43,7 @@ le_of a b h = grind (arith, nat_tests)
 lt_of : (a b : ℕ) → nat_lt a b ≡ true → a < b
 lt_of a b h = grind (arith, nat_tests)
 
-by_test : {A : Type 0} (b : Bool) (x y : Attempt A) (P : A → Type 0) → (b ≡ true → IfRight x P) → IfRight y P → IfRight (cond b x y) P
+pub by_test : {A : Type 0} (b : Bool) (x y : Attempt A) (P : A → Type 0) → (b ≡ true → IfRight x P) → IfRight y P → IfRight (cond b x y) P
 by_test true x y P h k = h refl
 by_test false x y P h k = k
 
@@ -109,7 +109,7 @@ end_fits range_end.End size = omega arith
 -- ---- the kinds
 
 module _ (types : Types) (f : Function) (Stands : Root → Region → Type 0) (may_change : Root → Bool) (S S' : Fact → Type 0) (st : State) (p q : ℕ) (v : Pointer) (there : cell st q ≡ Some (Points v)) (right : NotInvalid S (local_place q))
-    (target : (look_at types f p).target ≡ (look_at types f q).target) (constant : (look_at types f p).constant ≡ false → (look_at types f q).constant ≡ false) (takes : (e : Element) → S (fact_at (local_place q) e) → S' (fact_at (local_place p) e))
+    (target : Reseen types (look_at types f q).target (look_at types f p).target) (constant : (look_at types f p).constant ≡ false → (look_at types f q).constant ≡ false) (takes : (e : Element) → S (fact_at (local_place q) e) → S' (fact_at (local_place p) e))
     (covered : IsCovered types st.world.content Stands may_change S (local_place q) (look_at types f q) v) (hand : ℕ → ℕ) (forest : IsForest (kinds_of types) hand st.world.content) where
   abbrev c : Content
   c = st.world.content

@@ -70,7 +70,7 @@ covered c seven eight i valid = record {
   lies = record { start = region 7 0 1; stands = (refl, refl); lies = elements_lie c seven };
   object = refl;
   word = refl;
-  type = refl;
+  type = inl refl;
   change = λ e. refl;
   holds = record { settled = ap (is_valid_in i 1 5) eight ∙ valid; single = λ e. refl; within = λ e. absurd (false≢true e) };
 }

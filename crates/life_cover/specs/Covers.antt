@@ -1,5 +1,6 @@
 -- What a fact says of a pointer's value, and of what an owner has.
 use Rattle.std.specs.Prelude.{◌≡◌, ℕ, ◌+◌, ◌≤◌, Bool, true, false, Option, Some, None, length}
+use Rattle.std.proofs.Common.{◌⊎◌}
 use Rattle.life_types.specs.Types.{Types}
 use Rattle.life_types.specs.declared.ty.TyId.{TyId}
 use Rattle.life_pset.specs.declared.element.AbsPlace.{AbsPlace}
@@ -11,6 +12,7 @@ use Rattle.life_rules.specs.Matching.{fact_at}
 use Rattle.life_store.specs.Cells.{at}
 use Rattle.life_store.specs.Content.{Content, is_valid_in}
 use Rattle.life_store.specs.Held.{slots_at}
+use Rattle.life_store.specs.Parts.{Single, characters_type, parts_at}
 use Rattle.life_store.specs.State.{Target, Pointer, Null, To, Static}
 use Rattle.life_cover.specs.Regions.{Region, IsAt}
 
@@ -21,6 +23,15 @@ pub record Look : Type 0 where
   pub ranged : Bool
   pub target : Option TyId
   pub constant : Bool
+
+-- what the pointer's type says lies there; and a character of a string, which has no number of its own, is seen as any value of one word
+abbrev pub IsSeenAs : Types → (target : Option TyId) → TyId → Type 0
+IsSeenAs types None id = ⊥
+IsSeenAs types (Some t) id = (t ≡ id) ⊎ ((parts_at types t ≡ Single) × (id ≡ characters_type types))
+
+-- whatever a pointer of the one type sees, one of the other does
+abbrev pub Reseen : Types → (from to : Option TyId) → Type 0
+Reseen types from to = (id : TyId) → IsSeenAs types from id → IsSeenAs types to id
 
 -- each position that it has is there and has stood there since the pointer was made. An iterator may stand at the end. What sees a range
 -- has all of it in front of the end; a range of nothing stands no further than there, so an iterator into it may be used
@@ -36,7 +47,7 @@ module _ (types : Types) (c : Content) (Stands : Root → Region → Type 0) (ma
     pub lies : IsAt types c Stands place region
     pub object : t.object ≡ region.object
     pub word : t.word ≡ region.word
-    pub type : look.target ≡ Some region.ty
+    pub type : IsSeenAs types look.target region.ty
     pub change : look.constant ≡ false → may_change place.root ≡ true
     pub holds : Holds c look.ranged t
 

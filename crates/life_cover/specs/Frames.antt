@@ -1,5 +1,5 @@
 -- Where the places of a frame lie, and that its facts cover what its pointers hold.
-use Rattle.std.specs.Prelude.{◌≡◌, ℕ, Bool, List, Some, slice_get}
+use Rattle.std.specs.Prelude.{◌≡◌, ℕ, Bool, true, List, Some, slice_get}
 use Rattle.life_types.specs.TypeTests.{is_constant}
 use Rattle.life_types.specs.Types.{Types}
 use Rattle.life_core.specs.Function.{Function}
@@ -27,3 +27,16 @@ look_at types f x = record { ranged = is_range (type_at types f x); target = see
 abbrev pub LocalsCovered : Types → Function → (Input : Root → Region → Type 0) → (may_change : Root → Bool) → (S : Fact → Type 0) → State → Type 0
 LocalsCovered types f Input may_change S st =
     (x : ℕ) (v : Pointer) → slice_get st.cells x ≡ Some (Points v) → IsCovered types st.world.content (RootStands types f Input st.cells) may_change S (local_place x) (look_at types f x) v
+
+-- ---- a frame without inputs
+
+-- no input stands anywhere
+abbrev pub NoInput : Root → Region → Type 0
+NoInput r a = ⊥
+
+-- all that its locals are and own may be changed
+abbrev pub any_root : Root → Bool
+any_root r = true
+
+abbrev pub FrameCovered : Types → Function → (S : Fact → Type 0) → State → Type 0
+FrameCovered types f S st = LocalsCovered types f NoInput any_root S st

@@ -25,10 +25,11 @@ abbrev pub is_hit : (killed : AbsPlace → Bool) → Element → Bool
 is_hit killed (element.At place) = killed place
 is_hit killed _ = false
 
--- the facts S' that are left of the facts S: of what isn't written each stays that isn't hit, and of one that is there is an invalid one
-pub record LeftBy (killed written : AbsPlace → Bool) (S S' : Fact → Type 0) : Type 0 where
+-- the facts S' that are left of the facts S: of what isn't written each stays that isn't hit, and of one that is, and whose root stands
+-- somewhere, there is an invalid one
+pub record LeftBy (Stands : Root → Region → Type 0) (killed written : AbsPlace → Bool) (S S' : Fact → Type 0) : Type 0 where
   pub kept : (l : AbsPlace) (e : Element) → S (fact_at l e) → written l ≡ false → is_hit killed e ≡ false → S' (fact_at l e)
-  pub hit : (l a : AbsPlace) → S (fact_at l (element.At a)) → written l ≡ false → killed a ≡ true → (cause : Cause) × S' (fact_at l (element.Invalid cause))
+  pub hit : (l a : AbsPlace) (r : Region) → S (fact_at l (element.At a)) → Stands a.root r → written l ≡ false → killed a ≡ true → (cause : Cause) × S' (fact_at l (element.Invalid cause))
 
 -- some fact points to the place
 abbrev pub Names : (Fact → Type 0) → AbsPlace → Type 0

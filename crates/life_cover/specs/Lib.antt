@@ -1,3 +1,4 @@
+pub mod Buffered
 pub mod Covers
 pub mod Frames
 pub mod Kills

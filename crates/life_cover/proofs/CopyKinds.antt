@@ -1,0 +1,265 @@
+-- A value, a vector or a string is copied, by names or through pointers, in a frame without structs: there is no fault, and the facts behind
+-- it cover all pointers of the frame.
+use Rattle.std.proofs.Common.{◌≡◌, ◌≢◌, ℕ, zero, suc, ◌+◌, ◌<◌, Bool, true, false, ◌&&◌, List, [], ◌∷◌, ◌++◌, length, Option, Some, None, refl, sym, ap, subst, ◌∙◌, arith}
+use Rattle.std.specs.Prelude.{ℤ, Contains, if◌then◌else◌, nat_eq, slice_get, slice_index, take, drop}
+use Rattle.std.proofs.lemmas.Bool.{and_parts, false≢true, ne_eqb}
+use Rattle.std.proofs.lemmas.List.Elements.{Contains-append_left, Contains-append_right}
+use Rattle.life_types.specs.Trees.{IsOrdered, holds_owner, tree_at, tree_of}
+use Rattle.life_types.specs.TypeTests.{is_pointer, is_value, is_void}
+use Rattle.life_types.specs.Types.{Types}
+use Rattle.life_types.specs.declared.place.Place.{Place}
+use Rattle.life_types.specs.declared.ty.Ty.{Ty}
+use Rattle.life_types.specs.declared.ty.Ty.TheVariants as ty
+use Rattle.life_types.specs.declared.ty.TyId.{TyId}
+use Rattle.life_types.proofs.TreeLemmas.{tree_made}
+use Rattle.life_core.specs.Function.{Function}
+use Rattle.life_core.specs.Operands.{Location, Operand, whole}
+use Rattle.life_core.specs.Operands as named
+use Rattle.life_core.specs.Step.{Copy, Step}
+use Rattle.life_pset.specs.Elements.{local_place}
+use Rattle.life_pset.specs.Places.{is_within, members_place}
+use Rattle.life_pset.specs.Shapes.{has_buffer, tree_if, ty_if}
+use Rattle.life_pset.specs.Shapes as shapes
+use Rattle.life_pset.specs.declared.element.AbsPlace.{AbsPlace}
+use Rattle.life_pset.specs.declared.element.Element.{Element}
+use Rattle.life_pset.specs.declared.element.Fact.{Fact}
+use Rattle.life_pset.specs.declared.element.Root.{Root}
+use Rattle.life_pset.specs.declared.element.Root.TheVariants as root
+use Rattle.life_contract.specs.Located.{located}
+use Rattle.life_contract.specs.Signatures.{Signature}
+use Rattle.life_proper.specs.Placed.{type_in, type_of}
+use Rattle.life_rules.specs.Carrying.{is_gone, is_killed, named_kill, one_kill, writes}
+use Rattle.life_rules.specs.Diagnosing.{used_in, uses}
+use Rattle.life_store.specs.Content.{Slot, Object, Content}
+use Rattle.life_store.specs.Doing.{copied_to, does, on_character, replaced}
+use Rattle.life_store.specs.Effects.{Attempt, Got, GotTrap, GotFault, GotLost, Effect, Next, Setting, cell, on_got, put_content, word_of_number}
+use Rattle.life_store.specs.Held.{slots_if, words_at, words_if}
+use Rattle.life_store.specs.Owners.{Words, copied}
+use Rattle.life_store.specs.Parts.{Parts, Single, characters_type, operand_parts, operand_type, parts_at, parts_if, parts_of, width}
+use Rattle.life_store.specs.Places.{Spot, locate, on_place, operand_word, spot_words, wrote_spot}
+use Rattle.life_store.specs.State.{Cell, Named, Pointer, Points, State}
+use Rattle.life_store.proofs.CellLemmas.{some_same}
+use Rattle.life_forest.specs.Forest.{Touches}
+use Rattle.life_forest.specs.Kinds.{kinds_of}
+use Rattle.life_forest.specs.Owned.{alive, times}
+use Rattle.life_forest.specs.Typed.{IsStore}
+use Rattle.life_forest.specs.Values.{Known, owned_of}
+use Rattle.life_forest.proofs.Coming.{IfGot}
+use Rattle.life_forest.proofs.OneNumber.{IsOfType}
+use Rattle.life_forest.proofs.Placed.{AreCopied, place_copied}
+use Rattle.life_forest.proofs.SeenTypes.{parts_typed}
+use Rattle.life_forest.proofs.TypedSteps.{operand_of, operand_same}
+use Rattle.life_cover.specs.Covers.{IsCovered, Look}
+use Rattle.life_cover.specs.Frames.{FrameCovered, NoInput, RootStands, any_root, look_at}
+use Rattle.life_cover.specs.Kills.{Closed}
+use Rattle.life_cover.specs.Regions.{IsAt, Region, foot_of, owned_in_type}
+use Rattle.life_cover.specs.Roots.{AreRooted}
+use Rattle.life_cover.proofs.Copied.{copy_named, copy_through, copy_touches}
+use Rattle.life_cover.proofs.Copies.{IsWhole, copied_right, now, whole_parts}
+use Rattle.life_cover.proofs.KnownFrames.{IsKnownFrame, IsRight, hand_of, reach_at, rooted_of, store_of, typed, used_right, whole_location}
+use Rattle.life_cover.proofs.NumberKinds.{character_right}
+use Rattle.life_cover.proofs.Opening.{IsAllOf, IsOpened, opened, region_all, slot_there}
+use Rattle.life_cover.proofs.OwnerElements.{first_of}
+use Rattle.life_cover.proofs.OwnerKinds.{right_got}
+use Rattle.life_cover.proofs.Pointers.{IfRight, OnRight, right_then}
+use Rattle.life_cover.proofs.Reaching.{IsReached, Reach, by_reach, on_place_right, spot_is}
+use Rattle.life_cover.proofs.SaveKinds.{region_within, value_there, words_touches}
+use Rattle.life_cover.proofs.Unkilled.{no_foot, unkilled_cover}
+use Rattle.life_cover.proofs.Using.{Faultless}
+
+-- neither a unique_ptr nor a struct
+abbrev pub IsCopyable : Ty → Type 0
+IsCopyable (ty.Unique target) = ⊥
+IsCopyable (ty.Struct number) = ⊥
+IsCopyable _ = Unit {0}
+
+faultless_of : {A : Type 0} (x : Attempt A) (P : A → Type 0) → IfRight x P → Faultless x
+faultless_of (Got a) P h = tt
+faultless_of (GotTrap kind) P h = tt
+faultless_of (GotFault kind) P h = h
+faultless_of GotLost P h = tt
+
+-- what is copied of an operand that is a vector or a string, or behind what it is
+pub operand_copied : (types : Types) (ordered : IsOrdered types) (f : Function) (hand : ℕ → ℕ) (st : State) (store : IsStore types hand st.world.content) (Input : Root → Region → Type 0) (may_change owning : Root → Bool)
+    (rooted : AreRooted types st.world.content (RootStands types f Input st.cells) owning) (sigs : List Signature) (place : Place) (from : Operand) (S S' : Fact → Type 0) (o : Operand) (r : IsReached types f st Input may_change S o) → owning r.place.root ≡ true
+    → Closed sigs types f place (Copy o from) S S' → holds_owner (tree_if types (shapes.operand_type types f o)) ≡ true → (d : Content) → Touches (kinds_of types) (foot_of types r.region) st.world.content d → (q : AbsPlace) (look : Look) (v : Pointer) → writes (Copy o from) q ≡ false
+    → IsCovered types st.world.content (RootStands types f Input st.cells) may_change S q look v → IsCovered types d (RootStands types f Input st.cells) may_change S' q look v
+operand_copied types ordered f hand st store Input may_change owning rooted sigs place from S S' (named.Name l) r own closed holds d touch =
+    copy_named types ordered hand st.world.content d store (RootStands types f Input st.cells) may_change owning rooted sigs f place from S S' l r.region closed holds (subst (λ (a : AbsPlace). owning a.root ≡ true) r.by own)
+    (subst (λ (a : AbsPlace). IsAt types st.world.content (RootStands types f Input st.cells) a r.region) r.by r.lies) touch
+operand_copied types ordered f hand st store Input may_change owning rooted sigs place from S S' (named.Through p members) r own closed holds d touch =
+    copy_through types ordered hand st.world.content d store (RootStands types f Input st.cells) may_change owning rooted sigs f place from S S' p members r.by.0 r.region closed holds r.by.1
+    (subst (λ (a : AbsPlace). owning a.root ≡ true) r.by.2 own) (subst (λ (a : AbsPlace). IsAt types st.world.content (RootStands types f Input st.cells) a r.region) r.by.2 r.lies) touch
+
+module _ (types : Types) (f : Function) (rest : ℕ → ℕ) (S : Fact → Type 0) (st : State) (k : IsKnownFrame types f rest S st) (sigs : List Signature) (n : ℕ) (place : Place) (S' : Fact → Type 0) (s : Setting) (to from : Operand)
+    (right : IsRight sigs types n f place (Copy to from) S S') (solid_to : is_void (type_of types f to) ≡ false) (solid_from : is_void (type_of types f from) ≡ false) (alike : type_of types f to ≡ type_of types f from) where
+  reach_to : Reach types f st NoInput any_root S to
+  reach_to = reach_at types f rest S st k to solid_to (λ p h. used_right sigs types n f place (Copy to from) S right.clean p (Contains-append_left (used_in to) (used_in from) p h))
+
+  reach_from : Reach types f st NoInput any_root S from
+  reach_from = reach_at types f rest S st k from solid_from (λ p h. used_right sigs types n f place (Copy to from) S right.clean p (Contains-append_right (used_in to) (used_in from) p h))
+
+  -- no pointer is written
+  not_written : (o : Operand) → ((l : Location) → o ≡ named.Name l → whole l.local ≡ l) → IsReached types f st NoInput any_root S o → (x : ℕ) (v : Pointer) → cell st x ≡ Some (Points v) → writes (Copy o from) (local_place x) ≡ false
+  not_written (named.Through p members) is r x v e = refl
+  not_written (named.Name l) is r x v e =
+      subst (λ (q : Location). is_within (located q) (local_place x) ≡ false) (is l refl) (ap (λ b. b && true) (ne_eqb l.local x (λ h. unlike (some_same (sym (ap (slice_get st.cells) h ∙ e) ∙ named_at)))))
+    where
+      at_root : r.place.root ≡ root.Local l.local
+      at_root = ap (λ (a : AbsPlace). a.root) (r.by ∙ ap located (sym (is l refl)))
+
+      named_at : slice_get st.cells l.local ≡ Some (Named r.lies.start.object)
+      named_at = (subst (λ (ro : Root). RootStands types f NoInput st.cells ro r.lies.start) at_root r.lies.stands).0
+
+      unlike : {m : ℕ} → Points v ≡ Named m → ⊥
+      unlike h = cc
+
+  to_whole : (l : Location) → to ≡ named.Name l → whole l.local ≡ l
+  to_whole l e = whole_location types k.plain f l (ap is_void (ty_same l e) ∙ solid_to)
+    where
+      ty_same : (q : Location) → to ≡ named.Name q → type_in types f q ≡ type_of types f to
+      ty_same q h = subst (λ (o : Operand). ty_if types (shapes.operand_type types f o) ≡ type_of types f to) h (typed types f rest S st k to solid_to)
+
+  -- ---- its type
+
+  module _ (u : Ty) (is : type_of types f to ≡ u) where
+    solid : is_void u ≡ false
+    solid = ap is_void (sym is) ∙ solid_to
+
+    of : IsOfType types (operand_type types f to) u
+    of = operand_of types k.ordered k.once 0 [] f k.shaped to u is solid
+
+    holds_is : holds_owner (tree_if types (shapes.operand_type types f to)) ≡ holds_owner (tree_of types (tree_at types) (Some u))
+    holds_is =
+        ap (λ (id : Option TyId). holds_owner (tree_if types id)) (operand_same types k.ordered k.once 0 [] f k.shaped to ∙ of.is)
+        ∙ ap holds_owner (tree_made types k.ordered of.number ∙ ap (tree_of types (tree_at types)) of.there)
+
+    parts_are : operand_parts types f to ≡ parts_of types (parts_at types) (Some u)
+    parts_are = ap (parts_if types) of.is ∙ parts_typed types k.ordered of.number u of.there
+
+    -- ---- a value
+
+    module _ (value : is_value u ≡ true) (single : parts_of types (parts_at types) (Some u) ≡ Single) (holds : holds_owner (tree_of types (tree_at types) (Some u)) ≡ false) (r : IsReached types f st NoInput any_root S to) where
+      gone : (e : Element) → is_gone types f place (Copy to from) e ≡ false
+      gone e = ap (λ b. is_killed (if b then one_kill (named_kill place to) else one_kill None) e) (holds_is ∙ holds)
+
+      value_copied : (ws : List ℕ) → length ws ≡ 1 → OnRight (copied_to s Single (record { object = r.region.object; index = r.index; word = r.region.word }) ws st) (FrameCovered types f S')
+      value_copied ws one x v e =
+          unkilled_cover types k.ordered (hand_of rest st) st.world.content (wrote_spot (record { object = r.region.object; index = r.index; word = r.region.word }) ws st.world.content) (store_of types f rest S st k)
+          (words_touches types f rest S st k to r (subst (λ (t : Ty). is_value t ≡ true) (sym is) value) ws one) (RootStands types f NoInput st.cells) (RootStands types f NoInput st.cells) any_root (rooted_of types f rest S st k).fits sigs f place (Copy to from) S S' right.closed gone
+          (λ a h names free stands. stands) (local_place x) (look_at types f x) v (not_written to to_whole r x v e) (k.covered x v e)
+
+      value_from : OnRight (on_place (locate types f from st) (λ m i object. copied_to s (operand_parts types f to) (record { object = r.region.object; index = r.index; word = r.region.word }) (words_at st.world.content m i (operand_word types f from st) (width (operand_parts types f to))) st)
+          (λ c. on_character s.texts c (λ z. copied_to s (operand_parts types f to) (record { object = r.region.object; index = r.index; word = r.region.word }) (word_of_number z ∷ []) st))) (FrameCovered types f S')
+      value_from =
+          subst (λ (p : Parts). OnRight (on_place (locate types f from st) (λ m i object. copied_to s p (record { object = r.region.object; index = r.index; word = r.region.word }) (words_at st.world.content m i (operand_word types f from st) (width p)) st)
+          (λ c. on_character s.texts c (λ z. copied_to s p (record { object = r.region.object; index = r.index; word = r.region.word }) (word_of_number z ∷ []) st))) (FrameCovered types f S')) (sym (parts_are ∙ single))
+          (on_place_right types f st NoInput any_root S from reach_from
+          (λ m i object. copied_to s Single (record { object = r.region.object; index = r.index; word = r.region.word }) (words_at st.world.content m i (operand_word types f from st) 1) st)
+          (λ c. on_character s.texts c (λ z. copied_to s Single (record { object = r.region.object; index = r.index; word = r.region.word }) (word_of_number z ∷ []) st)) (FrameCovered types f S')
+          (λ h. value_copied (words_at st.world.content h.region.object h.index (operand_word types f from st) 1)
+          (subst (λ w. length (words_at st.world.content h.region.object h.index w 1) ≡ 1) (sym h.word)
+          (place_copied types k.ordered (hand_of rest st) st.world.content (store_of types f rest S st k) h.region.ty h.region.object h.index h.region.word h.holder (record { there = h.there; slot = h.small; within = region_within types f rest S st k from h }) Single
+          (value_there types f rest S st k from h (subst (λ (t : Ty). is_value t ≡ true) (sym is ∙ alike) value))).wide))
+          (λ c one. character_right s.texts c (λ z. copied_to s Single (record { object = r.region.object; index = r.index; word = r.region.word }) (word_of_number z ∷ []) st) (FrameCovered types f S') (λ z. value_copied (word_of_number z ∷ []) refl)))
+
+    -- ---- a vector or a string
+
+    module _ (item : TyId) (owned : owned_in_type types (Some u) ≡ Some item) (buffer : has_buffer u ≡ true) (one : width (parts_of types (parts_at types) (Some u)) ≡ 1) (no_value : parts_of types (parts_at types) (Some u) ≡ Single → ⊥) (holds : holds_owner (tree_of types (tree_at types) (Some u)) ≡ true)
+        (r : IsReached types f st NoInput any_root S to) where
+      into : IsOpened types f rest S st k to r u item
+      into = opened types f rest S st k to r u is item owned buffer
+
+      into_parts : parts_at types r.region.ty ≡ parts_of types (parts_at types) (Some u)
+      into_parts = parts_typed types k.ordered r.region.ty u into.there
+
+      owner_copied : (h : IsReached types f st NoInput any_root S from)
+          → OnRight (copied_to s (parts_of types (parts_at types) (Some u)) (record { object = r.region.object; index = r.index; word = r.region.word }) (spot_words st.world.content (record { object = h.region.object; index = h.index; word = h.region.word }) (width (parts_of types (parts_at types) (Some u)))) st) (FrameCovered types f S')
+      owner_copied h =
+          right_then (copied s (parts_of types (parts_at types) (Some u)) ws st.world.content) (λ v. Next (put_content (replaced (parts_of types (parts_at types) (Some u)) spot v) st))
+          (λ v. Touches (kinds_of types) (foot_of types r.region) st.world.content (replaced (parts_of types (parts_at types) (Some u)) spot v)) (FrameCovered types f S')
+          (right_got (copied s (parts_of types (parts_at types) (Some u)) ws st.world.content) (λ v. Touches (kinds_of types) (foot_of types r.region) st.world.content (replaced (parts_of types (parts_at types) (Some u)) spot v))
+          (subst (λ (q : Parts). IfGot (copied s q ws st.world.content) (λ v. Touches (kinds_of types) (foot_of types r.region) st.world.content (replaced q spot v))) into_parts
+          (copy_touches types k.ordered (hand_of rest st) st.world.content (store_of types f rest S st k) r.region.object r.index r.region.word r.region.ty r.holder r.there (region_within types f rest S st k to r) r.small s ws
+          (subst (λ (q : Parts). length ws ≡ width q) (sym into_parts) are.wide) (subst (λ (q : Parts). Known (kinds_of types) st.world.content q ws) (sym into_parts) are.known)
+          (subst (λ (q : Parts). (j : ℕ) → 0 < times (owned_of q ws) j → 0 < alive st.world.content j) (sym into_parts) are.living)))
+          (faultless_of (copied s (parts_of types (parts_at types) (Some u)) ws st.world.content) _
+          (copied_right types k.ordered (hand_of rest st) st.world.content (store_of types f rest S st k) k.buffered s (parts_of types (parts_at types) (Some u)) (subst IsWhole into_parts (whole_parts types k.plain r.region.ty))
+          h.region.object h.index h.holder t.0 (ap (parts_at types) (all.type h.holder h.there) ∙ from_parts) h.there t.1 ws first st.world.content (now types k.ordered (hand_of rest st) st.world.content (store_of types f rest S st k) k.buffered s))))
+          (λ v touch x w e. operand_copied types k.ordered f (hand_of rest st) st (store_of types f rest S st k) NoInput any_root any_root (rooted_of types f rest S st k) sigs place from S S' to r refl right.closed (holds_is ∙ holds)
+          (replaced (parts_of types (parts_at types) (Some u)) spot v) touch (local_place x) (look_at types f x) w (not_written to to_whole r x w e) (k.covered x w e))
+        where
+          spot : Spot
+          spot = record { object = r.region.object; index = r.index; word = r.region.word }
+
+          ws : List ℕ
+          ws = spot_words st.world.content (record { object = h.region.object; index = h.index; word = h.region.word }) (width (parts_of types (parts_at types) (Some u)))
+
+          out : IsOpened types f rest S st k from h u item
+          out = opened types f rest S st k from h u (sym alike ∙ is) item owned buffer
+
+          from_parts : parts_at types h.region.ty ≡ parts_of types (parts_at types) (Some u)
+          from_parts = parts_typed types k.ordered h.region.ty u out.there
+
+          are : AreCopied types st.world.content (parts_of types (parts_at types) (Some u)) (spot_words st.world.content (record { object = h.region.object; index = h.index; word = h.region.word }) (width (parts_of types (parts_at types) (Some u))))
+          are =
+              place_copied types k.ordered (hand_of rest st) st.world.content (store_of types f rest S st k) h.region.ty h.region.object h.index h.region.word h.holder (record { there = h.there; slot = h.small; within = region_within types f rest S st k from h })
+              (parts_of types (parts_at types) (Some u)) from_parts
+
+          all : IsAllOf types f rest S st k h.region
+          all = region_all types f rest S st k from h
+
+          t : (x : Slot) × (slice_get h.holder.slots h.index ≡ Some x)
+          t = slot_there h.holder.slots h.index h.small
+
+          first : slice_index (spot_words st.world.content (record { object = h.region.object; index = h.index; word = h.region.word }) (width (parts_of types (parts_at types) (Some u)))) 0 ≡ slice_index t.0.words 0
+          first =
+              ap (λ w. slice_index (spot_words st.world.content (record { object = h.region.object; index = h.index; word = h.region.word }) w) 0) one
+              ∙ ap (λ (x : Option Object). slice_index (take 1 (drop h.region.word (words_if (slice_get (slots_if x) h.index)))) 0) h.there
+              ∙ first_of (words_if (slice_get h.holder.slots h.index)) h.region.word
+              ∙ ap (λ (x : Option Slot). slice_index (words_if x) h.region.word) t.1
+              ∙ ap (slice_index t.0.words) all.word
+
+      owner_from : OnRight (on_place (locate types f from st) (λ m i object. copied_to s (operand_parts types f to) (record { object = r.region.object; index = r.index; word = r.region.word }) (words_at st.world.content m i (operand_word types f from st) (width (operand_parts types f to))) st)
+          (λ c. on_character s.texts c (λ z. copied_to s (operand_parts types f to) (record { object = r.region.object; index = r.index; word = r.region.word }) (word_of_number z ∷ []) st))) (FrameCovered types f S')
+      owner_from =
+          subst (λ (q : Parts). OnRight (on_place (locate types f from st) (λ m i object. copied_to s q (record { object = r.region.object; index = r.index; word = r.region.word }) (words_at st.world.content m i (operand_word types f from st) (width q)) st)
+          (λ c. on_character s.texts c (λ z. copied_to s q (record { object = r.region.object; index = r.index; word = r.region.word }) (word_of_number z ∷ []) st))) (FrameCovered types f S')) (sym parts_are)
+          (on_place_right types f st NoInput any_root S from reach_from
+          (λ m i object. copied_to s (parts_of types (parts_at types) (Some u)) (record { object = r.region.object; index = r.index; word = r.region.word }) (words_at st.world.content m i (operand_word types f from st) (width (parts_of types (parts_at types) (Some u)))) st)
+          (λ c. on_character s.texts c (λ z. copied_to s (parts_of types (parts_at types) (Some u)) (record { object = r.region.object; index = r.index; word = r.region.word }) (word_of_number z ∷ []) st)) (FrameCovered types f S')
+          (λ h. subst (λ w. OnRight (copied_to s (parts_of types (parts_at types) (Some u)) (record { object = r.region.object; index = r.index; word = r.region.word }) (words_at st.world.content h.region.object h.index w (width (parts_of types (parts_at types) (Some u)))) st) (FrameCovered types f S')) (sym h.word) (owner_copied h))
+          (λ c single. absurd (no_value (sym from_typed ∙ single))))
+        where
+          from_typed : parts_if types (operand_type types f from) ≡ parts_of types (parts_at types) (Some u)
+          from_typed =
+              let out = operand_of types k.ordered k.once 0 [] f k.shaped from u (sym alike ∙ is) solid in
+              ap (parts_if types) out.is ∙ parts_typed types k.ordered out.number u out.there
+
+  -- ---- the kind
+
+  copies_from : (r : IsReached types f st NoInput any_root S to) (u : Ty) → type_of types f to ≡ u → is_pointer u ≡ false → IsCopyable u
+      → OnRight (on_place (locate types f from st) (λ m i object. copied_to s (operand_parts types f to) (record { object = r.region.object; index = r.index; word = r.region.word }) (words_at st.world.content m i (operand_word types f from st) (width (operand_parts types f to))) st)
+      (λ c. on_character s.texts c (λ z. copied_to s (operand_parts types f to) (record { object = r.region.object; index = r.index; word = r.region.word }) (word_of_number z ∷ []) st))) (FrameCovered types f S')
+  copies_from r ty.Bool is pointer can = value_from ty.Bool is refl refl refl r
+  copies_from r ty.Char is pointer can = value_from ty.Char is refl refl refl r
+  copies_from r ty.Int is pointer can = value_from ty.Int is refl refl refl r
+  copies_from r ty.Long is pointer can = value_from ty.Long is refl refl refl r
+  copies_from r ty.Size is pointer can = value_from ty.Size is refl refl refl r
+  copies_from r ty.Text is pointer can = owner_from ty.Text is (characters_type types) refl refl refl (λ h. cc) refl r
+  copies_from r (ty.Vector element) is pointer can = owner_from (ty.Vector element) is element refl refl refl (λ h. cc) holds_vector r
+    where
+      holds_vector : holds_owner (tree_of types (tree_at types) (Some (ty.Vector element))) ≡ true
+      holds_vector = refl
+  copies_from r (ty.Unique target) is pointer can = absurd can
+  copies_from r (ty.Struct number) is pointer can = absurd can
+  copies_from r ty.Void is pointer can = absurd (false≢true (sym solid_to ∙ ap is_void is))
+  copies_from r _ is pointer can = absurd (false≢true (sym pointer))
+
+  pub copy_kind : is_pointer (type_of types f to) ≡ false → IsCopyable (type_of types f to) → OnRight (does s types f (Copy to from) st) (FrameCovered types f S')
+  copy_kind pointer can = by_reach types f st NoInput any_root S to reach_to go (FrameCovered types f S') (λ r. subst (λ e. OnRight e (FrameCovered types f S')) (sym (spot_is types f st NoInput any_root S to r go)) (copies_from r (type_of types f to) refl pointer can))
+    where
+      go : Spot → Effect
+      go spot =
+          on_place (locate types f from st) (λ m i object. copied_to s (operand_parts types f to) spot (words_at st.world.content m i (operand_word types f from st) (width (operand_parts types f to))) st)
+          (λ c. on_character s.texts c (λ z. copied_to s (operand_parts types f to) spot (word_of_number z ∷ []) st))

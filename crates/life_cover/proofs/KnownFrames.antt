@@ -1,0 +1,208 @@
+-- What is known of a frame of a function without structs and inputs before an instruction, and of the instruction; and what its operands are.
+use Rattle.std.proofs.Common.{◌≡◌, ℕ, ◌+◌, Bool, true, false, List, [], ◌∷◌, ◌++◌, Option, Some, None, refl, sym, ap, subst, ◌∙◌}
+use Rattle.std.specs.Prelude.{Contains, cond, not, slice_get, unwrap_or}
+use Rattle.std.specs.List.{flat_map}
+use Rattle.std.proofs.lemmas.Bool.{and_parts, false≢true}
+use Rattle.std.proofs.lemmas.List.Elements.{Contains-append_left}
+use Rattle.life_types.specs.Pointees.{pointee}
+use Rattle.life_types.specs.Trees.{IsOrdered, members_at}
+use Rattle.life_types.specs.TypeTests.{is_pointer, is_value, is_void}
+use Rattle.life_types.specs.Types.{HasEachOnce, Types}
+use Rattle.life_types.specs.declared.place.Place.{Place}
+use Rattle.life_types.specs.declared.ty.Ty.{Ty}
+use Rattle.life_types.specs.declared.ty.Ty.TheVariants as ty
+use Rattle.life_types.specs.declared.ty.TyId.{TyId}
+use Rattle.life_core.specs.Function.{Function}
+use Rattle.life_core.specs.Operands.{Location, Operand, whole}
+use Rattle.life_core.specs.Operands as named
+use Rattle.life_core.specs.Step.{Step}
+use Rattle.life_pset.specs.Elements.{AreShort, elements_of, local_place}
+use Rattle.life_pset.specs.Shapes.{location_type, member_of, member_type, members_type, operand_type, target_type, ty_if}
+use Rattle.life_pset.specs.Shapes as shapes
+use Rattle.life_pset.specs.declared.element.Cause.{Cause}
+use Rattle.life_pset.specs.declared.element.Element.{Element}
+use Rattle.life_pset.specs.declared.element.Element.TheVariants as element
+use Rattle.life_pset.specs.declared.element.Fact.{Fact}
+use Rattle.life_pset.specs.declared.element.Root.{Root}
+use Rattle.life_pset.proofs.Numbers.{place_laws}
+use Rattle.life_contract.specs.Located.{located}
+use Rattle.life_contract.specs.Signatures.{Signature}
+use Rattle.life_proper.specs.OperandTypes.{is_range}
+use Rattle.life_proper.specs.Placed.{is_number, is_place, object_at, register_at, type_at, type_in, type_of}
+use Rattle.life_rules.specs.Arguing.{argument_diags}
+use Rattle.life_rules.specs.Diagnosing.{misopened_as, misread_as, misused, misused_as, moved_as, opens, owners, reads, use_diags, used_in, uses}
+use Rattle.life_rules.specs.Keeping.{keeping_diags}
+use Rattle.life_rules.specs.Matching.{fact_at}
+use Rattle.life_rules.specs.declared.diag.Diag.{Diag}
+use Rattle.life_rules.specs.declared.diag.DiagKind.{DiagKind}
+use Rattle.life_rules.specs.declared.diag.DiagKind.TheVariants.{DanglingUse, NullUse}
+use Rattle.life_rules.specs.declared.diag.Why.{Why}
+use Rattle.life_rules.specs.declared.diag.Why.TheVariants as why
+use Rattle.life_rules.proofs.Giving.{at_head, flat_map_into}
+use Rattle.life_store.specs.Content.{Content}
+use Rattle.life_store.specs.Effects.{cell}
+use Rattle.life_store.specs.Parts.{local_type}
+use Rattle.life_store.specs.State.{Named, State}
+use Rattle.life_forest.specs.FrameTypes.{Stands}
+use Rattle.life_forest.specs.Frames.{named_in}
+use Rattle.life_forest.specs.Owned.{times}
+use Rattle.life_forest.specs.Settled.{IsPoised}
+use Rattle.life_forest.specs.Sorted.{Aims, Counts, Names, Sort, sort_at, sort_if}
+use Rattle.life_forest.specs.Typed.{IsStore}
+use Rattle.life_forest.proofs.ReadyCells.{pointer_no_object}
+use Rattle.life_forest.proofs.SeenTypes.{pointee_points, pointer_solid}
+use Rattle.life_forest.proofs.Shaped.{IsShaped}
+use Rattle.life_forest.proofs.Slots.{register_only}
+use Rattle.life_forest.proofs.TypedSteps.{if_there, value_solid}
+use Rattle.life_cover.specs.Buffered.{AreBuffered}
+use Rattle.life_cover.specs.Frames.{FrameCovered, NoInput, RootStands, any_root, look_at}
+use Rattle.life_cover.specs.Kills.{Closed}
+use Rattle.life_cover.specs.Roots.{AreRooted}
+use Rattle.life_cover.proofs.Locals.{locals_rooted}
+use Rattle.life_cover.proofs.PointerKinds.{IsClean}
+use Rattle.life_cover.proofs.Reaching.{Reach, named_reach, through_reach, unranged_target}
+use Rattle.life_cover.proofs.Using.{NotInvalid}
+
+-- the frame stands, each cell is of its local's sort, the facts cover its pointers, and each vector and each string has its buffer
+pub record IsKnownFrame (types : Types) (f : Function) (rest : ℕ → ℕ) (S : Fact → Type 0) (st : State) : Type 0 where
+  pub ordered : IsOrdered types
+  pub once : HasEachOnce types
+  pub plain : types.structs ≡ []
+  pub shaped : IsShaped types f
+  pub short : AreShort (elements_of types f)
+  pub stands : Stands types f rest st
+  pub poised : IsPoised types f st
+  pub covered : FrameCovered types f S st
+  pub buffered : AreBuffered types st.world.content
+
+-- nothing is wrong at the instruction, and the facts behind it are what the rules give
+pub record IsRight (sigs : List Signature) (types : Types) (n : ℕ) (f : Function) (place : Place) (i : Step) (S S' : Fact → Type 0) : Type 0 where
+  pub clean : IsClean sigs types n f place i S
+  pub closed : Closed sigs types f place i S S'
+
+-- ---- nothing is wrong with what it uses
+
+-- a pointer through which it goes may be neither invalid nor null
+pub record IsUsable (S : Fact → Type 0) (p : Location) : Type 0 where
+  pub valid : NotInvalid S (located p)
+  pub some : S (fact_at (located p) element.Null) → ⊥
+
+pub used_right : (sigs : List Signature) (types : Types) (n : ℕ) (f : Function) (place : Place) (i : Step) (S : Fact → Type 0) → IsClean sigs types n f place i S → (p : Location) → Contains (uses i) p → IsUsable S p
+used_right sigs types n f place i S clean p used = record { valid = λ cause s. wrong (element.Invalid cause) (diag DanglingUse (why.Cause cause)) (at_head (diag DanglingUse (why.Cause cause)) []) s; some = λ s. wrong element.Null (diag NullUse why.Null) (at_head (diag NullUse why.Null) []) s }
+  where
+    diag : DiagKind → Why → Diag
+    diag kind w = record { function = n; place = place; kind = kind; name = located p; called = None; why = w }
+
+    wrong : (e : Element) (d : Diag) → Contains (misused n place (located p) e) d → S (fact_at (located p) e) → ⊥
+    wrong e d told s =
+        clean x s d
+        (Contains-append_left (use_diags types n f place i x) (argument_diags sigs types n place i x ++ keeping_diags sigs types n f place i x) d
+        (Contains-append_left (flat_map (misused_as n place x) (uses i)) (flat_map (misread_as n place x) (reads i) ++ (flat_map (misopened_as n place x) (opens i) ++ flat_map (moved_as types n f place x) (owners i))) d
+        (flat_map_into (misused_as n place x) (uses i) p d used
+        (subst (λ b. Contains (cond b (misused n place (located p) e) []) d) (sym (place_laws.refl (located p))) told))))
+      where
+        x : Fact
+        x = fact_at (located p) e
+
+-- ---- places have no members
+
+module _ (types : Types) (plain : types.structs ≡ []) where
+  no_member : (t : Ty) (m : ℕ) → member_of types t m ≡ None
+  no_member (ty.Struct number) m = ap (λ (ids : List TyId). slice_get ids m) (none number)
+    where
+      none : (k : ℕ) → members_at types k ≡ []
+      none k = ap (λ (ss : List (List TyId)). unwrap_or (slice_get ss k) []) plain
+  no_member _ m = refl
+
+  void_members : (ms : List ℕ) → members_type types None ms ≡ None
+  void_members [] = refl
+  void_members (m ∷ ms) = void_members ms
+
+  pub whole_type : (id : Option TyId) (ms : List ℕ) → is_void (ty_if types (members_type types id ms)) ≡ false → ms ≡ []
+  whole_type id [] solid = refl
+  whole_type id (m ∷ ms) solid =
+      absurd (false≢true (sym (ap (λ (i : Option TyId). is_void (ty_if types i)) (sym (void_members ms) ∙ ap (λ (i : Option TyId). members_type types i ms) (sym (no_member (ty_if types id) m))) ∙ solid)))
+
+  -- a location of a type is a local
+  pub whole_location : (f : Function) (l : Location) → is_void (type_in types f l) ≡ false → whole l.local ≡ l
+  whole_location f l solid = whole_is l (whole_type (shapes.local_type types f l.local) l.members solid)
+    where
+      whole_is : (q : Location) → q.members ≡ [] → whole q.local ≡ q
+      whole_is q e = ap (λ (ms : List ℕ). record { local = q.local; members = ms }) (sym e)
+
+-- what is in the hand: what the cells name, and the rest
+abbrev pub hand_of : (rest : ℕ → ℕ) → State → ℕ → ℕ
+hand_of rest st m = times (named_in st.cells) m + rest m
+
+module _ (types : Types) (f : Function) (rest : ℕ → ℕ) (S : Fact → Type 0) (st : State) (k : IsKnownFrame types f rest S st) where
+  pub store_of : IsStore types (hand_of rest st) st.world.content
+  store_of = k.stands.store
+
+  pub rooted_of : AreRooted types st.world.content (RootStands types f NoInput st.cells) any_root
+  rooted_of = locals_rooted types f rest st k.stands.store k.stands.frame
+
+  -- ---- what names an object
+
+  names_sort : (object pointer : Bool) → sort_if object pointer ≡ Names → object ≡ true
+  names_sort true pointer e = refl
+  names_sort false true e = absurd (unlike e)
+    where
+      unlike : Aims ≡ Names → ⊥
+      unlike h = cc
+  names_sort false false e = absurd (unlike e)
+    where
+      unlike : Counts ≡ Names → ⊥
+      unlike h = cc
+
+  pub object_named : (x m : ℕ) → slice_get st.cells x ≡ Some (Named m) → object_at types f x ≡ true
+  object_named x m e = names_sort (object_at types f x) (is_pointer (type_at types f x)) (k.poised.sorted x (Named m) e)
+
+  pub pointer_free : (p : ℕ) → is_pointer (type_at types f p) ≡ true → (m : ℕ) → cell st p ≡ Some (Named m) → ⊥
+  pointer_free p is m e = false≢true (sym (pointer_no_object types f k.poised.kinds p is) ∙ object_named p m e)
+
+  pub number_free : (r : ℕ) → is_number types f r ≡ true → (m : ℕ) → cell st r ≡ Some (Named m) → ⊥
+  number_free r is m e = false≢true (sym (register_only (slice_get f.locals r) (and_parts (register_at types f r) (is_value (type_at types f r)) is).0) ∙ object_named r m e)
+
+  -- ---- what an operand is
+
+  module _ (o : Operand) (solid : is_void (type_of types f o) ≡ false) where
+    pub placed : is_place types f o ≡ true
+    placed = (if_there (is_place types f o) (ty_if types (operand_type types f o)) (type_of types f o) refl solid).0
+
+    pub typed : ty_if types (operand_type types f o) ≡ type_of types f o
+    typed = (if_there (is_place types f o) (ty_if types (operand_type types f o)) (type_of types f o) refl solid).1
+
+  pub solid_type : (o : Operand) (solid : is_void (type_of types f o) ≡ false) → is_void (ty_if types (operand_type types f o)) ≡ false
+  solid_type o solid = ap is_void (typed o solid) ∙ solid
+
+  -- a pointer through which one goes sees no range
+  single_pointee : (t : Ty) → is_void (pointee types t) ≡ false → is_range t ≡ false
+  single_pointee (ty.Span target constant) e = absurd (false≢true (sym e))
+  single_pointee ty.View e = absurd (false≢true (sym e))
+  single_pointee _ e = refl
+
+  not_false : (b : Bool) → not b ≡ true → b ≡ false
+  not_false true e = absurd (false≢true e)
+  not_false false e = refl
+
+  pub reach_at : (o : Operand) → is_void (type_of types f o) ≡ false → ((p : Location) → Contains (used_in o) p → IsUsable S p) → Reach types f st NoInput any_root S o
+  reach_at (named.Name l) solid usable =
+      subst (λ (q : Location). Reach types f st NoInput any_root S (named.Name q)) (whole_location types k.plain f l (solid_type (named.Name l) solid))
+      (named_reach types f st NoInput any_root S k.stands.frame l.local (cell st l.local) refl)
+  reach_at (named.Through p ms) solid usable =
+      subst (λ (xs : List ℕ). Reach types f st NoInput any_root S (named.Through p xs)) (sym (whole_type types k.plain (target_type types (location_type types f p)) ms (solid_type (named.Through p ms) solid)))
+      (go p (whole_location types k.plain f p (pointer_solid (type_in types f p) pointer)) (usable p (at_head p [])) (placed (named.Through p ms) solid))
+    where
+      pointer : is_pointer (type_in types f p) ≡ true
+      pointer = pointee_points types (type_in types f p) (placed (named.Through p ms) solid)
+
+      go : (q : Location) → whole q.local ≡ q → IsUsable S q → is_place types f (named.Through q []) ≡ true → Reach types f st NoInput any_root S (named.Through q [])
+      go q e usable_q there =
+          subst (λ (z : Location). Reach types f st NoInput any_root S (named.Through z [])) e
+          (at_local q.local (subst (IsUsable S) (sym e) usable_q) (subst (λ (z : Location). is_place types f (named.Through z []) ≡ true) (sym e) there))
+        where
+          at_local : (x : ℕ) → IsUsable S (whole x) → is_place types f (named.Through (whole x) []) ≡ true → Reach types f st NoInput any_root S (named.Through (whole x) [])
+          at_local x u is =
+              let single = single_pointee (type_at types f x) (not_false (is_void (pointee types (type_at types f x))) is) in
+              through_reach types f st NoInput any_root S k.stands.frame k.covered x u.valid u.some single
+              (unranged_target types (local_type types f x) (subst (λ (id : Option TyId). is_range (ty_if types id) ≡ false) (k.shaped x) single)) (cell st x) refl

@@ -1,0 +1,216 @@
+-- The kinds of instructions that give a register a number, or write one out, of a whole frame: there is no fault, and the facts behind them
+-- cover all pointers.
+use Rattle.std.proofs.Common.{◌≡◌, ℕ, ◌+◌, Bool, true, false, List, [], ◌∷◌, Option, Some, None, refl, sym, ap, subst, ◌∙◌}
+use Rattle.std.specs.Prelude.{ℤ, pos, Contains, Ok, Err, cond, nat_eq, nat_lt, slice_get}
+use Rattle.std.proofs.lemmas.Bool.{and_parts, false≢true}
+use Rattle.life_types.specs.TypeTests.{is_pointer, is_value, is_view, is_void}
+use Rattle.life_types.specs.Types.{Types}
+use Rattle.life_types.specs.declared.place.Place.{Place}
+use Rattle.life_types.specs.declared.ty.Ty.{Ty}
+use Rattle.life_types.specs.declared.ty.Ty.TheVariants as ty
+use Rattle.life_types.specs.declared.ty.TyId.{TyId}
+use Rattle.life_core.specs.declared.operation.Operation.{Operation}
+use Rattle.life_core.specs.declared.operation.Operation.TheVariants as operation
+use Rattle.life_core.specs.Function.{Function}
+use Rattle.life_core.specs.Operands.{Location, Operand, whole}
+use Rattle.life_core.specs.Operands as named
+use Rattle.life_core.specs.Step.{Eval, Load, Port, Ports, Same, Size, Step, Takes, Writes, WritesView}
+use Rattle.life_pset.specs.Elements.{local_place}
+use Rattle.life_pset.specs.Shapes.{ty_if}
+use Rattle.life_pset.specs.declared.element.AbsPlace.{AbsPlace}
+use Rattle.life_pset.specs.declared.element.Element.{Element}
+use Rattle.life_pset.specs.declared.element.Fact.{Fact}
+use Rattle.life_contract.specs.Signatures.{Signature}
+use Rattle.life_proper.specs.OperandTypes.{are_compared, is_range, same}
+use Rattle.life_proper.specs.Placed.{is_number, type_at, type_of}
+use Rattle.life_rules.specs.Carrying.{is_gone, writes}
+use Rattle.life_rules.specs.Diagnosing.{reads, uses}
+use Rattle.life_rules.proofs.Giving.{at_head, in_tail}
+use Rattle.life_store.specs.Content.{Content, word_at}
+use Rattle.life_store.specs.Doing.{compared, computed_into, does, evaluated, input_taken, number_text, on_character, told, with_output}
+use Rattle.life_store.specs.Effects.{Attempt, Got, GotTrap, GotFault, GotLost, Effect, Next, Traps, Faults, Strays, Setting, cell, converted, number_in_word, on_got, on_number, put_cell, then_get, type_of as number_type}
+use Rattle.life_store.specs.Iterators.{is_one_object, iterator, same_position, standing, start_of}
+use Rattle.life_store.specs.Numbers.{Computed, combined, is_zero, negated, truth}
+use Rattle.life_store.specs.Parts.{Iterates, Parts, Views, local_type, location_parts, parts_if}
+use Rattle.life_store.specs.Places.{operand_word}
+use Rattle.life_store.specs.State.{Characters, Pointer, Cell, Empty, Named, Number, Points, State}
+use Rattle.life_store.specs.Views.{are_same, seen_bytes, seen_count, text_size, usable, used}
+use Rattle.life_store.specs.declared.run.TrapKind.TheVariants as trap
+use Rattle.life_forest.specs.Kinds.{kinds_of}
+use Rattle.life_forest.proofs.OneNumber.{typed_at}
+use Rattle.life_forest.proofs.ReadyCells.{number_any}
+use Rattle.life_forest.proofs.SeenTypes.{parts_typed}
+use Rattle.life_forest.proofs.Steps.{touches_self}
+use Rattle.life_cover.specs.Frames.{FrameCovered, NoInput, RootStands, any_root, look_at}
+use Rattle.life_cover.proofs.KnownFrames.{IsKnownFrame, IsRight, hand_of, number_free, reach_at, rooted_of, store_of, used_right}
+use Rattle.life_cover.proofs.Looks.{compared_ranged}
+use Rattle.life_cover.proofs.OwnerKinds.{number_right}
+use Rattle.life_cover.proofs.PointerKinds.{read_right}
+use Rattle.life_cover.proofs.Pointers.{IfRight, OnRight, right_then}
+use Rattle.life_cover.proofs.Putting.{put_covered}
+use Rattle.life_cover.proofs.Reaching.{Reach, on_place_right}
+use Rattle.life_cover.proofs.Unkilled.{no_foot, unkilled_cover}
+use Rattle.life_cover.proofs.Using.{Faultless, NotInvalid, standing_right, usable_right}
+use Rattle.life_cover.proofs.Walks.{then_right}
+
+pub if_right : (b : Bool) (x y : Effect) (Q : State → Type 0) → OnRight x Q → OnRight y Q → OnRight (cond b x y) Q
+if_right true x y Q h k = h
+if_right false x y Q h k = k
+
+pub character_right : (texts : List (List ℕ)) (c : Characters) (go : ℤ → Effect) (Q : State → Type 0) → ((z : ℤ) → OnRight (go z) Q) → OnRight (on_character texts c go) Q
+character_right texts c go Q each = if_right (nat_lt c.index (text_size texts c)) _ (Traps trap.Bounds) Q (each _) tt
+
+pub right_of : {A : Type 0} (x : Attempt A) → Faultless x → IfRight x (λ a. Unit {0})
+right_of (Got a) h = tt
+right_of (GotTrap kind) h = tt
+right_of (GotFault kind) h = h
+right_of GotLost h = tt
+
+module _ (types : Types) (f : Function) (rest : ℕ → ℕ) (S : Fact → Type 0) (st : State) (k : IsKnownFrame types f rest S st) where
+  -- ---- pointers that are read
+
+  -- a view or a span
+  pub range_fit : (q : ℕ) → NotInvalid S (local_place q) → is_range (type_at types f q) ≡ true → (v : Option Cell) → cell st q ≡ v → IfRight (used st.world.content v) (λ u. Unit {0})
+  range_fit q valid is None e = tt
+  range_fit q valid is (Some Empty) e = tt
+  range_fit q valid is (Some (Named n)) e = tt
+  range_fit q valid is (Some (Number z)) e = tt
+  range_fit q valid is (Some (Points v)) e =
+      right_of (usable st.world.content v) (usable_right types st.world.content (RootStands types f NoInput st.cells) any_root S (local_place q) (look_at types f q) valid v is (k.covered q v e))
+
+  -- an iterator
+  pub place_fit : (q : ℕ) → NotInvalid S (local_place q) → is_range (type_at types f q) ≡ false → (v : Option Cell) → cell st q ≡ v → IfRight (iterator st.world.content v) (λ u. Unit {0})
+  place_fit q valid is None e = tt
+  place_fit q valid is (Some Empty) e = tt
+  place_fit q valid is (Some (Named n)) e = tt
+  place_fit q valid is (Some (Number z)) e = tt
+  place_fit q valid is (Some (Points v)) e =
+      right_of (standing st.world.content v) (standing_right types st.world.content (RootStands types f NoInput st.cells) any_root S (local_place q) (look_at types f q) valid v is (k.covered q v e))
+
+  -- a view that is written is a local
+  abbrev pub IsPort : Port → Type 0
+  IsPort (Writes r) = Unit {0}
+  IsPort (WritesView l) = (whole l.local ≡ l) × (is_range (type_at types f l.local) ≡ true)
+  IsPort (Takes r) = is_number types f r ≡ true
+
+  module _ (sigs : List Signature) (n : ℕ) (place : Place) (S' : Fact → Type 0) where
+    -- ---- nothing is killed, and no pointer is written
+
+    module _ (i : Step) (right : IsRight sigs types n f place i S S') (gone : (e : Element) → is_gone types f place i e ≡ false) (none : (l : AbsPlace) → writes i l ≡ false) where
+      pub register_covered : (r : ℕ) → is_number types f r ≡ true → (z : ℤ) → FrameCovered types f S' (put_cell r (Number z) st)
+      register_covered r is z =
+          put_covered types k.ordered f (hand_of rest st) st (store_of types f rest S st k) NoInput any_root (rooted_of types f rest S st k).fits sigs place i S S' right.closed gone r (Number z)
+          (λ x ne. none (local_place x)) (number_free types f rest S st k r is) (λ v e. absurd (unlike v e)) k.covered
+        where
+          unlike : (v : Pointer) → Number z ≡ Points v → ⊥
+          unlike v e = cc
+
+      -- where content and cells are as they were
+      pub still_covered : FrameCovered types f S' st
+      still_covered x v e =
+          unkilled_cover types k.ordered (hand_of rest st) st.world.content st.world.content (store_of types f rest S st k) (touches_self (kinds_of types) no_foot st.world.content) (RootStands types f NoInput st.cells) (RootStands types f NoInput st.cells) any_root
+          (rooted_of types f rest S st k).fits sigs f place i S S' right.closed gone (λ a r names free s. s) (local_place x) (look_at types f x) v (none (local_place x)) (k.covered x v e)
+
+    -- ---- values
+
+    pub eval_kind : (s : Setting) (r : ℕ) (op : Operation) → IsRight sigs types n f place (Eval r op) S S' → is_number types f r ≡ true → OnRight (does s types f (Eval r op) st) (FrameCovered types f S')
+    eval_kind s r op right is = go op (register_covered (Eval r op) right (λ e. refl) (λ l. refl) r is)
+      where
+        computed : (c : Computed) → ((z : ℤ) → FrameCovered types f S' (put_cell r (Number z) st)) → OnRight (computed_into r c st) (FrameCovered types f S')
+        computed (Ok z) each = each z
+        computed (Err kind) each = tt
+
+        go : (o : Operation) → ((z : ℤ) → FrameCovered types f S' (put_cell r (Number z) st)) → OnRight (evaluated types f r o st) (FrameCovered types f S')
+        go (operation.Number z) each = each z
+        go (operation.Convert q) each = number_right (cell st q) (λ z. Next (put_cell r (Number (converted (number_type types f r) z)) st)) (FrameCovered types f S') (λ z. each (converted (number_type types f r) z))
+        go (operation.Negate q) each = number_right (cell st q) (λ z. computed_into r (negated (number_type types f r) z) st) (FrameCovered types f S') (λ z. computed (negated (number_type types f r) z) each)
+        go (operation.IsZero q) each = number_right (cell st q) (λ z. computed_into r (truth (is_zero z)) st) (FrameCovered types f S') (λ z. computed (truth (is_zero z)) each)
+        go (operation.Binary operator a b) each =
+            number_right (cell st a) (λ x. on_number (cell st b) (λ y. computed_into r (combined (number_type types f a) operator x y) st)) (FrameCovered types f S')
+            (λ x. number_right (cell st b) (λ y. computed_into r (combined (number_type types f a) operator x y) st) (FrameCovered types f S') (λ y. computed (combined (number_type types f a) operator x y) each))
+
+    pub load_kind : (s : Setting) (r : ℕ) (o : Operand) → IsRight sigs types n f place (Load r o) S S' → is_number types f r ≡ true → is_void (type_of types f o) ≡ false → OnRight (does s types f (Load r o) st) (FrameCovered types f S')
+    load_kind s r o right is solid =
+        on_place_right types f st NoInput any_root S o (reach_at types f rest S st k o solid (λ p used. used_right sigs types n f place (Load r o) S right.clean p used))
+        (λ m j object. Next (put_cell r (Number (number_in_word (word_at object j (operand_word types f o st)))) st)) (λ c. on_character s.texts c (λ z. Next (put_cell r (Number z) st))) (FrameCovered types f S')
+        (λ h. put (number_in_word (word_at h.holder h.index (operand_word types f o st))))
+        (λ c single. character_right s.texts c (λ z. Next (put_cell r (Number z) st)) (FrameCovered types f S') put)
+      where
+        put : (z : ℤ) → FrameCovered types f S' (put_cell r (Number z) st)
+        put = register_covered (Load r o) right (λ e. refl) (λ l. refl) r is
+
+    pub port_kind : (s : Setting) (p : Port) → IsRight sigs types n f place (Ports p) S S' → IsPort p → OnRight (does s types f (Ports p) st) (FrameCovered types f S')
+    port_kind s (Writes r) right is =
+        number_right (cell st r) (λ z. Next (with_output (number_text (number_type types f r) z) st)) (FrameCovered types f S') (λ z. still_covered (Ports (Writes r)) right (λ e. refl) (λ l. refl))
+    port_kind s (Takes r) right is = taken st.world.input
+      where
+        taken : (zs : List ℤ) → OnRight (input_taken r zs st) (FrameCovered types f S')
+        taken [] = tt
+        taken (z ∷ zs) = register_covered (Ports (Takes r)) right (λ e. refl) (λ l. refl) r is _
+    port_kind s (WritesView l) right is =
+        subst (λ (q : Location). IsRight sigs types n f place (Ports (WritesView q)) S S' → OnRight (does s types f (Ports (WritesView q)) st) (FrameCovered types f S')) is.0
+        (λ now. right_then (used st.world.content (cell st l.local)) (λ v. Next (with_output (seen_bytes s.texts st.world.content v) st)) (λ u. Unit {0}) (FrameCovered types f S')
+        (range_fit l.local (read_right sigs types n f place (Ports (WritesView (whole l.local))) S now.clean (whole l.local) (at_head (whole l.local) [])) is.1 (cell st l.local) refl)
+        (λ v h. still_covered (Ports (WritesView (whole l.local))) now (λ e. refl) (λ a. refl)))
+        right
+
+    -- ---- sizes and comparisons of pointers
+
+    pub seen_size_kind : (s : Setting) (r q : ℕ) → IsRight sigs types n f place (Size r (named.Pointer (whole q))) S S' → is_number types f r ≡ true → is_range (type_at types f q) ≡ true → OnRight (does s types f (Size r (named.Pointer (whole q))) st) (FrameCovered types f S')
+    seen_size_kind s r q right is ranged =
+        right_then (used st.world.content (cell st q)) (λ v. Next (put_cell r (Number (pos (seen_count v))) st)) (λ u. Unit {0}) (FrameCovered types f S')
+        (range_fit q (read_right sigs types n f place (Size r (named.Pointer (whole q))) S right.clean (whole q) (at_head (whole q) [])) ranged (cell st q) refl)
+        (λ v h. register_covered (Size r (named.Pointer (whole q))) right (λ e. refl) (λ l. refl) r is (pos (seen_count v)))
+
+    pub same_kind : (s : Setting) (r a b : ℕ) (equal : Bool) → IsRight sigs types n f place (Same r (whole a) (whole b) equal) S S' → is_number types f r ≡ true → are_compared types (type_at types f a) (type_at types f b) ≡ true
+        → OnRight (does s types f (Same r (whole a) (whole b) equal) st) (FrameCovered types f S')
+    same_kind s r a b equal right is alike =
+        right_then (compared s types f (location_parts types f (whole a)) (whole a) (whole b) st) (λ same. Next (put_cell r (Number (told same equal)) st)) (λ same. Unit {0}) (FrameCovered types f S')
+        (by_type (type_at types f a) refl alike)
+        (λ same h. register_covered i right (λ e. refl) (λ l. refl) r is (told same equal))
+      where
+        i : Step
+        i = Same r (whole a) (whole b) equal
+
+        valid_a : NotInvalid S (local_place a)
+        valid_a = read_right sigs types n f place i S right.clean (whole a) (at_head (whole a) (whole b ∷ []))
+
+        valid_b : NotInvalid S (local_place b)
+        valid_b = read_right sigs types n f place i S right.clean (whole b) (in_tail (whole a) (whole b ∷ []) (whole b) (at_head (whole b) []))
+
+        alike_ranged : is_range (type_at types f b) ≡ is_range (type_at types f a)
+        alike_ranged = compared_ranged types (type_at types f a) (type_at types f b) alike
+
+        parts_are : (t : Ty) (p : Parts) → type_at types f a ≡ t → is_void t ≡ false → ((id : TyId) → slice_get types.types id.0 ≡ Some t → parts_if types (Some id) ≡ p) → location_parts types f (whole a) ≡ p
+        parts_are t p e solid made =
+            let of = typed_at types (local_type types f a) t (sym (ap (ty_if types) (k.shaped a)) ∙ e) solid in
+            ap (parts_if types) of.is ∙ made of.number of.there
+
+        position : (u t : Pointer) → IfRight (same_position u t) (λ same. Unit {0})
+        position u t = go (is_one_object u t)
+          where
+            go : (same : Bool) → IfRight (cond same (Got (nat_eq (start_of u) (start_of t))) (GotTrap trap.ForeignIterator)) (λ z. Unit {0})
+            go true = tt
+            go false = tt
+
+        views : is_range (type_at types f a) ≡ true → IfRight (compared s types f Views (whole a) (whole b) st) (λ same. Unit {0})
+        views ranged =
+            then_right (used st.world.content (cell st a)) (λ v. then_get (used st.world.content (cell st b)) (λ w. Got (are_same (seen_bytes s.texts st.world.content v) (seen_bytes s.texts st.world.content w)))) (λ u. Unit {0}) (λ same. Unit {0})
+            (range_fit a valid_a ranged (cell st a) refl)
+            (λ v h. then_right (used st.world.content (cell st b)) (λ w. Got (are_same (seen_bytes s.texts st.world.content v) (seen_bytes s.texts st.world.content w))) (λ u. Unit {0}) (λ same. Unit {0})
+            (range_fit b valid_b (alike_ranged ∙ ranged) (cell st b) refl) (λ w j. tt))
+
+        iterators : is_range (type_at types f a) ≡ false → IfRight (compared s types f Iterates (whole a) (whole b) st) (λ same. Unit {0})
+        iterators single =
+            then_right (iterator st.world.content (cell st a)) (λ v. then_get (iterator st.world.content (cell st b)) (λ w. same_position v w)) (λ u. Unit {0}) (λ same. Unit {0})
+            (place_fit a valid_a single (cell st a) refl)
+            (λ v h. then_right (iterator st.world.content (cell st b)) (λ w. same_position v w) (λ u. Unit {0}) (λ same. Unit {0})
+            (place_fit b valid_b (alike_ranged ∙ single) (cell st b) refl) (λ w j. position v w))
+
+        by_type : (t : Ty) → type_at types f a ≡ t → are_compared types t (type_at types f b) ≡ true → IfRight (compared s types f (location_parts types f (whole a)) (whole a) (whole b) st) (λ same. Unit {0})
+        by_type (ty.Iterator target constant) e h =
+            subst (λ (p : Parts). IfRight (compared s types f p (whole a) (whole b) st) (λ same. Unit {0})) (sym (parts_are (ty.Iterator target constant) Iterates e refl (λ id there. parts_typed types k.ordered id (ty.Iterator target constant) there)))
+            (iterators (ap is_range e))
+        by_type ty.View e h =
+            subst (λ (p : Parts). IfRight (compared s types f p (whole a) (whole b) st) (λ same. Unit {0})) (sym (parts_are ty.View Views e refl (λ id there. parts_typed types k.ordered id ty.View there))) (views (ap is_range e))
+        by_type _ e h = absurd (false≢true h)

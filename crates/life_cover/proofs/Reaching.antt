@@ -1,0 +1,181 @@
+-- What an operand is, a local by its name or what is behind a pointer that is a local, where nothing is wrong with the pointer: a place of the
+-- rules, characters of a text, or no position at all.
+use Rattle.std.proofs.Common.{◌≡◌, inl, ℕ, ◌+◌, ◌<◌, Bool, true, false, List, [], length, Option, Some, None, refl, sym, ap, subst, ◌∙◌, arith}
+use Rattle.std.specs.Prelude.{nat_lt, slice_get}
+use Rattle.std.proofs.lemmas.Bool.{false≢true}
+use Rattle.std.proofs.lemmas.Bool.Decides.{nat_tests}
+use Rattle.life_types.specs.Pointees.{or_void}
+use Rattle.life_types.specs.Types.{Types}
+use Rattle.life_types.specs.declared.ty.Ty.{Ty}
+use Rattle.life_types.specs.declared.ty.Ty.TheVariants as variant
+use Rattle.life_types.specs.declared.ty.TyId.{TyId}
+use Rattle.life_core.specs.Function.{Function}
+use Rattle.life_core.specs.Operands.{Location, Operand, whole}
+use Rattle.life_core.specs.Operands as named
+use Rattle.life_pset.specs.Elements.{local_place}
+use Rattle.life_pset.specs.Places.{members_place}
+use Rattle.life_pset.specs.Shapes.{ty_if}
+use Rattle.life_pset.specs.declared.element.AbsPlace.{AbsPlace}
+use Rattle.life_pset.specs.declared.element.Element.TheVariants as element
+use Rattle.life_pset.specs.declared.element.Fact.{Fact}
+use Rattle.life_pset.specs.declared.element.Root.{Root}
+use Rattle.life_contract.specs.Located.{located}
+use Rattle.life_proper.specs.OperandTypes.{is_range}
+use Rattle.life_rules.specs.Matching.{fact_at}
+use Rattle.life_store.specs.Cells.{at}
+use Rattle.life_store.specs.Content.{Object, Content}
+use Rattle.life_store.specs.Effects.{Effect, Strays, cell}
+use Rattle.life_store.specs.Parts.{Single, local_type, operand_type, parts_if, target_in, target_type}
+use Rattle.life_store.specs.Places.{Found, Here, Fixed, Outside, Wrong, Astray, Spot, behind_cell, behind_pointer, found_if, found_in, found_text, here_if, locate, named_by, on_found, on_place, on_spot, operand_word, pointer_word, reached_if, reached_in}
+use Rattle.life_store.specs.State.{Characters, Target, Pointer, Null, Wild, To, Static, Cell, Empty, Named, Number, Points, State}
+use Rattle.life_forest.specs.FrameTypes.{IsFrame, IsOfText, IsVariable, seen_in, seen_type}
+use Rattle.life_forest.proofs.Shaped.{IsShaped}
+use Rattle.life_cover.specs.Covers.{Holds, IsCovered, IsSeenAs, Look}
+use Rattle.life_cover.specs.Frames.{LocalsCovered, RootStands, look_at}
+use Rattle.life_cover.specs.Regions.{IsAt, Region}
+use Rattle.life_cover.proofs.Fresh.{holds_lives, position_valid}
+use Rattle.life_cover.proofs.Pointers.{OnRight}
+use Rattle.life_cover.proofs.Using.{IsTo, NotInvalid, not_null, not_wild, to_place}
+
+lt_true : (a b : ℕ) → a < b → nat_lt a b ≡ true
+lt_true a b h = grind (arith, nat_tests)
+
+lt_of : (a b : ℕ) → nat_lt a b ≡ true → a < b
+lt_of a b h = grind (arith, nat_tests)
+
+-- what isn't a range has its target in the table
+pub unranged_target : (types : Types) (id : Option TyId) → is_range (ty_if types id) ≡ false → seen_type types id ≡ target_type types id
+unranged_target types None e = refl
+unranged_target types (Some id) e = go (slice_get types.types id.0) refl e
+  where
+    go : (o : Option Ty) → slice_get types.types id.0 ≡ o → is_range (or_void o) ≡ false → seen_in types o ≡ target_in o
+    go None is k = refl
+    go (Some variant.View) is k = absurd (false≢true (sym k))
+    go (Some _) is k = refl
+
+module _ (types : Types) (f : Function) (st : State) (Input : Root → Region → Type 0) (may_change : Root → Bool) (S : Fact → Type 0) where
+  -- the place that it is by the rules
+  abbrev pub IsBy : Operand → AbsPlace → Type 0
+  IsBy (named.Name l) place = place ≡ located l
+  IsBy (named.Through p members) place = (a : AbsPlace) × S (fact_at (located p) (element.At a)) × (place ≡ members_place a members)
+
+  -- it lies in a slot of an object that lives
+  pub record IsReached (o : Operand) : Type 0 where
+    pub region : Region
+    pub index : ℕ
+    pub holder : Object
+    pub there : at st.world.content.objects region.object ≡ Some holder
+    pub small : index < length holder.slots
+    pub place : AbsPlace
+    pub lies : IsAt types st.world.content (RootStands types f Input st.cells) place region
+    pub by : IsBy o place
+    pub seen : IsSeenAs types (operand_type types f o) region.ty
+    pub found : locate types f o st ≡ Here region.object index holder
+    pub word : operand_word types f o st ≡ region.word
+
+  pub data Reach (o : Operand) : Type 0 where
+    reached : IsReached o → Reach o
+    fixed : (k : Characters) → locate types f o st ≡ Fixed k → parts_if types (operand_type types f o) ≡ Single → Reach o
+    outside : locate types f o st ≡ Outside → Reach o
+    astray : locate types f o st ≡ Astray → Reach o
+
+  -- ---- what is done with it
+
+  pub spot_is : (o : Operand) (r : IsReached o) (go : Spot → Effect) → on_spot types f o st go ≡ go (record { object = r.region.object; index = r.index; word = r.region.word })
+  spot_is o r go =
+      ap (λ found. on_found found (λ n i object. go (record { object = n; index = i; word = operand_word types f o st }))) r.found
+      ∙ ap (λ w. go (record { object = r.region.object; index = r.index; word = w })) r.word
+
+  pub on_place_right : (o : Operand) → Reach o → (go : ℕ → ℕ → Object → Effect) (text : Characters → Effect) (Q : State → Type 0) → ((r : IsReached o) → OnRight (go r.region.object r.index r.holder) Q) → ((k : Characters) → parts_if types (operand_type types f o) ≡ Single → OnRight (text k) Q)
+      → OnRight (on_place (locate types f o st) go text) Q
+  on_place_right o (reached r) go text Q each chars = subst (λ found. OnRight (on_place found go text) Q) (sym r.found) (each r)
+  on_place_right o (fixed k e single) go text Q each chars = subst (λ found. OnRight (on_place found go text) Q) (sym e) (chars k single)
+  on_place_right o (outside e) go text Q each chars = subst (λ found. OnRight (on_place found go text) Q) (sym e) tt
+  on_place_right o (astray e) go text Q each chars = subst (λ found. OnRight (on_place found go text) Q) (sym e) tt
+
+  pub by_reach : (o : Operand) → Reach o → (go : Spot → Effect) (Q : State → Type 0) → (IsReached o → OnRight (on_spot types f o st go) Q) → OnRight (on_spot types f o st go) Q
+  by_reach o (reached r) go Q each = each r
+  by_reach o (fixed k e single) go Q each = subst (λ found. OnRight (on_found found (λ n i object. go (record { object = n; index = i; word = operand_word types f o st }))) Q) (sym e) tt
+  by_reach o (outside e) go Q each = subst (λ found. OnRight (on_found found (λ n i object. go (record { object = n; index = i; word = operand_word types f o st }))) Q) (sym e) tt
+  by_reach o (astray e) go Q each = subst (λ found. OnRight (on_found found (λ n i object. go (record { object = n; index = i; word = operand_word types f o st }))) Q) (sym e) tt
+
+  -- ---- a local
+
+  module _ (frame : IsFrame types f st.world.content st.cells) where
+    pub named_reach : (x : ℕ) (v : Option Cell) → cell st x ≡ v → Reach (named.Name (whole x))
+    named_reach x None e = astray (ap (named_by st.world.content) e)
+    named_reach x (Some Empty) e = astray (ap (named_by st.world.content) e)
+    named_reach x (Some (Number z)) e = astray (ap (named_by st.world.content) e)
+    named_reach x (Some (Points p)) e = astray (ap (named_by st.world.content) e)
+    named_reach x (Some (Named n)) e = variable (frame.objects x n e)
+      where
+        variable : IsVariable st.world.content (local_type types f x) n → Reach (named.Name (whole x))
+        variable v =
+            let small : 0 < length v.object.slots = let one = ap length v.one in omega (arith, one) in
+            reached (record {
+              region = record { object = n; word = 0; ty = v.object.ty };
+              index = 0;
+              holder = v.object;
+              there = v.there;
+              small = small;
+              place = local_place x;
+              lies = record { start = record { object = n; word = 0; ty = v.object.ty }; stands = (e, refl, v.type); lies = refl };
+              by = refl;
+              seen = subst (λ (t : Option TyId). IsSeenAs types t v.object.ty) (sym v.type) (inl refl);
+              found = ap (named_by st.world.content) e ∙ ap (λ (ob : Option Object). found_in ob n 0) v.there ∙ ap (λ b. here_if b n 0 v.object) (lt_true 0 (length v.object.slots) small);
+              word = refl;
+            })
+
+    -- ---- behind a pointer
+
+    module _ (old : LocalsCovered types f Input may_change S st) (p : ℕ) (right : NotInvalid S (local_place p)) (some : S (fact_at (local_place p) element.Null) → ⊥) (single : (look_at types f p).ranged ≡ false)
+        (sees : (look_at types f p).target ≡ target_type types (local_type types f p)) where
+      target_reach : (t : Target) → cell st p ≡ Some (Points (To t)) → IsTo types st.world.content (RootStands types f Input st.cells) may_change S (local_place p) (look_at types f p) right t → Reach (named.Through (whole p) [])
+      target_reach t e to = go (holds_lives st.world.content false t holds)
+        where
+          holds : Holds st.world.content false t
+          holds = subst (λ b. Holds st.world.content b t) single to.points.holds
+
+          go : (o : Object) × (at st.world.content.objects t.object ≡ Some o) → Reach (named.Through (whole p) [])
+          go l = by_test (nat_lt t.index (length l.0.slots)) refl
+            where
+              is : locate types f (named.Through (whole p) []) st ≡ reached_if (nat_lt t.index (length l.0.slots)) t.object t.index l.0
+              is =
+                  ap (behind_cell st.world.content) e ∙ ap (λ b. found_if b st.world.content t) (position_valid st.world.content t holds)
+                  ∙ ap (λ (ob : Option Object). reached_in ob t.object t.index) l.1
+
+              by_test : (b : Bool) → nat_lt t.index (length l.0.slots) ≡ b → Reach (named.Through (whole p) [])
+              by_test false lt = outside (is ∙ ap (λ b. reached_if b t.object t.index l.0) lt)
+              by_test true lt = reached (record {
+                region = to.points.region;
+                index = t.index;
+                holder = l.0;
+                there = ap (at st.world.content.objects) (sym to.points.object) ∙ l.1;
+                small = lt_of t.index (length l.0.slots) lt;
+                place = to.place;
+                lies = to.points.lies;
+                by = (to.place, to.fact, refl);
+                seen = subst (λ (id : Option TyId). IsSeenAs types id to.points.region.ty) sees to.points.type;
+                found = is ∙ ap (λ b. reached_if b t.object t.index l.0) lt ∙ ap (λ n. Here n t.index l.0) to.points.object;
+                word = ap (λ (v : Option Cell). pointer_word v + 0) e ∙ nothing t.word ∙ to.points.word;
+              })
+                where
+                  nothing : (w : ℕ) → w + 0 ≡ w
+                  nothing w = omega arith
+
+      pointer_reach : (v : Pointer) → cell st p ≡ Some (Points v) → IsCovered types st.world.content (RootStands types f Input st.cells) may_change S (local_place p) (look_at types f p) v → Reach (named.Through (whole p) [])
+      pointer_reach Null e h = absurd (not_null types st.world.content (RootStands types f Input st.cells) may_change S (local_place p) (look_at types f p) right some h)
+      pointer_reach Wild e h = absurd (not_wild types st.world.content (RootStands types f Input st.cells) may_change S (local_place p) (look_at types f p) right h)
+      pointer_reach (To t) e h = target_reach t e (to_place types st.world.content (RootStands types f Input st.cells) may_change S (local_place p) (look_at types f p) right t h)
+      pointer_reach (Static k) e h = text k.text (ap (behind_cell st.world.content) e) (frame.pointers p (Static k) e)
+        where
+          text : (n : Option ℕ) → locate types f (named.Through (whole p) []) st ≡ found_text n k → IsOfText types (seen_type types (local_type types f p)) n → Reach (named.Through (whole p) [])
+          text None is of = outside is
+          text (Some n) is of = fixed k is (ap (parts_if types) (sym sees) ∙ of)
+
+      pub through_reach : (v : Option Cell) → cell st p ≡ v → Reach (named.Through (whole p) [])
+      through_reach None e = astray (ap (behind_cell st.world.content) e)
+      through_reach (Some Empty) e = astray (ap (behind_cell st.world.content) e)
+      through_reach (Some (Named n)) e = astray (ap (behind_cell st.world.content) e)
+      through_reach (Some (Number z)) e = astray (ap (behind_cell st.world.content) e)
+      through_reach (Some (Points v)) e = pointer_reach v e (old p v e)
