@@ -107,11 +107,11 @@ result_later types loose hand c d store keeps id vs waits (inr r) =
 
 module _ (types : Types) (ordered : IsOrdered types) (once : HasEachOnce types) (some : HaveMembers types) (names texts : ℕ) (fs : List Function) (f : Function) (formed : is_well_formed_function types names texts fs f ≡ true) (points : ArePointsFormed types texts fs f)
     (ready : HasReadyWays types f) (rest : ℕ → ℕ) (before : Content) (s : Setting) (call : Callee) (callees : GoodCallee types fs call) (free : (k : ℕ) (g : Function) → slice_get fs k ≡ Some g → ArePointerSlots types (types_taken g)) (given : all_keep_given types f ≡ true) where
-  shaped : IsShaped types f
+  pub shaped : IsShaped types f
   shaped = locals_shaped types ordered names f (formed_parts types names texts fs f formed).locals
 
   -- what is a pointer by its test is one by its parts
-  pointers : (l : Location) → is_pointer (type_in types f l) ≡ true → IsPointer (location_parts types f l)
+  pub pointers : (l : Location) → is_pointer (type_in types f l) ≡ true → IsPointer (location_parts types f l)
   pointers l e =
       let of = location_of types ordered once texts fs f shaped l (type_in types f l) refl (pointer_solid (type_in types f l) e) in
       subst (λ (id : Option TyId). IsPointer (parts_if types id)) (sym of.is) (pointer_parts types ordered of.number (type_in types f l) of.there e)
@@ -131,11 +131,11 @@ module _ (types : Types) (ordered : IsOrdered types) (once : HasEachOnce types) 
 
     -- the function that is called is there
     module _ (gf : Function) (is : slice_get fs g.0 ≡ Some gf) (args : are_arguments_for types texts fs f (types_taken gf) xs ≡ true) (into : goes_to types texts fs f (ty_of types gf.result) target ≡ true) where
-      handed : AreHanded types ordered once texts fs f shaped rest st inv.sound.stands (poised types ordered once some names texts fs f formed points ready rest st inv.sound) (pointers_aim types ordered f st inv.sound.held inv.sound.stands.frame) inv.sound.held (types_taken gf) xs
+      pub handed : AreHanded types ordered once texts fs f shaped rest st inv.sound.stands (poised types ordered once some names texts fs f formed points ready rest st inv.sound) (pointers_aim types ordered f st inv.sound.held inv.sound.stands.frame) inv.sound.held (types_taken gf) xs
       handed = hands_all types ordered once texts fs f shaped rest st inv.sound.stands (poised types ordered once some names texts fs f formed points ready rest st inv.sound) (pointers_aim types ordered f st inv.sound.held inv.sound.stands.frame) inv.sound.held (types_taken gf) xs (free g.0 gf is) args
           (bits_left true (ready_of st) (flat_map (argument_uses f) xs) (target_uses target) are.uses) (leaves_are (ready_of st) (flat_map (argument_leaves f) xs) are.leaves)
 
-      loan : IsLent types texts fs f pointers st xs handed.values st
+      pub loan : IsLent types texts fs f pointers st xs handed.values st
       loan = lent_less types texts fs f pointers st xs handed.values (types_taken gf) st (free g.0 gf is) args handed.each (record { world = refl; cells = λ y v there e. e }) are.leaves
 
       abbrev left : List Cell
@@ -161,7 +161,7 @@ module _ (types : Types) (ordered : IsOrdered types) (once : HasEachOnce types) 
               absurd (false≢true (some_same (sym one.0 ∙ slots_stay types ordered texts fs f names formed points b (ready_of st) inv.reached l.local e)))
 
       -- the slots have their values back, and then the target the result
-      taken_gives : (w : World) (vs : List Cell) → GoodCalled types gf (λ k. times (named_in (lent types f xs st).cells) k + rest k) st.world.content (Back 0 w vs)
+      pub taken_gives : (w : World) (vs : List Cell) → GoodCalled types gf (λ k. times (named_in (lent types f xs st).cells) k + rest k) st.world.content (Back 0 w vs)
           → GivesOn types f rest w.content (bits_past types f (Action (Call target g xs)) (ready_of st)) (taken_back s types f target xs vs (record { world = w; cells = (lent types f xs st).cells }))
       taken_gives w vs h =
           let back = h.2 in

@@ -48,7 +48,7 @@ module _ (types : Types) (ordered : IsOrdered types) (once : HasEachOnce types) 
     shaped = locals_shaped types ordered names f (formed_parts types names texts fs f well.formed).locals
 
     -- what is left gives back what its result takes
-    left_gives : (before : Content) (n : ℕ) (st : State) → IsLeft types f rest before st → GoodCalled types f rest before (finish types f (Returned n st))
+    pub left_gives : (before : Content) (n : ℕ) (st : State) → IsLeft types f rest before st → GoodCalled types f rest before (finish types f (Returned n st))
     left_gives before n st left =
         let at_point = poised types ordered once some names texts fs f well.formed well.points well.ready rest st left.sound in
         let suits = slots_given types f shaped st at_point left.sound.held left.slots in

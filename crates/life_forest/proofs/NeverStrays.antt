@@ -115,7 +115,7 @@ module _ (types : Types) (f : Function) (c : Content) where
   value_taken : (id : TyId) → is_value (ty_of types id) ≡ true → is_value (ty_of types (taken_type types id)) ≡ true
   value_taken id value = ap (λ (i : TyId). is_value (ty_of types i)) (no_slot types id (slice_get types.types id.0) (value_free types (slice_get types.types id.0) value)) ∙ value
 
-  numbers_handed : (n : ℕ) (ls : List Local) (x : ℕ) (input : List ℤ) → AreObjects (map (sort_of_local types) (take n ls)) → n ≤ length ls → n ≤ length input → ((i : ℕ) (l : Local) → slice_get ls i ≡ Some l → is_void (ty_of types l.ty) ≡ false)
+  pub numbers_handed : (n : ℕ) (ls : List Local) (x : ℕ) (input : List ℤ) → AreObjects (map (sort_of_local types) (take n ls)) → n ≤ length ls → n ≤ length input → ((i : ℕ) (l : Local) → slice_get ls i ≡ Some l → is_void (ty_of types l.ty) ≡ false)
       → AreHandedTo types c (map (taken_type types) (map formed.local_type (take n ls))) (entry_arguments types f x n input)
   numbers_handed zero ls x input objects le enough solid = tt
   numbers_handed (suc n) [] x input objects le enough solid = absurd (omega (arith, le))
@@ -125,7 +125,7 @@ module _ (types : Types) (f : Function) (c : Content) where
     numbers_handed n ls (x + 1) zs objects.1 (omega (arith, le)) (omega (arith, enough)) (λ i m e. solid (suc i) m e),
   )
 
-  none_named : (x n : ℕ) (input : List ℤ) (k : ℕ) → times (named_in (entry_arguments types f x n input)) k ≡ 0
+  pub none_named : (x n : ℕ) (input : List ℤ) (k : ℕ) → times (named_in (entry_arguments types f x n input)) k ≡ 0
   none_named x zero input k = refl
   none_named x (suc n) [] k = refl
   none_named x (suc n) (z ∷ zs) k = none_named (x + 1) n zs k
