@@ -7,6 +7,7 @@ pub mod FirstWords
 pub mod FitLemmas
 pub mod FrameLemmas
 pub mod GiveLemmas
+pub mod Leads
 pub mod LocalLemmas
 pub mod NumberLemmas
 pub mod Numbers
@@ -17,6 +18,10 @@ pub mod SameCalls
 pub mod SameSteps
 pub mod Single
 pub mod SingleSteps
+pub mod SoundCalls
+pub mod SoundEntry
+pub mod SoundPrograms
+pub mod SoundSteps
 pub mod StepLemmas
 pub mod WalkLemmas
 pub mod Walks

@@ -1,0 +1,58 @@
+-- What holds at each point of a walk, of the frame at hand and of those that wait.
+use Rattle.std.specs.Prelude.{◌≡◌, ℕ, ◌+◌, List, [], ◌∷◌, ◌++◌, Option, Some, slice_get}
+use Rattle.life_core.specs.Function.{Function, Program}
+use Rattle.life_core.specs.Linked.{code_of, goes, numbered, spot_at}
+use Rattle.life_core.specs.Operands.{Argument}
+use Rattle.life_core.specs.Step.{Call}
+use Rattle.life_core.specs.Tree.{Action}
+use Rattle.life_core.specs.declared.program.FnId.{FnId}
+use Rattle.life_proper.specs.ProperPrograms.{IsProperProgram}
+use Rattle.life_store.specs.Calls.{lent}
+use Rattle.life_store.specs.Content.{Content}
+use Rattle.life_store.specs.State.{Cell, State}
+use Rattle.life_store.proofs.Going.{InvAt}
+use Rattle.life_store.proofs.Standing.{Standing}
+use Rattle.life_forest.specs.Frames.{named_in}
+use Rattle.life_forest.specs.Owned.{times}
+use Rattle.life_forest.proofs.HeldPoints.{IsSound}
+use Rattle.life_forest.proofs.Holding.{KeepsWaiting}
+use Rattle.life_interp.specs.Walk.{Waiting}
+
+-- what the frames that wait have in the hand: the objects that their cells name
+abbrev pub in_waiting : List Waiting → ℕ → ℕ
+in_waiting [] k = 0
+in_waiting (v ∷ vs) k = times (named_in v.cells) k + in_waiting vs k
+
+-- a frame of the program waits for a call of a function, where others wait behind it: it stood at the call and was sound, and since then what it has
+-- kept of its objects has its pointers still
+pub record WaitsFor (p : Program) (g : Function) (behind : List Waiting) (v : Waiting) (now : Content) : Type 0 where
+  pub own : ℕ
+  pub there : slice_get p.functions own ≡ Some v.function
+  pub point : ℕ
+  pub number : FnId
+  pub arguments : List Argument
+  pub here : numbered (code_of v.function) point ≡ Some (record { spot = spot_at v.place (Action (Call v.target number arguments)); leads = goes v.to })
+  pub called : slice_get p.functions number.0 ≡ Some g
+  pub before : State
+  pub sound : IsSound p.types v.function (in_waiting behind) before
+  pub left : v.cells ≡ (lent p.types v.function arguments before).cells
+  pub keeps : KeepsWaiting p.types (λ k. times (named_in v.cells) k + in_waiting behind k) before.world.content now
+  -- what is known of the kinds that are served so far: the cells of the frames behind it, and what it handed over
+  pub outer : List Cell
+  pub stood : Standing p.types v.function outer point before
+  pub handed : List Cell
+
+-- .. each of them, where these cells wait
+abbrev pub AreWaiting : Program → Function → List Waiting → List Cell → Content → Type 0
+AreWaiting p g [] outer now = Unit {0}
+AreWaiting p g (v ∷ vs) outer now = (w : WaitsFor p g vs v now) × (outer ≡ (w.outer ++ v.cells) ++ w.handed) × AreWaiting p v.function vs w.outer now
+
+-- a frame of a proper program comes to a point: it is sound beside those that wait, and stands there with the locals that the way to it leaves
+pub record AreSound (p : Program) (ws : List Waiting) (f : Function) (to : Option ℕ) (st : State) : Type 0 where
+  pub proper : IsProperProgram p
+  pub own : ℕ
+  pub there : slice_get p.functions own ≡ Some f
+  pub sound : IsSound p.types f (in_waiting ws) st
+  pub outer : List Cell
+  pub stands : InvAt (Standing p.types f outer) to st
+  pub waiting : AreWaiting p f ws outer st.world.content
