@@ -20,6 +20,7 @@ pub mod Single
 pub mod SingleSteps
 pub mod SoundCalls
 pub mod SoundEntry
+pub mod SoundFrames
 pub mod SoundPrograms
 pub mod SoundSteps
 pub mod StepLemmas

@@ -8,7 +8,7 @@ use Rattle.life_types.specs.Types.{Types}
 use Rattle.life_core.specs.declared.exits.Entry.{Entry}
 use Rattle.life_core.specs.declared.exits.Entry.TheVariants as entries
 use Rattle.life_core.specs.Function.{Function, Program}
-use Rattle.life_core.specs.Linked.{entry_of, no_exits, target_of}
+use Rattle.life_core.specs.Linked.{enter, entry_of, no_exits, target_of}
 use Rattle.life_core.specs.Holdings.{parameter_sorts}
 use Rattle.life_proper.specs.ProperPrograms.{IsProperProgram}
 use Rattle.life_proper.proofs.PointsAsked.{proper_functions}
@@ -27,9 +27,10 @@ use Rattle.life_interp.specs.Cells.{state_of, world_of}
 use Rattle.life_interp.specs.Frames.{function_at, stack_seen, AllBegin}
 use Rattle.life_interp.specs.Runs.{barred_as, IsBarred, RunEnds, TakesFront}
 use Rattle.life_interp.specs.SoFar as so_far
+use Rattle.life_interp.specs.Sound.{AreSound}
 use Rattle.life_interp.specs.Steps.{TellsEnd}
 use Rattle.life_interp.specs.Walk.{walk}
-use Rattle.life_interp.specs.Walking.{from, output_of, Sunk, Takes, TakesPart, WalkEnds}
+use Rattle.life_interp.specs.Walking.{from, output_of, IsSoundWalk, Sunk, Takes, TakesPart, WalkEnds}
 use Rattle.life_interp.specs.declared.ending.Ending.{Ending}
 use Rattle.life_interp.specs.declared.ending.Ending.TheVariants as ending
 use Rattle.life_interp.specs.declared.ending.Halt.TheVariants as halt
@@ -40,6 +41,8 @@ use Rattle.life_interp.proofs.CodeLists.{function_there}
 use Rattle.life_interp.proofs.FirstWords.{AreFirst}
 use Rattle.life_interp.proofs.Numbers.{no_numbers}
 use Rattle.life_interp.proofs.SameCalls.{entry_same, parameters_same}
+use Rattle.life_interp.proofs.SoundEntry.{first_sound}
+use Rattle.life_interp.proofs.SoundSteps.{with_ports}
 use Rattle.life_interp.proofs.Walks.{calls_come, ends_alone, enters_standing, EndsAs}
 
 -- ---- the beginning
@@ -190,6 +193,18 @@ module _ (given : Given) (p : Program) (entry : ℕ) (f : Function) (input : Lis
       ∙ ap (λ (to : Option ℕ). run_from f.place first (walk s p n [] f to (st taken))) (sym point)
       ∙ ap (λ (g : Function). run_from f.place first (walk s p n [] g frames.point (st taken))) (sym (ap (function_at p.functions) function ∙ here))
       ∙ ap (λ (ws : List Waiting). run_from f.place first (walk s p n (stack_seen p.functions ws) (function_at p.functions frames.function) frames.point (st taken))) (sym waiting)
+
+  -- its frame is sound
+  pub begins_sound : (frames : Frames) (c d : Content) → frames.function ≡ entry → frames.point ≡ Some 1 → frames.waiting.items ≡ [] → c ≡ empty_content
+      → ((output : List ℕ) (ins : List ℤ) → so_far.parameters_given (setting_of given p) p.types f 0 arguments (frame f (world_of c output ins)) ≡ Next (state_of d frames.cells.items output ins)) → IsSoundWalk p frames d
+  begins_sound frames c d function point waiting empty let_in =
+      let s = setting_of given p in
+      let st = state_of d frames.cells.items [] (drop f.parameters input) in
+      let is = begins_same ∙ subst (λ (x : Content). so_far.parameters_given s p.types f 0 arguments (frame f (world_of x [] (drop f.parameters input))) ≡ Next st) empty (let_in [] (drop f.parameters input)) in
+      let first = with_ports p [] f (enter f.body 1 no_exits) st [] [] (first_sound p entry f input proper there admitted s st is) in
+      subst (λ (ws : List Waiting). AreSound p (stack_seen p.functions ws) (function_at p.functions frames.function) frames.point (state_of d frames.cells.items [] [])) (sym waiting)
+      (subst (λ (g : Function). AreSound p [] g frames.point (state_of d frames.cells.items [] [])) (sym (ap (function_at p.functions) function ∙ function_there p.functions entry f there))
+      (subst (λ (to : Option ℕ). AreSound p [] f to (state_of d frames.cells.items [] [])) (all_begin p proper entry f there ∙ sym point) first))
 
   -- no frame at all fits the entry
   pub too_deep : given.depth ≡ 0 → (k : Sunk) → Takes k [] → RunEnds run k (outcome.Trap trap.Depth f.place)

@@ -1,13 +1,14 @@
 -- What the machine's loop answers of the walk over points.
-use Rattle.std.specs.Prelude.{◌≡◌, ℕ, ℤ, List, [], ◌++◌, Option, slice_get, Bool, true, false, Result, MatchResult, MatchOption}
+use Rattle.std.specs.Prelude.{◌≡◌, ℕ, ℤ, List, [], ◌++◌, Option, Some, slice_get, Bool, true, false, Result, MatchResult, MatchOption}
 use Rattle.std.specs.Io.KnownBytes.{Appends}
 use Rattle.std.specs.declared.alloc.Global.{Global}
 use Rattle.std.specs.declared.vec.Vec.{Vec}
 use Rattle.life_base.specs.Causes.{Rose}
 use Rattle.life_base.specs.Edges.{AppendsFront}
 use Rattle.life_core.specs.Function.{Function, Program}
-use Rattle.life_core.specs.Linked.{Lead, enter, no_exits}
+use Rattle.life_core.specs.Linked.{Lead, enter, no_exits, spot_at}
 use Rattle.life_core.specs.Step.{Step, Call, Ports, Test}
+use Rattle.life_core.specs.Tree.{Node}
 use Rattle.life_types.specs.declared.place.Place.{Place}
 use Rattle.life_store.specs.Doing.{Setting, Effect, Next}
 use Rattle.life_interp.specs.SoFar.{test_at, results}
@@ -17,6 +18,7 @@ use Rattle.life_store.specs.State as state
 use Rattle.life_store.specs.State.{World, State}
 use Rattle.life_interp.specs.Cells.{state_of, world_of}
 use Rattle.life_interp.specs.Frames.{function_at, point_at, stack_seen}
+use Rattle.life_interp.specs.Sound.{AreSound}
 use Rattle.life_interp.specs.Steps.{TellsEnd}
 use Rattle.life_interp.specs.Walk as walk
 use Rattle.life_interp.specs.Walk.{Go, at_action, at_point, back, chosen, entered_in, first_way, second_way}
@@ -166,6 +168,16 @@ PointLeads at fs c ins new d rest k result =
     MatchResult result
     (λ _. (text : List ℕ) × Takes k text × ((go : Go) (n : ℕ) (output : List ℕ) → at go n output ≡ from fs new d rest go n (output ++ text)))
     (PointEnds at fs c ins k)
+
+-- ---- what holds of the frames
+
+-- they are sound, whatever was written and is to be read
+abbrev pub IsSoundWalk : Program → Frames → Content → Type 0
+IsSoundWalk p frames c = AreSound p (stack_seen p.functions frames.waiting.items) (function_at p.functions frames.function) frames.point (state_of c frames.cells.items [] [])
+
+-- this stands at the point of the frame at hand, from which control goes on so
+abbrev pub StandsHere : Program → Frames → Place → Node → List Lead → Type 0
+StandsHere p frames place node leads = point_at p.functions frames ≡ Some (record { spot = spot_at place node; leads = leads })
 
 -- ---- what is done at the point of the frame at hand
 

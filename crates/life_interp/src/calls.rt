@@ -1,18 +1,22 @@
 // Points at which control goes to another function, or comes back from one.
-ghost use Rattle.std.specs.Prelude.{◌≡◌, ◌<◌, ◌∷◌, ◌++◌, length, map, option_map, replicate, IfErr, IfOk, IfSome, Some, List, OnOk, ℤ};
+ghost use Rattle.std.specs.Prelude.{◌≡◌, ◌<◌, ◌∷◌, ◌++◌, [], length, map, option_map, replicate, IfErr, IfOk, IfSome, Some, List, OnOk, ℕ, ℤ};
 ghost use Rattle.life_core.specs.Function.{function_of, program_of, Function};
+ghost use Rattle.life_core.specs.Linked.{goes};
 ghost use Rattle.life_core.specs.Operands.{argument_of, location_of};
 ghost use Rattle.life_core.specs.Step.{Call};
-ghost use Rattle.life_interp.specs.Cells.{cells_seen, one_seen};
+ghost use Rattle.life_core.specs.Tree.{Action, Return};
+ghost use Rattle.life_interp.specs.Cells.{cells_seen, one_seen, state_of, world_of};
 ghost use Rattle.life_interp.specs.Fits.{meant, most_births, CanStep, CellFits, CellsFit, Grows, HoldsNumbers, IsFit};
 ghost use Rattle.life_interp.specs.Frames.{all_cells, function_at, stack_seen, waiting_cells, AllBegin, AreFrames, AreThere};
 ghost use Rattle.life_interp.specs.Steps.{Begins, IsSet, LeavesBoth};
-ghost use Rattle.life_interp.specs.Walking.{acts, barred_of, returns, Enters, Moves};
+ghost use Rattle.life_interp.specs.Walking.{acts, barred_of, returns, Enters, IsSoundWalk, Moves, StandsHere};
 ghost use Rattle.life_interp.specs.declared.ending.Halt.TheVariants as halts;
 ghost use Rattle.life_interp.specs.declared.value.Cell.TheVariants as held;
+ghost use Rattle.life_types.specs.declared.place.Place.{Place as AnyPlace};
 ghost use Rattle.life_seen.specs.Housed.{Later};
-ghost use Rattle.life_store.specs.Doing.{Setting};
-ghost use Rattle.life_interp.specs.SoFar.{target_given};
+ghost use Rattle.life_store.specs.Doing.{Setting, Next};
+ghost use Rattle.life_store.specs.Meaning.{frame};
+ghost use Rattle.life_interp.specs.SoFar.{parameters_given, target_given};
 
 use crate::ending::{Ending, Halt, halt_at};
 use crate::frames::{Frames, Waiting};
@@ -41,6 +45,8 @@ pub(crate) fn call<'p, S: Store>(
     requires begin { AllBegin (program_of program.now).functions }
     requires frames { AreFrames (program_of program.now).functions frames.old }
     requires fits { IsFit (program_of program.now).types (S.content store.old) (S.rows store.old) (all_cells frames.old) }
+    requires sound { IsSoundWalk (program_of program.now) frames.old (meant (program_of program.now).types (S.content store.old) (S.rows store.old)) }
+    requires here { StandsHere (program_of program.now) frames.old place (Action (Call (option_map location_of target.now) function (map argument_of arguments.now))) (goes to) }
     requires countable { CanStep (S.content store.old) }
     requires room { S.limit store.old < most_births }
     ensures step { (s : Setting) (ins : List ℤ) → IsSet s (S.limit store.old) (program_of program.now).texts → s.given.depth ≡ depth
@@ -48,6 +54,7 @@ pub(crate) fn call<'p, S: Store>(
         (program_of program.now).functions (meant (program_of program.now).types (S.content store.old) (S.rows store.old)) frames.new (meant (program_of program.now).types (S.content store.new) (S.rows store.new)) ins result }
     ensures frames { OnOk result (AreFrames (program_of program.now).functions frames.new) }
     ensures fits { OnOk result (IsFit (program_of program.now).types (S.content store.new) (S.rows store.new) (all_cells frames.new)) }
+    ensures sound { OnOk result (IsSoundWalk (program_of program.now) frames.new (meant (program_of program.now).types (S.content store.new) (S.rows store.new))) }
     ensures grows { OnOk result (Grows most_births (S.content store.old) (S.content store.new)) }
     ensures limit { S.limit store.new ≡ S.limit store.old }
 {
@@ -79,6 +86,9 @@ fn entered<S: Store>(
     requires countable { CanStep (S.content store.old) }
     requires room { S.limit store.old < most_births }
     ensures step { (s : Setting) → s.given.cells ≡ S.limit store.old → Enters s (program_of program.now) function.0 (cells_seen values.now) place (meant (program_of program.now).types (S.content store.old) (S.rows store.old)) (meant (program_of program.now).types (S.content store.new) (S.rows store.new)) result }
+    ensures begins { (s : Setting) → s.given.cells ≡ S.limit store.old → IfOk result (λ cells. (output : List ℕ) (input : List ℤ)
+        → parameters_given s (program_of program.now).types (function_at (program_of program.now).functions function.0) 0 (cells_seen values.now)
+        (frame (function_at (program_of program.now).functions function.0) (world_of (meant (program_of program.now).types (S.content store.old) (S.rows store.old)) output input)) ≡ Next (state_of (meant (program_of program.now).types (S.content store.new) (S.rows store.new)) cells.items output input)) }
     ensures there { OnOk result (function.0 < length (program_of program.now).functions) }
     ensures fits { IfOk result (λ cells. IsFit (program_of program.now).types (S.content store.new) (S.rows store.new) cells.items) }
     ensures later { OnOk result (Later (S.content store.old) (S.content store.new) (S.rows store.old) (S.rows store.new)) }
@@ -190,6 +200,8 @@ pub(crate) fn back<S: Store>(
     requires begin { AllBegin (program_of program.now).functions }
     requires frames { AreFrames (program_of program.now).functions frames.old }
     requires fits { IsFit (program_of program.now).types (S.content store.old) (S.rows store.old) (all_cells frames.old) }
+    requires sound { IsSoundWalk (program_of program.now) frames.old (meant (program_of program.now).types (S.content store.old) (S.rows store.old)) }
+    requires here { (place : AnyPlace) × StandsHere (program_of program.now) frames.old place Return [] }
     requires countable { CanStep (S.content store.old) }
     requires room { S.limit store.old < most_births }
     ensures step { (s : Setting) (ins : List ℤ) → IsSet s (S.limit store.old) (program_of program.now).texts
@@ -197,6 +209,7 @@ pub(crate) fn back<S: Store>(
         (program_of program.now).functions (meant (program_of program.now).types (S.content store.old) (S.rows store.old)) frames.new (meant (program_of program.now).types (S.content store.new) (S.rows store.new)) ins result }
     ensures frames { OnOk result (AreFrames (program_of program.now).functions frames.new) }
     ensures fits { OnOk result (IsFit (program_of program.now).types (S.content store.new) (S.rows store.new) (all_cells frames.new)) }
+    ensures sound { OnOk result (IsSoundWalk (program_of program.now) frames.new (meant (program_of program.now).types (S.content store.new) (S.rows store.new))) }
     ensures grows { OnOk result (Grows most_births (S.content store.old) (S.content store.new)) }
     ensures limit { S.limit store.new ≡ S.limit store.old }
 {

@@ -1,16 +1,17 @@
 // One point.
-ghost use Rattle.std.specs.Prelude.{◌≡◌, ◌<◌, drop, map, List, OnOk, ℤ};
+ghost use Rattle.std.specs.Prelude.{◌≡◌, ◌<◌, ◌⊎◌, drop, map, List, OnOk, ℤ};
 ghost use Rattle.life_core.specs.Function.{program_of, Program};
 ghost use Rattle.life_core.specs.Link.{leads_seen};
-ghost use Rattle.life_core.specs.Linked.{code_of};
+ghost use Rattle.life_core.specs.Linked.{code_of, goes};
 ghost use Rattle.life_core.specs.Step.{asked_of, step_of};
+ghost use Rattle.life_core.specs.Tree.{Action};
 ghost use Rattle.life_interp.specs.Fits.{meant, most_births, CanStep, Grows, IsFit};
 ghost use Rattle.life_interp.specs.Frames.{all_cells, AllBegin, AreFrames};
 ghost use Rattle.life_interp.specs.Layouts.{AreReady};
 ghost use Rattle.life_interp.specs.Runs.{links_seen};
 ghost use Rattle.life_interp.specs.Steps.{IsSet};
 ghost use Rattle.life_interp.specs.Walk.{first_way, second_way};
-ghost use Rattle.life_interp.specs.Walking.{acts, asks, passes, Moves, PointLeads};
+ghost use Rattle.life_interp.specs.Walking.{acts, asks, passes, IsSoundWalk, Moves, PointLeads, StandsHere};
 ghost use Rattle.life_store.specs.Content.{Content};
 ghost use Rattle.life_store.specs.Doing.{Setting};
 
@@ -45,6 +46,7 @@ pub(crate) fn pass<'p, S: Store, O: Sink>(
     requires begin { AllBegin (program_of program.now).functions }
     requires frames { AreFrames (program_of program.now).functions frames.old }
     requires fits { IsFit (program_of program.now).types (S.content store.old) (S.rows store.old) (all_cells frames.old) }
+    requires sound { IsSoundWalk (program_of program.now) frames.old (meant (program_of program.now).types (S.content store.old) (S.rows store.old)) }
     requires countable { CanStep (S.content store.old) }
     requires room { S.limit store.old < most_births }
     ensures step { (s : Setting) → IsSet s (S.limit store.old) (program_of program.now).texts → s.given.depth ≡ depth
@@ -53,6 +55,7 @@ pub(crate) fn pass<'p, S: Store, O: Sink>(
         (record { old = O.taken out.old; new = O.taken out.new; faults = O.faults out.old; later = O.faults out.new }) result }
     ensures frames { OnOk result (AreFrames (program_of program.now).functions frames.new) }
     ensures fits { OnOk result (IsFit (program_of program.now).types (S.content store.new) (S.rows store.new) (all_cells frames.new)) }
+    ensures sound { OnOk result (IsSoundWalk (program_of program.now) frames.new (meant (program_of program.now).types (S.content store.new) (S.rows store.new))) }
     ensures grows { OnOk result (Grows most_births (S.content store.old) (S.content store.new)) }
     ensures limit { S.limit store.new ≡ S.limit store.old }
 {
@@ -99,6 +102,8 @@ fn act<'p, S: Store, O: Sink>(
     requires begin { AllBegin (program_of program.now).functions }
     requires frames { AreFrames (program_of program.now).functions frames.old }
     requires fits { IsFit (program_of program.now).types (S.content store.old) (S.rows store.old) (all_cells frames.old) }
+    requires sound { IsSoundWalk (program_of program.now) frames.old (meant (program_of program.now).types (S.content store.old) (S.rows store.old)) }
+    requires here { StandsHere (program_of program.now) frames.old place (Action (step_of instr.now)) (goes to) }
     requires countable { CanStep (S.content store.old) }
     requires room { S.limit store.old < most_births }
     ensures step { (s : Setting) → IsSet s (S.limit store.old) (program_of program.now).texts → s.given.depth ≡ depth
@@ -107,6 +112,7 @@ fn act<'p, S: Store, O: Sink>(
         (record { old = O.taken out.old; new = O.taken out.new; faults = O.faults out.old; later = O.faults out.new }) result }
     ensures frames { OnOk result (AreFrames (program_of program.now).functions frames.new) }
     ensures fits { OnOk result (IsFit (program_of program.now).types (S.content store.new) (S.rows store.new) (all_cells frames.new)) }
+    ensures sound { OnOk result (IsSoundWalk (program_of program.now) frames.new (meant (program_of program.now).types (S.content store.new) (S.rows store.new))) }
     ensures grows { OnOk result (Grows most_births (S.content store.old) (S.content store.new)) }
     ensures limit { S.limit store.new ≡ S.limit store.old }
 {
@@ -145,6 +151,7 @@ fn act<'p, S: Store, O: Sink>(
 // Goes on by whether a test holds.
 fn choose(test: &Test, leads: Leads, frames: &mut Frames) -> Result<(), Halt>
     ensures step { (s : Setting) (p : Program) (c : Content) (ins : List ℤ) → Moves (asks s p frames.old c ins (asked_of test.now) (leads_seen leads)) p.functions c frames.new c ins result }
+    ensures point { OnOk result ((frames.new.point ≡ first_way (leads_seen leads)) ⊎ (frames.new.point ≡ second_way (leads_seen leads))) }
     ensures function { frames.new.function ≡ frames.old.function }
     ensures cells { frames.new.cells ≡ frames.old.cells }
     ensures waiting { frames.new.waiting ≡ frames.old.waiting }

@@ -8,7 +8,7 @@ ghost use Rattle.life_interp.specs.Layouts.{AreReady};
 ghost use Rattle.life_interp.specs.Runs.{links_seen};
 ghost use Rattle.life_interp.specs.Steps.{IsSet};
 ghost use Rattle.life_interp.specs.Walk.{walk};
-ghost use Rattle.life_interp.specs.Walking.{from, WalkEnds};
+ghost use Rattle.life_interp.specs.Walking.{from, IsSoundWalk, WalkEnds};
 ghost use Rattle.life_store.specs.Doing.{Setting};
 
 use crate::ending::Halt;
@@ -39,6 +39,7 @@ pub(crate) fn walk<'p, S: Store, O: Sink>(
     requires begin { AllBegin (program_of program.now).functions }
     requires frames { AreFrames (program_of program.now).functions frames.old }
     requires fits { IsFit (program_of program.now).types (S.content store.old) (S.rows store.old) (all_cells frames.old) }
+    requires sound { IsSoundWalk (program_of program.now) frames.old (meant (program_of program.now).types (S.content store.old) (S.rows store.old)) }
     requires countable { CanWalk steps (S.content store.old) }
     requires room { S.limit store.old < most_births }
     ensures { (s : Setting) → IsSet s (S.limit store.old) (program_of program.now).texts → s.given.depth ≡ depth

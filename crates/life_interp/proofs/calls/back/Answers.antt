@@ -1,21 +1,25 @@
-use Rattle.std.proofs.Common.{◌≡◌, ℕ, List, [], ap, rules, subst, sym, ◌∙◌, arith}
+use Rattle.std.proofs.Common.{◌≡◌, ℕ, List, [], ap, refl, rules, subst, sym, ◌∙◌, arith}
 use Rattle.std.proofs.lemmas.Int.{to_z-of_z}
 use Rattle.std.proofs.lemmas.List.{length-map}
 use Rattle.std.proofs.lemmas.Option.{slice_get-map, slice_get_read}
 use mir.Val.{SFits}
 use Rattle.std.specs.Int.{w64}
 use Rattle.std.specs.Prelude.{option_map}
-use Rattle.life_core.specs.Function.{function_of, program_of}
-use Rattle.life_interp.specs.SoFar.{results}
+use Rattle.life_core.specs.Function.{Function, function_of, program_of}
+use Rattle.life_core.specs.Operands.{location_of}
+use Rattle.life_store.specs.Doing.{Setting}
+use Rattle.life_store.specs.declared.run.Growth.TheVariants.{Always}
+use Rattle.life_interp.specs.SoFar.{results, target_given}
 use Rattle.life_interp.specs.Cells.{one_seen, state_of}
 use Rattle.life_interp.specs.Fits.{meant, CellsFit}
-use Rattle.life_interp.specs.Frames.{waiting_cells, AreThere}
+use Rattle.life_interp.specs.Frames.{function_at, waiting_cells, AreThere}
 use Rattle.life_interp.specs.Walking.{returns, Halts}
 use Rattle.life_interp.specs.declared.value.Cell.{Cell}
 use Rattle.life_interp.proofs.BackLemmas.{back_goes, back_halts, leaves_last}
 use Rattle.life_interp.proofs.CodeLists.{function_there}
 use Rattle.life_interp.proofs.FitLemmas.{cells_later, fit_behind, fit_both, fit_front}
 use Rattle.life_interp.proofs.FrameLemmas.{there_front, there_last, waiting_push}
+use Rattle.life_interp.proofs.SoundFrames.{returned_sound}
 use Rattle.life_interp.proofs.calls.back.Goals as goal
 
 pub index-f-requires-in-Some : goal.index-f-requires-in-Some
@@ -135,3 +139,27 @@ returns-in-Ok-clause-fits g c =
       store = c.in-Ok.ensures.fits.store;
       held = fit_both d new (waiting_cells ws) c.give_target.new.cells.items (cells_later content d rows new c.in-Ok.ensures.later (waiting_cells ws) (fit_front content rows (waiting_cells ws) w.cells.items waiting)) c.in-Ok.ensures.fits.held;
     }
+
+pub returns-in-Ok-clause-sound : goal.returns-in-Ok-clause-sound
+returns-in-Ok-clause-sound g c =
+    let p = program_of c.args.program.now in
+    let all = c.args.program.now.functions in
+    let frames = c.args.frames.now in
+    let content = meant p.types (g.S.Store.content c.args.store.now) (g.S.Store.rows c.args.store.now) in
+    let at = slice_get_read all.items all.len frames.function c.index-f.result.now all.ok.0 (omega (arith, c.requires.frames.here, length-map all.items function_of, all.ok.0)) c.index-f.ensures in
+    let f_is = function_there p.functions frames.function (function_of c.index-f.result.now) (slice_get-map function_of all.items frames.function ∙ ap (option_map function_of) at) in
+    let gives : one_seen c.result_of-result.result ≡ results p.types (function_at p.functions frames.function) (state_of content frames.cells.items [] []) =
+    c.result_of-result.ensures.step content [] []
+    ∙ ap (λ (cells : List Cell). results p.types (function_of c.index-f.result.now) (state_of content cells [] [])) c.deref.ensures.value
+    ∙ ap (λ (k : Function). results p.types k (state_of content frames.cells.items [] [])) (sym f_is) in
+    let ws = c.pop.new.self.items in
+    let w = c.in-Some.waiting in
+    let last = there_last p.functions ws w (subst (AreThere p.functions) c.in-Some.ensures.items c.requires.frames.there) in
+    let under = slice_get_read all.items all.len w.function c.index-f-in-Some.result.now all.ok.0 (omega (arith, last, length-map all.items function_of, all.ok.0)) c.index-f-in-Some.ensures in
+    let k_is = function_there p.functions w.function (function_of c.index-f-in-Some.result.now) (slice_get-map function_of all.items w.function ∙ ap (option_map function_of) under) in
+    let s : Setting = record { given = record { growth = Always; cells = g.S.Store.limit c.args.store.now; depth = 0 }; texts = p.texts } in
+    let d = meant p.types (g.S.Store.content c.give_target.new.store) (g.S.Store.rows c.give_target.new.store) in
+    let takes =
+    ap (λ (k : Function). target_given s p.types k (option_map location_of w.target.now) (one_seen c.result_of-result.result) (state_of content w.cells.items [] [])) k_is
+    ∙ c.in-Ok.ensures.step s refl [] [] in
+    returned_sound p frames content c.requires.sound c.requires.here.0 c.requires.here.1 ws w c.in-Some.ensures.items c.result_of-result.result gives s d c.give_target.new.cells.items takes

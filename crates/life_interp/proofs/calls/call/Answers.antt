@@ -1,8 +1,10 @@
-use Rattle.std.proofs.Common.{◌≡◌, ◌+◌, ◌<◌, List, ℕ, Some, length, map, ap, subst, sym, ◌∙◌, arith}
+use Rattle.std.proofs.Common.{◌≡◌, ◌+◌, ◌<◌, List, [], ℕ, Some, length, map, ap, refl, subst, sym, ◌∙◌, arith}
 use Rattle.std.specs.Prelude.{option_map}
 use Rattle.life_core.specs.Function.{program_of}
 use Rattle.life_core.specs.Operands.{argument_of, location_of}
 use Rattle.life_core.specs.Step.{Call}
+use Rattle.life_store.specs.Doing.{Setting}
+use Rattle.life_store.specs.declared.run.Growth.TheVariants.{Always}
 use Rattle.life_interp.specs.SoFar.{all_handed}
 use Rattle.life_interp.specs.Cells.{cells_seen, state_of}
 use Rattle.life_interp.specs.Fits.{meant, CellsFit}
@@ -14,6 +16,7 @@ use Rattle.life_interp.proofs.CallLemmas.{enters, unentered, unhanded}
 use Rattle.life_interp.proofs.CodeLists.{there_at}
 use Rattle.life_interp.proofs.FitLemmas.{cells_later, fit_behind}
 use Rattle.life_interp.proofs.FrameLemmas.{wait_fits}
+use Rattle.life_interp.proofs.SoundFrames.{called_sound}
 use Rattle.life_interp.proofs.calls.call.Goals as goal
 
 pub returns-in-Err-clause-step : goal.returns-in-Err-clause-step
@@ -74,3 +77,20 @@ returns-clause-fits g c =
     let frames = c.args.frames.now in
     wait_fits (program_of c.args.program.now).types (g.S.Store.content c.entered.new.store) (g.S.Store.rows c.entered.new.store) frames c.wait.new.frames c.in-Ok-entered.cells.items c.wait.result c.wait.ensures.cells c.wait.ensures.held c.in-Ok-entered.ensures.fits
     (cells_later content _ rows _ c.in-Ok-entered.ensures.later (all_cells frames) c.requires.fits.held)
+
+pub returns-clause-sound : goal.returns-clause-sound
+returns-clause-sound g c =
+    let p = program_of c.args.program.now in
+    let frames = c.args.frames.now in
+    let content = meant p.types (g.S.Store.content c.args.store.now) (g.S.Store.rows c.args.store.now) in
+    let target = option_map location_of c.args.target.now in
+    let arguments = map argument_of c.args.arguments.now in
+    let values = cells_seen c.deref-in-Ok.result.now in
+    let handed : all_handed (state_of content frames.cells.items [] []) arguments ≡ Some values =
+    ap (λ (cells : List Cell). all_handed (state_of content cells [] []) arguments) (sym c.deref.ensures.value)
+    ∙ c.in-Ok.ensures.step content [] []
+    ∙ ap (λ (cells : List Cell). Some (cells_seen cells)) (sym c.deref-in-Ok.ensures.value) in
+    let s : Setting = record { given = record { growth = Always; cells = g.S.Store.limit c.args.store.now; depth = c.args.depth }; texts = p.texts } in
+    called_sound p frames content c.requires.sound c.args.place target c.args.function arguments c.args.to c.requires.here c.in-Ok-entered.ensures.there c.requires.begin values handed s
+    (meant p.types (g.S.Store.content c.entered.new.store) (g.S.Store.rows c.entered.new.store)) c.in-Ok-entered.cells.items (c.in-Ok-entered.ensures.begins s refl [] []) c.wait.new.frames c.wait.result
+    c.wait.ensures.function c.wait.ensures.point c.wait.ensures.cells c.wait.ensures.stack

@@ -1,16 +1,18 @@
-use Rattle.std.proofs.Common.{drop, ap, refl, sym, ◌∙◌, arith}
+use Rattle.std.proofs.Common.{drop, Some, ap, refl, subst, sym, ◌∙◌, arith}
 use Rattle.std.proofs.lemmas.List.{length-map}
 use Rattle.std.proofs.lemmas.Option.{slice_get_read}
 use Rattle.std.specs.Prelude.{option_map}
 use Rattle.life_core.specs.Function.{function_of, program_of}
 use Rattle.life_core.specs.Link.{leads_seen, link_seen}
 use Rattle.life_core.specs.Node.{node_seen}
+use Rattle.life_core.specs.Linked.{goes, spot_at}
 use Rattle.life_core.specs.Step.{asked_of, step_of}
-use Rattle.life_core.specs.Tree.{Action, Question, Return, Stop}
-use Rattle.life_interp.specs.Walking.{acts, asks, returns, Sunk}
+use Rattle.life_core.specs.Tree.{Node, Action, Question, Return, Stop}
+use Rattle.life_interp.specs.Walking.{acts, asks, returns, StandsHere, Sunk}
 use Rattle.life_interp.specs.Fits.{meant}
 use Rattle.life_interp.proofs.CodeLists.{codes_length}
 use Rattle.life_interp.proofs.PointLemmas.{leads_as, leads_quiet, passes_at, passes_node, point_seen}
+use Rattle.life_interp.proofs.SoundFrames.{action_there, chosen_sound, return_there}
 use Rattle.life_interp.proofs.WalkLemmas.{untouched}
 use Rattle.life_interp.proofs.point.pass.Goals as goal
 
@@ -108,3 +110,50 @@ returns-in-Stop-clause-step g c = λ s set depth.
     let k : Sunk = record { old = g.O.Sink.taken c.args.out.now; new = g.O.Sink.taken c.args.out.now; faults = g.O.Sink.faults c.args.out.now; later = g.O.Sink.faults c.args.out.now } in
     let alone = untouched (g.O.Sink.taken c.args.out.now) (g.O.Sink.faults c.args.out.now) in
     (alone, λ go n output. passes_node s p frames content ins l Stop at (ap node_seen c.in-Stop.is) go n output)
+
+-- what stands at the point is what its link tells
+pub act-requires-clause-here : goal.act-requires-clause-here
+act-requires-clause-here g c =
+    let p = program_of c.args.program.now in
+    let functions = c.args.program.now.functions.items in
+    let frames = c.args.frames.now in
+    let codes = c.args.code.now in
+    let lt = c.requires.frames.here in
+    let v = c.index-code-frames.result in
+    let there = slice_get_read codes _ frames.function v refl (omega (arith, lt, codes_length codes functions c.requires.linked, length-map functions function_of)) c.index-code-frames.is in
+    let point = point_seen p frames codes functions c.requires.linked refl lt v there c.deref.result.now c.deref.ensures.value c.link_at.result c.link_at.ensures in
+    let at = point ∙ ap (option_map link_seen) c.in-Some.is in
+    let l = link_seen c.in-Some.link in
+    subst (λ to. StandsHere p frames c.in-Some.link.spot.place (Action (step_of c.in-Action.instr.now)) (goes to)) (sym c.first_way.ensures)
+    (action_there p frames l at (step_of c.in-Action.instr.now) (ap node_seen c.in-Action.is))
+
+pub returns-in-Question-clause-sound : goal.returns-in-Question-clause-sound
+returns-in-Question-clause-sound g c =
+    let p = program_of c.args.program.now in
+    let functions = c.args.program.now.functions.items in
+    let frames = c.args.frames.now in
+    let codes = c.args.code.now in
+    let lt = c.requires.frames.here in
+    let v = c.index-code-frames.result in
+    let there = slice_get_read codes _ frames.function v refl (omega (arith, lt, codes_length codes functions c.requires.linked, length-map functions function_of)) c.index-code-frames.is in
+    let point = point_seen p frames codes functions c.requires.linked refl lt v there c.deref.result.now c.deref.ensures.value c.link_at.result c.link_at.ensures in
+    let at = point ∙ ap (option_map link_seen) c.in-Some.is in
+    let l = link_seen c.in-Some.link in
+    let content = meant p.types (g.S.Store.content c.args.store.now) (g.S.Store.rows c.args.store.now) in
+    chosen_sound p frames content c.requires.sound c.in-Some.link.spot.place (asked_of c.in-Question.test.now) (leads_seen c.in-Some.link.leads)
+    (at ∙ ap (λ (n : Node). Some (record { spot = spot_at c.in-Some.link.spot.place n; leads = leads_seen c.in-Some.link.leads })) (ap node_seen c.in-Question.is))
+    c.choose.new.frames c.choose.ensures.function c.choose.ensures.cells c.choose.ensures.waiting c.choose.result c.choose.ensures.point
+
+pub back-requires-clause-here : goal.back-requires-clause-here
+back-requires-clause-here g c =
+    let p = program_of c.args.program.now in
+    let functions = c.args.program.now.functions.items in
+    let frames = c.args.frames.now in
+    let codes = c.args.code.now in
+    let lt = c.requires.frames.here in
+    let v = c.index-code-frames.result in
+    let there = slice_get_read codes _ frames.function v refl (omega (arith, lt, codes_length codes functions c.requires.linked, length-map functions function_of)) c.index-code-frames.is in
+    let point = point_seen p frames codes functions c.requires.linked refl lt v there c.deref.result.now c.deref.ensures.value c.link_at.result c.link_at.ensures in
+    let at = point ∙ ap (option_map link_seen) c.in-Some.is in
+    let l = link_seen c.in-Some.link in
+    (c.in-Some.link.spot.place, return_there p frames l at (ap node_seen c.in-Return.is))

@@ -21,7 +21,7 @@ use Rattle.life_interp.specs.declared.frames.Frames.{Frames}
 use Rattle.life_interp.specs.declared.frames.Waiting.{Waiting}
 use Rattle.life_interp.specs.declared.outcome.Outcome.TheVariants as outcome
 use Rattle.life_interp.proofs.EmptyStore.{holds_nothing, meant_empty}
-use Rattle.life_interp.proofs.RunLemmas.{all_begin, barred_ends, can_be_barred, fault_ends, front_ends, if_there, not_lost, of_there, part_ends, run_from_frames, steps_end, trap_ends, value_ends}
+use Rattle.life_interp.proofs.RunLemmas.{all_begin, barred_ends, begins_sound, can_be_barred, fault_ends, front_ends, if_there, not_lost, of_there, part_ends, run_from_frames, steps_end, trap_ends, value_ends}
 use Rattle.life_interp.proofs.WalkLemmas.{untouched}
 use Rattle.life_interp.proofs.run.run_on.Goals as goal
 
@@ -86,6 +86,19 @@ walk-requires g c =
       layouts = c.requires.layouts;
       begin = all_begin p c.requires.proper;
       frames = record { here = c.requires.entry; there = subst (AreThere p.functions) (sym c.new.ensures.items) tt };
+      sound =
+          let all = c.args.program.now.functions in
+          let entry = c.args.entry.0 in
+          let at = slice_get_read all.items all.len entry c.index-f.result.now all.ok.0 (omega (arith, c.requires.entry, length-map all.items function_of, all.ok.0)) c.index-f.ensures in
+          let f = function_of c.index-f.result.now in
+          let there = slice_get-map function_of all.items entry ∙ ap (option_map function_of) at in
+          let input = c.args.input.now in
+          let admitted = of_there p.functions entry f (λ k. IsAdmitted p k input) there c.requires.admitted in
+          let given : Given = record { growth = Always; cells = c.args.limits.cells; depth = c.args.limits.depth } in
+          let frames : Frames = record { function = entry; point = Some 1; cells = c.in-Ok.cells; waiting = c.new.result } in
+          let d = meant p.types (g.S.Store.content c.first_cells.new.store) (g.S.Store.rows c.first_cells.new.store) in
+          begins_sound given p entry f input c.args.steps c.requires.proper there admitted frames (meant p.types (g.S.Store.content c.args.store.now) (g.S.Store.rows c.args.store.now)) d refl refl c.new.ensures.items
+          (meant_empty p.types (g.S.Store.content c.args.store.now) (g.S.Store.rows c.args.store.now) c.requires.empty c.requires.rows) (c.in-Ok.ensures.step (setting_of given p) (sym c.requires.limit));
       fits = subst (λ (ws : List Waiting). IsFit p.types (g.S.Store.content c.first_cells.new.store) (g.S.Store.rows c.first_cells.new.store) (waiting_cells ws ++ c.in-Ok.cells.items)) (sym c.new.ensures.items) c.in-Ok.ensures.fits;
       countable = record { births = omega (arith, grows.births, births, c.requires.steps); clock = omega (arith, grows.clock, clock, c.requires.steps) };
       room = omega (arith, c.first_cells.ensures.limit, c.requires.limit);

@@ -12,6 +12,7 @@ pub loop-left-init : goal.loop-left-init
 loop-left-init g c = record {
   there = c.requires.frames;
   fits = c.requires.fits;
+  sound = c.requires.sound;
   countable = c.requires.countable;
   limit = refl;
   walked = λ s set depth. ([], untouched (g.O.Sink.taken c.args.out.now) (g.O.Sink.faults c.args.out.now), refl);
@@ -26,6 +27,7 @@ pass-requires g c =
       begin = c.requires.begin;
       frames = h.there;
       fits = h.fits;
+      sound = h.sound;
       countable = record { births = omega (arith, h.countable.births); clock = omega (arith, h.countable.clock) };
       room = subst (λ n. n < most_births) (sym h.limit) c.requires.room;
     }
@@ -55,6 +57,7 @@ loop-left-preserved g c =
     record {
       there = q.frames;
       fits = q.fits;
+      sound = q.sound;
       countable = record { births = omega (arith, h.countable.births, q.grows.births, c.loop-left-test.true); clock = omega (arith, h.countable.clock, q.grows.clock, c.loop-left-test.true) };
       limit = c.pass.ensures.limit ∙ h.limit;
       walked = λ s set depth.

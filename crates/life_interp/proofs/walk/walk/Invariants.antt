@@ -5,7 +5,7 @@ use Rattle.life_interp.specs.Fits.{meant, CanWalk, IsFit}
 use Rattle.life_interp.specs.Frames.{all_cells, AreFrames}
 use Rattle.life_interp.specs.Steps.{IsSet}
 use Rattle.life_interp.specs.Walk.{walk}
-use Rattle.life_interp.specs.Walking.{from, Takes}
+use Rattle.life_interp.specs.Walking.{from, IsSoundWalk, Takes}
 use Rattle.life_interp.proofs.walk.walk.Given as goal
 
 abbrev pub decreases-loop-left : goal.decreases-loop-left
@@ -23,6 +23,7 @@ invariant-loop-left g l =
     record {
       there : AreFrames p.functions l.frames;
       fits : IsFit p.types (content l.store) (rows l.store) (all_cells l.frames);
+      sound : IsSoundWalk p l.frames (meant p.types (content l.store) (rows l.store));
       countable : CanWalk l.left (content l.store);
       limit : most l.store ≡ most l.initial.store;
       walked : (s : Setting) → IsSet s (most l.initial.store) p.texts → s.given.depth ≡ l.depth → (text : List ℕ)

@@ -1,0 +1,173 @@
+-- The machine's frames are sound behind what its functions do.
+use Rattle.std.proofs.Common.{◌≡◌, ◌⊎◌, ℕ, ◌<◌, List, [], ◌∷◌, ◌++◌, length, Option, Some, None, Result, Ok, Err, OnOk, refl, sym, ap, subst, ◌∙◌}
+use Rattle.std.proofs.lemmas.Option.{none-some, same_Some}
+use Rattle.std.specs.Prelude.{ℤ, option_and_then, option_map}
+use Rattle.std.specs.declared.alloc.Global.{Global}
+use Rattle.std.specs.declared.vec.Vec.{Vec}
+use Rattle.life_types.specs.declared.place.Place.{Place}
+use Rattle.life_core.specs.declared.program.FnId.{FnId}
+use Rattle.life_core.specs.Function.{Function, Program}
+use Rattle.life_core.specs.Holdings.{parameter_sorts, result_sort}
+use Rattle.life_core.specs.Linked.{Lead, Linked, code_of, enter, goes, no_exits, numbered, spot_at}
+use Rattle.life_core.specs.Operands.{Argument, Location, location_of}
+use Rattle.life_core.specs.Step.{Step, Call, Test}
+use Rattle.life_core.specs.Tree.{Node, Action, Question, Return}
+use Rattle.life_store.specs.Calls as whole
+use Rattle.life_store.specs.Content.{Content}
+use Rattle.life_store.specs.Doing.{Setting, Next}
+use Rattle.life_store.specs.Meaning.{frame}
+use Rattle.life_store.specs.State as state
+use Rattle.life_store.specs.State.{State}
+use Rattle.life_store.proofs.Handing as handing
+use Rattle.life_store.proofs.Handing.{AreSuited, HandsAll}
+use Rattle.life_interp.specs.Cells.{cells_seen, one_seen, state_of, world_of}
+use Rattle.life_interp.specs.Fits.{AreSingle}
+use Rattle.life_interp.specs.Frames.{function_at, point_at, stack_seen, waiting_seen, AllBegin}
+use Rattle.life_interp.specs.SoFar as so_far
+use Rattle.life_interp.specs.Sound.{AreSound}
+use Rattle.life_interp.specs.Walk as walk
+use Rattle.life_interp.specs.Walk.{first_way, second_way}
+use Rattle.life_interp.specs.Walking.{IsOwn, IsSoundWalk, StandsHere}
+use Rattle.life_interp.specs.declared.frames.Frames.{Frames}
+use Rattle.life_interp.specs.declared.frames.Waiting.{Waiting}
+use Rattle.life_interp.specs.declared.value.Cell.{Cell}
+use Rattle.life_interp.specs.declared.value.Cell.TheVariants as held
+use Rattle.life_interp.specs.declared.value.Pointer.TheVariants as leads
+use Rattle.life_interp.proofs.CodeLists.{there_at}
+use Rattle.life_interp.proofs.FirstWords.{AreFirst}
+use Rattle.life_interp.proofs.FrameLemmas.{stack_push}
+use Rattle.life_interp.proofs.Leads.{action_here, return_here}
+use Rattle.life_interp.proofs.SameCalls.{handed_same, parameters_same, result_same, taken_same}
+use Rattle.life_interp.proofs.SameSteps.{does_same}
+use Rattle.life_interp.proofs.SoundCalls.{back_sound, call_sound, left_sorted, result_given, sorted_call, waiting_call, waiting_cells}
+use Rattle.life_interp.proofs.SoundPrograms.{own_plain}
+use Rattle.life_interp.proofs.SoundSteps.{asked, step_sound, test_sound, with_ports}
+
+-- each pointer of the machine's cells points to a first word
+seen_first : (cells : List Cell) → AreFirst (cells_seen cells)
+seen_first [] = tt
+seen_first (held.Empty ∷ cells) = (tt, seen_first cells)
+seen_first (held.Object object ∷ cells) = (tt, seen_first cells)
+seen_first (held.Number z ∷ cells) = (tt, seen_first cells)
+seen_first (held.Points leads.Null ∷ cells) = (tt, seen_first cells)
+seen_first (held.Points leads.Wild ∷ cells) = (tt, seen_first cells)
+seen_first (held.Points (leads.To index object moment) ∷ cells) = (refl, seen_first cells)
+seen_first (held.Points (leads.Static characters) ∷ cells) = (tt, seen_first cells)
+
+-- ---- what stands at the point leads on as its kind does
+
+module _ (p : Program) (frames : Frames) (l : Linked) (at : point_at p.functions frames ≡ Some l) where
+  there : (k : Linked) → ((q : ℕ) → numbered (code_of (function_at p.functions frames.function)) q ≡ Some l → numbered (code_of (function_at p.functions frames.function)) q ≡ Some k) → point_at p.functions frames ≡ Some k
+  there k go = by frames.point at
+    where
+      by : (to : Option ℕ) → option_and_then (numbered (code_of (function_at p.functions frames.function))) to ≡ Some l → option_and_then (numbered (code_of (function_at p.functions frames.function))) to ≡ Some k
+      by None e = absurd (none-some l e)
+      by (Some q) e = go q e
+
+  pub action_there : (i : Step) → l.spot.node ≡ Action i → StandsHere p frames l.spot.place (Action i) (goes (first_way l.leads))
+  action_there i is = there (record { spot = spot_at l.spot.place (Action i); leads = goes (first_way l.leads) }) (λ q here. action_here (function_at p.functions frames.function) q l here i is)
+
+  pub return_there : l.spot.node ≡ Return → StandsHere p frames l.spot.place Return []
+  return_there is = there (record { spot = spot_at l.spot.place Return; leads = [] }) (λ q here. return_here (function_at p.functions frames.function) q l here is)
+
+-- ---- behind what is done there
+
+module _ (p : Program) (frames : Frames) (c : Content) (sound : IsSoundWalk p frames c) where
+  abbrev stack : List walk.Waiting
+  stack = stack_seen p.functions frames.waiting.items
+
+  abbrev function : Function
+  function = function_at p.functions frames.function
+
+  abbrev at : List ℤ → State
+  at ins = state_of c frames.cells.items [] ins
+
+  -- what stands at the point of the frame at hand, and that the frames are sound there, whatever is to be read
+  record IsHere (l : Linked) : Type 0 where
+    point : ℕ
+    here : numbered (code_of (function_at p.functions frames.function)) point ≡ Some l
+    known : (ins : List ℤ) → AreSound p (stack_seen p.functions frames.waiting.items) (function_at p.functions frames.function) (Some point) (state_of c frames.cells.items [] ins)
+
+  is_here : (place : Place) (node : Node) (ls : List Lead) → StandsHere p frames place node ls → IsHere (record { spot = spot_at place node; leads = ls })
+  is_here place node ls here = go frames.point here sound
+    where
+      go : (to : Option ℕ) → option_and_then (numbered (code_of function)) to ≡ Some (record { spot = spot_at place node; leads = ls }) → AreSound p stack function to (at []) → IsHere (record { spot = spot_at place node; leads = ls })
+      go None e h = absurd (none-some (record { spot = spot_at place node; leads = ls }) e)
+      go (Some q) e h = record { point = q; here = e; known = λ ins. with_ports p stack function (Some q) (at []) [] ins h }
+
+  -- behind an instruction
+  pub own_sound : (place : Place) (i : Step) (to : Option ℕ) → StandsHere p frames place (Action i) (goes to) → IsOwn i → AreSingle p.types c → (f : Function) → function_at p.functions frames.function ≡ f → (s : Setting) (ins rest : List ℤ) (text : List ℕ) (d : Content) (new : List Cell)
+      → so_far.does s p.types f i (state_of c frames.cells.items [] ins) ≡ Next (state_of d new text rest) → AreSound p (stack_seen p.functions frames.waiting.items) (function_at p.functions frames.function) to (state_of d new [] [])
+  own_sound place i to stands own single f is s ins rest text d new e =
+      let h = is_here place (Action i) (goes to) stands in
+      let l : Linked = record { spot = spot_at place (Action i); leads = goes to } in
+      let ready = asked p stack function h.point (at ins) (h.known ins) l h.here in
+      let same = does_same s p.types p.functions function (at ins) (h.known ins).stands.sorted (seen_first frames.cells.items) single i (own_plain i own) ready in
+      let done = same ∙ ap (λ (g : Function). so_far.does s p.types g i (at ins)) is ∙ e in
+      with_ports p stack function to (state_of d new text rest) [] [] (step_sound p stack function h.point (at ins) (h.known ins) l h.here i refl own s (state_of d new text rest) done)
+
+  -- behind a test
+  pub chosen_sound : {A E : Type 0} (place : Place) (t : Test) (ls : List Lead) → StandsHere p frames place (Question t) ls → (new : Frames) → new.function ≡ frames.function → new.cells ≡ frames.cells → new.waiting ≡ frames.waiting
+      → (result : Result A E) → OnOk result ((new.point ≡ first_way ls) ⊎ (new.point ≡ second_way ls)) → OnOk result (IsSoundWalk p new c)
+  chosen_sound place t ls stands new function_is cells_are waiting_are (Err e) led = tt
+  chosen_sound place t ls stands new function_is cells_are waiting_are (Ok a) led =
+      let h = is_here place (Question t) ls stands in
+      let l : Linked = record { spot = spot_at place (Question t); leads = ls } in
+      let went = test_sound p stack function h.point (at []) (h.known []) l h.here t refl new.point led in
+      subst (λ (ws : Vec Waiting Global). AreSound p (stack_seen p.functions ws.items) (function_at p.functions new.function) new.point (state_of c new.cells.items [] [])) (sym waiting_are)
+      (subst (λ (n : ℕ). AreSound p stack (function_at p.functions n) new.point (state_of c new.cells.items [] [])) (sym function_is)
+      (subst (λ (cells : Vec Cell Global). AreSound p stack function new.point (state_of c cells.items [] [])) (sym cells_are) went))
+
+  -- a function that is called
+  pub called_sound : {A E : Type 0} (place : Place) (target : Option Location) (g : FnId) (xs : List Argument) (to : Option ℕ) → StandsHere p frames place (Action (Call target g xs)) (goes to) → g.0 < length p.functions → AllBegin p.functions → (values : List state.Cell)
+      → so_far.all_handed (state_of c frames.cells.items [] []) xs ≡ Some values → (s : Setting) (d : Content) (cells : List Cell)
+      → so_far.parameters_given s p.types (function_at p.functions g.0) 0 values (frame (function_at p.functions g.0) (world_of c [] [])) ≡ Next (state_of d cells [] []) → (new : Frames) (result : Result A E)
+      → OnOk result (new.function ≡ g.0) → OnOk result (new.point ≡ Some 1) → OnOk result (new.cells.items ≡ cells)
+      → OnOk result ((fs : List Function) → stack_seen fs new.waiting.items ≡ record { function = function_at fs frames.function; cells = cells_seen frames.cells.items; place = place; to = to; target = target } ∷ stack_seen fs frames.waiting.items)
+      → OnOk result (IsSoundWalk p new d)
+  called_sound place target g xs to stands lt begin values are s d cells begins new (Err e) function_is point_is cells_are stacked = tt
+  called_sound place target g xs to stands lt begin values are s d cells begins new (Ok a) function_is point_is cells_are stacked =
+      let h = is_here place (Action (Call target g xs)) (goes to) stands in
+      let l : Linked = record { spot = spot_at place (Action (Call target g xs)); leads = goes to } in
+      let gf = function_at p.functions g.0 in
+      let there = there_at p.functions g.0 lt in
+      let st = at [] in
+      let known = h.known [] in
+      let asks = sorted_call p stack function h.point st known l h.here target g xs refl gf there in
+      let handed = handed_same p.types function st (parameter_sorts p.types gf) xs asks.0 ∙ are in
+      let all : HandsAll p.types function st (parameter_sorts p.types gf) xs = handing.hands_all p.types function known.outer st known.stands.sorted known.stands.housed (parameter_sorts p.types gf) xs asks.0 in
+      let suited = subst (AreSuited (parameter_sorts p.types gf)) (same_Some all.values values (sym all.are ∙ handed)) all.suited in
+      let same = parameters_same s p.types gf (parameter_sorts p.types gf) values 0 (frame gf (world_of c [] [])) suited in
+      let went = call_sound p stack function h.point st known l h.here target g xs refl gf there s values handed (state_of d cells [] []) (same ∙ begins) in
+      subst (λ (ws : List walk.Waiting). AreSound p ws (function_at p.functions new.function) new.point (state_of d new.cells.items [] [])) (sym (stacked p.functions))
+      (subst (λ (n : ℕ). AreSound p (walks ∷ stack) (function_at p.functions n) new.point (state_of d new.cells.items [] [])) (sym function_is)
+      (subst (λ (to' : Option ℕ). AreSound p (walks ∷ stack) gf to' (state_of d new.cells.items [] [])) (begin g.0 gf there ∙ sym point_is)
+      (subst (λ (vs : List Cell). AreSound p (walks ∷ stack) gf (enter gf.body 1 no_exits) (state_of d vs [] [])) (sym cells_are) went)))
+    where
+      walks : walk.Waiting
+      walks = record { function = function; cells = cells_seen frames.cells.items; place = place; to = to; target = target }
+
+  -- the frame that waited for a function that is left
+  pub returned_sound : (place : Place) → StandsHere p frames place Return [] → (ws : List Waiting) (w : Waiting) → frames.waiting.items ≡ ws ++ w ∷ [] → (given : Option Cell)
+      → one_seen given ≡ so_far.results p.types (function_at p.functions frames.function) (state_of c frames.cells.items [] []) → (s : Setting) (d : Content) (cells : List Cell)
+      → so_far.target_given s p.types (function_at p.functions w.function) (option_map location_of w.target.now) (one_seen given) (state_of c w.cells.items [] []) ≡ Next (state_of d cells [] [])
+      → AreSound p (stack_seen p.functions ws) (function_at p.functions w.function) w.to (state_of d cells [] [])
+  returned_sound place stands ws w stacked given gives s d cells takes =
+      let h = is_here place Return [] stands in
+      let l : Linked = record { spot = spot_at place Return; leads = [] } in
+      let v = waiting_seen p.functions w in
+      let vs = stack_seen p.functions ws in
+      let st = at [] in
+      let pushed = ap (stack_seen p.functions) stacked ∙ stack_push p.functions ws w in
+      let known = subst (λ (us : List walk.Waiting). AreSound p us function (Some h.point) st) pushed (h.known []) in
+      let caller = known.waiting.0 in
+      let asks = waiting_call p v vs function h.point st known l h.here refl in
+      let sort = result_sort p.types function in
+      let result = result_same p.types function st known.stands.sorted (left_sorted p v vs function h.point st known l h.here refl) in
+      let given_back = result_given p v vs function h.point st known l h.here refl in
+      let same =
+      ap (λ (us : List state.Cell). whole.taken_back s p.types v.function v.target caller.arguments (whole.results p.types function st) (record { world = st.world; cells = us })) caller.left
+      ∙ taken_same s p.types v.function sort (parameter_sorts p.types function) v.target caller.arguments (whole.results p.types function st) (so_far.results p.types function st) caller.before st.world asks.0 asks.1 given_back result
+      ∙ ap (λ (us : List state.Cell). so_far.target_given s p.types v.function v.target (so_far.results p.types function st) (record { world = st.world; cells = us })) (sym (waiting_cells p v vs function h.point st known l h.here refl))
+      ∙ ap (λ (rs : List state.Cell). so_far.target_given s p.types v.function v.target rs (record { world = st.world; cells = v.cells })) (sym gives) in
+      back_sound p v vs function h.point st known l h.here refl s (state_of d cells [] []) (same ∙ takes)
