@@ -86,4 +86,4 @@ bound_place types target constant t (category.Place found held) is e =
 -- what is given to a reference without a temporary
 pub given_reference : (types : Types) (target : TyId) (constant : Bool) (e : Typed) → is_value (type_at types target) ≡ true → needs_no_temporary (ty.Reference target constant) e ≡ true
     → is_given types (ty.Reference target constant) e ≡ true → IsBoundTo target constant e.category
-given_reference types target constant e worth place given = bound_place types target constant e.ty e.category place (rw worth at given)
+given_reference types target constant e worth place given = bound_place types target constant e.ty e.category place given

@@ -1,5 +1,5 @@
 -- What is given to a value is a number, and to a raw pointer a pointer or nullptr.
-use Rattle.std.proofs.Common.{◌≡◌, Bool, true, false, not, refl, if◌then◌else◌}
+use Rattle.std.proofs.Common.{◌≡◌, Bool, true, false, not, refl}
 use Rattle.std.proofs.lemmas.Bool.{false≢true}
 use Rattle.life_types.specs.TypeTests.{is_raw, is_value}
 use Rattle.life_types.specs.Types.{Types}
@@ -12,10 +12,10 @@ use Rattle.life_typed.specs.declared.typed_expr.Category.{Category}
 use Rattle.life_typed.specs.declared.typed_expr.ExprType.{ExprType}
 use Rattle.life_typed.specs.declared.typed_expr.ExprType.TheVariants.{Of, NullPointer, TextLiteral}
 use Rattle.life_type_expr.specs.Lists.{fits_at_all}
-use Rattle.life_well_typed.specs.Given.{is_asked, is_given, is_number, is_pointer}
+use Rattle.life_well_typed.specs.Given.{is_given, is_number, is_pointer}
 
 abbrev Fits : Types → Ty → ExprType → Category → Type 0
-Fits types t u c = (if is_asked types t then fits_at_all (fits types t u c) else true) ≡ true
+Fits types t u c = fits_at_all (fits types t u c) ≡ true
 
 tested : (b : Bool) → fits_at_all (unless (not b) General) ≡ true → b ≡ true
 tested true h = refl

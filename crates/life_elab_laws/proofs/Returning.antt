@@ -10,9 +10,11 @@ use Rattle.life_types.specs.declared.ty.Class.TheVariants as classes
 use Rattle.life_types.specs.declared.ty.NameId.{NameId}
 use Rattle.life_types.specs.declared.ty.Ty.{Ty}
 use Rattle.life_types.specs.declared.ty.Ty.TheVariants as ty
+use Rattle.life_types.specs.declared.ty.TyId.{TyId}
 use Rattle.life_built.specs.Built.{is_built_expression, is_built_if_any}
 use Rattle.life_typed.specs.BaseTypes.{type_at}
 use Rattle.life_typed.specs.TypedForm.{Typed, whole as whole_form}
+use Rattle.life_typed.specs.declared.typed_program.TypedLocal.{TypedLocal}
 use Rattle.life_core.specs.Function.{Function}
 use Rattle.life_core.specs.Touched.{nothing, result_uses}
 use Rattle.life_core.specs.Tree.{Tree, Breaks, Continues, Return, Returns, trees}
@@ -22,7 +24,10 @@ use Rattle.life_proper.specs.Checking.{Flow, flow}
 use Rattle.life_proper.specs.Knowing.{State as Knowing, known_at}
 use Rattle.life_proper.specs.ReadyKnown.{are_ready, is_node_ready}
 use Rattle.life_proper.specs.ResultsKnown.{IsKnownReady}
-use Rattle.life_well_typed.specs.Statements.{IsReturned}
+use Rattle.life_type_stmt.specs.Returns.{moves_out}
+use Rattle.life_type_stmt.specs.Simples.{named_in}
+use Rattle.life_well_typed.specs.Given.{is_given}
+use Rattle.life_well_typed.specs.Statements.{IsReturned, named_local}
 use Rattle.life_well_typed.specs.Visible.{Visible}
 use Rattle.life_writer.specs.Around.{Around, result_local}
 use Rattle.life_writer.specs.ExpressionForms.{uses}
@@ -52,6 +57,11 @@ use Rattle.life_elab_laws.proofs.WrittenLocals.{locals_added}
 
 pub not_void : (t : Ty) → (is_void t || is_value t) ≡ true → is_void t ≡ false → is_value t ≡ true
 not_void = by_results (λ t. is_void t ≡ false → is_value t ≡ true) (λ e. absurd (false≢true (sym e))) (λ t v e. v)
+
+-- a value that is given back fits the result: a std::unique_ptr alone is moved out
+value_back : (t : Ty) (result : TyId) (named : Option TypedLocal) (given : Bool) → is_value t ≡ true → (moves_out t result named || given) ≡ true → given ≡ true
+value_back (ty.Unique target) result named given worth h = absurd (false≢true worth)
+value_back _ result named given worth h = h
 
 module _ (a : Around) (types : Types) (texts : ℕ) (fs : List Function) (f : Function) (setting : Setting a types fs f) (v : Visible) (in_loop : Bool) where
   -- a value that is given back may be left unwritten
@@ -122,7 +132,7 @@ module _ (a : Around) (types : Types) (texts : ℕ) (fs : List Function) (f : Fu
       whole_is = whole_expression a v.visible types texts fs f setting (whole_form e) b_e r.2
 
       made : Makes types texts fs f (Some (result_local a)) s w (a_number types texts fs f t)
-      made = whole_is.valued (given_number a.program.types t e worth r.1) token t worth (Some (result_local a)) s (register worth) h.stands
+      made = whole_is.valued (given_number a.program.types t e worth (value_back t a.function.result (named_local a.function.locals (named_in e.form)) (is_given a.program.types t e) worth r.1)) token t worth (Some (result_local a)) s (register worth) h.stands
 
       later : Follows types f a v w.state
       later = follows_grown types f a v s w.state made.grown h

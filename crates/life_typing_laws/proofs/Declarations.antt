@@ -52,6 +52,7 @@ use Rattle.life_typing_laws.proofs.Growing.{IsAdded, IsGrown, added, grown_not, 
 use Rattle.life_typing_laws.proofs.Scopes.{IsDeclared, IsFree, Moves, behind_declared, declared_is, declared_moves, declared_sound, declared_there, final_before, final_then, moves_after, sound_now}
 use Rattle.life_typing_laws.specs.Sound.{Grows, HasStructs, IsFinal, IsSound}
 use Rattle.life_typing_laws.proofs.Steps.{allowed_ok, bound, given_ok, same_value}
+use Rattle.life_typing_laws.proofs.Typed.{PlaceThere, place_stays}
 use Rattle.life_typing_laws.proofs.Values.{FirstRead, Nothing, One, Several, Value, ValueRead, first_is, none_read, one_read, some_read}
 use Rattle.life_typing_laws.proofs.Written.{struct_found, written_finds}
 
@@ -77,20 +78,33 @@ abbrev pub NeedsParts : Types → Ty → Option InitialForm → Type 0
 NeedsParts types t (Some (several l)) = HasParts types t
 NeedsParts types t first = Unit {0}
 
+-- the type of an expression that is a place is there
+abbrev pub FirstPlace : Types → Option InitialForm → Type 0
+FirstPlace types (Some (one e)) = PlaceThere types e.category
+FirstPlace types first = Unit {0}
+
+first_place_stays : (old new : Types) (first : Option InitialForm) → Grows old new → FirstPlace old first → FirstPlace new first
+first_place_stays old new None grows there = tt
+first_place_stays old new (Some (one e)) grows there = place_stays old new grows e.category there
+first_place_stays old new (Some (several l)) grows there = tt
+
 -- nothing, or a value of this type that is well typed, over a table that has grown
 pub record IsRead (v : Visible) (t : Ty) (first : Option InitialForm) (scope : Scope) (types after : Types) : Type 0 where
   pub grown : IsGrown types after
+  pub place : (p : ProgramForm) (locals : List TypedLocal) → IsFinal p locals scope after → FirstPlace after first
   pub typed : (p : ProgramForm) (locals : List TypedLocal) (result : TyId) (id : TyId) → IsFinal p locals scope after → IsTaken p.types id first
       → type_at p.types id ≡ t → NeedsParts types t first → (l : TypedLocal) → l.ty ≡ id → IsInitialised p locals result v.visible (Some l) first
 
 value_of : (v : Visible) (t : Ty) (scope : Scope) (types : Types) (y : InitialForm × Types) → ValueRead v t scope types y → IsRead v t (Some y.0) scope types y.1
 value_of v t scope types y (One value) = subst (λ (f : InitialForm). IsRead v t (Some f) scope types y.1) value.is (record {
   grown = value.grown;
+  place = λ p locals final. (value.typed p locals final).place;
   typed = λ p locals result id final given of parts l is.
       (subst (λ (i : TyId). is_given p.types (type_at p.types i) value.value ≡ true) (sym is) given, (value.typed p locals final).is);
 })
 value_of v t scope types y (Several read) = subst (λ (f : InitialForm). IsRead v t (Some f) scope types y.1) read.is (record {
   grown = read.grown;
+  place = λ p locals final. tt;
   typed = λ p locals result id final given of parts l is.
       let there = read.typed p locals final parts in
       (subst (λ (u : Ty). is_listed p.types u (forms read.list.elements) ≡ true) (sym of ∙ sym (ap (type_at p.types) is)) there.0, there.1);
@@ -100,16 +114,17 @@ read_of : (v : Visible) (t : Ty) (scope : Scope) (types : Types) (x : Option Ini
 read_of v t scope types x ordered (Nothing none same) =
     subst (λ (f : Option InitialForm). IsRead v t f scope types x.1) (sym none) (subst (λ (s : Types). IsRead v t None scope types s) (sym same) (record {
       grown = grown_not types ordered;
+      place = λ p locals final. tt;
       typed = λ p locals result id final given of parts l is. subst (λ (i : TyId). default_fault (type_at p.types i) ≡ None) (sym is) given;
     }))
 read_of v t scope types x ordered (Value value first) = subst (λ (f : Option InitialForm). IsRead v t f scope types x.1) (sym first.is) (value_of v t scope types (value, x.1) first.read)
 
-taken_later : (old new : Types) (id : TyId) (first : Option InitialForm) → Grows old new → HasType old id → IsGivenTo old id first → IsTaken new id first
-taken_later old new id None grows there fine = subst (λ (t : Ty). default_fault t ≡ None) (sym (same_type_at old new id grows there)) fine
-taken_later old new id (Some (one e)) grows there fine =
+taken_later : (old new : Types) (id : TyId) (first : Option InitialForm) → IsOrdered old → Grows old new → HasType old id → FirstPlace old first → IsGivenTo old id first → IsTaken new id first
+taken_later old new id None ordered grows there place fine = subst (λ (t : Ty). default_fault t ≡ None) (sym (same_type_at old new id grows there)) fine
+taken_later old new id (Some (one e)) ordered grows there place fine =
     subst (λ (t : Ty). is_given new t e ≡ true) (sym (same_type_at old new id grows there))
-    (given_later old new grows (type_at old id) e (misfit_none kinds.WrongType (fits old (type_at old id) e.ty e.category) fine))
-taken_later old new id (Some (several l)) grows there fine = tt
+    (given_later old new ordered grows (type_at old id) e (parts_there old id ordered there) place (misfit_none kinds.WrongType (fits old (type_at old id) e.ty e.category) fine))
+taken_later old new id (Some (several l)) ordered grows there place fine = tt
 
 -- a name that may be declared means no function
 pub free_of : (name : NameId) (scope : Scope) → redeclared scope name ≡ None → IsFree name scope
@@ -147,11 +162,12 @@ module _ (name : Identifier) (v : Visible) (scope : Scope) (types : Types) (soun
         moves = moves_after v (name.id ∷ []) scope (behind_declared (local_of name w) scope) types after after sound grown last;
         sound = declared_sound (local_of name w) v scope after sound_after there;
         is = λ p locals result final.
-            let final_after : IsFinal p locals scope after = final_before p locals (name.id ∷ []) scope (behind_declared (local_of name w) scope) after after last final in (
+            let final_after : IsFinal p locals scope after = final_before p locals (name.id ∷ []) scope (behind_declared (local_of name w) scope) after after last final in
+            let final_middle : IsFinal p locals scope middle = final_then p locals scope middle after late final_after in (
               counted,
               subst (λ (o : Option TypedLocal). IsInitialised p locals result v.visible o first) (sym (final.kept (length scope.locals) (local_of name w) (declared_there (local_of name w) scope)))
-                  (read.typed p locals result w.ty (final_then p locals scope middle after late final_after)
-                  (taken_later after p.types w.ty first final.grown there given_to) (same_type_at after p.types w.ty final.grown there) needs (local_of name w) refl),
+                  (read.typed p locals result w.ty final_middle
+                  (taken_later after p.types w.ty first late.ordered final.grown there (first_place_stays middle after first late.grows (read.place p locals final_middle)) given_to) (same_type_at after p.types w.ty final.grown there) needs (local_of name w) refl),
             );
       }
 

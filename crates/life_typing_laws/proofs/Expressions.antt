@@ -28,7 +28,7 @@ use Rattle.life_well_typed.specs.Visible.{Visible}
 use Rattle.life_typing_laws.proofs.Fitting.{arguments_given, first_none}
 use Rattle.life_typing_laws.proofs.Growing.{grown_not, parts_there}
 use Rattle.life_typing_laws.proofs.Operands.{answer_form, answer_stays, function_is, local_is, variable_stays}
-use Rattle.life_typing_laws.proofs.Reading.{IsPassed, passed_is}
+use Rattle.life_typing_laws.proofs.Reading.{IsPassed, PlacesThere, passed_is}
 use Rattle.life_typing_laws.proofs.Scopes.{sound_now}
 use Rattle.life_typing_laws.proofs.Steps.{bound, given_ok, same_value}
 use Rattle.life_typing_laws.proofs.Typed.{Good, GoodList, IsGood, IsTyped, PartsThere, PlaceThere}
@@ -144,10 +144,10 @@ count_is ids n e = go (nat_eq n (length ids)) refl e
 -- over the table behind its arguments
 module _ (p : ProgramForm) (locals : List TypedLocal) (v : Visible) (scope : Scope) (types : Types) (sound : IsSound v scope types) (final : IsFinal p locals scope types) where
   called_typed : (n : ℕ) (s : SignatureView) (place : Place) (es : List Typed) (delimiters : DelimitersForm) (x : Typed) → slice_get scope.functions n ≡ Some s
-      → AreExpressions p locals v.visible (forms es)
+      → AreExpressions p locals v.visible (forms es) → PlacesThere types es
       → misfits kinds.WrongArguments (parameters s.parameters) types (lower_kind None (count_fault kinds.WrongArguments (parameters s.parameters) (length es))) 0 es ≡ None
       → answer_of (type_at types s.result) types place (call n (forms es) delimiters) ≡ x → IsTyped p locals v types x
-  called_typed n s place es delimiters x here are fine answered = record {
+  called_typed n s place es delimiters x here are places fine answered = record {
     is = subst (IsMadeOf p locals v.visible x) (sym form_is) (
       subst (λ (o : Option FunctionForm). HasResult p.types o x) (sym has.there) (subst (λ (id : TyId). x ≡ answer_of (type_at p.types id) p.types x.place x.form) (sym has.result) answer),
       subst (λ (o : Option FunctionForm). are_given p.types (parameter_types o) (forms es) ≡ true) (sym has.there)
@@ -177,8 +177,8 @@ module _ (p : ProgramForm) (locals : List TypedLocal) (v : Visible) (scope : Sco
       count = count_is s.parameters (length es) (first_none kinds.WrongArguments (parameters s.parameters) types (count_fault kinds.WrongArguments (parameters s.parameters) (length es)) 0 es fine)
 
       given_all : are_given p.types s.parameters (forms es) ≡ true
-      given_all = arguments_given kinds.WrongArguments s.parameters types p.types final.grown s.parameters es 0 (count_fault kinds.WrongArguments (parameters s.parameters) (length es))
-          (sound.parameters_there n s here) (λ k. let none_more : 0 + k ≡ k = omega arith in ap (slice_get s.parameters) none_more) count fine
+      given_all = arguments_given kinds.WrongArguments s.parameters types p.types sound.ordered final.grown s.parameters es 0 (count_fault kinds.WrongArguments (parameters s.parameters) (length es))
+          (sound.parameters_there n s here) (λ k. let none_more : 0 + k ≡ k = omega arith in ap (slice_get s.parameters) none_more) count places fine
 
 pub call_good : (name : Identifier) (arguments : ListMeaning) → GoodList arguments → Good (call_of name arguments)
 call_good name arguments good v scope types x e sound =
@@ -187,5 +187,6 @@ call_good name arguments good v scope types x e sound =
       grown = c.passed.read.grown;
       is = λ p locals final.
           called_typed p locals v scope c.y.1 (sound_now v scope types c.y.1 sound c.passed.read.grown) final c.f.0 c.f.1 name.place c.y.0 arguments.delimiters x.0 c.there
-          (subst (λ (es : List Typed). AreExpressions p locals v.visible (forms es)) (sym c.passed.read.all) (c.passed.read.are p locals final)) c.passed.fine c.is;
+          (subst (λ (es : List Typed). AreExpressions p locals v.visible (forms es)) (sym c.passed.read.all) (c.passed.read.are p locals final))
+          (subst (PlacesThere c.y.1) (sym c.passed.read.all) (c.passed.read.places p locals final)) c.passed.fine c.is;
     })

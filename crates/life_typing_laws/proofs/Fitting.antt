@@ -1,17 +1,16 @@
 -- What fits a type, and breaks no rule, is what is given to it.
-use Rattle.std.proofs.Common.{◌≡◌, ℕ, suc, ◌+◌, Bool, true, false, ◌||◌, Option, None, Some, Ok, Err, List, [], ◌∷◌, length, slice_get, unwrap_or, if◌then◌else◌, refl, sym, ap, subst, ◌∙◌, arith}
+use Rattle.std.proofs.Common.{◌≡◌, ℕ, suc, ◌+◌, true, false, Option, None, Some, Ok, Err, List, [], ◌∷◌, length, slice_get, if◌then◌else◌, refl, sym, ap, subst, ◌∙◌, arith}
 use Rattle.std.proofs.lemmas.Bool.{and_from}
 use Rattle.std.specs.Prelude.{nat_eq}
 use Rattle.life_types.proofs.TreeLemmas.{tree_stays}
 use Rattle.life_types.specs.Trees.{IsOrdered, TypeTree, holds_unique, tree_at}
-use Rattle.life_types.specs.TypeTests.{is_value}
 use Rattle.life_types.specs.Types.{Types, HasParts, HasType, HasTypes}
 use Rattle.life_types.specs.declared.ty.Ty.{Ty}
 use Rattle.life_types.specs.declared.ty.Ty.TheVariants as ty
 use Rattle.life_types.specs.declared.ty.TyId.{TyId}
 use Rattle.life_typing_laws.specs.Sound.{Grows}
 use Rattle.life_typed.specs.BaseTypes.{type_at}
-use Rattle.life_typed.specs.Conversions.{Fit, bound, bound_const, converted, copied, fits, fitting, initialised, is_place_of, struct_from, unless}
+use Rattle.life_typed.specs.Conversions.{Fit, bound_const, converted, copied, fits, fitting, initialised, is_place_of, struct_from, unless}
 use Rattle.life_typed.specs.TypedForm.{Typed, forms}
 use Rattle.life_typed.specs.declared.misfit.Misfit.TheVariants.{General, Copy}
 use Rattle.life_typed.specs.declared.typed_expr.Category.{Category}
@@ -19,64 +18,17 @@ use Rattle.life_typed.specs.declared.typed_expr.Category.TheVariants as category
 use Rattle.life_typed.specs.declared.typed_expr.ExprType.{ExprType}
 use Rattle.life_typed.specs.declared.typed_expr.ExprType.TheVariants.{Of, NullPointer, TextLiteral}
 use Rattle.life_names.specs.declared.fault.IllKind.{IllKind}
-use Rattle.life_type_expr.specs.Lists.{Targets, fits_at_all, is_taken, lower_kind, misfit_of, misfits, one_misfit, parameters}
+use Rattle.life_type_expr.specs.Lists.{Targets, fits_at_all, lower_kind, misfit_of, misfits, one_misfit, parameters}
 use Rattle.life_well_typed.specs.Expressions.{are_given}
-use Rattle.life_well_typed.specs.Given.{is_asked, is_given, is_said}
-use Rattle.life_typing_laws.proofs.Growing.{same_type_at, type_is}
+use Rattle.life_well_typed.specs.Given.{is_given}
+use Rattle.life_typing_laws.proofs.Each.{EachHolds}
+use Rattle.life_typing_laws.proofs.Growing.{parts_there, same_type_at}
 use Rattle.life_typing_laws.proofs.Typed.{PlaceThere}
 
 -- ---- one expression
 
 pub fit_at_all : (fit : Fit) → fit ≡ Ok tt → fits_at_all fit ≡ true
 fit_at_all fit e = rw e refl
-
--- whatever is asked
-if_asked : (asked fine : Bool) → fine ≡ true → (if asked then fine else true) ≡ true
-if_asked true fine e = e
-if_asked false fine e = refl
-
--- but for structs, what initialises a type hangs on no table
-same_initialised : (few more : Types) (t : Ty) (e : ExprType) (c : Category) → (is_value t || is_said t) ≡ true → initialised more t e c ≡ initialised few t e c
-same_initialised few more t NullPointer c asked = refl
-same_initialised few more t TextLiteral c asked = refl
-same_initialised few more (ty.Struct number) (Of source) c asked = absurd (cc)
-same_initialised few more _ (Of source) c asked = refl
-
-initialised_later : (few more : Types) (asked : Bool) (t : Ty) (e : ExprType) (c : Category) → (asked ≡ true → (is_value t || is_said t) ≡ true) → initialised few t e c ≡ Ok tt
-    → (if asked then fits_at_all (initialised more t e c) else true) ≡ true
-initialised_later few more true t e c asked fine = fit_at_all (initialised more t e c) (same_initialised few more t e c (asked refl) ∙ fine)
-initialised_later few more false t e c asked fine = refl
-
--- nothing initialises void
-void_never : {P : Type 0} (types : Types) (e : ExprType) (c : Category) → initialised types ty.Void e c ≡ Ok tt → P
-void_never types (Of source) c fine = absurd (cc)
-void_never types NullPointer c fine = absurd (cc)
-void_never types TextLiteral c fine = absurd (cc)
-
-module _ (few more : Types) (grows : Grows few more) where
-  -- a const reference's target is there, unless a place of its type is given
-  const_later : (target : TyId) (e : ExprType) (c : Category) → bound_const few target e c ≡ Ok tt → (if is_value (type_at more target) || is_said (type_at more target) then fits_at_all (bound_const more target e c) else true) ≡ true
-  const_later target e c fine = by (is_place_of c target) fine
-    where
-      there : (o : Option Ty) → slice_get few.types target.0 ≡ o → initialised few (unwrap_or o ty.Void) e c ≡ Ok tt
-          → (if is_value (type_at more target) || is_said (type_at more target) then fits_at_all (initialised more (type_at more target) e c) else true) ≡ true
-      there None is fine = void_never few e c fine
-      there (Some t) is fine = subst (λ (u : Ty). (if is_value u || is_said u then fits_at_all (initialised more u e c) else true) ≡ true) (sym (type_is more target t (grows.types target.0 t is)))
-          (initialised_later few more (is_value t || is_said t) t e c (λ asked. asked) fine)
-
-      by : (place : Bool) → (if place then fitting else initialised few (type_at few target) e c) ≡ Ok tt
-          → (if is_value (type_at more target) || is_said (type_at more target) then fits_at_all (if place then fitting else initialised more (type_at more target) e c) else true) ≡ true
-      by true fine = if_asked (is_value (type_at more target) || is_said (type_at more target)) true refl
-      by false fine = there (slice_get few.types target.0) refl fine
-
-  type_later : (t : Ty) (e : ExprType) (c : Category) → fits few t e c ≡ Ok tt → (if is_asked more t then fits_at_all (fits more t e c) else true) ≡ true
-  type_later (ty.Reference target false) e c fine = if_asked (is_value (type_at more target) || is_said (type_at more target)) (fits_at_all (bound target e c)) (fit_at_all (bound target e c) fine)
-  type_later (ty.Reference target true) e c fine = const_later target e c fine
-  type_later t e c fine = initialised_later few more (is_value t || is_said t) t e c (λ asked. asked) fine
-
-  -- what fits in a table is given in each that it grows to
-  pub given_later : (t : Ty) (e : Typed) → fits few t e.ty e.category ≡ Ok tt → is_given more t e ≡ true
-  given_later t e fine = type_later t e.ty e.category fine
 
 pub misfit_none : (general : IllKind) (fit : Fit) → misfit_of general fit ≡ None → fit ≡ Ok tt
 misfit_none general (Ok u) e = refl
@@ -116,8 +68,8 @@ module _ (few more : Types) (ordered : IsOrdered few) (grows : Grows few more) w
   same_fits (ty.Reference target true) e c parts there = same_bound target e c parts there
   same_fits t e c parts there = same_from t e c there
 
-  pub taken_later : (t : Ty) (e : Typed) → HasParts few t → PlaceThere few e.category → fits few t e.ty e.category ≡ Ok tt → is_taken more (Some t) e ≡ true
-  taken_later t e parts there fine = fit_at_all (fits more t e.ty e.category) (same_fits t e.ty e.category parts there ∙ fine)
+  pub given_later : (t : Ty) (e : Typed) → HasParts few t → PlaceThere few e.category → fits few t e.ty e.category ≡ Ok tt → is_given more t e ≡ true
+  given_later t e parts there fine = fit_at_all (fits more t e.ty e.category) (same_fits t e.ty e.category parts there ∙ fine)
 
 -- ---- the lowest of several rules
 
@@ -133,21 +85,22 @@ first_none general targets types lowest n (x ∷ es) e =
 
 -- ---- arguments, over a table that has grown
 
-module _ (general : IllKind) (ids : List TyId) (old new : Types) (grows : Grows old new) where
-  one_given : (n : ℕ) (id : TyId) (x : Typed) → slice_get ids n ≡ Some id → one_misfit general (parameters ids) old n x ≡ None → is_given new (type_at old id) x ≡ true
-  one_given n id x here e = given_later old new grows (type_at old id) x (misfit_none general (fits old (type_at old id) x.ty x.category) (rw here at e))
+module _ (general : IllKind) (ids : List TyId) (old new : Types) (ordered : IsOrdered old) (grows : Grows old new) where
+  one_given : (n : ℕ) (id : TyId) (x : Typed) → slice_get ids n ≡ Some id → HasType old id → PlaceThere old x.category → one_misfit general (parameters ids) old n x ≡ None → is_given new (type_at old id) x ≡ true
+  one_given n id x here there place e =
+      given_later old new ordered grows (type_at old id) x (parts_there old id ordered there) place (misfit_none general (fits old (type_at old id) x.ty x.category) (rw here at e))
 
   -- from the parameter with number n on
   pub arguments_given : (rest : List TyId) (es : List Typed) (n : ℕ) (lowest : Option IllKind) → HasTypes old rest → ((k : ℕ) → slice_get ids (n + k) ≡ slice_get rest k) → length es ≡ length rest
-      → misfits general (parameters ids) old lowest n es ≡ None → are_given new rest (forms es) ≡ true
-  arguments_given [] [] n lowest there same count e = refl
-  arguments_given [] (x ∷ es) n lowest there same count e = absurd (omega arith)
-  arguments_given (id ∷ rest) [] n lowest there same count e = absurd (omega arith)
-  arguments_given (id ∷ rest) (x ∷ es) n lowest there same count e =
+      → EachHolds (λ (e : Typed). PlaceThere old e.category) es → misfits general (parameters ids) old lowest n es ≡ None → are_given new rest (forms es) ≡ true
+  arguments_given [] [] n lowest there same count places e = refl
+  arguments_given [] (x ∷ es) n lowest there same count places e = absurd (omega arith)
+  arguments_given (id ∷ rest) [] n lowest there same count places e = absurd (omega arith)
+  arguments_given (id ∷ rest) (x ∷ es) n lowest there same count places e =
       let none_more : n + 0 ≡ n = omega arith in
       let here : slice_get ids n ≡ Some id = subst (λ (i : ℕ). slice_get ids i ≡ Some id) none_more (same 0) in
       let fine : one_misfit general (parameters ids) old n x ≡ None =
       (lower_none lowest (one_misfit general (parameters ids) old n x) (first_none general (parameters ids) old (lower_kind lowest (one_misfit general (parameters ids) old n x)) (suc n) es e)).1 in
-      let first : is_given new (type_at new id) x ≡ true = subst (λ (t : Ty). is_given new t x ≡ true) (sym (same_type_at old new id grows there.0)) (one_given n id x here fine) in
+      let first : is_given new (type_at new id) x ≡ true = subst (λ (t : Ty). is_given new t x ≡ true) (sym (same_type_at old new id grows there.0)) (one_given n id x here there.0 places.0 fine) in
       and_from (is_given new (type_at new id) x) (are_given new rest (forms es)) first
-      (arguments_given rest es (suc n) (lower_kind lowest (one_misfit general (parameters ids) old n x)) there.1 (λ k. let later : n + suc k ≡ suc n + k = omega arith in subst (λ (i : ℕ). slice_get ids i ≡ slice_get rest k) later (same (suc k))) (omega arith) e)
+      (arguments_given rest es (suc n) (lower_kind lowest (one_misfit general (parameters ids) old n x)) there.1 (λ k. let later : n + suc k ≡ suc n + k = omega arith in subst (λ (i : ℕ). slice_get ids i ≡ slice_get rest k) later (same (suc k))) (omega arith) places.1 e)

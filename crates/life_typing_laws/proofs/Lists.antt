@@ -25,7 +25,7 @@ use Rattle.life_typing.specs.Structs.{types_of}
 use Rattle.life_well_typed.specs.Members.{are_elements, are_members, is_listed, makes_object}
 use Rattle.life_well_typed.specs.Visible.{Visible}
 use Rattle.life_typing_laws.specs.Sound.{Grows, HasStruct, HasStructs, IsFinal, IsSound}
-use Rattle.life_typing_laws.proofs.Fitting.{first_none, lower_none, misfit_none, taken_later}
+use Rattle.life_typing_laws.proofs.Fitting.{first_none, lower_none, misfit_none, given_later}
 use Rattle.life_typing_laws.proofs.Growing.{IsGrown, grows_on, parts_there, same_type_at, stays_there, structs_stay}
 use Rattle.life_typing_laws.proofs.MembersListed.{all_there, members_listed}
 use Rattle.life_typing_laws.proofs.Methods.{count_taken}
@@ -51,7 +51,7 @@ module _ (old new : Types) (ordered : IsOrdered old) (grows : Grows old new) whe
       let one : one_misfit kinds.WrongType (elements id) old n x ≡ None =
       (lower_none lowest (one_misfit kinds.WrongType (elements id) old n x) (first_none kinds.WrongType (elements id) old (lower_kind lowest (one_misfit kinds.WrongType (elements id) old n x)) (suc n) es fine)).1 in
       let taken : is_taken new (Some (type_at old id)) x ≡ true =
-      taken_later old new ordered grows (type_at old id) x (parts_there old id ordered there) places.0 (misfit_none kinds.WrongType (fits old (type_at old id) x.ty x.category) one) in
+      given_later old new ordered grows (type_at old id) x (parts_there old id ordered there) places.0 (misfit_none kinds.WrongType (fits old (type_at old id) x.ty x.category) one) in
       and_from (is_taken new (Some (type_at new id)) x) (are_elements new id (forms es)) (subst (λ (t : Ty). is_taken new (Some t) x ≡ true) (sym (same_type_at old new id grows there)) taken)
       (elements_listed id there es (suc n) (lower_kind lowest (one_misfit kinds.WrongType (elements id) old n x)) places.1 fine)
 

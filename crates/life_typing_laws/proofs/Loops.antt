@@ -1,8 +1,8 @@
 -- Loops, returns, branches and the other statements.
-use Rattle.std.proofs.Common.{◌≡◌, Bool, true, false, Option, None, Some, List, [], ◌∷◌, Ok, Box, length, refl, sym, ap, subst, ◌∙◌}
+use Rattle.std.proofs.Common.{◌≡◌, ◌⊎◌, inl, inr, ⊎_elim, ◌||◌, ℕ, slice_get, Bool, true, false, Option, None, Some, List, [], ◌∷◌, Ok, Box, length, refl, sym, ap, subst, ◌∙◌}
 use Rattle.std.specs.declared.alloc.Global.{Global}
 use Rattle.life_types.specs.TypeTests.{is_void}
-use Rattle.life_types.specs.Types.{Types, HasType}
+use Rattle.life_types.specs.Types.{Types, HasParts, HasType}
 use Rattle.life_types.specs.declared.place.Place.{Place}
 use Rattle.life_types.specs.declared.ty.NameId.{NameId}
 use Rattle.life_types.specs.declared.ty.Ty.{Ty}
@@ -26,21 +26,21 @@ use Rattle.life_names.specs.Found.{allowed, given}
 use Rattle.life_names.specs.declared.fault.IllKind.TheVariants as kinds
 use Rattle.life_type_stmt.specs.Conditions.{condition, items, optional_condition, unless}
 use Rattle.life_type_stmt.specs.Declarations.{declaration}
-use Rattle.life_type_stmt.specs.Given.{given_expr, value_fault}
+use Rattle.life_type_stmt.specs.Given.{given_expr}
 use Rattle.life_type_stmt.specs.Returns.{moves_out, named_local, result_fault, returned}
 use Rattle.life_type_stmt.specs.Simples.{named_in, optional_simple, simple_statement}
 use Rattle.life_type_stmt.specs.Statements.{Part, for_start_part, in_loop, in_loop_only, in_turn, optional_part, start_names}
 use Rattle.life_well_typed.specs.Given.{is_given}
-use Rattle.life_well_typed.specs.Statements.{IsReturned, IsStart, IsStatement}
+use Rattle.life_well_typed.specs.Statements.{IsReturned, IsStart, IsStatement, named_local as kept_local}
 use Rattle.life_well_typed.specs.Visible.{Visible, after, after_start}
 use Rattle.life_typing_laws.proofs.Domains.{Around}
 use Rattle.life_typing_laws.proofs.Declarations.{IsNew, declaration_new}
 use Rattle.life_typing_laws.proofs.Each.{EachHolds}
 use Rattle.life_typing_laws.proofs.Fitting.{given_later, misfit_none}
-use Rattle.life_typing_laws.proofs.Growing.{IsGrown, grown_not, grown_on, grows_on, same_type_at, stays_there}
+use Rattle.life_typing_laws.proofs.Growing.{IsGrown, grown_not, grown_on, grows_on, parts_stay, parts_there, same_type_at, stays_there}
 use Rattle.life_typing_laws.proofs.Reading.{append_none}
 use Rattle.life_typing_laws.proofs.Scopes.{Moves, final_before, final_remembered, final_then, forgotten_locals, moves_after, moves_behind, moves_not, moves_on, sound_behind, sound_now, table_moves}
-use Rattle.life_typing_laws.specs.Sound.{Grows, IsFinal, IsSound}
+use Rattle.life_typing_laws.specs.Sound.{IsFinal, IsSound, Keeps}
 use Rattle.life_typing_laws.proofs.Simples.{optional_simple_is, simple_is}
 use Rattle.life_typing_laws.proofs.Statements.{Alone, GoodPart, IsPart, condition_is, items_are, optional_condition_is, still}
 use Rattle.life_typing_laws.proofs.Steps.{allowed_ok, bound, given_ok, same_value}
@@ -107,27 +107,32 @@ continue_good keyword semicolon = jump_good (typed.loop_continue keyword semicol
 
 -- ---- returns
 
-module _ (few more : Types) (grows : Grows few more) where
-  fits_result : (t : Ty) (e : Typed) → value_fault kinds.WrongType few t e.ty e.category ≡ None → is_given more t e ≡ true
-  fits_result t e h = given_later few more grows t e (misfit_none kinds.WrongType (fits few t e.ty e.category) h)
+-- what is moved out is a variable of the finished function too
+module _ (result : TyId) (scope : Scope) (locals : List TypedLocal) (keeps : Keeps scope.locals locals) where
+  still_named : (t : Ty) (named : Option ℕ) → moves_out t result (named_local scope named) ≡ true → moves_out t result (kept_local locals named) ≡ true
+  still_named t None h = h
+  still_named t (Some x) h = go (slice_get scope.locals x) refl h
+    where
+      none_moved : (u : Ty) → moves_out u result None ≡ true → moves_out u result (slice_get locals x) ≡ true
+      none_moved (ty.Unique target) h = absurd (cc)
+      none_moved _ h = absurd (cc)
 
-  -- a `std::unique_ptr` that is moved out needn't fit
-  result_given : (t : Ty) (result : TyId) (named : Option TypedLocal) (e : Typed) → result_fault (is_void t) (moves_out t result named) few t e ≡ None → (is_void t ≡ false) × (is_given more t e ≡ true)
-  result_given ty.Void result named e h = absurd (cc)
-  result_given (ty.Unique target) result named e h = (refl, refl)
-  result_given ty.Bool result named e h = (refl, fits_result ty.Bool e h)
-  result_given ty.Char result named e h = (refl, fits_result ty.Char e h)
-  result_given ty.Int result named e h = (refl, fits_result ty.Int e h)
-  result_given ty.Long result named e h = (refl, fits_result ty.Long e h)
-  result_given ty.Size result named e h = (refl, fits_result ty.Size e h)
-  result_given ty.Text result named e h = (refl, fits_result ty.Text e h)
-  result_given ty.View result named e h = (refl, fits_result ty.View e h)
-  result_given (ty.Vector element) result named e h = (refl, fits_result (ty.Vector element) e h)
-  result_given (ty.Raw target constant) result named e h = (refl, fits_result (ty.Raw target constant) e h)
-  result_given (ty.Reference target constant) result named e h = (refl, fits_result (ty.Reference target constant) e h)
-  result_given (ty.Iterator target constant) result named e h = (refl, fits_result (ty.Iterator target constant) e h)
-  result_given (ty.Span target constant) result named e h = (refl, fits_result (ty.Span target constant) e h)
-  result_given (ty.Struct number) result named e h = (refl, fits_result (ty.Struct number) e h)
+      go : (o : Option TypedLocal) → slice_get scope.locals x ≡ o → moves_out t result o ≡ true → moves_out t result (slice_get locals x) ≡ true
+      go None is h = none_moved t h
+      go (Some l) is h = subst (λ (o : Option TypedLocal). moves_out t result o ≡ true) (sym (keeps x l is)) h
+
+-- a `std::unique_ptr` that is moved out needn't fit
+result_given : (t : Ty) (moved : Bool) (types : Types) (e : Typed) → result_fault (is_void t) moved types t e ≡ None → (is_void t ≡ false) × ((moved ≡ true) ⊎ (fits types t e.ty e.category ≡ Ok tt))
+result_given t moved types e h = go (is_void t) moved h
+  where
+    go : (nothing moved : Bool) → result_fault nothing moved types t e ≡ None → (nothing ≡ false) × ((moved ≡ true) ⊎ (fits types t e.ty e.category ≡ Ok tt))
+    go true moved h = absurd (cc)
+    go false true h = (refl, inl refl)
+    go false false h = (refl, inr (misfit_none kinds.WrongType (fits types t e.ty e.category) h))
+
+either : (a b : Bool) → (a ≡ true) ⊎ (b ≡ true) → (a || b) ≡ true
+either true b e = refl
+either false b e = ⊎_elim (λ h. absurd (cc)) (λ h. h) e
 
 pub record IsGivenBack (result : TyId) (v : Visible) (scope : Scope) (types : Types) (x : Option Typed × Types) : Type 0 where
   pub grown : IsGrown types x.1
@@ -154,11 +159,16 @@ returned_is result keyword (Some e) v scope types x h sound there =
     subst (IsGivenBack result v scope types) (same_value {A = Option Typed} (Some step.value.0, step.value.1) x fine.1) (record {
       grown = good.grown;
       is = λ p locals final.
-          let given = result_given step.value.1 p.types final.grown (type_at types result) result named step.value.0 fine.0 in
-          let same : type_at p.types result ≡ type_at types result = same_type_at types p.types result (grows_on types step.value.1 p.types good.grown.grows final.grown) there in (
+          let typed = good.is p locals final in
+          let given = result_given (type_at types result) (moves_out (type_at types result) result named) step.value.1 step.value.0 fine.0 in
+          let same : type_at p.types result ≡ type_at types result = same_type_at types p.types result (grows_on types step.value.1 p.types good.grown.grows final.grown) there in
+          let parts : HasParts step.value.1 (type_at types result) = parts_stay types step.value.1 (type_at types result) good.grown.grows (parts_there types result sound.ordered there) in (
             subst (λ (t : Ty). is_void t ≡ false) (sym same) given.0,
-            subst (λ (t : Ty). is_given p.types t step.value.0 ≡ true) (sym same) given.1,
-            (good.is p locals final).is,
+            subst (λ (t : Ty). (moves_out t result (kept_local locals (named_in step.value.0.form)) || is_given p.types t step.value.0) ≡ true) (sym same)
+                (either (moves_out (type_at types result) result (kept_local locals (named_in step.value.0.form))) (is_given p.types (type_at types result) step.value.0)
+                (⊎_elim (λ moved. inl (still_named result scope locals final.kept (type_at types result) (named_in step.value.0.form) moved))
+                (λ fit. inr (given_later step.value.1 p.types good.grown.ordered final.grown (type_at types result) step.value.0 parts typed.place fit)) given.1)),
+            typed.is,
           );
     })
 

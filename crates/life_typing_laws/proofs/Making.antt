@@ -23,7 +23,7 @@ use Rattle.life_type_expr.specs.Operands.{value}
 use Rattle.life_well_typed.specs.Expressions.{AreExpressions, IsExpressionIfAny}
 use Rattle.life_well_typed.specs.Members.{is_optional}
 use Rattle.life_well_typed.specs.Visible.{Visible}
-use Rattle.life_typing_laws.proofs.Fitting.{first_none, lower_none, misfit_none, same_tree_at, taken_later}
+use Rattle.life_typing_laws.proofs.Fitting.{first_none, lower_none, misfit_none, same_tree_at, given_later}
 use Rattle.life_typing_laws.proofs.Growing.{IsGrown, grown_on, parts_there, same_type_at, stays_there}
 use Rattle.life_typing_laws.proofs.Reading.{IsPassed, PlacesThere, passed_is}
 use Rattle.life_typing_laws.proofs.Scopes.{sound_now}
@@ -69,7 +69,7 @@ module _ (old new : Types) (id : TyId) where
     one_taken : (e : Typed) → PlaceThere old e.category → one_misfit kinds.WrongArguments (optional id) old 0 e ≡ None → is_taken new (Some (type_at new id)) e ≡ true
     one_taken e place fine =
         subst (λ (t : Ty). is_taken new (Some t) e ≡ true) (sym (same_type_at old new id grows there))
-        (taken_later old new ordered grows (type_at old id) e (parts_there old id ordered there) place (misfit_none kinds.WrongArguments (fits old (type_at old id) e.ty e.category) fine))
+        (given_later old new ordered grows (type_at old id) e (parts_there old id ordered there) place (misfit_none kinds.WrongArguments (fits old (type_at old id) e.ty e.category) fine))
 
     optional_taken : (es : List Typed) → PlacesThere old es → Fine es → is_optional new id (optional_form (first_of es)) ≡ true
     optional_taken [] places fine = refl

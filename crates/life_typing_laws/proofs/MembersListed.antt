@@ -15,7 +15,7 @@ use Rattle.life_names.specs.declared.fault.IllKind.TheVariants as kinds
 use Rattle.life_type_expr.specs.Lists.{count_fault, is_taken, lower_kind, member_fault, members, misfits, one_misfit, or_kind, struct_fault, target_misfit}
 use Rattle.life_typing.specs.Structs.{types_of}
 use Rattle.life_well_typed.specs.Members.{are_each, are_members, can_be_listed}
-use Rattle.life_typing_laws.proofs.Fitting.{first_none, lower_none, misfit_none, same_tree_at, taken_later}
+use Rattle.life_typing_laws.proofs.Fitting.{first_none, lower_none, misfit_none, same_tree_at, given_later}
 use Rattle.life_typing_laws.proofs.Growing.{parts_there, same_type_at}
 use Rattle.life_typing_laws.proofs.Methods.{count_taken}
 use Rattle.life_typing_laws.proofs.Reading.{PlacesThere}
@@ -54,7 +54,7 @@ module _ (ms : List MemberType) (old new : Types) (ordered : IsOrdered old) (gro
       (subst (λ (o : Option MemberType). or_kind (member_fault old o) (target_misfit kinds.WrongType (option_map (λ (z : MemberType). type_at old z.ty) o) old x.ty x.category) ≡ None) here e) in
       and_from (can_be_listed new m.ty) (is_taken new (Some (type_at new m.ty)) x) (still_listed m.ty there both.0)
       (subst (λ (t : Ty). is_taken new (Some t) x ≡ true) (sym (same_type_at old new m.ty grows there))
-      (taken_later old new ordered grows (type_at old m.ty) x (parts_there old m.ty ordered there) place (misfit_none kinds.WrongType (fits old (type_at old m.ty) x.ty x.category) both.1)))
+      (given_later old new ordered grows (type_at old m.ty) x (parts_there old m.ty ordered there) place (misfit_none kinds.WrongType (fits old (type_at old m.ty) x.ty x.category) both.1)))
 
   -- from the member with number n on
   each_listed : (rest : List MemberType) (es : List Typed) (n : ℕ) (lowest : Option IllKind) → HasTypes old (types_of rest) → ((k : ℕ) → slice_get ms (n + k) ≡ slice_get rest k) → length es ≡ length rest → PlacesThere old es

@@ -22,7 +22,7 @@ use Rattle.life_type_expr.specs.Lists as lists
 use Rattle.life_type_expr.specs.Lists.{is_taken, lower_kind, misfits, one_misfit, target_misfit}
 use Rattle.life_well_typed.specs.Members.{are_taken}
 use Rattle.life_typing_laws.specs.Sound.{Grows}
-use Rattle.life_typing_laws.proofs.Fitting.{first_none, lower_none, misfit_none, taken_later}
+use Rattle.life_typing_laws.proofs.Fitting.{first_none, lower_none, misfit_none, given_later}
 use Rattle.life_typing_laws.proofs.Growing.{parts_there, same_type_at}
 use Rattle.life_typing_laws.proofs.Reading.{PlacesThere}
 use Rattle.life_typing_laws.proofs.Typed.{PartsThere, PlaceThere}
@@ -130,7 +130,7 @@ module _ (general : IllKind) (p : MethodParameters) (old new : Types) (ordered :
     where
       go : (o : Option Ty) → parameter p n ≡ o → target_misfit general o old x.ty x.category ≡ None → is_taken new o x ≡ true
       go None is e = absurd (cc)
-      go (Some t) is e = taken_later old new ordered grows t x (parts n t is) place (misfit_none general (fits old t x.ty x.category) e)
+      go (Some t) is e = given_later old new ordered grows t x (parts n t is) place (misfit_none general (fits old t x.ty x.category) e)
 
   -- from the parameter with number n on
   arguments_taken : (es : List Typed) (n : ℕ) (lowest : Option IllKind) → PlacesThere old es → takes p (n + length es) ≡ true → misfits general (lists.method_parameters p) old lowest n es ≡ None

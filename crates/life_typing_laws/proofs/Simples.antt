@@ -37,7 +37,7 @@ use Rattle.life_well_typed.specs.Statements.{IsGiven, IsSimple, IsSimpleIfAny}
 use Rattle.life_well_typed.specs.Visible.{Visible}
 use Rattle.life_typing_laws.proofs.Fitting.{fit_at_all, given_later, lower_none, misfit_none}
 use Rattle.life_typing_laws.specs.Sound.{IsFinal, IsSound}
-use Rattle.life_typing_laws.proofs.Growing.{IsGrown, grown_not, grown_on}
+use Rattle.life_typing_laws.proofs.Growing.{IsGrown, grown_not, grown_on, parts_stay}
 use Rattle.life_typing_laws.proofs.Scopes.{final_then, sound_now}
 use Rattle.life_typing_laws.proofs.Steps.{allowed_ok, bound, given_ok, same_value}
 use Rattle.life_typing_laws.proofs.Typed.{Good, PartsThere}
@@ -77,7 +77,9 @@ value_given : (v : Visible) (t : Ty) (scope : Scope) (types : Types) (x : Initia
 value_given v t scope types x (One value) fine = record {
   grown = value.grown;
   is = λ p locals result final parts.
-      subst (λ (f : InitialForm). IsGiven p locals result v.visible t f) value.is (given_later x.1 p.types final.grown t value.value fits_it, (value.typed p locals final).is);
+      let typed = value.typed p locals final in
+      subst (λ (f : InitialForm). IsGiven p locals result v.visible t f) value.is
+      (given_later x.1 p.types value.grown.ordered final.grown t value.value (parts_stay types x.1 t value.grown.grows parts) typed.place fits_it, typed.is);
 }
   where
     fits_it : fits x.1 t value.value.ty value.value.category ≡ Ok tt

@@ -1,5 +1,5 @@
 -- Statements that are well typed, in the order of their text.
-use Rattle.std.specs.Prelude.{◌≡◌, ℕ, Bool, true, false, ◌&&◌, not, List, [], ◌∷◌, Option, None, Some, slice_get}
+use Rattle.std.specs.Prelude.{◌≡◌, ℕ, Bool, true, false, ◌&&◌, ◌||◌, not, List, [], ◌∷◌, Option, None, Some, slice_get}
 use Rattle.life_types.specs.TypeTests.{is_void}
 use Rattle.life_types.specs.declared.ty.Ty.{Ty}
 use Rattle.life_types.specs.declared.ty.TyId.{TyId}
@@ -15,7 +15,8 @@ use Rattle.life_type_expr.specs.Lists.{fits_at_all}
 use Rattle.life_type_expr.specs.Operands.{is_constant}
 use Rattle.life_type_stmt.specs.Declarations.{default_fault}
 use Rattle.life_type_stmt.specs.Ranges.{element_place, element_type}
-use Rattle.life_type_stmt.specs.Simples.{is_place, type_of}
+use Rattle.life_type_stmt.specs.Returns.{moves_out}
+use Rattle.life_type_stmt.specs.Simples.{is_place, named_in, type_of}
 use Rattle.life_well_typed.specs.Apart.{is_apart}
 use Rattle.life_well_typed.specs.Expressions.{AreExpressions, IsExpression}
 use Rattle.life_well_typed.specs.Given.{is_given}
@@ -27,6 +28,11 @@ abbrev pub is_one : StmtForm → Bool
 is_one (declaration d semicolon) = false
 is_one (chain first others) = false
 is_one _ = true
+
+-- the variable or parameter that is named
+abbrev pub named_local : List TypedLocal → Option ℕ → Option TypedLocal
+named_local locals None = None
+named_local locals (Some x) = slice_get locals x
 
 -- in a function with these parameters and variables that gives back this
 module _ (p : ProgramForm) (locals : List TypedLocal) (result : TyId) where
@@ -72,10 +78,14 @@ module _ (p : ProgramForm) (locals : List TypedLocal) (result : TyId) where
   AreItems visible [] = Unit {0}
   AreItems visible (i ∷ is) = IsItem visible i × AreItems visible is
 
+  -- a std::unique_ptr that is named is moved out, and what is given back else fits the result
+  abbrev pub is_given_back : Typed → Bool
+  is_given_back e = moves_out (type_at p.types result) result (named_local locals (named_in e.form)) || is_given p.types (type_at p.types result) e
+
   -- a value is given back by a function that isn't void, and by no other one
   abbrev pub IsReturned : List ℕ → Option Typed → Type 0
   IsReturned visible None = is_void (type_at p.types result) ≡ true
-  IsReturned visible (Some e) = (is_void (type_at p.types result) ≡ false) × (is_given p.types (type_at p.types result) e ≡ true) × IsWhole visible e
+  IsReturned visible (Some e) = (is_void (type_at p.types result) ≡ false) × (is_given_back e ≡ true) × IsWhole visible e
 
   -- ---- declarations
 
