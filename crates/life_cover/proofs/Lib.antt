@@ -1,5 +1,6 @@
 pub mod AimKinds
 pub mod Beside
+pub mod Buffering
 pub mod Buffers
 pub mod ChangeKinds
 pub mod Changes
@@ -31,6 +32,8 @@ pub mod Pointers
 pub mod Putting
 pub mod Reaching
 pub mod Reading
+pub mod Rebuffering
+pub mod Recopying
 pub mod SaveKinds
 pub mod Stepping
 pub mod Takes

@@ -27,7 +27,7 @@ owner_kept kind t c d n i w o touch born apart there owner free =
 
 -- ---- what was written
 
-read_word : (ws : List ℕ) (w v : ℕ) → w < length ws → slice_index (slice_set ws w v) w ≡ v
+pub read_word : (ws : List ℕ) (w v : ℕ) → w < length ws → slice_index (slice_set ws w v) w ≡ v
 read_word [] w v lt = absurd (omega (arith, lt))
 read_word (x ∷ xs) zero v lt = refl
 read_word (x ∷ xs) (suc w) v lt = read_word xs w v (omega (arith, lt))
