@@ -20,7 +20,7 @@ use Rattle.life_core.specs.declared.program.Local.{Local}
 use Rattle.life_core.specs.declared.program.LocalKind.{LocalKind}
 use Rattle.life_core.specs.declared.program.LocalKind.TheVariants.{Object, Register, Range}
 use Rattle.life_core.specs.Operands.{Location}
-use Rattle.life_pset.specs.Elements.{local_place, local_locations, locations_from, locations_of, object_places, objects_from, places_in, places_from, inputs_of, input_places, step_elements, caused_at, caused_elements, elements_of}
+use Rattle.life_pset.specs.Elements.{local_place, local_locations, locations_from, locations_of, object_places, objects_from, places_in, places_from, inputs_of, input_places, caused_at, caused_elements, elements_of}
 use Rattle.life_pset.specs.Places.{member_place, owned_place}
 use Rattle.life_pset.specs.Shapes.{shape}
 use Rattle.life_pset.specs.Table.{IsOf, table_of}
@@ -31,11 +31,12 @@ use Rattle.life_pset.specs.declared.element.Fact.{Fact}
 use Rattle.life_pset.proofs.Numbering.{numbered_contains}
 use Rattle.life_pset.proofs.Numbers.{is_of_iff}
 use Rattle.life_contract.specs.Signatures.{Signature}
-use Rattle.life_rules.specs.Carrying.{fact_at, given_if, unless, drops, kills, killed_facts, makes, from_none, from_one, from_two}
+use Rattle.life_rules.specs.Carrying.{fact_at, given_if, unless, drops, kills, killed_facts, makes}
 use Rattle.life_rules.specs.Diagnosing.{uses, misused, misused_as}
 use Rattle.life_rules.specs.declared.diag.Diag.{Diag}
 use Rattle.life_rules.proofs.Giving.{none_in_empty, at_head, in_tail, cons_cases, flat_map_into}
 use Rattle.life_store.proofs.CellLemmas.{none_some, some_same}
+pub use Rattle.life_cover.specs.Kills.{Closed}
 use Rattle.life_sound.proofs.Located.{is_direct, shape_location, IsDirect}
 use Rattle.life_sound.proofs.Places.{same_location}
 
@@ -190,14 +191,6 @@ pub element_in : (types : Types) (f : Function) (x : Fact) → IsOf (table_of ty
 element_in types f x h = ((is_of_iff types f x).0 h).1
 
 -- ---- the facts of one point and the next
-
--- S' has what the instruction at this place gives from facts of S, as far as it is of the function
-pub record Closed (sigs : List Signature) (types : Types) (f : Function) (place : Place) (i : Step) (S S' : Fact → Type 0) : Type 0 where
-  pub of : (x : Fact) → S x → IsOf (table_of types f) x
-  pub causes : (e : Element) → Contains (step_elements f place i) e → Contains (caused_elements f) e
-  pub none : (x : Fact) → IsOf (table_of types f) x → Contains (from_none sigs types f place i) x → S' x
-  pub one : (a x : Fact) → S a → IsOf (table_of types f) x → Contains (from_one sigs types f place i a) x → S' x
-  pub two : (a b x : Fact) → S a → S b → IsOf (table_of types f) x → Contains (from_two sigs types f place i a b) x → S' x
 
 module _ (sigs : List Signature) (types : Types) (f : Function) (place : Place) (i : Step) (S S' : Fact → Type 0) (cl : Closed sigs types f place i S S') where
   pub kept : (a : Fact) → S a → drops types f place i a ≡ false → S' a
