@@ -1,6 +1,5 @@
 -- What is known of each part of a check by laws, so that the check needn't look for it.
 use Rattle.std.specs.Prelude.{◌≡◌, length, true}
-use Rattle.life_built.specs.Built.{is_built}
 use Rattle.life_keys.specs.NamedTokens.{are_named}
 use Rattle.life_tree.specs.Tree.{tokens_of}
 use Rattle.life_tree.specs.Views.{program_tree}
@@ -15,10 +14,10 @@ use Rattle.life_well_typed.specs.Results.{HasResults, HasTable}
 abbrev pub IsRead : Program → Type 0
 IsRead tree = are_named (length tree.names.items) (tokens_of (program_tree tree)) ≡ true
 
--- a typed program of such a tree: its names are in its table, and no two functions have one; as far as it is built it is well typed
+-- a typed program of such a tree: it is well typed, its names are in its table, and no two functions have one
 pub record IsTyped (p : ProgramForm) : Type 0 where
-  pub well_typed : is_built p ≡ true → IsWellTyped p
-  pub results : is_built p ≡ true → HasResults p
-  pub mains : is_built p ≡ true → HasIntMain p
-  pub table : is_built p ≡ true → HasTable p
+  pub well_typed : IsWellTyped p
+  pub results : HasResults p
+  pub mains : HasIntMain p
+  pub table : HasTable p
   pub names : HasNames p

@@ -13,10 +13,10 @@ check_typed-requires g c =
     let tree = c.args.tree in
     let typed = program_view c.in_ok-typed.typed in
     record {
-      well_typed = λ built. c.resolved_programs_are_well_typed.ensures.well_typed tree typed c.in_ok-typed.ensures;
-      results = λ built. c.resolved_programs_are_well_typed.ensures.results tree typed c.in_ok-typed.ensures;
-      mains = λ built. c.resolved_programs_are_well_typed.ensures.mains tree typed c.in_ok-typed.ensures;
-      table = λ built. c.resolved_programs_are_well_typed.ensures.table tree typed c.in_ok-typed.ensures;
+      well_typed = c.resolved_programs_are_well_typed.ensures.well_typed tree typed c.in_ok-typed.ensures;
+      results = c.resolved_programs_are_well_typed.ensures.results tree typed c.in_ok-typed.ensures;
+      mains = c.resolved_programs_are_well_typed.ensures.mains tree typed c.in_ok-typed.ensures;
+      table = c.resolved_programs_are_well_typed.ensures.table tree typed c.in_ok-typed.ensures;
       names = c.resolved_programs_have_names.ensures tree typed c.in_ok-typed.ensures c.requires;
     }
 

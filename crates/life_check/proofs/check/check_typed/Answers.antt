@@ -19,11 +19,11 @@ pub check_program-requires : goal.check_program-requires
 check_program-requires g c =
     let p = program_view c.args.typed in
     let built = sym c.is_built.ensures ∙ c.if-not-is_built.false in
-    let typed = c.requires.well_typed built in
-    let results = c.requires.results built in
+    let typed = c.requires.well_typed in
+    let results = c.requires.results in
     translated_proper p (program_of c.in_ok-program.program) c.in_ok-program.ensures.program.0 c.in_ok-program.ensures.program.1 c.in_ok-program.ensures.numbered
     (c.translations_have_short_places.ensures p typed results built)
-    (c.translations_are_proper.ensures p typed results (c.requires.table built) c.requires.names (c.requires.mains built) built)
+    (c.translations_are_proper.ensures p typed results c.requires.table c.requires.names c.requires.mains built)
 
 pub returns-clause-finds : goal.returns-clause-finds
 returns-clause-finds g c =
