@@ -100,7 +100,7 @@ module _ (types : Types) (f : Function) (rest : ℕ → ℕ) (S : Fact → Type 
         let seen = aims_seen types k.ordered k.once (type_at types f p) (type_of types f o) aims in
         let of = operand_of types k.ordered k.once 0 [] f k.shaped o (type_of types f o) refl (also_solid (ty_of types seen.target) (type_of types f o) seen.is) in
         λ id h. subst (λ (t : Option TyId). IsSeenAs types t id)
-            (of.is ∙ ap Some (sym (number_of_type types k.once seen.target of.number (type_of types f o) seen.is of.there)) ∙ sym seen.seen ∙ sym (seen_at types k.ordered k.once f k.shaped p (type_at types f p) refl (pointer_solid (type_at types f p) pointer))) h
+        (of.is ∙ ap Some (sym (number_of_type types k.once seen.target of.number (type_of types f o) seen.is of.there)) ∙ sym seen.seen ∙ sym (seen_at types k.ordered k.once f k.shaped p (type_at types f p) refl (pointer_solid (type_at types f p) pointer))) h
 
     pub place_kind : (s : Setting) → IsRight sigs types n f place (Aim (whole p) (named.Place o)) S S' → is_void (type_of types f o) ≡ false → aims_at types (type_at types f p) (type_of types f o) ≡ true
         → OnRight (does s types f (Aim (whole p) (named.Place o)) st) (FrameCovered types f S')

@@ -124,9 +124,9 @@ module _ (types : Types) (f : Function) (rest : ℕ → ℕ) (S : Fact → Type 
         let made : parts_at types r.region.ty ≡ p = parts_typed types k.ordered r.region.ty u there ∙ parts in
         let b = buffered p made has in
         let l = buffer_lives types k.ordered (hand_of rest st) st.world.content (store_of types f rest S st k) r.region.object r.index r.region.word r.region.ty r.holder r.there
-            (lies_true types k.ordered (hand_of rest st) st.world.content (store_of types f rest S st k) (path r.place) r.lies.start r.region ((rooted_of types f rest S st k).fits r.place.root r.lies.start r.lies.stands) r.lies.lies r.holder r.there) r.small p made b.0
-            (subst (λ m. owned_of p (spot_words st.world.content (record { object = r.region.object; index = r.index; word = r.region.word }) m) ≡ b.0 ∷ []) (sym one)
-            (owns b.0 (spot_words st.world.content (record { object = r.region.object; index = r.index; word = r.region.word }) 1) b.1)) in record {
+        (lies_true types k.ordered (hand_of rest st) st.world.content (store_of types f rest S st k) (path r.place) r.lies.start r.region ((rooted_of types f rest S st k).fits r.place.root r.lies.start r.lies.stands) r.lies.lies r.holder r.there) r.small p made b.0
+        (subst (λ m. owned_of p (spot_words st.world.content (record { object = r.region.object; index = r.index; word = r.region.word }) m) ≡ b.0 ∷ []) (sym one)
+        (owns b.0 (spot_words st.world.content (record { object = r.region.object; index = r.index; word = r.region.word }) 1) b.1)) in record {
           typed = of.is ∙ ap Some same;
           there = there;
           type = ap (owned_in_type types) there ∙ owned;

@@ -102,9 +102,11 @@ module _ (types : Types) where
   sized_but s ty w size c out h =
       got_then (birth s ty w size c) (λ f. Got (f.0, resized_at f.0 size 0 f.1)) (λ f. f ≡ (c.births, with_birth ty w size c)) (λ f. IsSized c ty w size f × AreBut types (λ k. out k ⊎ (k ≡ f.0)) f.1)
       (if_room (nat_lt s.given.cells (live_words_of c + (2 + w * size))) trap.Cells (c.births, with_birth ty w size c) (λ f. f ≡ (c.births, with_birth ty w size c)) refl)
-      (λ f is. subst (λ (g : ℕ × Content). IsSized c ty w size (g.0, resized_at g.0 size 0 g.1) × AreBut types (λ k. out k ⊎ (k ≡ g.0)) (resized_at g.0 size 0 g.1)) (sym is)
-      (sized_is c ty w size size, resized_but types (λ k. out k ⊎ (k ≡ c.births)) c.births size 0 (with_birth ty w size c) (inr refl)
-      (λ k i o t free there slot. birth_but types out ty w size c h k i o t (λ gone. free (inl gone)) there slot)))
+      (λ f is. subst (λ (g : ℕ × Content). IsSized c ty w size (g.0, resized_at g.0 size 0 g.1) × AreBut types (λ k. out k ⊎ (k ≡ g.0)) (resized_at g.0 size 0 g.1)) (sym is) (
+        sized_is c ty w size size,
+        resized_but types (λ k. out k ⊎ (k ≡ c.births)) c.births size 0 (with_birth ty w size c) (inr refl)
+            (λ k i o t free there slot. birth_but types out ty w size c h k i o t (λ gone. free (inl gone)) there slot),
+      ))
 
   -- an object of single values isn't left out
   pub single_in : (out : ℕ → Type 0) (n : ℕ) (c : Content) → ((o : Object) → at c.objects n ≡ Some o → parts_at types o.ty ≡ Single) → AreBut types (λ k. out k ⊎ (k ≡ n)) c → AreBut types out c
