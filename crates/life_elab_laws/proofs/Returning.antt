@@ -26,7 +26,7 @@ use Rattle.life_proper.specs.ReadyKnown.{are_ready, is_node_ready}
 use Rattle.life_proper.specs.ResultsKnown.{IsKnownReady}
 use Rattle.life_type_stmt.specs.Returns.{moves_out}
 use Rattle.life_type_stmt.specs.Simples.{named_in}
-use Rattle.life_well_typed.specs.Given.{is_given}
+use Rattle.life_well_typed.specs.Given.{is_given, is_number}
 use Rattle.life_well_typed.specs.Statements.{IsReturned, named_local}
 use Rattle.life_well_typed.specs.Visible.{Visible}
 use Rattle.life_writer.specs.Around.{Around, result_local}
@@ -128,11 +128,14 @@ module _ (a : Around) (types : Types) (texts : ℕ) (fs : List Function) (f : Fu
       worth : is_value t ≡ true
       worth = not_void t setting.result r.0
 
+      number : is_number e.ty ≡ true
+      number = given_number a.program.types t e worth (value_back t a.function.result (named_local a.function.locals (named_in e.form)) (is_given a.program.types t e) worth r.1)
+
       whole_is : IsWhole a v.visible types texts fs f setting (whole_form e)
       whole_is = whole_expression a v.visible types texts fs f setting (whole_form e) b_e r.2
 
       made : Makes types texts fs f (Some (result_local a)) s w (a_number types texts fs f t)
-      made = whole_is.valued (given_number a.program.types t e worth (value_back t a.function.result (named_local a.function.locals (named_in e.form)) (is_given a.program.types t e) worth r.1)) token t worth (Some (result_local a)) s (register worth) h.stands
+      made = whole_is.valued number token t worth (Some (result_local a)) s (register worth) h.stands
 
       later : Follows types f a v w.state
       later = follows_grown types f a v s w.state made.grown h
@@ -168,7 +171,7 @@ module _ (a : Around) (types : Types) (texts : ℕ) (fs : List Function) (f : Fu
             subst (λ (q : Flow). IsKnownReady (result_local a) (flow types f (trees d.code) q.next).next) (sym g.falls)
             (subst (λ (q : Flow). IsKnownReady (result_local a) q.next) (sym (d.falls g.after (end_ready f w.state.living 0 0 later.ascend g.after mid)))
             (blank_beside ending g.after (result_local a) not_ending
-            ∙ ap (known_at g.after) (sym (whole_is.lands (given_number a.program.types t e worth r.1) token t (result_local a) s))
+            ∙ ap (known_at g.after) (sym (whole_is.lands number token t (result_local a) s))
             ∙ g.gives.1))
 
         returned_from : Does types texts fs f a v in_loop s behind

@@ -41,7 +41,7 @@ all_or_none n m e = go (nat_eq (suc n) 0) refl e
 
 module _ (ms : List MemberType) (old new : Types) (ordered : IsOrdered old) (grows : Grows old new) where
   -- a member that may be listed is one in a table that has grown
-  still_listed : (id : TyId) → HasType old id → struct_fault (type_at old id) (holds_unique (tree_at old id)) ≡ None → can_be_listed new id ≡ true
+  pub still_listed : (id : TyId) → HasType old id → struct_fault (type_at old id) (holds_unique (tree_at old id)) ≡ None → can_be_listed new id ≡ true
   still_listed id there fine =
       ap (λ (t : Ty). is_none (struct_fault t (holds_unique (tree_at new id)))) (same_type_at old new id grows there)
       ∙ ap (λ (t : TypeTree). is_none (struct_fault (type_at old id) (holds_unique t))) (same_tree_at old new ordered grows id there)

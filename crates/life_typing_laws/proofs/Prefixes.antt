@@ -1,6 +1,6 @@
 -- Operators before an operand, and parentheses around one.
 use Rattle.std.proofs.Common.{◌≡◌, Bool, true, false, Option, None, Some, Result, Ok, Err, List, slice_get, refl, sym, ap, subst, ◌∙◌, if◌then◌else◌}
-use Rattle.life_types.specs.Trees.{is_plain, tree_at, tree_of, tree_within}
+use Rattle.life_types.specs.Trees.{TypeTree, is_plain, tree_at, tree_of, tree_within}
 use Rattle.life_types.specs.TypeTests.{is_raw}
 use Rattle.life_types.specs.Types.{Types, HasType}
 use Rattle.life_types.specs.declared.place.Place.{Place}
@@ -28,6 +28,7 @@ use Rattle.life_type_expr.specs.Operands.{address_to, dereferenced_to, literal_a
 use Rattle.life_well_typed.specs.Expressions.{IsAddress}
 use Rattle.life_well_typed.specs.Visible.{Visible}
 use Rattle.life_typing_laws.proofs.Combining.{negated_parts}
+use Rattle.life_typing_laws.proofs.Fitting.{same_tree_at}
 use Rattle.life_typing_laws.proofs.Growing.{parts_there, same_type_at}
 use Rattle.life_typing_laws.specs.Sound.{IsFinal, IsSound}
 use Rattle.life_typing_laws.proofs.Scopes.{sound_now}
@@ -96,9 +97,10 @@ module _ (p : ProgramForm) (locals : List TypedLocal) (v : Visible) (scope : Sco
           → ◌≡◌ {A = Found Typed} (if b then Ok (value place (ty.Raw id constant) (address_of (whole inner))) else not_found kinds.NotPlain place) (Ok e) → IsTyped p locals v types e
       plain id constant cat there true test h =
           let same : value place (ty.Raw id constant) (address_of (whole inner)) ≡ e = cc in
+          let still : is_plain (tree_at p.types id) ≡ true = subst (λ (t : TypeTree). is_plain t ≡ true) (sym (same_tree_at types p.types sound.ordered final.grown id there)) test in
           let no_pointer : is_raw (type_at p.types id) ≡ false = subst (λ (t : Ty). is_raw t ≡ false) (sym (same_type_at types p.types id final.grown there)) (plain_no_pointer types id test) in
           subst (IsTyped p locals v types) same (record {
-            is = (subst (λ (c : Category). IsAddress p.types c (value place (ty.Raw id constant) (address_of (whole inner)))) (sym cat) (no_pointer, refl), is.is);
+            is = (subst (λ (c : Category). IsAddress p.types c (value place (ty.Raw id constant) (address_of (whole inner)))) (sym cat) (no_pointer, refl, still), is.is);
             parts = there;
             place = tt;
           })

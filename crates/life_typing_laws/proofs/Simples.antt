@@ -1,7 +1,9 @@
 -- Assignments, steps and calls as statements.
-use Rattle.std.proofs.Common.{◌≡◌, Bool, true, false, ◌&&◌, not, Option, None, Some, List, Ok, Box, refl, sym, ap, subst, ◌∙◌}
+use Rattle.std.proofs.Common.{◌≡◌, Bool, true, false, ◌&&◌, not, Option, None, Some, List, [], Ok, Box, refl, sym, ap, subst, ◌∙◌}
 use Rattle.std.specs.declared.alloc.Global.{Global}
 use Rattle.std.proofs.lemmas.Bool.{and_from, and_parts}
+use Rattle.std.specs.Prelude.{is_none}
+use Rattle.life_types.specs.Trees.{IsOrdered}
 use Rattle.life_types.specs.Types.{Types, HasParts}
 use Rattle.life_types.specs.declared.ty.Ty.{Ty}
 use Rattle.life_types.specs.declared.place.Place.{Place}
@@ -19,6 +21,8 @@ use Rattle.life_typed.specs.Statements.{can_step, compounded}
 use Rattle.life_typed.specs.TypedForm.{Typed}
 use Rattle.life_typed.specs.TypedStatement as typed
 use Rattle.life_typed.specs.TypedStatement.{InitialForm, SimpleForm}
+use Rattle.life_typed.specs.declared.typed_expr.Category.{Category}
+use Rattle.life_typed.specs.declared.typed_expr.Category.TheVariants as category
 use Rattle.life_typed.specs.declared.typed_expr.ExprType.{ExprType}
 use Rattle.life_typed.specs.declared.typed_expr.ExprType.TheVariants as expr_type
 use Rattle.life_typed.specs.declared.typed_program.TypedLocal.{TypedLocal}
@@ -36,11 +40,12 @@ use Rattle.life_type_stmt.specs.Simples.{assignment, assignment_fault, compound,
 use Rattle.life_well_typed.specs.Statements.{IsGiven, IsSimple, IsSimpleIfAny}
 use Rattle.life_well_typed.specs.Visible.{Visible}
 use Rattle.life_typing_laws.proofs.Fitting.{fit_at_all, given_later, lower_none, misfit_none}
-use Rattle.life_typing_laws.specs.Sound.{IsFinal, IsSound}
+use Rattle.life_typing_laws.specs.Sound.{Grows, IsFinal, IsSound}
 use Rattle.life_typing_laws.proofs.Growing.{IsGrown, grown_not, grown_on, parts_stay}
+use Rattle.life_typing_laws.proofs.MembersListed.{still_listed}
 use Rattle.life_typing_laws.proofs.Scopes.{final_then, sound_now}
 use Rattle.life_typing_laws.proofs.Steps.{allowed_ok, bound, given_ok, same_value}
-use Rattle.life_typing_laws.proofs.Typed.{Good, PartsThere}
+use Rattle.life_typing_laws.proofs.Typed.{Good, PartsThere, PlaceThere, place_stays}
 use Rattle.life_typing_laws.proofs.Values.{One, Several, ValueRead, operand_reads, target_reads, unless_none, value_is}
 use Rattle.life_typing_laws.proofs.Targets.{target_good}
 use Rattle.life_typing_laws.proofs.Wholes.{expr_good, postfix_good}
@@ -59,6 +64,15 @@ done_as v scope types y x h done = subst (IsDone v scope types) (same_value y x 
 const_none : (constant : Bool) (other : Option IllKind) → const_or constant other ≡ None → not constant ≡ true
 const_none true other e = absurd (cc)
 const_none false other e = refl
+
+const_rest : (constant : Bool) (other : Option IllKind) → const_or constant other ≡ None → other ≡ None
+const_rest true other e = absurd (cc)
+const_rest false other e = e
+
+-- a struct that has a copy has one in a table that has grown
+whole_later : (old new : Types) (c : Category) → IsOrdered old → Grows old new → PlaceThere old c → whole_fault old c ≡ None → is_none (whole_fault new c) ≡ true
+whole_later old new category.Value ordered grows there fine = refl
+whole_later old new (category.Place id constant) ordered grows there fine = still_listed [] old new ordered grows id there fine
 
 -- a place that isn't const
 place_given : (t : Typed) (kind : IllKind) (other : Option IllKind) → unless (is_place t.ty t.category) kind ≡ None → const_or (is_constant t.category) other ≡ None
@@ -122,6 +136,9 @@ assignment_is t equals i v scope types x h sound =
           let assigned = goal.is p locals (final_then p locals scope first.value.1 second.value.1 value.grown final) in (
             (place_given first.value.0 kinds.NotAssignable (self_fault first.value.0.form second.value.0) no_place.0 no_initial.1, assigned.is),
             value.is p locals result final (type_parts first.value.1 first.value.0.ty assigned.parts),
+            and_from (is_none (whole_fault p.types first.value.0.category)) (is_none (self_fault first.value.0.form second.value.0))
+                (whole_later second.value.1 p.types first.value.0.category value.grown.ordered final.grown (place_stays first.value.1 second.value.1 value.grown.grows first.value.0.category assigned.place) no_whole.0)
+                (ap (λ (o : Option IllKind). is_none o) (const_rest (is_constant first.value.0.category) (self_fault first.value.0.form second.value.0) no_initial.1)),
           );
     })
 

@@ -54,10 +54,11 @@ IsMoved types x (Some l) e = moved types e.place (x, l) ≡ Ok e
 
 -- ---- addresses
 
--- the address of a place that is no pointer itself
+-- the address of a place that is plain, and so no pointer itself
 abbrev pub IsAddress : Types → Category → Typed → Type 0
 IsAddress types category.Value e = ⊥
-IsAddress types (category.Place id constant) e = (is_raw (type_at types id) ≡ false) × (e ≡ value e.place (ty.Raw id constant) e.form)
+IsAddress types (category.Place id constant) e =
+    (is_raw (type_at types id) ≡ false) × (e ≡ value e.place (ty.Raw id constant) e.form) × (is_plain (tree_at types id) ≡ true)
 
 -- ---- any expression
 

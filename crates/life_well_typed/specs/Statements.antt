@@ -1,5 +1,5 @@
 -- Statements that are well typed, in the order of their text.
-use Rattle.std.specs.Prelude.{◌≡◌, ℕ, Bool, true, false, ◌&&◌, ◌||◌, not, List, [], ◌∷◌, Option, None, Some, slice_get}
+use Rattle.std.specs.Prelude.{◌≡◌, ℕ, Bool, true, false, ◌&&◌, ◌||◌, not, List, [], ◌∷◌, Option, None, Some, is_none, slice_get}
 use Rattle.life_types.specs.TypeTests.{is_void}
 use Rattle.life_types.specs.declared.ty.Ty.{Ty}
 use Rattle.life_types.specs.declared.ty.TyId.{TyId}
@@ -16,7 +16,7 @@ use Rattle.life_type_expr.specs.Operands.{is_constant}
 use Rattle.life_type_stmt.specs.Declarations.{default_fault}
 use Rattle.life_type_stmt.specs.Ranges.{element_place, element_type}
 use Rattle.life_type_stmt.specs.Returns.{moves_out}
-use Rattle.life_type_stmt.specs.Simples.{is_place, named_in, type_of}
+use Rattle.life_type_stmt.specs.Simples.{is_place, named_in, self_fault, type_of, whole_fault}
 use Rattle.life_well_typed.specs.Apart.{is_apart}
 use Rattle.life_well_typed.specs.Expressions.{AreExpressions, IsExpression}
 use Rattle.life_well_typed.specs.Given.{is_given}
@@ -58,8 +58,13 @@ module _ (p : ProgramForm) (locals : List TypedLocal) (result : TyId) where
   abbrev pub IsTarget : List ℕ → Typed → Type 0
   IsTarget visible e = ((is_place e.ty e.category && not (is_constant e.category)) ≡ true) × IsWhole visible e
 
+  -- a struct that is assigned as a whole has a copy, and nothing is moved onto itself
+  abbrev pub is_assigned : Typed → InitialForm → Bool
+  is_assigned target value = is_none (whole_fault p.types target.category) && is_none (self_fault target.form value)
+
   abbrev pub IsSimple : List ℕ → SimpleForm → Type 0
-  IsSimple visible (assign target equals value) = IsTarget visible target × IsGiven visible (type_of target.ty) value
+  IsSimple visible (assign target equals value) =
+      IsTarget visible target × IsGiven visible (type_of target.ty) value × (is_assigned target value ≡ true)
   IsSimple visible (compound target o place e) =
       (fits_at_all (compounded o (type_of target.ty) e.ty) ≡ true) × IsTarget visible target × IsWhole visible e
   IsSimple visible (step target o place) = (can_step (type_of target.ty) ≡ true) × IsTarget visible target
