@@ -21,6 +21,7 @@ pub mod SingleSteps
 pub mod SoundCalls
 pub mod SoundEntry
 pub mod SoundFrames
+pub mod SoundPlaces
 pub mod SoundPrograms
 pub mod SoundSteps
 pub mod StepLemmas
