@@ -1,4 +1,5 @@
 pub mod Owning
 pub mod Renaming
+pub mod Rowing
 pub mod Sized
 pub mod Writing

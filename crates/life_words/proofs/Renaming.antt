@@ -7,7 +7,7 @@ use Rattle.life_store.specs.declared.object.ObjRef.{ObjRef}
 use Rattle.life_seen.specs.Housed.{Later}
 use Rattle.life_seen.proofs.Calls.{later_rename}
 
-none_is : IsSome (let x : Option Object = None in x) → ⊥
+pub none_is : IsSome (let x : Option Object = None in x) → ⊥
 none_is e = cc
 
 pub later_renamed : (c d : Content) (rows new : Rows) (r q : ObjRef) (x : Option Object) → IsSome x → IfSome x (λ o. d ≡ with_rename r.birth o c) → q.birth ≡ c.births → new ≡ set (unset rows r.birth) q.birth q.row → Later c d rows new

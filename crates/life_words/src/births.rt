@@ -61,6 +61,7 @@ pub fn born_sized<S: Store>(
     ensures shows { (kinds : Kinds) → IsHoused kinds (S.content store.old) (S.rows store.old)
         → OnOk result (Shows kinds (S.content store.new) (S.rows store.new)
         (resized_at (S.content store.old).births size 0 (with_birth ty width size (seen kinds (S.content store.old) (S.rows store.old))))) }
+    ensures rowed { (kinds : Kinds) → AreRowed kinds (S.content store.old) (S.rows store.old) → OnOk result (AreRowed kinds (S.content store.new) (S.rows store.new)) }
     ensures placed { IfOk result (λ r. at (S.rows store.new) r.birth ≡ Some r.row) }
     ensures later { OnOk result (Later (S.content store.old) (S.content store.new) (S.rows store.old) (S.rows store.new)) }
     ensures room { OnOk result (live_words_of (S.content store.old) + (2 + width * size) ≤ S.limit store.old) }
@@ -85,6 +86,7 @@ pub fn renumbered<S: Store>(store: &mut S, object: ObjRef) -> ObjRef
         → IsUnowned kinds object.birth (seen kinds (S.content store.old) (S.rows store.old))
         → Shows kinds (S.content store.new) (S.rows store.new)
         (with_rename object.birth (object_seen kinds (names_of (S.content store.old) (S.rows store.old)) o) (seen kinds (S.content store.old) (S.rows store.old))) }
+    ensures rowed { (kinds : Kinds) → AreRowed kinds (S.content store.old) (S.rows store.old) → AreRowed kinds (S.content store.new) (S.rows store.new) }
     ensures placed { at (S.rows store.new) result.birth ≡ Some result.row }
     ensures later { Later (S.content store.old) (S.content store.new) (S.rows store.old) (S.rows store.new) }
     ensures limit { S.limit store.new ≡ S.limit store.old }

@@ -3,8 +3,9 @@ ghost use Rattle.std.specs.Prelude.{◌≡◌, ◌<◌, ◌+◌, ◌^◌, length
 ghost use Rattle.life_store.specs.Content.{with_object, with_word, word_at, Object};
 ghost use Rattle.life_store.specs.References.{object_of, HasWord};
 ghost use Rattle.life_seen.specs.Housed.{Shows};
-ghost use Rattle.life_seen.specs.Kinds.{Kinds};
+ghost use Rattle.life_seen.specs.Kinds.{AreWhole, Kinds};
 ghost use Rattle.life_seen.specs.Named.{names_of};
+ghost use Rattle.life_seen.specs.Rowed.{AreRowed};
 ghost use Rattle.life_seen.specs.Seen.{object_seen, seen};
 ghost use Rattle.life_words.specs.Numbers.{HasWords, IsPlain, Wrote};
 
@@ -28,6 +29,8 @@ pub fn put_number<S: Store>(store: &mut S, object: ObjRef, slot: u32, word: u64,
     ensures shows { (kinds : Kinds) (o : Object) → IsPlain kinds (S.content store.old) (S.rows store.old) object word o
         → Shows kinds (S.content store.new) (S.rows store.new)
         (with_object object.birth (with_word slot word value (object_seen kinds (names_of (S.content store.old) (S.rows store.old)) o)) (seen kinds (S.content store.old) (S.rows store.old))) }
+    ensures rowed { (kinds : Kinds) (o : Object) → IsPlain kinds (S.content store.old) (S.rows store.old) object word o → AreWhole (kinds o.ty)
+        → AreRowed kinds (S.content store.old) (S.rows store.old) → AreRowed kinds (S.content store.new) (S.rows store.new) }
     ensures rows { S.rows store.new ≡ S.rows store.old }
     ensures limit { S.limit store.new ≡ S.limit store.old }
 {

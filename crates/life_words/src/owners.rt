@@ -3,7 +3,8 @@ ghost use Rattle.std.specs.Prelude.{◌≡◌, option_map, IfSome, None};
 ghost use Rattle.life_store.specs.Content.{Object};
 ghost use Rattle.life_store.specs.References.{object_of, HasWord};
 ghost use Rattle.life_seen.specs.Housed.{Shows};
-ghost use Rattle.life_seen.specs.Kinds.{Kinds};
+ghost use Rattle.life_seen.specs.Kinds.{AreWhole, Kinds};
+ghost use Rattle.life_seen.specs.Rowed.{AreRowed};
 ghost use Rattle.life_words.specs.Owning.{number_of, with_owner, CanOwn, Holds, IsNamedBy, IsOwner, IsWordOf};
 
 use life_store::{ObjRef, Store};
@@ -27,6 +28,8 @@ pub fn take_owned<S: Store>(store: &mut S, object: ObjRef, slot: u32, word: u64)
         → Holds kinds (S.content store.old) (S.rows store.old) slot word o result }
     ensures shows { (kinds : Kinds) (o : Object) → IsOwner kinds (S.content store.old) (S.rows store.old) object word o
         → Shows kinds (S.content store.new) (S.rows store.new) (with_owner kinds (S.content store.old) (S.rows store.old) object slot word o None) }
+    ensures rowed { (kinds : Kinds) (o : Object) → IsOwner kinds (S.content store.old) (S.rows store.old) object word o → AreWhole (kinds o.ty)
+        → AreRowed kinds (S.content store.old) (S.rows store.old) → AreRowed kinds (S.content store.new) (S.rows store.new) }
     ensures rows { S.rows store.new ≡ S.rows store.old }
     ensures limit { S.limit store.new ≡ S.limit store.old }
 {
@@ -45,6 +48,8 @@ pub fn own<S: Store>(store: &mut S, object: ObjRef, slot: u32, word: u64, owned:
     ensures shows { (kinds : Kinds) (o : Object) → IsOwner kinds (S.content store.old) (S.rows store.old) object word o
         → Shows kinds (S.content store.new) (S.rows store.new)
         (with_owner kinds (S.content store.old) (S.rows store.old) object slot word o (option_map number_of owned)) }
+    ensures rowed { (kinds : Kinds) (o : Object) → IsOwner kinds (S.content store.old) (S.rows store.old) object word o → AreWhole (kinds o.ty)
+        → AreRowed kinds (S.content store.old) (S.rows store.old) → AreRowed kinds (S.content store.new) (S.rows store.new) }
     ensures rows { S.rows store.new ≡ S.rows store.old }
     ensures limit { S.limit store.new ≡ S.limit store.old }
 {
