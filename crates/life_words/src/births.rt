@@ -68,7 +68,33 @@ pub fn born_sized<S: Store>(
     ensures cells { IfErr result (λ fault. fault ≡ birth_fault.Cells → S.limit store.old < live_words_of (S.content store.old) + (2 + width * size)) }
     ensures limit { S.limit store.new ≡ S.limit store.old }
 {
-    match born(store, ty, width, size) {
+    born_roomy(store, ty, width, size, size)
+}
+
+/// A new object with so many slots, whose words are 0, and room for more.
+pub fn born_roomy<S: Store>(
+    store: &mut S,
+    ty: TyId,
+    width: u64,
+    capacity: u32,
+    size: u32,
+) -> Result<ObjRef, BirthFault>
+    requires wide { 1 ≤ width }
+    requires fits { size ≤ capacity }
+    requires births { (S.content store.old).births + 1 < 2 ^ 63 }
+    requires clock { (S.content store.old).clock < 2 ^ 63 }
+    ensures number { IfOk result (λ r. r.birth ≡ (S.content store.old).births) }
+    ensures shows { (kinds : Kinds) → IsHoused kinds (S.content store.old) (S.rows store.old)
+        → OnOk result (Shows kinds (S.content store.new) (S.rows store.new)
+        (resized_at (S.content store.old).births size 0 (with_birth ty width capacity (seen kinds (S.content store.old) (S.rows store.old))))) }
+    ensures rowed { (kinds : Kinds) → AreRowed kinds (S.content store.old) (S.rows store.old) → OnOk result (AreRowed kinds (S.content store.new) (S.rows store.new)) }
+    ensures placed { IfOk result (λ r. at (S.rows store.new) r.birth ≡ Some r.row) }
+    ensures later { OnOk result (Later (S.content store.old) (S.content store.new) (S.rows store.old) (S.rows store.new)) }
+    ensures room { OnOk result (live_words_of (S.content store.old) + (2 + width * capacity) ≤ S.limit store.old) }
+    ensures cells { IfErr result (λ fault. fault ≡ birth_fault.Cells → S.limit store.old < live_words_of (S.content store.old) + (2 + width * capacity)) }
+    ensures limit { S.limit store.new ≡ S.limit store.old }
+{
+    match born(store, ty, width, capacity) {
         Err(fault) => Err(fault),
         Ok(object) => match store.resize(object, size, 0) {
             Err(_) => unreachable!(),

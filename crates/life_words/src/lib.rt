@@ -5,6 +5,6 @@ mod births;
 mod numbers;
 mod owners;
 
-pub use births::{born, born_sized, renumbered};
+pub use births::{born, born_roomy, born_sized, renumbered};
 pub use numbers::{number, put_number, put_words};
 pub use owners::{own, owned, take_owned};
