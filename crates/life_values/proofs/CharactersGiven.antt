@@ -20,19 +20,19 @@ use Rattle.life_values.specs.Ending.{AreSized}
 use Rattle.life_values.specs.Fresh.{Comes}
 use Rattle.life_values.specs.Replaced.{replaced_by, CanReplace}
 use Rattle.life_values.specs.Rewritten.{given_characters, CanRewrite}
-use Rattle.life_values.specs.Texts.{text_born, IsText}
+use Rattle.life_values.specs.Texts.{text_born, IsBuffer}
 use Rattle.life_values.specs.declared.spot.Spot.{Spot}
 use Rattle.life_values.proofs.Filling.{some_setting, still_placed}
 use Rattle.life_values.proofs.TextForest.{text_forest, text_is, text_sized, text_there, IsBorn}
 
 -- there was no room for them
 pub no_room : (kinds : Seen) (s : Setting) (end : ℕ → Content → Content) (ty : TyId) (n i w : ℕ) (us ws : List ℕ) (m : Content) (fault : BirthFault) (d : Content) (new : Rows)
-    → IsText kinds (text_born s ty ws m) (Err fault) d new → Comes {A = Unit {0}} kinds (given_characters s end ty n i w us ws m) (Err fault) d new
+    → IsBuffer kinds (text_born s ty ws m) (Err fault) d new → Comes {A = Unit {0}} kinds (given_characters s end ty n i w us ws m) (Err fault) d new
 no_room kinds s end ty n i w us ws m birth_fault.Cells d new told = ap (λ x. then_get x (λ f. Got (replaced_by end n i w us f.0 f.1))) told
 no_room kinds s end ty n i w us ws m birth_fault.NoMemory d new told = tt
 
 module _ (kinds : Seen) (kind : Kinds) (alike : AreAlike kinds kind) (depth : ℕ) (spot : Spot) (owners : List ℕ) (ty : TyId) (ws : List ℕ) (limit : ℕ) (c : Content) (rows : Rows) (can : CanRewrite kinds kind depth spot owners ty c rows)
-    (q : ObjRef) (d : Content) (new : Rows) (told : (s : Setting) → s.given.cells ≡ limit → IsText kinds (text_born s ty ws (seen kinds c rows)) (Ok q) d new) (later : Later c d rows new) where
+    (q : ObjRef) (d : Content) (new : Rows) (told : (s : Setting) → s.given.cells ≡ limit → IsBuffer kinds (text_born s ty ws (seen kinds c rows)) (Ok q) d new) (later : Later c d rows new) where
   born : IsBorn q.birth ty ws (seen kinds c rows) (seen kinds d new)
   born =
       let x = told (some_setting limit) refl in

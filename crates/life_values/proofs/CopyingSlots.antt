@@ -1,5 +1,5 @@
 -- A store goes the way of the meaning where the slots of an object are copied, one after the other.
-use Rattle.std.proofs.Common.{◌≡◌, ℕ, suc, ◌+◌, ◌-◌, ◌<◌, ◌≤◌, List, Some, Ok, Err, refl, sym, ap, subst, ◌∙◌, arith}
+use Rattle.std.proofs.Common.{◌≡◌, ℕ, suc, ◌+◌, ◌-◌, ◌<◌, ◌≤◌, ◌^◌, List, Some, Ok, Err, refl, sym, ap, subst, ◌∙◌, arith}
 use Rattle.life_types.specs.Trees.{IsOrdered}
 use Rattle.life_types.specs.Types.{Types}
 use Rattle.life_store.specs.Cells.{at}
@@ -13,8 +13,9 @@ use Rattle.life_seen.specs.Housed.{Shows, Later}
 use Rattle.life_seen.specs.Kinds.{kinds_of}
 use Rattle.life_seen.specs.Seen.{seen}
 use Rattle.life_seen.proofs.References.{later_same, later_then}
-use Rattle.life_values.specs.Copied.{copied_number, recopied_each, slots_copied, CanCopySlots, CanCopyWords, CanRecopy, ComesCopied}
+use Rattle.life_values.specs.Copied.{copied_number, recopied_each, slots_copied, CanCopySlots, CanRecopy, ComesCopied}
 use Rattle.life_values.specs.Layouts.{owners_at, AreLaid}
+use Rattle.life_values.specs.Moved.{CanCopyWords}
 use Rattle.life_values.specs.declared.copying.CopyFault.{CopyFault}
 use Rattle.life_values.specs.declared.copying.CopyFault.TheVariants as copy_fault
 use Rattle.life_values.specs.declared.layout.Layout.{Layout}
@@ -50,22 +51,24 @@ module _ (types : Types) (layouts : List Layout) (laid : AreLaid types layouts) 
       )
 
   module _ (c : Content) (rows : Rows) (d : Content) (new : Rows) (i : ℕ) (p : Progress c rows d new i) (lt : i < size) where
-    pub words_can : CanCopyWords (kinds_of types) from to i w d new
-    words_can = record {
+    pub words_can : w < 2 ^ 64 → CanCopyWords (kinds_of types) (record { object = from; slot = i; word = 0 }) (record { object = to; slot = i; word = 0 }) w d new
+    words_can small = record {
       housed = p.can.housed;
       from_placed = p.can.from_placed;
       to_placed = p.can.to_placed;
-      apart = p.can.apart;
+      apart = λ one slot. absurd (p.can.apart one);
       source = p.can.source;
       source_there = p.can.source_there;
       target = p.can.target;
       target_there = p.can.target_there;
-      alike = p.can.alike;
-      source_width = p.can.source_width;
-      target_width = p.can.target_width;
+      alike = λ u lt. ap (λ ty. kinds_of types ty (0 + u)) p.can.alike;
+      source_width = let e = p.can.source_width in omega (arith, e);
+      target_width = let e = p.can.target_width in omega (arith, e);
       source_long = (p.can.good.good from.birth p.can.source p.can.source_there).long;
       source_slot = let s = p.can.source_size in omega (arith, s, lt);
       target_slot = let s = p.can.target_size in omega (arith, s, lt);
+      from_small = omega (arith, small);
+      to_small = omega (arith, small);
     }
 
     module _ (e : Content) (after : Rows) (shows : Shows (kinds_of types) e after (wrote to.birth i 0 (words_at (seen (kinds_of types) d new) from.birth i 0 w) (seen (kinds_of types) d new))) (later : Later d e new after) where

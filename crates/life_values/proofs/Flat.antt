@@ -20,7 +20,7 @@ drop_here [] i x e = absurd (none-some x e)
 drop_here (y ∷ ys) zero x e = ap (λ z. z ∷ ys) (same_Some y x e)
 drop_here (y ∷ ys) (suc i) x e = let s : suc i + 1 ≡ suc (i + 1) = omega arith in drop_here ys i x e ∙ ap (λ n. x ∷ drop n (y ∷ ys)) (sym s)
 
-in_either : {X C : Type 0} (xs ys : List X) (j : ℕ) (x : X) → slice_get (xs ++ ys) j ≡ Some x → (slice_get xs j ≡ Some x → C) → ((k : ℕ) → slice_get ys k ≡ Some x → C) → C
+pub in_either : {X C : Type 0} (xs ys : List X) (j : ℕ) (x : X) → slice_get (xs ++ ys) j ≡ Some x → (slice_get xs j ≡ Some x → C) → ((k : ℕ) → slice_get ys k ≡ Some x → C) → C
 in_either [] ys j x e front back = back j e
 in_either (y ∷ xs) ys zero x e front back = front e
 in_either (y ∷ xs) ys (suc j) x e front back = in_either xs ys j x e front back
@@ -30,7 +30,7 @@ in_front [] ys j x e = absurd (none-some x e)
 in_front (y ∷ xs) ys zero x e = e
 in_front (y ∷ xs) ys (suc j) x e = in_front xs ys j x e
 
-in_back : {X : Type 0} (xs ys : List X) (j : ℕ) (x : X) → slice_get ys j ≡ Some x → slice_get (xs ++ ys) (length xs + j) ≡ Some x
+pub in_back : {X : Type 0} (xs ys : List X) (j : ℕ) (x : X) → slice_get ys j ≡ Some x → slice_get (xs ++ ys) (length xs + j) ≡ Some x
 in_back [] ys j x e = let z : 0 + j ≡ j = omega arith in ap (slice_get ys) z ∙ e
 in_back (y ∷ xs) ys j x e = let z : suc (length xs) + j ≡ suc (length xs + j) = omega arith in ap (slice_get (y ∷ (xs ++ ys))) z ∙ in_back xs ys j x e
 

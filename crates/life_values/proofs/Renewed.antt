@@ -110,7 +110,7 @@ module _ (kind : Kinds) (n i u : ℕ) (hand : ℕ → ℕ) (m : Content) (o : Ob
 
     -- ---- the forest stays
 
-    rank_less : kind.rank owned_there.0.ty < kind.rank o.ty
+    pub rank_less : kind.rank owned_there.0.ty < kind.rank o.ty
     rank_less =
         let s = one_same q q refl in
         low_out kind 0 n i hand m o u here has owner q owned_there.0 (subst (λ (x : Option ℕ). 0 < times (listed x) q) (sym some) (omega (arith, s))) owned_there.1

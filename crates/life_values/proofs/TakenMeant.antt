@@ -22,7 +22,7 @@ renamed_wide : (x : Option Object) (q : ℕ) (d : Content) → length (renamed_i
 renamed_wide None q d = refl
 renamed_wide (Some o) q d = refl
 
-taken_wide : (p : Parts) (ws : List ℕ) (d : Content) → length ws ≡ width p → length (taken p ws d).0 ≡ width p
+pub taken_wide : (p : Parts) (ws : List ℕ) (d : Content) → length ws ≡ width p → length (taken p ws d).0 ≡ width p
 taken_wide Single ws d e = e
 taken_wide Raw ws d e = e
 taken_wide Iterates ws d e = e

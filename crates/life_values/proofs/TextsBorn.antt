@@ -19,7 +19,7 @@ use Rattle.life_seen.specs.Housed.{Later, Shows}
 use Rattle.life_seen.specs.Kinds.{Kinds}
 use Rattle.life_seen.specs.Seen.{seen}
 use Rattle.life_seen.proofs.References.{later_then}
-use Rattle.life_values.specs.Texts.{text_born, with_characters, CanWrite, IsText}
+use Rattle.life_values.specs.Texts.{text_born, with_characters, CanWrite, IsBuffer}
 use Rattle.life_values.proofs.Beginning.{birth_full, birth_room}
 
 abbrev pub characters_in : List ℕ → ℕ × Content → Attempt (ℕ × Content)
@@ -31,7 +31,7 @@ all_slots size b = Got (b.0, resized_at b.0 size 0 b.1)
 module _ (kinds : Kinds) (ty : TyId) (ws : List ℕ) (limit : ℕ) (c : Content) (rows : Rows) where
   -- there was no room
   pub text_fails : (fault : BirthFault) → (fault ≡ birth_fault.Cells → limit < live_words_of c + (2 + 1 * length ws)) → (d : Content) (new : Rows) (s : Setting) → s.given.cells ≡ limit
-      → IsText kinds (text_born s ty ws (seen kinds c rows)) (Err fault) d new
+      → IsBuffer kinds (text_born s ty ws (seen kinds c rows)) (Err fault) d new
   text_fails birth_fault.Cells full d new s cells =
       ap (λ x. then_get (then_get x (all_slots (length ws))) (characters_in ws)) (birth_full kinds s c rows ty 1 (length ws) limit cells (full refl))
   text_fails birth_fault.NoMemory full d new s cells = tt
@@ -61,7 +61,7 @@ module _ (kinds : Kinds) (ty : TyId) (ws : List ℕ) (limit : ℕ) (c : Content)
     }
 
     pub text_comes : (e : Content) (after : Rows) → Shows kinds e after (with_characters q.birth ws (seen kinds d new)) → after ≡ new → (s : Setting) → s.given.cells ≡ limit
-        → IsText kinds (text_born s ty ws (seen kinds c rows)) (Ok q) e after
+        → IsBuffer kinds (text_born s ty ws (seen kinds c rows)) (Ok q) e after
     text_comes e after written same s cells = (
       with_characters q.birth ws (seen kinds d new),
       ap (λ x. then_get (then_get x (all_slots (length ws))) (characters_in ws)) (birth_room kinds s c rows ty 1 (length ws) limit cells (λ full. absurd (omega (arith, full, room))))

@@ -14,7 +14,6 @@ use Rattle.life_store.specs.declared.object.ObjRef.{ObjRef}
 use Rattle.life_store.specs.declared.run.FaultKind.TheVariants as fault
 use Rattle.life_store.specs.declared.run.TrapKind.TheVariants as trap
 use Rattle.life_forest.specs.Kinds.{Kinds}
-use Rattle.life_forest.specs.Values.{AllWide}
 use Rattle.life_seen.specs.Housed.{IsHoused, Shows}
 use Rattle.life_seen.specs.Kinds.{Kinds as Seen}
 use Rattle.life_seen.specs.Seen.{seen}
@@ -71,24 +70,7 @@ pub record CanRecopy (kinds : Seen) (kind : Kinds) (limit depth : ℕ) (r : ObjR
   pub own : (j u : ℕ) → slice_get owners j ≡ Some u → (kinds object.ty u ≡ Owner) × (u < object.width)
   pub deep : kind.rank object.ty ≤ depth
 
--- two objects of one type have the slot, of which so many words go from one to the other
-pub record CanCopyWords (kinds : Seen) (from to : ObjRef) (i w : ℕ) (c : Content) (rows : Rows) : Type 0 where
-  pub housed : IsHoused kinds c rows
-  pub from_placed : at rows from.birth ≡ Some from.row
-  pub to_placed : at rows to.birth ≡ Some to.row
-  pub apart : from.birth ≡ to.birth → ⊥
-  pub source : Object
-  pub source_there : at (seen kinds c rows).objects from.birth ≡ Some source
-  pub target : Object
-  pub target_there : at (seen kinds c rows).objects to.birth ≡ Some target
-  pub alike : source.ty ≡ target.ty
-  pub source_width : source.width ≡ w
-  pub target_width : target.width ≡ w
-  pub source_long : AllWide source.width source.slots
-  pub source_slot : i < length source.slots
-  pub target_slot : i < length target.slots
-
--- .. and all of it goes, with copies of what these words own
+-- all slots of an object go into those of another of its type, with copies of what these words own
 pub record CanCopySlots (kinds : Seen) (kind : Kinds) (limit depth : ℕ) (from to : ObjRef) (size w : ℕ) (owners : List ℕ) (c : Content) (rows : Rows) : Type 0 where
   pub housed : IsHoused kinds c rows
   pub from_placed : at rows from.birth ≡ Some from.row

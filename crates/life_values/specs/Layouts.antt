@@ -84,6 +84,13 @@ owners_in (Some l) = l.owners.items
 abbrev pub owners_at : List Layout → TyId → List ℕ
 owners_at layouts ty = owners_in (slice_get layouts ty.0)
 
+abbrev pub leaves_in : Option Layout → List Leaf
+leaves_in None = []
+leaves_in (Some l) = l.leaves.items
+
+abbrev pub leaves_at : List Layout → TyId → List Leaf
+leaves_at layouts ty = leaves_in (slice_get layouts ty.0)
+
 abbrev pub width_in : Option Layout → ℕ
 width_in None = 1
 width_in (Some l) = l.width

@@ -6,7 +6,9 @@ pub mod Ending
 pub mod Fresh
 pub mod Good
 pub mod Layouts
+pub mod Moved
 pub mod Popped
+pub mod Regrown
 pub mod Replaced
 pub mod Rewritten
 pub mod Taken

@@ -38,7 +38,7 @@ pub record CanWrite (kinds : Kinds) (r : ObjRef) (size : ℕ) (c : Content) (row
   pub plain : kinds object.ty 0 ≡ Plain
 
 -- the buffer has the number that the meaning got, or the live words passed their limit there, too
-abbrev pub IsText : Kinds → Attempt (ℕ × Content) → Result ObjRef BirthFault → Content → Rows → Type 0
-IsText kinds meant (Ok r) c rows = (m : Content) × (meant ≡ Got (r.birth, m)) × Shows kinds c rows m × (at rows r.birth ≡ Some r.row)
-IsText kinds meant (Err birth_fault.Cells) c rows = meant ≡ GotTrap trap.Cells
-IsText kinds meant (Err birth_fault.NoMemory) c rows = Unit {0}
+abbrev pub IsBuffer : Kinds → Attempt (ℕ × Content) → Result ObjRef BirthFault → Content → Rows → Type 0
+IsBuffer kinds meant (Ok r) c rows = (m : Content) × (meant ≡ Got (r.birth, m)) × Shows kinds c rows m × (at rows r.birth ≡ Some r.row)
+IsBuffer kinds meant (Err birth_fault.Cells) c rows = meant ≡ GotTrap trap.Cells
+IsBuffer kinds meant (Err birth_fault.NoMemory) c rows = Unit {0}

@@ -2,15 +2,16 @@
 ghost use Rattle.std.specs.Prelude.{◌≡◌, OnOk};
 ghost use Rattle.life_types.specs.Trees.{IsOrdered};
 ghost use Rattle.life_store.specs.Effects.{Setting};
-ghost use Rattle.life_store.specs.Held.{words_at, wrote};
 ghost use Rattle.life_forest.specs.Kinds.{kinds_of as forest_kinds};
-ghost use Rattle.life_seen.specs.Housed.{Later, Shows};
+ghost use Rattle.life_seen.specs.Housed.{Later};
 ghost use Rattle.life_seen.specs.Kinds.{kinds_of};
 ghost use Rattle.life_seen.specs.Seen.{seen};
-ghost use Rattle.life_values.specs.Copied.{copied_number, copy_fault_of, recopied_each, slots_copied, CanCopy, CanCopySlots, CanCopyWords, CanRecopy, ComesCopied, Copies};
+ghost use Rattle.life_values.specs.Copied.{copied_number, copy_fault_of, recopied_each, slots_copied, CanCopy, CanCopySlots, CanRecopy, ComesCopied, Copies};
 ghost use Rattle.life_values.specs.Layouts.{owners_at, AreLaid};
 
 use crate::layout::{Layout, owners_of, width_of};
+use crate::moving::copy_words;
+use crate::spot::Spot;
 use life_store::{BirthFault, ObjRef, Store};
 use life_types::TypeTable;
 use life_words::{born_sized, own, owned};
@@ -97,7 +98,17 @@ fn copy_slots<S: Store>(
     ensures limit { S.limit store.new ≡ S.limit store.old }
 {
     for slot in 0..length {
-        copy_words(types, store, from, to, slot, width);
+        let source = Spot {
+            object: from,
+            slot,
+            word: 0,
+        };
+        let target = Spot {
+            object: to,
+            slot,
+            word: 0,
+        };
+        copy_words(types, store, source, target, width);
         match recopy(types, layouts, store, to, slot, owners, depth) {
             Err(fault) => return Err(fault),
             Ok(()) => {}
@@ -135,33 +146,6 @@ fn recopy<S: Store>(
         }
     }
     Ok(())
-}
-
-// Writes the words of a slot into the same slot of another object of the type.
-fn copy_words<S: Store>(
-    types: &TypeTable,
-    store: &mut S,
-    from: ObjRef,
-    to: ObjRef,
-    slot: u32,
-    width: u64,
-)
-    requires can { CanCopyWords (kinds_of types.now) from to slot width (S.content store.old) (S.rows store.old) }
-    ensures shows { Shows (kinds_of types.now) (S.content store.new) (S.rows store.new)
-        (wrote to.birth slot 0 (words_at (seen (kinds_of types.now) (S.content store.old) (S.rows store.old)) from.birth slot 0 width) (seen (kinds_of types.now) (S.content store.old) (S.rows store.old))) }
-    ensures later { Later (S.content store.old) (S.content store.new) (S.rows store.old) (S.rows store.new) }
-    ensures limit { S.limit store.new ≡ S.limit store.old }
-{
-    for word in 0..width {
-        let value = match store.get(from, slot, word) {
-            Ok(value) => value,
-            Err(_) => unreachable!(),
-        };
-        match store.put(to, slot, word, value) {
-            Ok(()) => {}
-            Err(_) => unreachable!(),
-        }
-    }
 }
 
 fn copy_fault(fault: BirthFault) -> CopyFault

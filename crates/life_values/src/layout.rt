@@ -1,6 +1,6 @@
 // Where what owns and what points lies in the values of each type.
 ghost use Rattle.std.specs.Prelude.{◌≡◌, ◌+◌, ◌++◌, ◌∷◌, [], map, OnOk};
-ghost use Rattle.life_values.specs.Layouts.{moved, owned_word, owner_words, owners_at, width_at};
+ghost use Rattle.life_values.specs.Layouts.{leaves_at, moved, owned_word, owner_words, owners_at, width_at};
 
 use life_types::{NoMemory, TyId};
 use std::alloc::Global;
@@ -93,6 +93,16 @@ pub(crate) fn owners_of(layouts: &[Layout], ty: TyId) -> &[u64]
     match layouts.get(ty.0 as usize) {
         None => &[],
         Some(layout) => &layout.owners,
+    }
+}
+
+/// The parts of a type that aren't numbers. Of one that the table doesn't have there are none.
+pub(crate) fn leaves_of(layouts: &[Layout], ty: TyId) -> &[Leaf]
+    ensures { result.now ≡ leaves_at layouts.now ty }
+{
+    match layouts.get(ty.0 as usize) {
+        None => &[],
+        Some(layout) => &layout.leaves,
     }
 }
 

@@ -1,10 +1,11 @@
 // How a value is taken from its place.
-ghost use Rattle.std.specs.Prelude.{◌≡◌, ◌<◌, ◌+◌, ◌^◌, length};
+ghost use Rattle.std.specs.Prelude.{◌≡◌, ◌≤◌, ◌<◌, ◌+◌, ◌*◌, ◌^◌, length};
 ghost use Rattle.life_store.specs.Content.{CanCount};
 ghost use Rattle.life_forest.specs.Kinds.{kinds_of as forest_kinds};
 ghost use Rattle.life_seen.specs.Housed.{IsHoused, Later, Shows};
 ghost use Rattle.life_seen.specs.Kinds.{kinds_of};
 ghost use Rattle.life_seen.specs.Seen.{seen};
+ghost use Rattle.life_values.specs.Regrown.{slots_taken, CanTakeSlots};
 ghost use Rattle.life_values.specs.Taken.{leaf_taken, leaves_taken, renewed, CanRenew, CanRenewIf, CanTake};
 
 use crate::layout::{Holds, Leaf};
@@ -57,5 +58,33 @@ fn renew<S: Store>(types: &TypeTable, store: &mut S, object: ObjRef, slot: u32, 
     if let Some(owned) = take_owned(store, object, slot, word) {
         let renamed = renumbered(store, owned);
         own(store, object, slot, word, Some(renamed));
+    }
+}
+
+/// The elements of an object are taken where they are: so many, from one on.
+pub(crate) fn take_slots<S: Store>(
+    types: &TypeTable,
+    store: &mut S,
+    object: ObjRef,
+    first: u32,
+    count: u32,
+    leaves: &[Leaf],
+)
+    requires can { CanTakeSlots (kinds_of types.now) (forest_kinds types.now) object leaves.now first count (S.content store.old) (S.rows store.old) }
+    requires small { first + count ≤ 2 ^ 32 }
+    requires births { (S.content store.old).births + count * length leaves.now < 2 ^ 63 }
+    requires clock { (S.content store.old).clock < 2 ^ 63 }
+    ensures taken { Shows (kinds_of types.now) (S.content store.new) (S.rows store.new)
+        (slots_taken leaves.now object.birth first count (seen (kinds_of types.now) (S.content store.old) (S.rows store.old))) }
+    ensures later { Later (S.content store.old) (S.content store.new) (S.rows store.old) (S.rows store.new) }
+    ensures limit { S.limit store.new ≡ S.limit store.old }
+{
+    for slot in 0..count {
+        let spot = Spot {
+            object,
+            slot: first + slot,
+            word: 0,
+        };
+        take_value(types, store, spot, leaves);
     }
 }

@@ -5,7 +5,7 @@ ghost use Rattle.life_store.specs.Kinds.{Plain};
 ghost use Rattle.life_seen.specs.Housed.{IsHoused, Later, Shows};
 ghost use Rattle.life_seen.specs.Kinds.{kinds_of};
 ghost use Rattle.life_seen.specs.Seen.{seen};
-ghost use Rattle.life_values.specs.Texts.{text_born, with_characters, CanWrite, IsText};
+ghost use Rattle.life_values.specs.Texts.{text_born, with_characters, CanWrite, IsBuffer};
 
 use life_store::{BirthFault, ObjRef, Store};
 use life_types::{TyId, TypeTable};
@@ -24,7 +24,7 @@ pub fn text<S: Store>(
     requires births { (S.content store.old).births + 1 < 2 ^ 63 }
     requires clock { (S.content store.old).clock < 2 ^ 63 }
     ensures text { (s : Setting) → s.given.cells ≡ S.limit store.old
-        → IsText (kinds_of types.now) (text_born s ty characters.now (seen (kinds_of types.now) (S.content store.old) (S.rows store.old))) result (S.content store.new) (S.rows store.new) }
+        → IsBuffer (kinds_of types.now) (text_born s ty characters.now (seen (kinds_of types.now) (S.content store.old) (S.rows store.old))) result (S.content store.new) (S.rows store.new) }
     ensures later { OnOk result (Later (S.content store.old) (S.content store.new) (S.rows store.old) (S.rows store.new)) }
     ensures limit { S.limit store.new ≡ S.limit store.old }
 {

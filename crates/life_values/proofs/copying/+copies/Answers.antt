@@ -75,7 +75,7 @@ pub copy_slots-copy_words-requires : goal.copy_slots-copy_words-requires
 copy_slots-copy_words-requires g t c = record {
   can =
       words_can c.args.types.now c.args.layouts.now c.requires.layouts c.requires.ordered (g.S.Store.limit c.args.store.now) c.args.depth c.args.from c.args.to c.args.length c.args.width c.args.owners.now (g.S.Store.content c.args.store.now) (g.S.Store.rows c.args.store.now) (g.S.Store.content c.loop-slot.store) (g.S.Store.rows c.loop-slot.store) c.loop-slot.slot
-      (c.loop-slot.invariant.progress c.requires.layouts c.requires.ordered) c.loop-slot-test.true;
+      (c.loop-slot.invariant.progress c.requires.layouts c.requires.ordered) c.loop-slot-test.true c.ranges.width.fits;
 }
 
 pub copy_slots-recopy-requires : goal.copy_slots-recopy-requires

@@ -1,10 +1,11 @@
 use Rattle.std.proofs.Common.{◌≡◌}
 use Rattle.life_seen.specs.Kinds.{kinds_of}
 use Rattle.life_values.proofs.WordsCopied.{Progress}
-use Rattle.life_values.proofs.copying.copy_words.Given as goal
+use Rattle.life_values.proofs.moving.copy_words.Given as goal
 
 abbrev pub invariant-loop-word : goal.invariant-loop-word
 invariant-loop-word g l = record {
   limit : g.S.Store.limit l.store ≡ g.S.Store.limit l.fn.store;
-  progress : Progress (kinds_of l.types) l.from l.to l.slot l.width (g.S.Store.content l.fn.store) (g.S.Store.rows l.fn.store) (g.S.Store.content l.store) (g.S.Store.rows l.store) l.word;
+  rows : g.S.Store.rows l.store ≡ g.S.Store.rows l.fn.store;
+  progress : Progress (kinds_of l.types) l.from l.to l.width (g.S.Store.content l.fn.store) (g.S.Store.rows l.fn.store) (g.S.Store.content l.store) (g.S.Store.rows l.store) l.word;
 }

@@ -1,0 +1,11 @@
+use Rattle.std.proofs.Common.{◌≡◌}
+use Rattle.life_seen.specs.Kinds.{kinds_of}
+use Rattle.life_values.proofs.SlotsGoing.{Progress}
+use Rattle.life_values.proofs.moving.move_slots.Given as goal
+
+abbrev pub invariant-loop-slot : goal.invariant-loop-slot
+invariant-loop-slot g l = record {
+  limit : g.S.Store.limit l.store ≡ g.S.Store.limit l.fn.store;
+  rows : g.S.Store.rows l.store ≡ g.S.Store.rows l.fn.store;
+  progress : Progress (kinds_of l.types) l.from l.to l.count l.width l.owners (g.S.Store.content l.fn.store) (g.S.Store.rows l.fn.store) (g.S.Store.content l.store) (g.S.Store.rows l.store) l.slot;
+}
