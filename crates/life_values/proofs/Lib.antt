@@ -17,6 +17,8 @@ pub mod EmptiedMeant
 pub mod EmptiedThen
 pub mod Emptying
 pub mod Ends
+pub mod ErasedMeant
+pub mod ErasingSlots
 pub mod Filling
 pub mod Flat
 pub mod FreshMeant
@@ -43,6 +45,7 @@ pub mod SeenAs
 pub mod SlotsCleared
 pub mod SlotsGoing
 pub mod SlotsMoved
+pub mod SlotsShifted
 pub mod SlotsTaken
 pub mod SlotsTaking
 pub mod TakenLeaves

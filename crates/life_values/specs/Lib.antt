@@ -3,6 +3,7 @@ pub mod Copied
 pub mod Emptied
 pub mod Ended
 pub mod Ending
+pub mod Erased
 pub mod Fresh
 pub mod Good
 pub mod Layouts

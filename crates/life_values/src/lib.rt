@@ -20,7 +20,7 @@ mod value_end;
 
 pub use copying::{CopyFault, copy_deep};
 pub use deep_end::end_deep;
-pub use edits::{clear, pop};
+pub use edits::{clear, erase, pop};
 pub use fresh_value::fresh;
 pub use growing::regrow;
 pub use layout::{Holds, Layout, Leaf};
