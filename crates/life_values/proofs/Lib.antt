@@ -5,6 +5,7 @@ pub mod CharactersMeant
 pub mod CharactersWritten
 pub mod ClearedMeant
 pub mod Clearing
+pub mod ConsumedMeant
 pub mod CopiedGood
 pub mod CopyingDeep
 pub mod CopyingSlots
@@ -22,6 +23,7 @@ pub mod ErasingSlots
 pub mod Filling
 pub mod Flat
 pub mod FreshMeant
+pub mod GivenAway
 pub mod GoingOver
 pub mod GoodSteps
 pub mod HandingOver
@@ -35,6 +37,7 @@ pub mod OneOwner
 pub mod Owners
 pub mod PoppedMeant
 pub mod Popping
+pub mod PushedMeant
 pub mod ReadWords
 pub mod Recopying
 pub mod RegrownMeant

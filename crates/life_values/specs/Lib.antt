@@ -1,4 +1,5 @@
 pub mod Cleared
+pub mod Consumed
 pub mod Copied
 pub mod Emptied
 pub mod Ended

@@ -1,6 +1,7 @@
 //! Values of all types in a store: how they end, and go from one place to another.
 #![tactic(auto)]
 
+mod consuming;
 mod copying;
 mod deep_end;
 mod edits;
@@ -18,6 +19,7 @@ mod taking;
 mod texts;
 mod value_end;
 
+pub use consuming::consume;
 pub use copying::{CopyFault, copy_deep};
 pub use deep_end::end_deep;
 pub use edits::{clear, erase, pop};
