@@ -44,6 +44,8 @@ pub mod RegrownMeant
 pub mod Renewed
 pub mod Renewing
 pub mod ReplacedMeant
+pub mod Reserving
+pub mod RoomMade
 pub mod SeenAs
 pub mod SlotsCleared
 pub mod SlotsGoing
