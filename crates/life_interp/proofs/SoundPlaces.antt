@@ -52,8 +52,7 @@ module _ (types : Types) (hand : ℕ → ℕ) (c : Content) (store : IsStore typ
   pub place_number : parts_at types part ≡ Single → HasWord i w o × (kinds_of types o.ty w ≡ Plain)
   place_number single =
       let wide : width_at types part ≡ 1 = ap width single in
-      let none : w + 0 ≡ w = omega arith in
-      (
+      let none : w + 0 ≡ w = omega arith in (
         subst (λ k. HasWord i k o) none (place_word 0 (omega (arith, wide))),
         subst (λ k. kind_in (parts_at types o.ty) k ≡ Plain) none (place.within.words 0 (omega (arith, wide)) ∙ ap (λ (q : Parts). kind_in q 0) single),
       )
