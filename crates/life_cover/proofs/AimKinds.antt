@@ -1,10 +1,10 @@
 -- The kinds of instructions that give a pointer a value, of a whole frame without structs: there is no fault, and the facts behind them cover
 -- all pointers.
-use Rattle.std.proofs.Common.{◌≡◌, ◌≢◌, inl, inr, ℕ, ◌+◌, ◌≤◌, Bool, true, false, List, [], ◌∷◌, length, Option, Some, None, refl, sym, ap, subst, ◌∙◌, arith}
-use Rattle.std.specs.Prelude.{ℤ, Contains, if◌then◌else◌, slice_get}
-use Rattle.std.proofs.lemmas.Bool.{and_parts, false≢true}
+use Rattle.std.proofs.Common.{◌≡◌, ◌≢◌, ℕ, true, false, List, [], Option, Some, None, refl, sym, ap, subst, ◌∙◌, arith}
+use Rattle.std.specs.Prelude.{Contains}
+use Rattle.std.proofs.lemmas.Bool.{false≢true}
 use Rattle.life_types.specs.Pointees.{ty_of}
-use Rattle.life_types.specs.TypeTests.{is_constant, is_iterator, is_pointer, is_raw, is_view, is_void}
+use Rattle.life_types.specs.TypeTests.{is_pointer, is_void}
 use Rattle.life_types.specs.Types.{Types}
 use Rattle.life_types.specs.declared.place.Place.{Place}
 use Rattle.life_types.specs.declared.ty.Ty.{Ty}
@@ -22,30 +22,26 @@ use Rattle.life_core.specs.Step as step
 use Rattle.life_pset.specs.Elements.{local_place, locations_of}
 use Rattle.life_pset.specs.Places.{owned_place}
 use Rattle.life_pset.specs.Shapes.{has_buffer}
-use Rattle.life_pset.specs.Table.{IsOf, table_of}
 use Rattle.life_pset.specs.declared.element.Element.{Element}
 use Rattle.life_pset.specs.declared.element.Element.TheVariants as element
 use Rattle.life_pset.specs.declared.element.Fact.{Fact}
 use Rattle.life_contract.specs.Signatures.{Signature}
-use Rattle.life_proper.specs.OperandTypes.{aims_at, is_range, owned_element, same, seen_element, spans, takes, walks}
-use Rattle.life_proper.specs.Placed.{element_of, is_number_of, type_at, type_in, type_of, type_of_element}
+use Rattle.life_proper.specs.OperandTypes.{aims_at, is_range, same, seen_element, takes}
+use Rattle.life_proper.specs.Placed.{type_at, type_of}
 use Rattle.life_rules.specs.Carrying.{from_none, is_gone, makes, named_in, reached_from, writes}
 use Rattle.life_rules.specs.Diagnosing.{used_in, uses}
 use Rattle.life_rules.specs.Matching.{fact_at, facts_at}
 use Rattle.life_rules.proofs.Giving.{at_head}
-use Rattle.life_store.specs.Content.{Object}
 use Rattle.life_store.specs.Doing.{does, on_character, owner_element, pointer_to, viewed, whole_of}
 use Rattle.life_store.specs.Edits.{buffer_of, size_of}
 use Rattle.life_store.specs.Effects.{Setting, cell, on_got, on_pointer, put_cell}
 use Rattle.life_store.specs.Iterators.{at_index, end_index}
-use Rattle.life_store.specs.Parts.{characters_type, local_type, operand_type}
-use Rattle.life_store.specs.Places.{Spot, locate, operand_word, pointed}
-use Rattle.life_store.specs.State.{Characters, Target, Pointer, Null, To, Static, Cell, Empty, Named, Number, Points, State}
-use Rattle.life_store.specs.Views.{text_length}
-use Rattle.life_forest.specs.FrameTypes.{seen_in, seen_type}
+use Rattle.life_store.specs.Parts.{operand_type}
+use Rattle.life_store.specs.Places.{operand_word, pointed}
+use Rattle.life_store.specs.State.{Pointer, Null, Static, Cell, Points, State}
+use Rattle.life_forest.specs.FrameTypes.{seen_in}
 use Rattle.life_forest.specs.Kinds.{kinds_of}
 use Rattle.life_forest.proofs.OneNumber.{also_solid, number_of_type}
-use Rattle.life_forest.proofs.ReadyCells.{pointer_cell}
 use Rattle.life_forest.proofs.SeenTypes.{aims_seen, pointer_solid, range_points}
 use Rattle.life_forest.proofs.TypedSteps.{operand_of}
 use Rattle.life_cover.specs.Covers.{Holds, IsCovered, IsSeenAs, Reseen}

@@ -1,10 +1,10 @@
 -- Each vector and each string keeps its buffer behind births and ends, and where words of an object are written, but in objects that are left out.
-use Rattle.std.proofs.Common.{◌≡◌, ◌≢◌, ⊎_elim, ℕ, zero, suc, ◌+◌, ◌-◌, ◌*◌, ◌≤◌, ◌<◌, List, [], ◌∷◌, ◌++◌, length, map, Option, Some, None, refl, sym, ap, subst, ◌∙◌, arith, ◌⊎◌, inl, inr}
-use Rattle.std.specs.Prelude.{cond, drop, option_map, replicate, slice_get, slice_index, slice_set, take}
+use Rattle.std.proofs.Common.{◌≡◌, ⊎_elim, ℕ, zero, suc, ◌+◌, ◌-◌, ◌≤◌, ◌<◌, List, [], ◌∷◌, ◌++◌, length, map, Option, Some, None, refl, sym, ap, subst, ◌∙◌, arith, ◌⊎◌, inl, inr}
+use Rattle.std.specs.Prelude.{drop, option_map, replicate, slice_get, slice_index, slice_set, take}
 use Rattle.life_types.specs.Types.{Types}
 use Rattle.life_types.specs.declared.ty.TyId.{TyId}
 use Rattle.life_store.specs.Cells.{at, set}
-use Rattle.life_store.specs.Content.{Slot, Object, Content, blank_slot, newborn, resized, resized_slots, set_slot, stamped, with_birth, with_object, with_rename, with_resize, with_word, without, written}
+use Rattle.life_store.specs.Content.{Slot, Object, Content, blank_slot, newborn, resized, resized_slots, set_slot, stamped, with_birth, with_rename, with_resize, with_word, without, written}
 use Rattle.life_store.specs.Edits.{cleared, owns, popped, size_of}
 use Rattle.life_store.specs.Held.{filled, filled_if, filled_slots, owned_in, resized_at, resized_if, slot_words, slots_at, slots_if, wrote_if}
 use Rattle.life_store.specs.Owners.{ended, ended_owned, ended_slots}

@@ -1,20 +1,17 @@
 -- The changes of a vector or a string, named or behind a pointer, of a whole frame without structs: there is no fault, and the facts behind
 -- them cover all pointers.
-use Rattle.std.proofs.Common.{◌≡◌, ℕ, ◌+◌, Bool, true, false, List, [], ◌∷◌, Option, Some, None, refl, sym, ap, subst, ◌∙◌}
-use Rattle.std.specs.Prelude.{ℤ, Contains, if◌then◌else◌}
-use Rattle.std.specs.Int.{cast_unsigned, w64}
-use Rattle.std.proofs.lemmas.Bool.{and_parts, false≢true}
+use Rattle.std.proofs.Common.{◌≡◌, ℕ, true, false, List, [], ◌∷◌, Option, Some, None, refl, sym, ap, subst, ◌∙◌}
+use Rattle.std.specs.Prelude.{Contains}
 use Rattle.life_types.specs.Pointees.{ty_of}
 use Rattle.life_types.specs.TypeTests.{is_value, is_void}
 use Rattle.life_types.specs.Types.{Types}
 use Rattle.life_types.specs.declared.place.Place.{Place}
-use Rattle.life_types.specs.declared.ty.Ty.{Ty}
 use Rattle.life_types.specs.declared.ty.Ty.TheVariants as ty
 use Rattle.life_types.specs.declared.ty.TyId.{TyId}
 use Rattle.life_core.specs.Function.{Function}
 use Rattle.life_core.specs.Operands.{Location, Operand, whole}
 use Rattle.life_core.specs.Operands as named
-use Rattle.life_core.specs.Step.{Append, Change, Changes, Clear, Erase, PopBack, PushBack, Reserve, Set}
+use Rattle.life_core.specs.Step.{Append, Change, Changes, Clear, PopBack, PushBack, Reserve, Set}
 use Rattle.life_pset.specs.Elements.{local_place}
 use Rattle.life_pset.specs.declared.element.Fact.{Fact}
 use Rattle.life_contract.specs.Signatures.{Signature}
@@ -23,9 +20,8 @@ use Rattle.life_proper.specs.Placed.{is_number, is_number_of, type_at, type_of}
 use Rattle.life_rules.specs.Diagnosing.{reads}
 use Rattle.life_rules.proofs.Giving.{at_head}
 use Rattle.life_store.specs.Doing.{changed, does, on_given, pushes}
-use Rattle.life_store.specs.Effects.{Effect, Setting, Strays, cell, on_number, word_of_number}
-use Rattle.life_store.specs.Parts.{Parts, Single, Text, Vector, characters_type, operand_parts, parts_at, parts_if}
-use Rattle.life_store.specs.Places.{Spot}
+use Rattle.life_store.specs.Effects.{Effect, Setting, cell, word_of_number}
+use Rattle.life_store.specs.Parts.{Single, Text, Vector, characters_type, operand_parts, parts_at}
 use Rattle.life_store.specs.State.{Cell, Empty, Named, Number, Points, State}
 use Rattle.life_store.specs.Views.{seen_words, used}
 use Rattle.life_forest.proofs.OneNumber.{type_there}

@@ -1,15 +1,15 @@
 -- A copy of a vector or a string makes no fault where each vector and each string has its buffer.
 use Rattle.std.proofs.Common.{◌≡◌, ℕ, zero, suc, ◌+◌, ◌*◌, ◌≤◌, ◌<◌, List, [], ◌∷◌, length, Option, Some, None, refl, sym, ap, subst, ◌∙◌, arith}
-use Rattle.std.specs.Prelude.{cond, nat_lt, slice_get, slice_index, unwrap_or}
+use Rattle.std.specs.Prelude.{nat_lt, slice_get, slice_index, unwrap_or}
 use Rattle.life_types.specs.Trees.{IsOrdered, members_at}
 use Rattle.life_types.specs.Types.{Types}
 use Rattle.life_types.specs.declared.ty.Ty.{Ty}
 use Rattle.life_types.specs.declared.ty.Ty.TheVariants as variant
 use Rattle.life_types.specs.declared.ty.TyId.{TyId}
 use Rattle.life_store.specs.Cells.{at, at-set_other}
-use Rattle.life_store.specs.Content.{Slot, Object, Content, live_words_of, newborn, with_birth, with_object, with_resize, resized, word_in}
+use Rattle.life_store.specs.Content.{Slot, Object, Content, live_words_of, newborn, with_birth, with_object, resized, word_in}
 use Rattle.life_store.specs.Edits.{owned_at}
-use Rattle.life_store.specs.Effects.{Attempt, Got, GotTrap, GotFault, GotLost, Setting, then_get}
+use Rattle.life_store.specs.Effects.{Attempt, Got, GotTrap, Setting, then_get}
 use Rattle.life_store.specs.Held.{filled, filled_if, owned_in, resized_at, resized_if, slots_at, slots_if}
 use Rattle.life_store.specs.Owners.{Words, birth, copied, copied_buffer, copied_slots, owning, sized_birth}
 use Rattle.life_store.specs.Parts.{Parts, Single, Raw, Iterates, Views, Text, Vector, Unique, Member, NoMember, parts_at, parts_of, parts_within, struct_of, width}
@@ -23,7 +23,7 @@ use Rattle.life_cover.proofs.OwnersStay.{owned_is}
 use Rattle.life_cover.proofs.Pointers.{IfRight}
 use Rattle.life_cover.proofs.Walks.{by_test, then_right}
 
-slot_within : (ss : List Slot) (j : ℕ) (u : Slot) → slice_get ss j ≡ Some u → j < length ss
+pub slot_within : (ss : List Slot) (j : ℕ) (u : Slot) → slice_get ss j ≡ Some u → j < length ss
 slot_within [] j u h = absurd (none_some h)
 slot_within (x ∷ ss) zero u h = omega arith
 slot_within (x ∷ ss) (suc j) u h = let r = slot_within ss j u h in omega (arith, r)

@@ -1,8 +1,8 @@
 -- A value, a vector or a string is copied, by names or through pointers, in a frame without structs: there is no fault, and the facts behind
 -- it cover all pointers of the frame.
-use Rattle.std.proofs.Common.{◌≡◌, ◌≢◌, ℕ, zero, suc, ◌+◌, ◌<◌, Bool, true, false, ◌&&◌, List, [], ◌∷◌, ◌++◌, length, Option, Some, None, refl, sym, ap, subst, ◌∙◌, arith}
-use Rattle.std.specs.Prelude.{ℤ, Contains, if◌then◌else◌, nat_eq, slice_get, slice_index, take, drop}
-use Rattle.std.proofs.lemmas.Bool.{and_parts, false≢true, ne_eqb}
+use Rattle.std.proofs.Common.{◌≡◌, ℕ, ◌<◌, Bool, true, false, ◌&&◌, List, [], ◌∷◌, length, Option, Some, None, refl, sym, ap, subst, ◌∙◌}
+use Rattle.std.specs.Prelude.{if◌then◌else◌, slice_get, slice_index, take, drop}
+use Rattle.std.proofs.lemmas.Bool.{false≢true, ne_eqb}
 use Rattle.std.proofs.lemmas.List.Elements.{Contains-append_left, Contains-append_right}
 use Rattle.life_types.specs.Trees.{IsOrdered, holds_owner, tree_at, tree_of}
 use Rattle.life_types.specs.TypeTests.{is_pointer, is_value, is_void}
@@ -15,9 +15,9 @@ use Rattle.life_types.proofs.TreeLemmas.{tree_made}
 use Rattle.life_core.specs.Function.{Function}
 use Rattle.life_core.specs.Operands.{Location, Operand, whole}
 use Rattle.life_core.specs.Operands as named
-use Rattle.life_core.specs.Step.{Copy, Step}
+use Rattle.life_core.specs.Step.{Copy}
 use Rattle.life_pset.specs.Elements.{local_place}
-use Rattle.life_pset.specs.Places.{is_within, members_place}
+use Rattle.life_pset.specs.Places.{is_within}
 use Rattle.life_pset.specs.Shapes.{has_buffer, tree_if, ty_if}
 use Rattle.life_pset.specs.Shapes as shapes
 use Rattle.life_pset.specs.declared.element.AbsPlace.{AbsPlace}
@@ -29,15 +29,15 @@ use Rattle.life_contract.specs.Located.{located}
 use Rattle.life_contract.specs.Signatures.{Signature}
 use Rattle.life_proper.specs.Placed.{type_in, type_of}
 use Rattle.life_rules.specs.Carrying.{is_gone, is_killed, named_kill, one_kill, writes}
-use Rattle.life_rules.specs.Diagnosing.{used_in, uses}
+use Rattle.life_rules.specs.Diagnosing.{used_in}
 use Rattle.life_store.specs.Content.{Slot, Object, Content}
 use Rattle.life_store.specs.Doing.{copied_to, does, on_character, replaced}
-use Rattle.life_store.specs.Effects.{Attempt, Got, GotTrap, GotFault, GotLost, Effect, Next, Setting, cell, on_got, put_content, word_of_number}
+use Rattle.life_store.specs.Effects.{Attempt, Got, GotTrap, GotFault, GotLost, Effect, Next, Setting, cell, put_content, word_of_number}
 use Rattle.life_store.specs.Held.{slots_if, words_at, words_if}
-use Rattle.life_store.specs.Owners.{Words, copied}
+use Rattle.life_store.specs.Owners.{copied}
 use Rattle.life_store.specs.Parts.{Parts, Single, characters_type, operand_parts, operand_type, parts_at, parts_if, parts_of, width}
 use Rattle.life_store.specs.Places.{Spot, locate, on_place, operand_word, spot_words, wrote_spot}
-use Rattle.life_store.specs.State.{Cell, Named, Pointer, Points, State}
+use Rattle.life_store.specs.State.{Named, Pointer, Points, State}
 use Rattle.life_store.proofs.CellLemmas.{some_same}
 use Rattle.life_forest.specs.Forest.{Touches}
 use Rattle.life_forest.specs.Kinds.{kinds_of}
@@ -64,7 +64,7 @@ use Rattle.life_cover.proofs.OwnerKinds.{right_got}
 use Rattle.life_cover.proofs.Pointers.{IfRight, OnRight, right_then}
 use Rattle.life_cover.proofs.Reaching.{IsReached, Reach, by_reach, on_place_right, spot_is}
 use Rattle.life_cover.proofs.SaveKinds.{region_within, value_there, words_touches}
-use Rattle.life_cover.proofs.Unkilled.{no_foot, unkilled_cover}
+use Rattle.life_cover.proofs.Unkilled.{unkilled_cover}
 use Rattle.life_cover.proofs.Using.{Faultless}
 
 -- neither a unique_ptr nor a struct

@@ -1,7 +1,7 @@
 -- Locals end: there is no fault, and the facts behind it cover all pointers that are left in the frame.
-use Rattle.std.proofs.Common.{◌≡◌, ◌≢◌, ⊎_elim, inl, inr, ℕ, zero, suc, ◌+◌, ◌<◌, ◌≤◌, Bool, true, false, List, [], ◌∷◌, length, map, Option, Some, None, refl, sym, ap, subst, ◌∙◌, arith}
+use Rattle.std.proofs.Common.{◌≡◌, ◌≢◌, ⊎_elim, inl, inr, ℕ, ◌+◌, ◌<◌, Bool, true, false, List, [], ◌∷◌, length, map, Option, Some, None, refl, sym, ap, subst, ◌∙◌, arith}
 use Rattle.std.specs.Prelude.{◌||◌, Contains, cond, nat_eq, slice_get, slice_set}
-use Rattle.std.specs.List.{flat_map, list_any}
+use Rattle.std.specs.List.{list_any}
 use Rattle.std.proofs.lemmas.Bool.{eqb-true, false≢true, ne_eqb}
 use Rattle.std.proofs.lemmas.Bool.Decides.{nat_tests}
 use Rattle.life_types.specs.Trees.{IsOrdered}
@@ -12,7 +12,7 @@ use Rattle.life_core.specs.declared.program.LocalKind.{LocalKind}
 use Rattle.life_core.specs.declared.program.LocalKind.TheVariants as local
 use Rattle.life_core.specs.Function.{Function}
 use Rattle.life_core.specs.Kinds.{has_kind, is_object}
-use Rattle.life_core.specs.Step.{End, Step}
+use Rattle.life_core.specs.Step.{End}
 use Rattle.life_pset.specs.Elements.{causes_of_end, end_causes, end_elements, end_if, ended_local, local_place}
 use Rattle.life_pset.specs.Places.{path}
 use Rattle.life_pset.specs.declared.element.AbsPlace.{AbsPlace}
@@ -22,14 +22,13 @@ use Rattle.life_pset.specs.declared.element.Element.TheVariants as element
 use Rattle.life_pset.specs.declared.element.Fact.{Fact}
 use Rattle.life_pset.specs.declared.element.Root.{Root}
 use Rattle.life_pset.specs.declared.element.Root.TheVariants as root
-use Rattle.life_contract.specs.Located.{is_root, is_rooted}
+use Rattle.life_contract.specs.Located.{is_root}
 use Rattle.life_contract.specs.Signatures.{Signature}
 use Rattle.life_proper.specs.Placed.{object_at}
-use Rattle.life_rules.specs.Carrying.{drops, ended_root, invalid_facts, writes}
+use Rattle.life_rules.specs.Carrying.{ended_root, invalid_facts, writes}
 use Rattle.life_rules.specs.Matching.{fact_at, is_rooted_among, points_among}
 use Rattle.life_rules.proofs.Giving.{at_head, flat_map_into, in_tail}
-use Rattle.life_store.specs.Cells.{at}
-use Rattle.life_store.specs.Content.{Slot, Object, Content, without}
+use Rattle.life_store.specs.Content.{Object, Content, without}
 use Rattle.life_store.specs.Births.{end_cell, end_locals, end_object}
 use Rattle.life_store.specs.Doing.{does}
 use Rattle.life_store.specs.Effects.{Effect, Next, Traps, Faults, Strays, Setting, cell, on_next, put_cell, put_content}
@@ -37,7 +36,7 @@ use Rattle.life_store.specs.Held.{slots_if, words_if}
 use Rattle.life_store.specs.Owners.{ended, ended_object}
 use Rattle.life_store.specs.Parts.{local_parts, local_type, parts_at, parts_if, width_at}
 use Rattle.life_store.specs.State.{Pointer, Cell, Empty, Named, Number, Points, State}
-use Rattle.life_store.proofs.CellLemmas.{cell_cases, some_same}
+use Rattle.life_store.proofs.CellLemmas.{cell_cases}
 use Rattle.life_store.proofs.MapLemmas.{one_or_apart}
 use Rattle.life_forest.specs.Forest.{Beneath, Foot, IsForest, Touches, all_of, part, under, whole}
 use Rattle.life_forest.specs.FrameTypes.{IsVariable, Stands}
@@ -56,12 +55,12 @@ use Rattle.life_forest.proofs.StandingLives.{end_stands}
 use Rattle.life_forest.proofs.Steps.{alive_le, own_all, touches_self, touches_then}
 use Rattle.life_cover.specs.Frames.{FrameCovered, NoInput, RootStands, any_root, look_at}
 use Rattle.life_cover.specs.Kills.{Closed, Guards, LeftBy, is_hit}
-use Rattle.life_cover.specs.Regions.{IsAt, Region, foot_of}
+use Rattle.life_cover.specs.Regions.{Region, foot_of}
 use Rattle.life_cover.proofs.Inside.{Inside, lies_inside, region_owner}
 use Rattle.life_cover.proofs.Killing.{cover_on}
-use Rattle.life_cover.proofs.KnownFrames.{IsKnownFrame, IsRight, hand_of, object_named, rooted_of, store_of}
+use Rattle.life_cover.proofs.KnownFrames.{IsKnownFrame, IsRight, hand_of, object_named, rooted_of}
 use Rattle.life_cover.proofs.Left.{caused_of, kept_by}
-use Rattle.life_cover.proofs.Locals.{named_once, two_named}
+use Rattle.life_cover.proofs.Locals.{two_named}
 use Rattle.life_cover.proofs.Pointers.{OnRight}
 use Rattle.life_cover.proofs.Putting.{set_other}
 use Rattle.life_cover.proofs.Takes.{made_of}

@@ -1,10 +1,10 @@
 -- An instruction of a frame without structs and inputs at which nothing is wrong makes no fault, and the facts behind it cover all pointers of
 -- the frame: of values, pointers, vectors, strings, iterators, spans and views, by their types alone.
-use Rattle.std.proofs.Common.{◌≡◌, ◌≢◌, ℕ, Bool, true, false, ◌&&◌, not, List, [], ◌∷◌, Option, Some, None, refl, sym, ap, subst, ◌∙◌}
-use Rattle.std.specs.Prelude.{pos, Contains, if◌then◌else◌}
+use Rattle.std.proofs.Common.{◌≡◌, ◌≢◌, ℕ, Bool, true, false, ◌&&◌, not, List, Some, refl, sym, ap, subst, ◌∙◌}
+use Rattle.std.specs.Prelude.{pos, if◌then◌else◌}
 use Rattle.std.proofs.lemmas.Bool.{and_parts, false≢true}
 use Rattle.life_types.specs.Pointees.{ty_of}
-use Rattle.life_types.specs.TypeTests.{is_constant, is_iterator, is_pointer, is_raw, is_value, is_view, is_void}
+use Rattle.life_types.specs.TypeTests.{is_constant, is_iterator, is_pointer, is_value, is_view, is_void}
 use Rattle.life_types.specs.Types.{Types}
 use Rattle.life_types.specs.declared.place.Place.{Place}
 use Rattle.life_types.specs.declared.ty.Ty.{Ty}
@@ -25,7 +25,7 @@ use Rattle.life_pset.specs.Shapes.{has_buffer}
 use Rattle.life_pset.specs.declared.element.Fact.{Fact}
 use Rattle.life_contract.specs.Signatures.{Signature}
 use Rattle.life_proper.specs.OperandTypes.{aims_at, are_alike, are_compared, is_range, keeps_const, owned_element, same, seen_element, spans, takes, walks}
-use Rattle.life_proper.specs.Placed.{element_of, is_const_base, is_const_place, is_given, is_number, is_number_of, is_number_of_if, register_at, type_at, type_in, type_of, type_of_element}
+use Rattle.life_proper.specs.Placed.{element_of, is_const_base, is_const_place, is_given, is_number, is_number_of, register_at, type_at, type_in, type_of, type_of_element}
 use Rattle.life_proper.specs.WellFormed.{are_characters, is_change_of, is_port, is_source_of, is_well_formed_step}
 use Rattle.life_proper.proofs.HeldSorts.{same_is}
 use Rattle.life_store.specs.Doing.{does}
@@ -33,12 +33,12 @@ use Rattle.life_store.specs.Edits.{buffer_of, size_of}
 use Rattle.life_store.specs.Effects.{Effect, GotFault, Next, Setting, cell, got_or, on_got, put_cell}
 use Rattle.life_store.specs.Parts.{characters_type}
 use Rattle.life_store.specs.Places.{Spot}
-use Rattle.life_store.specs.State.{Named, Number, Pointer, Points, State, ready_of}
+use Rattle.life_store.specs.State.{Number, Pointer, Points, State, ready_of}
 use Rattle.life_store.specs.declared.run.FaultKind.TheVariants as fault
 use Rattle.life_forest.specs.FrameTypes.{seen_in}
 use Rattle.life_forest.proofs.OneNumber.{also_solid, same_solid}
 use Rattle.life_forest.proofs.ReadyCells.{number_any, pointer_cell}
-use Rattle.life_forest.proofs.SeenTypes.{aims_seen, iterator_points, pointer_solid, range_points, raw_points, same_if, view_is, walks_seen}
+use Rattle.life_forest.proofs.SeenTypes.{aims_seen, iterator_points, pointer_solid, range_points, raw_points, same_if, walks_seen}
 use Rattle.life_forest.proofs.TypedSteps.{IsSlotFree, value_solid}
 use Rattle.life_cover.specs.Frames.{FrameCovered, NoInput, any_root, look_at}
 use Rattle.life_cover.specs.Regions.{owned_in_type}
@@ -48,11 +48,11 @@ use Rattle.life_cover.proofs.CopyKinds.{IsCopyable, copy_kind}
 use Rattle.life_cover.proofs.EndKinds.{end_kind}
 use Rattle.life_cover.proofs.KnownFrames.{IsKnownFrame, IsRight, reach_at, used_right, whole_location}
 use Rattle.life_cover.proofs.LiveKinds.{live_kind}
-use Rattle.life_cover.proofs.Looks.{HasItem, aims_single, const_kept, element_item, element_ranged, seen_at, spans_range, takes_look, walks_single, whole_item}
+use Rattle.life_cover.proofs.Looks.{HasItem, aims_single, const_kept, element_item, element_ranged, seen_at, spans_range, walks_single, whole_item}
 use Rattle.life_cover.proofs.NumberKinds.{IsPort, eval_kind, load_kind, port_kind, register_covered, same_kind, seen_size_kind}
-use Rattle.life_cover.proofs.Opening.{IsOpened, opened}
+use Rattle.life_cover.proofs.Opening.{opened}
 use Rattle.life_cover.proofs.Pointers.{OnRight}
-use Rattle.life_cover.proofs.Reaching.{IsReached, by_reach, spot_is}
+use Rattle.life_cover.proofs.Reaching.{by_reach, spot_is}
 use Rattle.life_cover.proofs.SaveKinds.{save_kind}
 
 -- what a well-formed range, iterator or view is
@@ -64,7 +64,7 @@ iterator_single : (t : Ty) → is_iterator t ≡ true → is_range t ≡ false
 iterator_single (ty.Iterator target constant) e = refl
 iterator_single _ e = absurd (false≢true e)
 
-alike_points : (types : Types) (t u : Ty) → are_alike types t u ≡ true → (is_pointer t ≡ true) × (is_pointer u ≡ true)
+pub alike_points : (types : Types) (t u : Ty) → are_alike types t u ≡ true → (is_pointer t ≡ true) × (is_pointer u ≡ true)
 alike_points types (ty.Raw t c) (ty.Raw u d) e = (refl, refl)
 alike_points types (ty.Reference t c) (ty.Reference u d) e = (refl, refl)
 alike_points types (ty.Iterator t c) (ty.Iterator u d) e = (refl, refl)
@@ -87,7 +87,7 @@ spans_points types (ty.Span target constant) u e = refl
 spans_points types ty.View u e = refl
 spans_points types _ u e = absurd (false≢true e)
 
-not_false : (b : Bool) → not b ≡ true → b ≡ false
+pub not_false : (b : Bool) → not b ≡ true → b ≡ false
 not_false true e = absurd (false≢true e)
 not_false false e = refl
 
@@ -126,7 +126,7 @@ module _ (types : Types) (f : Function) (rest : ℕ → ℕ) (S : Fact → Type 
   Covers i = OnRight (does s types f i st) (FrameCovered types f S')
 
   -- a location of a pointer is a local
-  at_pointer : (p : Location) → is_pointer (type_in types f p) ≡ true → (P : Location → Type 0) → ((x : ℕ) → P (whole x)) → P p
+  pub at_pointer : (p : Location) → is_pointer (type_in types f p) ≡ true → (P : Location → Type 0) → ((x : ℕ) → P (whole x)) → P p
   at_pointer p pointer P each = subst P (whole_location types k.plain f p (pointer_solid (type_in types f p) pointer)) (each p.local)
 
   held_pointer : (q : ℕ) → is_pointer (type_at types f q) ≡ true → IsThere (ready_of st) q → (v : Pointer) × (cell st q ≡ Some (Points v))
@@ -154,7 +154,7 @@ module _ (types : Types) (f : Function) (rest : ℕ → ℕ) (S : Fact → Type 
       s right (spans_range types (type_at types f p) (type_of types f o) all)
   aim_step p (named.Get u) spoken right e = absurd spoken
 
-  source_points : (t : Ty) (sr : Source) → IsSpokenSource sr → is_source_of types texts fs f t sr ≡ true → is_pointer t ≡ true
+  pub source_points : (t : Ty) (sr : Source) → IsSpokenSource sr → is_source_of types texts fs f t sr ≡ true → is_pointer t ≡ true
   source_points t named.Null spoken e = raw_points t e
   source_points t (named.Text number) spoken e = range_points t (view_range t (and_parts (is_view t) _ e).0)
   source_points t named.Empty spoken e = range_points t e

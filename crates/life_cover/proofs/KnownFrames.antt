@@ -16,14 +16,12 @@ use Rattle.life_core.specs.Function.{Function}
 use Rattle.life_core.specs.Operands.{Location, Operand, whole}
 use Rattle.life_core.specs.Operands as named
 use Rattle.life_core.specs.Step.{Step}
-use Rattle.life_pset.specs.Elements.{AreShort, elements_of, local_place}
+use Rattle.life_pset.specs.Elements.{AreShort, elements_of}
 use Rattle.life_pset.specs.Shapes.{location_type, member_of, member_type, members_type, operand_type, target_type, ty_if}
 use Rattle.life_pset.specs.Shapes as shapes
-use Rattle.life_pset.specs.declared.element.Cause.{Cause}
 use Rattle.life_pset.specs.declared.element.Element.{Element}
 use Rattle.life_pset.specs.declared.element.Element.TheVariants as element
 use Rattle.life_pset.specs.declared.element.Fact.{Fact}
-use Rattle.life_pset.specs.declared.element.Root.{Root}
 use Rattle.life_pset.proofs.Numbers.{place_laws}
 use Rattle.life_contract.specs.Located.{located}
 use Rattle.life_contract.specs.Signatures.{Signature}
@@ -39,7 +37,6 @@ use Rattle.life_rules.specs.declared.diag.DiagKind.TheVariants.{DanglingUse, Nul
 use Rattle.life_rules.specs.declared.diag.Why.{Why}
 use Rattle.life_rules.specs.declared.diag.Why.TheVariants as why
 use Rattle.life_rules.proofs.Giving.{at_head, flat_map_into}
-use Rattle.life_store.specs.Content.{Content}
 use Rattle.life_store.specs.Effects.{cell}
 use Rattle.life_store.specs.Parts.{local_type}
 use Rattle.life_store.specs.State.{Named, State}
@@ -47,15 +44,15 @@ use Rattle.life_forest.specs.FrameTypes.{Stands}
 use Rattle.life_forest.specs.Frames.{named_in}
 use Rattle.life_forest.specs.Owned.{times}
 use Rattle.life_forest.specs.Settled.{IsPoised}
-use Rattle.life_forest.specs.Sorted.{Aims, Counts, Names, Sort, sort_at, sort_if}
+use Rattle.life_forest.specs.Sorted.{Aims, Counts, Names, sort_if}
 use Rattle.life_forest.specs.Typed.{IsStore}
 use Rattle.life_forest.proofs.ReadyCells.{pointer_no_object}
 use Rattle.life_forest.proofs.SeenTypes.{pointee_points, pointer_solid}
 use Rattle.life_forest.proofs.Shaped.{IsShaped}
 use Rattle.life_forest.proofs.Slots.{register_only}
-use Rattle.life_forest.proofs.TypedSteps.{if_there, value_solid}
+use Rattle.life_forest.proofs.TypedSteps.{if_there}
 use Rattle.life_cover.specs.Buffered.{AreBuffered}
-use Rattle.life_cover.specs.Frames.{FrameCovered, NoInput, RootStands, any_root, look_at}
+use Rattle.life_cover.specs.Frames.{FrameCovered, NoInput, RootStands, any_root}
 use Rattle.life_cover.specs.Kills.{Closed}
 use Rattle.life_cover.specs.Roots.{AreRooted}
 use Rattle.life_cover.proofs.Locals.{locals_rooted}

@@ -1,11 +1,11 @@
 -- The locations and the places of a function are in its table: each pointer that is a local, each object, and what the owner there has.
-use Rattle.std.proofs.Common.{◌≡◌, inl, inr, ℕ, zero, suc, ◌+◌, ◌≤◌, Bool, true, false, List, [], ◌∷◌, ◌++◌, map, Option, Some, None, refl, sym, ap, subst, ◌∙◌, arith}
+use Rattle.std.proofs.Common.{◌≡◌, inl, inr, ℕ, zero, suc, ◌+◌, Bool, true, false, List, [], ◌∷◌, ◌++◌, map, Option, Some, None, refl, sym, ap, subst, ◌∙◌, arith}
 use Rattle.std.specs.Prelude.{Contains, if◌then◌else◌, slice_get, unwrap_or}
 use Rattle.std.specs.List.{flat_map}
 use Rattle.std.proofs.lemmas.Bool.{false≢true}
 use Rattle.std.proofs.lemmas.List.Elements.{Contains-append_left, Contains-append_right}
 use Rattle.life_types.specs.Pointees.{or_void, ty_of}
-use Rattle.life_types.specs.Trees.{IsOrdered, TypeTree, Text, Vector, Unique, Void, Member, struct_of, tree_at, tree_of, members_at}
+use Rattle.life_types.specs.Trees.{IsOrdered, TypeTree, Text, Vector, Unique, Void, Member, tree_at, tree_of, members_at}
 use Rattle.life_types.specs.TypeTests.{is_pointer}
 use Rattle.life_types.specs.Types.{Types}
 use Rattle.life_types.specs.declared.ty.Ty.{Ty}
@@ -17,8 +17,8 @@ use Rattle.life_core.specs.declared.program.LocalKind.{LocalKind}
 use Rattle.life_core.specs.declared.program.LocalKind.TheVariants.{Object, Register, Range}
 use Rattle.life_core.specs.Function.{Function}
 use Rattle.life_core.specs.Kinds.{has_kind, is_object}
-use Rattle.life_pset.specs.Elements.{caused_elements, elements_of, input_places, inputs_of, local_locations, local_place, locations_from, locations_in, locations_of, object_places, objects_from, places_from, places_in, pointers_in}
-use Rattle.life_pset.specs.Places.{member_place, owned_place, owned_step, stepped}
+use Rattle.life_pset.specs.Elements.{caused_elements, elements_of, input_places, inputs_of, local_locations, local_place, locations_from, locations_of, object_places, objects_from, places_from, places_in, pointers_in}
+use Rattle.life_pset.specs.Places.{member_place, owned_place, stepped}
 use Rattle.life_pset.specs.Shapes.{is_variable, local_type, shape, shape_of, ty_if}
 use Rattle.life_pset.specs.declared.element.AbsPlace.{AbsPlace}
 use Rattle.life_pset.specs.declared.element.Element.{Element}

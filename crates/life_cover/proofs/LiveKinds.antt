@@ -1,8 +1,7 @@
 -- A local comes to life: there is no fault, and the facts behind it cover all pointers of the frame.
-use Rattle.std.proofs.Common.{◌≡◌, ◌≢◌, ⊎_elim, ℕ, zero, suc, ◌+◌, ◌*◌, ◌<◌, ◌≤◌, Bool, true, false, List, [], ◌∷◌, Option, Some, None, refl, sym, ap, subst, ◌∙◌, arith}
+use Rattle.std.proofs.Common.{◌≡◌, ◌≢◌, ⊎_elim, ℕ, suc, ◌+◌, ◌*◌, Bool, true, false, List, [], ◌∷◌, Option, Some, None, refl, sym, ap, subst, ◌∙◌, arith}
 use Rattle.std.specs.Prelude.{Contains, cond, nat_eq, nat_lt, slice_get, slice_set}
-use Rattle.std.specs.List.{flat_map}
-use Rattle.std.proofs.lemmas.Bool.{false≢true, ne_eqb}
+use Rattle.std.proofs.lemmas.Bool.{ne_eqb}
 use Rattle.life_types.specs.Pointees.{or_void, ty_of}
 use Rattle.life_types.specs.TypeTests.{is_pointer}
 use Rattle.life_types.specs.Trees.{members_at}
@@ -19,7 +18,7 @@ use Rattle.life_core.specs.declared.program.LocalKind.{LocalKind}
 use Rattle.life_core.specs.declared.program.LocalKind.TheVariants as local
 use Rattle.life_core.specs.Function.{Function}
 use Rattle.life_core.specs.Holdings.{Holding, held_by, held_if}
-use Rattle.life_core.specs.Step.{Live, Step}
+use Rattle.life_core.specs.Step.{Live}
 use Rattle.life_pset.specs.Elements.{elements_of, local_place, uninitialised}
 use Rattle.life_pset.specs.Shapes.{shape, shape_of, ty_if}
 use Rattle.life_pset.specs.declared.element.Element.{Element}
@@ -37,19 +36,19 @@ use Rattle.life_store.specs.Births.{born_object, born_owner, live_as, live_local
 use Rattle.life_store.specs.Cells.{at, at-set_same}
 use Rattle.life_store.specs.Content.{Object, Content, live_words_of, newborn, with_birth}
 use Rattle.life_store.specs.Doing.{does}
-use Rattle.life_store.specs.Effects.{Attempt, Got, GotTrap, GotFault, GotLost, Effect, Next, Setting, Traps, cell, on_got, put_cell, put_content, then_get}
+use Rattle.life_store.specs.Effects.{Attempt, Got, Effect, Next, Setting, Traps, cell, put_cell, put_content}
 use Rattle.life_store.specs.Held.{resized_if}
-use Rattle.life_store.specs.Owners.{Words, birth, born_pointer, empty_view, fresh, joined, object_with, owning, sized_birth}
+use Rattle.life_store.specs.Owners.{Words, birth, born_pointer, empty_view, fresh, object_with, owning, sized_birth}
 use Rattle.life_store.specs.Parts.{Parts, Single, Raw, Iterates, Views, Text, Vector, Unique, Member, NoMember, characters_type, held_type_if, parts_at, parts_of, struct_of, width}
-use Rattle.life_store.specs.State.{Pointer, Null, Wild, Static, Cell, Empty, Named, Number, Points, State}
+use Rattle.life_store.specs.State.{Pointer, Null, Wild, Cell, Empty, Named, Number, Points, State}
 use Rattle.life_store.specs.declared.run.TrapKind.TheVariants as trap
 use Rattle.life_store.proofs.CellLemmas.{cell_cases, some_same}
 use Rattle.life_store.proofs.MapLemmas.{one_or_apart}
-use Rattle.life_forest.specs.Forest.{IsForest, Touches}
+use Rattle.life_forest.specs.Forest.{Touches}
 use Rattle.life_forest.specs.Frames.{named_in}
 use Rattle.life_forest.specs.Kinds.{kinds_of, rank_of}
 use Rattle.life_forest.specs.Owned.{times}
-use Rattle.life_forest.proofs.Coming.{Came, CameWords, IfGot, came_touches, fresh_came}
+use Rattle.life_forest.proofs.Coming.{Came, came_touches, fresh_came}
 use Rattle.life_forest.proofs.Copying.{sized_is}
 use Rattle.life_forest.proofs.Laying.{laid_at, parts_made}
 use Rattle.life_forest.proofs.Objects.{object_came}
@@ -61,7 +60,7 @@ use Rattle.life_cover.specs.Regions.{Region}
 use Rattle.life_cover.proofs.KnownFrames.{IsKnownFrame, IsRight, hand_of, rooted_of, store_of}
 use Rattle.life_cover.proofs.Listing.{caused_known, null_known, own_location, pointer_listed}
 use Rattle.life_cover.proofs.OwnerKinds.{birth_faultless, faultless_then, right_got}
-use Rattle.life_cover.proofs.Pointers.{IfRight, OnRight, right_then}
+use Rattle.life_cover.proofs.Pointers.{OnRight, right_then}
 use Rattle.life_cover.proofs.Putting.{put_covered, set_other}
 use Rattle.life_cover.proofs.Unkilled.{no_foot, unkilled_cover}
 use Rattle.life_cover.proofs.Using.{Faultless}

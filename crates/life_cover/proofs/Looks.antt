@@ -1,9 +1,9 @@
 -- What a pointer sees by its type, as it is asked of well-formed instructions: a pointer that is handed on, one to an element, and one to what
 -- an owner has.
-use Rattle.std.proofs.Common.{◌≡◌, inl, inr, ℕ, Bool, true, false, ◌||◌, not, Option, Some, None, refl, sym, ap, subst, ◌∙◌}
+use Rattle.std.proofs.Common.{◌≡◌, inl, inr, ℕ, Bool, true, false, Option, Some, refl, sym, ap, subst, ◌∙◌}
 use Rattle.std.proofs.lemmas.Bool.{and_parts, false≢true}
-use Rattle.std.specs.Prelude.{if◌then◌else◌, slice_get}
-use Rattle.life_types.specs.Pointees.{or_void, ty_of}
+use Rattle.std.specs.Prelude.{slice_get}
+use Rattle.life_types.specs.Pointees.{ty_of}
 use Rattle.life_types.specs.Trees.{IsOrdered}
 use Rattle.life_types.specs.TypeTests.{is_constant, is_pointer, is_void}
 use Rattle.life_types.specs.Types.{HasEachOnce, Types}
@@ -15,7 +15,7 @@ use Rattle.life_pset.specs.Shapes.{has_buffer, ty_if}
 use Rattle.life_proper.specs.OperandTypes.{aims_at, are_alike, are_compared, is_range, keeps_const, owned_element, same, seen_element, spans, takes, walks}
 use Rattle.life_proper.specs.Placed.{type_at}
 use Rattle.life_proper.proofs.HeldSorts.{same_is, same_void}
-use Rattle.life_store.specs.Parts.{Parts, Single, Text, Vector, characters_type, local_type, parts_at, parts_of, target_in, target_type}
+use Rattle.life_store.specs.Parts.{Single, characters_type, local_type, parts_at, parts_of}
 use Rattle.life_forest.specs.FrameTypes.{seen_in, seen_type}
 use Rattle.life_forest.proofs.OneNumber.{one_number, type_there, typed_at}
 use Rattle.life_forest.proofs.SeenTypes.{alike_seen, parts_typed, pointer_solid, value_parts}

@@ -1,5 +1,5 @@
 -- Each place that facts name is made of its root, step by step; so what the owner there has is in the table as well.
-use Rattle.std.proofs.Common.{◌≡◌, inl, inr, ℕ, zero, suc, ◌+◌, ◌≤◌, Bool, true, false, List, [], ◌∷◌, ◌++◌, map, length, Option, Some, None, refl, sym, ap, subst, ◌∙◌, arith}
+use Rattle.std.proofs.Common.{◌≡◌, inl, inr, ℕ, ◌+◌, ◌≤◌, Bool, true, false, List, [], ◌∷◌, ◌++◌, map, length, Some, refl, sym, ap, subst, ◌∙◌, arith}
 use Rattle.std.specs.Prelude.{Contains, if◌then◌else◌, nat_lt, slice_get}
 use Rattle.std.specs.List.{flat_map}
 use Rattle.std.proofs.lemmas.Bool.Decides.{nat_tests}
@@ -13,7 +13,7 @@ use Rattle.life_core.specs.declared.program.Local.{Local}
 use Rattle.life_core.specs.declared.program.LocalKind.{LocalKind}
 use Rattle.life_core.specs.declared.program.LocalKind.TheVariants.{Object, Register, Range}
 use Rattle.life_core.specs.Function.{Function}
-use Rattle.life_core.specs.Linked.{Linked, code_of}
+use Rattle.life_core.specs.Linked.{code_of}
 use Rattle.life_core.specs.Step.{Step, Live, End, Copy, Move, Changes, Make, Call}
 use Rattle.life_core.specs.Tree.{Node, Action, Question, Return, Stop}
 use Rattle.life_pset.specs.Elements.{AreShort, IsShort, called, caused_at, caused_elements, causes_of_end, changed, changed_in, elements_of, end_elements, input_places, inputs_of, local_place, moved, node_elements, object_places, objects_from, places_from, places_in, step_elements, uninitialised}
@@ -24,7 +24,6 @@ use Rattle.life_pset.specs.declared.element.AbsPlace.{AbsPlace}
 use Rattle.life_pset.specs.declared.element.Cause.{Cause}
 use Rattle.life_pset.specs.declared.element.Element.{Element}
 use Rattle.life_pset.specs.declared.element.Element.TheVariants as element
-use Rattle.life_pset.specs.declared.element.Fact.{Fact}
 use Rattle.life_pset.specs.declared.element.Root.{Root}
 use Rattle.life_pset.specs.declared.element.Root.TheVariants as root
 use Rattle.life_pset.proofs.Numbers.{is_of_iff}

@@ -1,9 +1,9 @@
 -- The kinds of instructions that give a register a number, or write one out, of a whole frame: there is no fault, and the facts behind them
 -- cover all pointers.
-use Rattle.std.proofs.Common.{◌≡◌, ℕ, ◌+◌, Bool, true, false, List, [], ◌∷◌, Option, Some, None, refl, sym, ap, subst, ◌∙◌}
-use Rattle.std.specs.Prelude.{ℤ, pos, Contains, Ok, Err, cond, nat_eq, nat_lt, slice_get}
-use Rattle.std.proofs.lemmas.Bool.{and_parts, false≢true}
-use Rattle.life_types.specs.TypeTests.{is_pointer, is_value, is_view, is_void}
+use Rattle.std.proofs.Common.{◌≡◌, ℕ, Bool, true, false, List, [], ◌∷◌, Option, Some, None, refl, sym, ap, subst, ◌∙◌}
+use Rattle.std.specs.Prelude.{ℤ, pos, Ok, Err, cond, nat_eq, nat_lt, slice_get}
+use Rattle.std.proofs.lemmas.Bool.{false≢true}
+use Rattle.life_types.specs.TypeTests.{is_void}
 use Rattle.life_types.specs.Types.{Types}
 use Rattle.life_types.specs.declared.place.Place.{Place}
 use Rattle.life_types.specs.declared.ty.Ty.{Ty}
@@ -21,14 +21,13 @@ use Rattle.life_pset.specs.declared.element.AbsPlace.{AbsPlace}
 use Rattle.life_pset.specs.declared.element.Element.{Element}
 use Rattle.life_pset.specs.declared.element.Fact.{Fact}
 use Rattle.life_contract.specs.Signatures.{Signature}
-use Rattle.life_proper.specs.OperandTypes.{are_compared, is_range, same}
+use Rattle.life_proper.specs.OperandTypes.{are_compared, is_range}
 use Rattle.life_proper.specs.Placed.{is_number, type_at, type_of}
 use Rattle.life_rules.specs.Carrying.{is_gone, writes}
-use Rattle.life_rules.specs.Diagnosing.{reads, uses}
 use Rattle.life_rules.proofs.Giving.{at_head, in_tail}
-use Rattle.life_store.specs.Content.{Content, word_at}
+use Rattle.life_store.specs.Content.{word_at}
 use Rattle.life_store.specs.Doing.{compared, computed_into, does, evaluated, input_taken, number_text, on_character, told, with_output}
-use Rattle.life_store.specs.Effects.{Attempt, Got, GotTrap, GotFault, GotLost, Effect, Next, Traps, Faults, Strays, Setting, cell, converted, number_in_word, on_got, on_number, put_cell, then_get, type_of as number_type}
+use Rattle.life_store.specs.Effects.{Attempt, Got, GotTrap, GotFault, GotLost, Effect, Next, Traps, Setting, cell, converted, number_in_word, on_number, put_cell, then_get, type_of as number_type}
 use Rattle.life_store.specs.Iterators.{is_one_object, iterator, same_position, standing, start_of}
 use Rattle.life_store.specs.Numbers.{Computed, combined, is_zero, negated, truth}
 use Rattle.life_store.specs.Parts.{Iterates, Parts, Views, local_type, location_parts, parts_if}
@@ -38,7 +37,6 @@ use Rattle.life_store.specs.Views.{are_same, seen_bytes, seen_count, text_size, 
 use Rattle.life_store.specs.declared.run.TrapKind.TheVariants as trap
 use Rattle.life_forest.specs.Kinds.{kinds_of}
 use Rattle.life_forest.proofs.OneNumber.{typed_at}
-use Rattle.life_forest.proofs.ReadyCells.{number_any}
 use Rattle.life_forest.proofs.SeenTypes.{parts_typed}
 use Rattle.life_forest.proofs.Steps.{touches_self}
 use Rattle.life_cover.specs.Frames.{FrameCovered, NoInput, RootStands, any_root, look_at}
@@ -48,7 +46,7 @@ use Rattle.life_cover.proofs.OwnerKinds.{number_right}
 use Rattle.life_cover.proofs.PointerKinds.{read_right}
 use Rattle.life_cover.proofs.Pointers.{IfRight, OnRight, right_then}
 use Rattle.life_cover.proofs.Putting.{put_covered}
-use Rattle.life_cover.proofs.Reaching.{Reach, on_place_right}
+use Rattle.life_cover.proofs.Reaching.{on_place_right}
 use Rattle.life_cover.proofs.Unkilled.{no_foot, unkilled_cover}
 use Rattle.life_cover.proofs.Using.{Faultless, NotInvalid, standing_right, usable_right}
 use Rattle.life_cover.proofs.Walks.{then_right}

@@ -1,5 +1,5 @@
 -- An operand that is a vector or a string, in a frame without structs: all of an object, with a buffer that lives.
-use Rattle.std.proofs.Common.{◌≡◌, inl, inr, ℕ, zero, suc, ◌+◌, ◌<◌, Bool, true, false, List, [], ◌∷◌, length, Option, Some, None, refl, sym, ap, subst, ◌∙◌, arith}
+use Rattle.std.proofs.Common.{◌≡◌, inl, inr, ℕ, zero, suc, ◌<◌, true, false, List, [], ◌∷◌, length, Option, Some, refl, sym, ap, subst, ◌∙◌, arith}
 use Rattle.std.specs.Prelude.{Contains, slice_get, slice_index}
 use Rattle.std.proofs.lemmas.Bool.{false≢true}
 use Rattle.life_types.specs.TypeTests.{is_void}
@@ -11,7 +11,7 @@ use Rattle.life_core.specs.Function.{Function}
 use Rattle.life_core.specs.Operands.{Operand}
 use Rattle.life_core.specs.Operands as named
 use Rattle.life_pset.specs.Elements.{elements_of, local_place}
-use Rattle.life_pset.specs.Places.{members_place, owned_place, path}
+use Rattle.life_pset.specs.Places.{members_place, path}
 use Rattle.life_pset.specs.Shapes.{has_buffer, location_type, target_type}
 use Rattle.life_pset.specs.Shapes as shapes
 use Rattle.life_pset.specs.Table.{IsOf, table_of}
@@ -23,7 +23,7 @@ use Rattle.life_contract.specs.Located.{located}
 use Rattle.life_proper.specs.Placed.{type_of}
 use Rattle.life_rules.specs.Matching.{fact_at}
 use Rattle.life_store.specs.Cells.{at}
-use Rattle.life_store.specs.Content.{Slot, Object, Content, word_in}
+use Rattle.life_store.specs.Content.{Slot, Object, word_in}
 use Rattle.life_store.specs.Edits.{owned_at}
 use Rattle.life_store.specs.Held.{owned_in}
 use Rattle.life_store.specs.Parts.{Parts, Text, Vector, characters_type, local_type, operand_type, parts_at, parts_of, width}

@@ -17,17 +17,15 @@ use Rattle.life_pset.specs.Places.{path}
 use Rattle.life_pset.specs.declared.element.AbsPlace.{AbsPlace}
 use Rattle.life_pset.specs.declared.element.Fact.{Fact}
 use Rattle.life_pset.specs.declared.element.Root.{Root}
-use Rattle.life_pset.specs.declared.element.Root.TheVariants as root
 use Rattle.life_contract.specs.Signatures.{Signature}
 use Rattle.life_rules.specs.Carrying.{writes}
-use Rattle.life_store.specs.Cells.{at}
-use Rattle.life_store.specs.Content.{Object, Content, live_words_of, with_birth}
+use Rattle.life_store.specs.Content.{Content, live_words_of, with_birth}
 use Rattle.life_store.specs.Doing.{changed, does, edits, on_given, pushes}
 use Rattle.life_store.specs.Edits.{Edit, Add, Clear as ClearAll, Pop, Push, Put, Reserve as Room, capacity_of, characters_of, edited, grown, owned_at, popped, pushed, regrown, reserved, rewritten, size_of, with_room}
 use Rattle.life_store.specs.Effects.{Attempt, Got, GotTrap, GotFault, GotLost, Effect, Next, Setting, cell, got_or, on_got, on_number, put_content, then_get, word_of_number}
 use Rattle.life_store.specs.Held.{resized_at}
 use Rattle.life_store.specs.Owners.{Words, birth, sized_birth}
-use Rattle.life_store.specs.Parts.{Parts, Single, Text, Vector, local_type, operand_parts, operand_type, parts_at, parts_if, width}
+use Rattle.life_store.specs.Parts.{Parts, Single, Text, Vector, operand_parts, operand_type, parts_at, parts_if, width}
 use Rattle.life_store.specs.Places.{Spot}
 use Rattle.life_store.specs.State.{Cell, Empty, Named, Number, Pointer, Points, State}
 use Rattle.life_store.specs.declared.run.FaultKind.TheVariants as fault

@@ -21,7 +21,6 @@ use Rattle.life_pset.specs.declared.element.Element.{Element}
 use Rattle.life_pset.specs.declared.element.Element.TheVariants as element
 use Rattle.life_pset.specs.declared.element.Fact.{Fact}
 use Rattle.life_pset.specs.declared.element.Root.{Root}
-use Rattle.life_pset.specs.declared.element.Root.TheVariants as root
 use Rattle.life_contract.specs.Signatures.{Signature}
 use Rattle.life_rules.specs.Carrying.{from_none, is_gone, makes, named_in, reached_from, writes}
 use Rattle.life_rules.specs.Matching.{fact_at, facts_at, part_of}
@@ -42,7 +41,7 @@ use Rattle.life_forest.specs.Typed.{IsStore}
 use Rattle.life_cover.specs.Covers.{IsCovered, IsSeenAs, PointsTo}
 use Rattle.life_cover.specs.Frames.{LocalsCovered, RootStands, look_at}
 use Rattle.life_cover.specs.Kills.{Closed}
-use Rattle.life_cover.specs.Regions.{IsAt, Region, owned_in_type}
+use Rattle.life_cover.specs.Regions.{Region, owned_in_type}
 use Rattle.life_cover.specs.Roots.{AreRooted}
 use Rattle.life_cover.proofs.Fresh.{at_position, at_range}
 use Rattle.life_cover.proofs.OwnerElements.{element_pointed, whole_pointed}

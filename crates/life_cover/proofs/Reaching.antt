@@ -1,6 +1,6 @@
 -- What an operand is, a local by its name or what is behind a pointer that is a local, where nothing is wrong with the pointer: a place of the
 -- rules, characters of a text, or no position at all.
-use Rattle.std.proofs.Common.{◌≡◌, inl, ℕ, ◌+◌, ◌<◌, Bool, true, false, List, [], length, Option, Some, None, refl, sym, ap, subst, ◌∙◌, arith}
+use Rattle.std.proofs.Common.{◌≡◌, inl, ℕ, ◌+◌, ◌<◌, Bool, true, false, [], length, Option, Some, None, refl, sym, ap, subst, ◌∙◌, arith}
 use Rattle.std.specs.Prelude.{nat_lt, slice_get}
 use Rattle.std.proofs.lemmas.Bool.{false≢true}
 use Rattle.std.proofs.lemmas.Bool.Decides.{nat_tests}
@@ -23,14 +23,13 @@ use Rattle.life_contract.specs.Located.{located}
 use Rattle.life_proper.specs.OperandTypes.{is_range}
 use Rattle.life_rules.specs.Matching.{fact_at}
 use Rattle.life_store.specs.Cells.{at}
-use Rattle.life_store.specs.Content.{Object, Content}
-use Rattle.life_store.specs.Effects.{Effect, Strays, cell}
+use Rattle.life_store.specs.Content.{Object}
+use Rattle.life_store.specs.Effects.{Effect, cell}
 use Rattle.life_store.specs.Parts.{Single, local_type, operand_type, parts_if, target_in, target_type}
-use Rattle.life_store.specs.Places.{Found, Here, Fixed, Outside, Wrong, Astray, Spot, behind_cell, behind_pointer, found_if, found_in, found_text, here_if, locate, named_by, on_found, on_place, on_spot, operand_word, pointer_word, reached_if, reached_in}
+use Rattle.life_store.specs.Places.{Here, Fixed, Outside, Astray, Spot, behind_cell, found_if, found_in, found_text, here_if, locate, named_by, on_found, on_place, on_spot, operand_word, pointer_word, reached_if, reached_in}
 use Rattle.life_store.specs.State.{Characters, Target, Pointer, Null, Wild, To, Static, Cell, Empty, Named, Number, Points, State}
 use Rattle.life_forest.specs.FrameTypes.{IsFrame, IsOfText, IsVariable, seen_in, seen_type}
-use Rattle.life_forest.proofs.Shaped.{IsShaped}
-use Rattle.life_cover.specs.Covers.{Holds, IsCovered, IsSeenAs, Look}
+use Rattle.life_cover.specs.Covers.{Holds, IsCovered, IsSeenAs}
 use Rattle.life_cover.specs.Frames.{LocalsCovered, RootStands, look_at}
 use Rattle.life_cover.specs.Regions.{IsAt, Region}
 use Rattle.life_cover.proofs.Fresh.{holds_lives, position_valid}

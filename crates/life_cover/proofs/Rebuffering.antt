@@ -4,11 +4,11 @@ use Rattle.std.specs.Prelude.{cond, nat_lt, slice_get, slice_index}
 use Rattle.life_types.specs.Types.{Types}
 use Rattle.life_types.specs.declared.ty.TyId.{TyId}
 use Rattle.life_store.specs.Cells.{at, set, at-set_other, at-set_same, at-unset_other}
-use Rattle.life_store.specs.Content.{Slot, Object, Content, live_words_of, newborn, resized, with_birth, with_object, with_rename, with_resize, with_word, without}
+use Rattle.life_store.specs.Content.{Slot, Object, Content, live_words_of, newborn, resized, with_birth, with_object, with_rename, with_resize, without}
 use Rattle.life_store.specs.Edits.{capacity_of, filled_by, grown, one_word, owns, pushed, put_last, regrown, reserved, rewritten, size_of, with_room}
-use Rattle.life_store.specs.Effects.{Attempt, Got, GotTrap, GotFault, Setting, then_get}
+use Rattle.life_store.specs.Effects.{Got, Setting, then_get}
 use Rattle.life_store.specs.Held.{filled, filled_if, filled_slots, owned_in, resized_at, resized_if, slots_at, with_words, wrote, wrote_if}
-use Rattle.life_store.specs.Owners.{Words, birth, copied, copied_buffer, copied_slots, owning, renamed, renamed_if, sized_birth, taken, taken_slots}
+use Rattle.life_store.specs.Owners.{Words, birth, renamed, renamed_if, sized_birth, taken, taken_slots}
 use Rattle.life_store.specs.Parts.{Parts, Single, Raw, Iterates, Views, Text, Vector, Unique, Member, NoMember, parts_at, width}
 use Rattle.life_store.specs.declared.run.TrapKind.TheVariants as trap
 use Rattle.life_store.proofs.CellLemmas.{none_some, set_cases, some_same, unset_cases}
@@ -19,7 +19,7 @@ use Rattle.life_forest.proofs.Coming.{IfGot, got_then, if_room}
 use Rattle.life_forest.proofs.Stores.{if_such}
 use Rattle.life_forest.proofs.Widths.{count-blank, wide-resized}
 use Rattle.life_cover.specs.Buffered.{AreBuffered, HasBuffers}
-use Rattle.life_cover.proofs.Buffering.{AreBut, AllSome, IsBufferOwner, IsOwnerAt, all_in, birth_but, filled_but, none_out, owns_but, rename_but, resized_but, set_but, single_have, without_but, without_leaves}
+use Rattle.life_cover.proofs.Buffering.{AreBut, IsOwnerAt, all_in, birth_but, filled_but, none_out, owns_but, rename_but, resized_but, set_but, single_have, without_but, without_leaves}
 use Rattle.life_cover.proofs.Copies.{IsWhole}
 
 -- ---- what was there and is there is as it was

@@ -1,25 +1,21 @@
 -- A number is saved where nothing is wrong: there is no fault, and the facts behind it cover all pointers of the frame.
-use Rattle.std.proofs.Common.{◌≡◌, inl, inr, ℕ, ◌+◌, ◌<◌, Bool, true, false, List, [], ◌∷◌, length, Option, Some, None, refl, sym, ap, subst, ◌∙◌, arith}
-use Rattle.std.specs.Prelude.{ℤ, ◌||◌, slice_get}
-use Rattle.life_types.specs.TypeTests.{is_value, is_void}
+use Rattle.std.proofs.Common.{◌≡◌, inl, inr, ℕ, true, List, [], ◌∷◌, length, Option, Some, None, refl, sym, ap, subst, ◌∙◌, arith}
+use Rattle.life_types.specs.TypeTests.{is_value}
 use Rattle.life_types.specs.Types.{Types}
 use Rattle.life_types.specs.declared.place.Place.{Place}
 use Rattle.life_types.specs.declared.ty.TyId.{TyId}
 use Rattle.life_core.specs.Function.{Function}
 use Rattle.life_core.specs.Operands.{Operand}
-use Rattle.life_core.specs.Step.{Save, Step}
+use Rattle.life_core.specs.Step.{Save}
 use Rattle.life_pset.specs.Elements.{local_place}
 use Rattle.life_pset.specs.Places.{path}
-use Rattle.life_pset.specs.declared.element.Element.{Element}
 use Rattle.life_pset.specs.declared.element.Fact.{Fact}
 use Rattle.life_contract.specs.Signatures.{Signature}
 use Rattle.life_proper.specs.Placed.{type_of}
-use Rattle.life_store.specs.Cells.{at}
-use Rattle.life_store.specs.Content.{Object, Content, with_object, with_word}
+use Rattle.life_store.specs.Content.{Object, with_object, with_word}
 use Rattle.life_store.specs.Doing.{does, saved}
-use Rattle.life_store.specs.Effects.{Effect, Next, Setting, Strays, cell, on_number, put_content, word_of_number}
+use Rattle.life_store.specs.Effects.{Next, Setting, Strays, cell, put_content, word_of_number}
 use Rattle.life_store.specs.Held.{wrote_if}
-use Rattle.life_store.specs.Kinds.{is_value as is_plain}
 use Rattle.life_store.specs.Parts.{Parts, Single, operand_type, parts_at}
 use Rattle.life_store.specs.Places.{locate, on_found, operand_word, wrote_spot}
 use Rattle.life_store.specs.State.{State}

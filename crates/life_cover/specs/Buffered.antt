@@ -1,5 +1,5 @@
 -- Each vector and each string in a store has its buffer, where none was moved from.
-use Rattle.std.specs.Prelude.{◌≡◌, ℕ, List, Option, Some, slice_get, slice_index, take, drop}
+use Rattle.std.specs.Prelude.{◌≡◌, ℕ, List, Some, slice_get, slice_index, take, drop}
 use Rattle.life_types.specs.Types.{Types}
 use Rattle.life_store.specs.Cells.{at}
 use Rattle.life_store.specs.Content.{Slot, Object, Content}
