@@ -12,8 +12,11 @@ pub mod FrameSteps
 pub mod Fresh
 pub mod Guarding
 pub mod Inside
+pub mod KeptBuffers
+pub mod KeptCopies
 pub mod Killing
 pub mod KnownFrames
+pub mod Leaving
 pub mod Left
 pub mod Listing
 pub mod LiveKinds
@@ -40,4 +43,5 @@ pub mod Takes
 pub mod Unkilled
 pub mod Using
 pub mod Walks
+pub mod WholeSteps
 mod Worked

@@ -1,0 +1,274 @@
+-- Behind each instruction of a frame without structs that moves nothing, each vector and each string has its buffer.
+use Rattle.std.proofs.Common.{◌≡◌, ◌≢◌, ⊎_elim, ℕ, zero, suc, ◌<◌, List, [], ◌∷◌, ◌++◌, length, Option, Some, None, refl, sym, ap, subst, ◌∙◌, arith, ◌⊎◌}
+use Rattle.std.specs.Prelude.{ℤ, slice_get}
+use Rattle.std.specs.Int.{cast_unsigned, w64}
+use Rattle.life_types.specs.Types.{Types}
+use Rattle.life_types.specs.declared.ty.Ty.TheVariants as ty
+use Rattle.life_types.specs.declared.ty.TyId.{TyId}
+use Rattle.life_core.specs.Function.{Function}
+use Rattle.life_core.specs.Operands.{Characters, Operand}
+use Rattle.life_core.specs.Operands as named
+use Rattle.life_core.specs.Step.{Append, Change, Changes, Clear, Erase, PopBack, PushBack, Reserve, Set}
+use Rattle.life_pset.specs.declared.element.Fact.{Fact}
+use Rattle.life_proper.specs.Placed.{type_of}
+use Rattle.life_store.specs.Births.{end_cell, end_locals, end_object}
+use Rattle.life_store.specs.Cells.{at}
+use Rattle.life_store.specs.Content.{Slot, Object, Content, without, word_in}
+use Rattle.life_store.specs.Doing.{changed, does, edits, erases, on_given, pushes}
+use Rattle.life_store.specs.Edits.{Edit, Add, Clear as ClearAll, Pop, Push, Put, Reserve as Room, buffer_of, characters_of, edited, owned_at, pushed, reserved, rewritten, size_of}
+use Rattle.life_store.specs.Effects.{Attempt, GotFault, GotLost, Effect, Next, Traps, Faults, Strays, Setting, cell, got_or, on_got, on_next, put_content, word_of_number}
+use Rattle.life_store.specs.Held.{owned_in, slots_at, slots_if, words_if}
+use Rattle.life_store.specs.Iterators.{iterator}
+use Rattle.life_store.specs.Owners.{ended}
+use Rattle.life_store.specs.Parts.{Parts, Single, Raw, Iterates, Views, Text, Vector, Unique, Member, NoMember, characters_type, local_parts, operand_parts, parts_at, parts_if, width}
+use Rattle.life_store.specs.Places.{Spot, location_cell, on_found, on_spot, operand_word}
+use Rattle.life_store.specs.State.{Cell, Empty, Named, Number, Points, State}
+use Rattle.life_store.specs.Views.{seen_words, used}
+use Rattle.life_store.specs.declared.run.FaultKind.TheVariants as fault
+use Rattle.life_store.proofs.CellLemmas.{none_some, some_same}
+use Rattle.life_forest.specs.Frames.{OnNext}
+use Rattle.life_forest.specs.Values.{AllWide, listed}
+use Rattle.life_forest.proofs.Coming.{IfGot}
+use Rattle.life_forest.proofs.Frames.{on_got_next}
+use Rattle.life_forest.proofs.Members.{within_self}
+use Rattle.life_forest.proofs.SeenTypes.{character_parts, parts_typed}
+use Rattle.life_forest.proofs.StandingChanges.{on_got_each, on_number_next}
+use Rattle.life_cover.specs.Buffered.{AreBuffered, HasBuffers}
+use Rattle.life_cover.specs.Frames.{NoInput, any_root}
+use Rattle.life_cover.proofs.Buffering.{AllSome, IsBufferOwner, IsOwnerAt, all_in, cleared_buffered, ended_but, none_out, popped_buffered, without_but}
+use Rattle.life_cover.proofs.Buffers.{buffer, buffer_lives, buffer_type}
+use Rattle.life_cover.proofs.Copies.{slot_within, whole_parts}
+use Rattle.life_cover.proofs.KnownFrames.{IsKnownFrame, hand_of, store_of}
+use Rattle.life_cover.proofs.Opening.{IsAllOf, IsOpened, region_all, text_opened, vector_opened}
+use Rattle.life_cover.proofs.OwnersStay.{owned_is}
+use Rattle.life_cover.proofs.Reaching.{IsReached, Reach, reached, fixed, outside, astray, spot_is}
+use Rattle.life_cover.proofs.Rebuffering.{AreFree, IsFree, pushed_buffered, reserved_buffered, rewritten_buffered}
+use Rattle.life_cover.proofs.SaveKinds.{region_within}
+
+-- each vector and each string of the state has its buffer
+abbrev pub IsBuffered : Types → State → Type 0
+IsBuffered types st = AreBuffered types st.world.content
+
+-- ---- ends
+
+module _ (types : Types) (f : Function) where
+  one_ended : (x : ℕ) (st : State) → IsBuffered types st → (v : Option Cell) → OnNext (end_cell (local_parts types f x) v x st) (IsBuffered types)
+  one_ended x st h None = tt
+  one_ended x st h (Some Empty) = tt
+  one_ended x st h (Some (Number z)) = tt
+  one_ended x st h (Some (Points p)) = h
+  one_ended x st h (Some (Named n)) = object (at st.world.content.objects n)
+    where
+      object : (o : Option Object) → OnNext (end_object (local_parts types f x) o n x st) (IsBuffered types)
+      object None = tt
+      object (Some o) =
+          all_in types (without n (ended (local_parts types f x) (words_if (slice_get o.slots 0)) st.world.content))
+          (without_but types (λ k. ⊥) n (ended (local_parts types f x) (words_if (slice_get o.slots 0)) st.world.content)
+          (ended_but types (λ k. ⊥) (local_parts types f x) (words_if (slice_get o.slots 0)) st.world.content (none_out types st.world.content h)))
+
+  pub ends_buffered : (xs : List ℕ) (st : State) → IsBuffered types st → OnNext (end_locals types f xs st) (IsBuffered types)
+  ends_buffered [] st h = h
+  ends_buffered (x ∷ xs) st h = go (end_cell (local_parts types f x) (cell st x) x st) (one_ended x st h (cell st x)) (λ after k. ends_buffered xs after k)
+    where
+      go : (e : Effect) → OnNext e (IsBuffered types) → ((after : State) → IsBuffered types after → OnNext (end_locals types f xs after) (IsBuffered types)) → OnNext (on_next e (end_locals types f xs)) (IsBuffered types)
+      go (Next st1) h each = each st1 h
+      go (Traps kind) h each = tt
+      go (Faults kind) h each = tt
+      go Strays h each = tt
+
+-- ---- what is reached
+
+module _ (types : Types) (f : Function) (S : Fact → Type 0) (st : State) where
+  -- elsewhere there is no next state
+  pub by_next : (o : Operand) → Reach types f st NoInput any_root S o → (go : Spot → Effect) (Q : State → Type 0) → (IsReached types f st NoInput any_root S o → OnNext (on_spot types f o st go) Q) → OnNext (on_spot types f o st go) Q
+  by_next o (reached r) go Q each = each r
+  by_next o (fixed k e single) go Q each = subst (λ found. OnNext (on_found found (λ n i object. go (record { object = n; index = i; word = operand_word types f o st }))) Q) (sym e) tt
+  by_next o (outside e) go Q each = subst (λ found. OnNext (on_found found (λ n i object. go (record { object = n; index = i; word = operand_word types f o st }))) Q) (sym e) tt
+  by_next o (astray e) go Q each = subst (λ found. OnNext (on_found found (λ n i object. go (record { object = n; index = i; word = operand_word types f o st }))) Q) (sym e) tt
+
+-- each slot has its words
+all_some : (types : Types) (w : ℕ) → 0 < w → (ss : List Slot) → AllWide w ss → AllSome types ss
+all_some types w lt [] h i t e = absurd (none_some e)
+all_some types w lt (x ∷ ss) h zero t e = subst (λ (y : Slot). 0 < length y.words) (some_same e) (let l = h.0 in omega (arith, l, lt))
+all_some types w lt (x ∷ ss) h (suc i) t e = all_some types w lt ss h.1 i t e
+
+-- ---- changes of an owner that is reached
+
+module _ (types : Types) (f : Function) (rest : ℕ → ℕ) (S : Fact → Type 0) (st : State) (k : IsKnownFrame types f rest S st) (o : Operand) (r : IsReached types f st NoInput any_root S o) (s : Setting) where
+  pub holder_born : r.region.object < st.world.content.births
+  holder_born = k.stands.store.forest.births r.region.object r.holder r.there
+
+  all_of : IsAllOf types f rest S st k r.region
+  all_of = region_all types f rest S st k o r
+
+  pub holder_parts : (p : Parts) → parts_at types r.region.ty ≡ p → parts_at types r.holder.ty ≡ p
+  holder_parts p typed = ap (parts_at types) (all_of.type r.holder r.there) ∙ typed
+
+  pub is_owner : (p : Parts) → parts_at types r.region.ty ≡ p → width p ≡ 1 → IsBufferOwner types p → IsOwnerAt types st.world.content r.region.object
+  is_owner p typed one owner q there =
+      subst (λ (x : Object). IsBufferOwner types (parts_at types x.ty) × AllSome types x.slots) (some_same (sym r.there ∙ there)) (
+        subst (IsBufferOwner types) (sym (holder_parts p typed)) owner,
+        all_some types r.holder.width (let a = (k.stands.store.fit r.region.object r.holder r.there).width in let b = ap width (holder_parts p typed) in omega (arith, a, b, one)) r.holder.slots (k.stands.store.fit r.region.object r.holder r.there).slots,
+      )
+
+  -- it is all of its object
+  pub at_start : (P : Spot → Type 0) → P (record { object = r.region.object; index = r.index; word = 0 }) → P (record { object = r.region.object; index = r.index; word = r.region.word })
+  at_start P h = subst (λ w. P (record { object = r.region.object; index = r.index; word = w })) (sym all_of.word) h
+
+  module _ (b : ℕ) (owned : owned_at st.world.content (record { object = r.region.object; index = r.index; word = r.region.word }) ≡ Some b) where
+    edit_next : (p : Parts) (edit : Edit) → IfGot (edited s p (record { object = r.region.object; index = r.index; word = r.region.word }) b edit st.world.content) (AreBuffered types)
+        → OnNext (edits s p (record { object = r.region.object; index = r.index; word = r.region.word }) edit st) (IsBuffered types)
+    edit_next p edit h =
+        subst (λ w. OnNext (on_got (got_or w (GotFault fault.Moved)) go) (IsBuffered types)) (sym owned)
+        (on_got_next (edited s p (record { object = r.region.object; index = r.index; word = r.region.word }) b edit st.world.content) (λ d. Next (put_content d st)) (AreBuffered types) (IsBuffered types) h (λ d j. j))
+      where
+        go : ℕ → Effect
+        go m = on_got (edited s p (record { object = r.region.object; index = r.index; word = r.region.word }) m edit st.world.content) (λ d. Next (put_content d st))
+
+  no_edit : (p : Parts) (edit : Edit) → ((b : ℕ) → edited s p (record { object = r.region.object; index = r.index; word = r.region.word }) b edit st.world.content ≡ GotLost) → OnNext (edits s p (record { object = r.region.object; index = r.index; word = r.region.word }) edit st) (IsBuffered types)
+  no_edit p edit lost =
+      on_got_each (buffer_of st.world.content (record { object = r.region.object; index = r.index; word = r.region.word })) (λ b. on_got (edited s p (record { object = r.region.object; index = r.index; word = r.region.word }) b edit st.world.content) (λ d. Next (put_content d st))) (IsBuffered types)
+      (λ b. subst (λ (x : Attempt Content). OnNext (on_got x (λ d. Next (put_content d st))) (IsBuffered types)) (sym (lost b)) tt)
+
+  by_change : (p : Parts) → operand_parts types f o ≡ p → (change : Change) → OnNext (changed s types f p (record { object = r.region.object; index = r.index; word = r.region.word }) change st) (IsBuffered types) → OnNext (does s types f (Changes o change) st) (IsBuffered types)
+  by_change p is change h =
+      subst (λ e. OnNext e (IsBuffered types)) (sym (spot_is types f st NoInput any_root S o r (λ sp. changed s types f (operand_parts types f o) sp change st)))
+      (subst (λ q. OnNext (changed s types f q (record { object = r.region.object; index = r.index; word = r.region.word }) change st) (IsBuffered types)) (sym is) h)
+
+  -- a number, or no value, is added
+  by_number : (p : Parts) (x : ℕ) → ((m : ℕ) → cell st x ≡ Some (Named m) → ⊥) → ((z : ℤ) → OnNext (edits s p (record { object = r.region.object; index = r.index; word = r.region.word }) (Push (λ c. (word_of_number z ∷ [], c))) st) (IsBuffered types))
+      → OnNext (pushes s types f p (record { object = r.region.object; index = r.index; word = r.region.word }) x (cell st x) st) (IsBuffered types)
+  by_number p x free each = go (cell st x) refl
+    where
+      go : (v : Option Cell) → cell st x ≡ v → OnNext (pushes s types f p (record { object = r.region.object; index = r.index; word = r.region.word }) x v st) (IsBuffered types)
+      go None e = tt
+      go (Some Empty) e = tt
+      go (Some (Points q)) e = tt
+      go (Some (Number z)) e = each z
+      go (Some (Named m)) e = absurd (free m e)
+
+  given_next : (given : Characters) (go : List ℕ → Effect) (Q : State → Type 0) → ((ws : List ℕ) → OnNext (go ws) Q) → OnNext (on_given s types f given st go) Q
+  given_next (named.View l) go Q each = on_got_each (used st.world.content (location_cell types f l st)) (λ v. go (seen_words s.texts st.world.content v)) Q (λ v. each (seen_words s.texts st.world.content v))
+  given_next (named.Single q) go Q each = on_number_next (cell st q) (λ z. go (word_of_number z ∷ [])) Q (λ z. each (word_of_number z ∷ []))
+
+  -- ---- a string
+
+  module _ (is_text : type_of types f o ≡ ty.Text) where
+    text_at : IsOpened types f rest S st k o r ty.Text (characters_type types)
+    text_at = text_opened types f rest S st k o r is_text
+
+    pub text_parts : parts_at types r.region.ty ≡ Text (characters_type types)
+    text_parts = parts_typed types k.ordered r.region.ty ty.Text text_at.there
+
+    pub text_operand : operand_parts types f o ≡ Text (characters_type types)
+    text_operand = ap (parts_if types) text_at.typed ∙ text_parts
+
+    text_rewritten : (words : List ℕ) → IfGot (rewritten s (characters_type types) (record { object = r.region.object; index = r.index; word = r.region.word }) text_at.buffer words st.world.content) (AreBuffered types)
+    text_rewritten words =
+        at_start (λ spot. IfGot (rewritten s (characters_type types) spot text_at.buffer words st.world.content) (AreBuffered types))
+        (rewritten_buffered types s (characters_type types) r.region.object r.index text_at.buffer words st.world.content (character_parts types k.ordered) holder_born (is_owner (Text (characters_type types)) text_parts refl (λ ws m e. (m, e))) k.buffered)
+
+    text_edit : (edit : Edit) (words : List ℕ) → edited s (Text (characters_type types)) (record { object = r.region.object; index = r.index; word = r.region.word }) text_at.buffer edit st.world.content
+        ≡ rewritten s (characters_type types) (record { object = r.region.object; index = r.index; word = r.region.word }) text_at.buffer words st.world.content
+        → OnNext (edits s (Text (characters_type types)) (record { object = r.region.object; index = r.index; word = r.region.word }) edit st) (IsBuffered types)
+    text_edit edit words is = edit_next text_at.buffer text_at.owned (Text (characters_type types)) edit (subst (λ (x : Attempt Content). IfGot x (AreBuffered types)) (sym is) (text_rewritten words))
+
+    text_changed : (change : Change) → ((x : ℕ) → change ≡ PushBack x → (m : ℕ) → cell st x ≡ Some (Named m) → ⊥) → OnNext (changed s types f (Text (characters_type types)) (record { object = r.region.object; index = r.index; word = r.region.word }) change st) (IsBuffered types)
+    text_changed (PushBack x) free = by_number (Text (characters_type types)) x (free x refl) (λ z. text_edit (Push (λ c. (word_of_number z ∷ [], c))) (characters_of st.world.content text_at.buffer ++ (word_of_number z ∷ [])) refl)
+    text_changed PopBack free = no_edit (Text (characters_type types)) Pop (λ b. refl)
+    text_changed Clear free = text_edit ClearAll [] refl
+    text_changed (Reserve n) free = on_number_next (cell st n) (λ z. edits s (Text (characters_type types)) (record { object = r.region.object; index = r.index; word = r.region.word }) (Room (cast_unsigned w64 z)) st) (IsBuffered types) (λ z. no_edit (Text (characters_type types)) (Room (cast_unsigned w64 z)) (λ b. refl))
+    text_changed (Erase from into) free = on_got_each (iterator st.world.content (location_cell types f from st)) (λ v. erases types f (Text (characters_type types)) (record { object = r.region.object; index = r.index; word = r.region.word }) v into st) (IsBuffered types) (λ v. tt)
+    text_changed (Set given) free = given_next given (λ ws. edits s (Text (characters_type types)) (record { object = r.region.object; index = r.index; word = r.region.word }) (Put ws) st) (IsBuffered types) (λ ws. text_edit (Put ws) ws refl)
+    text_changed (Append given) free =
+        given_next given (λ ws. edits s (Text (characters_type types)) (record { object = r.region.object; index = r.index; word = r.region.word }) (Add ws) st) (IsBuffered types) (λ ws. text_edit (Add ws) (characters_of st.world.content text_at.buffer ++ ws) refl)
+
+    pub text_buffered : (change : Change) → ((x : ℕ) → change ≡ PushBack x → (m : ℕ) → cell st x ≡ Some (Named m) → ⊥) → OnNext (does s types f (Changes o change) st) (IsBuffered types)
+    text_buffered change free = by_change (Text (characters_type types)) text_operand change (text_changed change free)
+
+  -- ---- a vector
+
+  module _ (element : TyId) (is_vector : type_of types f o ≡ ty.Vector element) where
+    vector_at : IsOpened types f rest S st k o r (ty.Vector element) element
+    vector_at = vector_opened types f rest S st k o r element is_vector
+
+    pub vector_parts : parts_at types r.region.ty ≡ Vector element (parts_at types element)
+    vector_parts = parts_typed types k.ordered r.region.ty (ty.Vector element) vector_at.there
+
+    pub vector_operand : operand_parts types f o ≡ Vector element (parts_at types element)
+    vector_operand = ap (parts_if types) vector_at.typed ∙ vector_parts
+
+    held : (x : Object) × (at st.world.content.objects vector_at.buffer ≡ Some x)
+    held =
+        buffer types k.ordered (hand_of rest st) st.world.content (store_of types f rest S st k) r.region.object r.index r.region.word r.region.ty r.holder r.there (region_within types f rest S st k o r) r.small element (parts_at types element) vector_parts vector_at.buffer vector_at.owned
+
+    held_type : held.0.ty ≡ element
+    unfolding held
+    held_type =
+        buffer_type types k.ordered (hand_of rest st) st.world.content (store_of types f rest S st k) r.region.object r.index r.region.word r.region.ty r.holder r.there (region_within types f rest S st k o r) r.small element (parts_at types element) vector_parts vector_at.buffer vector_at.owned
+
+    -- what its elements have lives
+    free_of : (p : Parts) → parts_at types held.0.ty ≡ p → (j : ℕ) (t : Slot) → slice_get held.0.slots j ≡ Some t → IsFree types p (λ m. ⊥ ⊎ (m ≡ st.world.content.births)) t.words
+    free_of (Text id) typed j t slot = λ m e out. ⊎_elim (λ none. none) (λ new.
+        let l = buffer_lives types k.ordered (hand_of rest st) st.world.content (store_of types f rest S st k) vector_at.buffer j 0 held.0.ty held.0 held.1 (within_self types held.0.ty) (slot_within held.0.slots j t slot) (Text id) typed m
+        (ap listed (owned_is st.world.content vector_at.buffer j 0 held.0 held.1 ∙ ap (λ (x : Option Slot). owned_in (word_in x 0)) slot ∙ e)) in
+        let born = k.stands.store.forest.births m l.0 l.1 in absurd (omega (arith, born, new))) out
+    free_of Single typed j t slot = tt
+    free_of Raw typed j t slot = tt
+    free_of Iterates typed j t slot = tt
+    free_of Views typed j t slot = tt
+    free_of (Vector id item) typed j t slot = tt
+    free_of (Unique id target) typed j t slot = tt
+    free_of (Member first others) typed j t slot = tt
+    free_of NoMember typed j t slot = tt
+
+    all_free : AreFree types (parts_at types element) (λ m. ⊥ ⊎ (m ≡ st.world.content.births)) (slots_at st.world.content vector_at.buffer)
+    all_free j t slot =
+        let here : slice_get held.0.slots j ≡ Some t = sym (ap (λ (x : Option Object). slice_get (slots_if x) j) held.1) ∙ slot in (
+          subst (λ (id : TyId). HasBuffers (parts_at types id) t.words) held_type (k.buffered vector_at.buffer j held.0 t held.1 here),
+          free_of (parts_at types element) (ap (parts_at types) held_type) j t here,
+        )
+
+    vector_reserved : (count : ℕ) → IfGot (reserved s element (parts_at types element) (record { object = r.region.object; index = r.index; word = r.region.word }) vector_at.buffer count st.world.content) (AreBuffered types)
+    vector_reserved count =
+        at_start (λ spot. IfGot (reserved s element (parts_at types element) spot vector_at.buffer count st.world.content) (AreBuffered types))
+        (reserved_buffered types s element (parts_at types element) (whole_parts types k.plain element) refl r.region.object r.index vector_at.buffer count st.world.content all_free holder_born
+        (is_owner (Vector element (parts_at types element)) vector_parts refl (λ ws m e. (m, e))) k.buffered)
+
+    module _ (single : parts_at types element ≡ Single) where
+      -- it has another object than itself
+      apart : vector_at.buffer ≢ r.region.object
+      apart e = unlike (sym single ∙ ap (parts_at types) (sym held_type) ∙ ap (λ (x : Object). parts_at types x.ty) (some_same (sym held.1 ∙ ap (at st.world.content.objects) e ∙ r.there)) ∙ holder_parts (Vector element (parts_at types element)) vector_parts)
+        where
+          unlike : Single ≡ Vector element (parts_at types element) → ⊥
+          unlike h = cc
+
+      vector_pushed : (z : ℤ) → OnNext (edits s (Vector element Single) (record { object = r.region.object; index = r.index; word = r.region.word }) (Push (λ c. (word_of_number z ∷ [], c))) st) (IsBuffered types)
+      vector_pushed z =
+          edit_next vector_at.buffer vector_at.owned (Vector element Single) (Push (λ c. (word_of_number z ∷ [], c)))
+          (at_start (λ spot. IfGot (pushed s element Single spot vector_at.buffer (λ c. (word_of_number z ∷ [], c)) st.world.content) (AreBuffered types))
+          (pushed_buffered types s element single vector_at.buffer st.world.content k.buffered (λ x there. ap (λ (y : Object). y.ty) (some_same (sym there ∙ held.1)) ∙ held_type) (λ j t e. (tt, tt)) r.region.object r.index (word_of_number z ∷ []) holder_born apart
+          (is_owner (Vector element (parts_at types element)) vector_parts refl (λ ws m e. (m, e)))))
+
+    -- nothing is erased, and to a vector of objects none is added
+    abbrev pub IsKept : Change → Type 0
+    IsKept (Erase from into) = ⊥
+    IsKept (PushBack x) = (parts_at types element ≡ Single) × ((m : ℕ) → cell st x ≡ Some (Named m) → ⊥)
+    IsKept _ = Unit {0}
+
+    vector_changed : (change : Change) → IsKept change → OnNext (changed s types f (Vector element (parts_at types element)) (record { object = r.region.object; index = r.index; word = r.region.word }) change st) (IsBuffered types)
+    vector_changed (PushBack x) kept =
+        subst (λ (p : Parts). OnNext (pushes s types f (Vector element p) (record { object = r.region.object; index = r.index; word = r.region.word }) x (cell st x) st) (IsBuffered types)) (sym kept.0) (by_number (Vector element Single) x kept.1 (vector_pushed kept.0))
+    vector_changed PopBack kept = edit_next vector_at.buffer vector_at.owned (Vector element (parts_at types element)) Pop (popped_buffered types (parts_at types element) vector_at.buffer (size_of st.world.content vector_at.buffer) st.world.content refl k.buffered)
+    vector_changed Clear kept = edit_next vector_at.buffer vector_at.owned (Vector element (parts_at types element)) ClearAll (cleared_buffered types (parts_at types element) vector_at.buffer st.world.content k.buffered)
+    vector_changed (Reserve n) kept =
+        on_number_next (cell st n) (λ z. edits s (Vector element (parts_at types element)) (record { object = r.region.object; index = r.index; word = r.region.word }) (Room (cast_unsigned w64 z)) st) (IsBuffered types)
+        (λ z. edit_next vector_at.buffer vector_at.owned (Vector element (parts_at types element)) (Room (cast_unsigned w64 z)) (vector_reserved (cast_unsigned w64 z)))
+    vector_changed (Erase from into) kept = absurd kept
+    vector_changed (Set given) kept =
+        given_next given (λ ws. edits s (Vector element (parts_at types element)) (record { object = r.region.object; index = r.index; word = r.region.word }) (Put ws) st) (IsBuffered types) (λ ws. no_edit (Vector element (parts_at types element)) (Put ws) (λ b. refl))
+    vector_changed (Append given) kept =
+        given_next given (λ ws. edits s (Vector element (parts_at types element)) (record { object = r.region.object; index = r.index; word = r.region.word }) (Add ws) st) (IsBuffered types) (λ ws. no_edit (Vector element (parts_at types element)) (Add ws) (λ b. refl))
+
+    pub vector_buffered : (change : Change) → IsKept change → OnNext (does s types f (Changes o change) st) (IsBuffered types)
+    vector_buffered change kept = by_change (Vector element (parts_at types element)) vector_operand change (vector_changed change kept)

@@ -1,0 +1,213 @@
+-- Each vector and each string has its buffer where a number is saved, a value is copied, or a local comes to life, in a frame without structs.
+use Rattle.std.proofs.Common.{◌≡◌, inr, ℕ, suc, ◌+◌, ◌*◌, Bool, true, false, List, [], ◌∷◌, Option, Some, None, refl, sym, ap, subst, ◌∙◌}
+use Rattle.std.specs.Prelude.{ℤ, cond, nat_lt, slice_get}
+use Rattle.std.proofs.lemmas.Bool.{false≢true}
+use Rattle.life_types.specs.TypeTests.{is_pointer, is_value, is_void}
+use Rattle.life_types.specs.Types.{Types, class}
+use Rattle.life_types.specs.declared.ty.Ty.{Ty}
+use Rattle.life_types.specs.declared.ty.Ty.TheVariants as ty
+use Rattle.life_types.specs.declared.ty.TyId.{TyId}
+use Rattle.life_core.specs.declared.instr.Form.{Form}
+use Rattle.life_core.specs.declared.program.Local.{Local}
+use Rattle.life_core.specs.declared.program.LocalKind.{LocalKind}
+use Rattle.life_core.specs.Function.{Function}
+use Rattle.life_core.specs.Holdings.{Holding, Blank, AnObject, ANumber, APointer, AView, held_by, held_if, sort_of}
+use Rattle.life_core.specs.Operands.{Operand}
+use Rattle.life_core.specs.Step.{Copy, Live, Save}
+use Rattle.life_pset.specs.declared.element.Fact.{Fact}
+use Rattle.life_proper.specs.Placed.{type_of}
+use Rattle.life_store.specs.Births.{born_object, born_owner, live_as, live_local, live_of, live_over, with_value_object}
+use Rattle.life_store.specs.Cells.{at}
+use Rattle.life_store.specs.Content.{Object, live_words_of, newborn, resized, with_birth, with_object, with_word}
+use Rattle.life_store.specs.Doing.{copied_to, does, on_character, replaced, saved}
+use Rattle.life_store.specs.Effects.{Effect, Next, Traps, Setting, cell, put_cell, put_content, word_of_number}
+use Rattle.life_store.specs.Held.{words_at}
+use Rattle.life_store.specs.Owners.{copied, fresh, object_with}
+use Rattle.life_store.specs.Parts.{Parts, Single, Raw, Iterates, Views, Text, Vector, Unique, Member, NoMember, characters_type, operand_parts, operand_type, parts_at, parts_if, parts_of, width}
+use Rattle.life_store.specs.Places.{Spot, locate, on_found, on_place, operand_word}
+use Rattle.life_store.specs.State.{Cell, Empty, Named, Number, Points, State}
+use Rattle.life_store.specs.declared.run.TrapKind.TheVariants as trap
+use Rattle.life_store.proofs.CellLemmas.{some_same}
+use Rattle.life_forest.specs.Frames.{OnNext}
+use Rattle.life_forest.specs.Kinds.{rank_of}
+use Rattle.life_forest.proofs.Frames.{on_got_next}
+use Rattle.life_forest.proofs.Laying.{IsMade, made_at, parts_made}
+use Rattle.life_forest.proofs.OneNumber.{IsOfType}
+use Rattle.life_forest.proofs.SeenTypes.{value_parts}
+use Rattle.life_forest.proofs.StandingChanges.{on_number_next}
+use Rattle.life_forest.proofs.StandingCopies.{on_character_next}
+use Rattle.life_forest.proofs.StandingNumbers.{on_place_each}
+use Rattle.life_forest.proofs.TypedSteps.{operand_of, value_solid}
+use Rattle.life_cover.specs.Buffered.{AreBuffered}
+use Rattle.life_cover.specs.Frames.{NoInput, any_root}
+use Rattle.life_cover.proofs.Buffering.{IsBufferOwner, all_in, birth_but, none_out, set_but, single_have}
+use Rattle.life_cover.proofs.Copies.{IsWhole, whole_parts}
+use Rattle.life_cover.proofs.CopyKinds.{IsCopyable}
+use Rattle.life_cover.proofs.KeptBuffers.{IsBuffered, at_start, by_next, holder_born, holder_parts, is_owner, text_operand, text_parts, vector_operand, vector_parts}
+use Rattle.life_cover.proofs.KnownFrames.{IsKnownFrame}
+use Rattle.life_cover.proofs.Reaching.{IsReached, Reach, reached, fixed, outside, astray, spot_is}
+use Rattle.life_cover.proofs.Rebuffering.{wrote_single}
+use Rattle.life_cover.proofs.Recopying.{IsCopied, IsOwningRow, born_buffered, copied_but, replaced_buffered}
+use Rattle.life_cover.proofs.SaveKinds.{value_there}
+
+module _ (types : Types) (f : Function) (rest : ℕ → ℕ) (S : Fact → Type 0) (st : State) (k : IsKnownFrame types f rest S st) (o : Operand) (s : Setting) where
+  -- ---- a number is saved
+
+  module _ (value : is_value (type_of types f o) ≡ true) where
+    saved_buffered : (r : IsReached types f st NoInput any_root S o) (word : ℕ) → AreBuffered types (with_object r.region.object (with_word r.index r.region.word word r.holder) st.world.content)
+    saved_buffered r word =
+        all_in types (with_object r.region.object (with_word r.index r.region.word word r.holder) st.world.content)
+        (set_but types (λ n. ⊥) r.region.object (with_word r.index r.region.word word r.holder) st.world.content (with_object r.region.object (with_word r.index r.region.word word r.holder) st.world.content)
+        (inr (single_have types (with_word r.index r.region.word word r.holder) (holder_parts types f rest S st k o r s Single (value_there types f rest S st k o r value)))) refl (none_out types st.world.content k.buffered))
+
+    found_saved : Reach types f st NoInput any_root S o → (z : ℤ) → OnNext (on_found (locate types f o st) (λ n i object. Next (saved z n i (operand_word types f o st) object st))) (IsBuffered types)
+    found_saved (reached r) z =
+        subst (λ found. OnNext (on_found found (λ n i object. Next (saved z n i (operand_word types f o st) object st))) (IsBuffered types)) (sym r.found)
+        (subst (λ w. AreBuffered types (with_object r.region.object (with_word r.index w (word_of_number z) r.holder) st.world.content)) (sym r.word) (saved_buffered r (word_of_number z)))
+    found_saved (fixed c e single) z = subst (λ found. OnNext (on_found found (λ n i object. Next (saved z n i (operand_word types f o st) object st))) (IsBuffered types)) (sym e) tt
+    found_saved (outside e) z = subst (λ found. OnNext (on_found found (λ n i object. Next (saved z n i (operand_word types f o st) object st))) (IsBuffered types)) (sym e) tt
+    found_saved (astray e) z = subst (λ found. OnNext (on_found found (λ n i object. Next (saved z n i (operand_word types f o st) object st))) (IsBuffered types)) (sym e) tt
+
+    pub save_buffered : Reach types f st NoInput any_root S o → (q : ℕ) → OnNext (does s types f (Save o q) st) (IsBuffered types)
+    save_buffered reach q = on_number_next (cell st q) (λ z. on_found (locate types f o st) (λ n i object. Next (saved z n i (operand_word types f o st) object st))) (IsBuffered types) (found_saved reach)
+
+  -- ---- a copy is written where an operand is reached
+
+  module _ (r : IsReached types f st NoInput any_root S o) where
+    value_written : parts_at types r.region.ty ≡ Single → (ws : List ℕ) → OnNext (copied_to s Single (record { object = r.region.object; index = r.index; word = r.region.word }) ws st) (IsBuffered types)
+    value_written single ws =
+        all_in types (replaced Single (record { object = r.region.object; index = r.index; word = r.region.word }) (ws, st.world.content))
+        (wrote_single types r.region.object r.index r.region.word ws st.world.content (λ x there. ap (λ (y : Object). parts_at types y.ty) (some_same_here x there) ∙ holder_parts types f rest S st k o r s Single single) (none_out types st.world.content k.buffered))
+      where
+        some_same_here : (x : Object) → at st.world.content.objects r.region.object ≡ Some x → x ≡ r.holder
+        some_same_here x there = some_same (sym there ∙ r.there)
+
+    owner_written : (p : Parts) → parts_at types r.region.ty ≡ p → width p ≡ 1 → IsBufferOwner types p → ((ws : List ℕ) → IsOwningRow p ws → (b : ℕ) × (ws ≡ suc b ∷ [])) → (ws : List ℕ) → OnNext (copied_to s p (record { object = r.region.object; index = r.index; word = r.region.word }) ws st) (IsBuffered types)
+    owner_written p typed one owner row ws =
+        on_got_next (copied s p ws st.world.content) (λ v. Next (put_content (replaced p (record { object = r.region.object; index = r.index; word = r.region.word }) v) st)) (IsCopied types k.ordered s p (λ n. ⊥) st.world.content) (IsBuffered types)
+        (copied_but types k.ordered s p (rank_of types r.region.ty) (subst IsWhole typed (whole_parts types k.plain r.region.ty)) (subst (IsMade types k.ordered (rank_of types r.region.ty)) typed (made_at types k.ordered r.region.ty)) (λ n. ⊥) ws st.world.content (none_out types st.world.content k.buffered))
+        (λ v copy. at_start types f rest S st k o r s (λ spot. AreBuffered types (replaced p spot v))
+        (replaced_buffered types k.ordered s p row r.region.object r.index st.world.content v copy (holder_born types f rest S st k o r s) (is_owner types f rest S st k o r s p typed one owner)))
+
+    by_parts : (p : Parts) → operand_parts types f o ≡ p → ((ws : List ℕ) → OnNext (copied_to s p (record { object = r.region.object; index = r.index; word = r.region.word }) ws st) (IsBuffered types))
+        → (ws : List ℕ) → OnNext (copied_to s (operand_parts types f o) (record { object = r.region.object; index = r.index; word = r.region.word }) ws st) (IsBuffered types)
+    by_parts p is each ws = subst (λ (q : Parts). OnNext (copied_to s q (record { object = r.region.object; index = r.index; word = r.region.word }) ws st) (IsBuffered types)) (sym is) (each ws)
+
+    by_value : (u : Ty) → type_of types f o ≡ u → is_value u ≡ true → (ws : List ℕ) → OnNext (copied_to s (operand_parts types f o) (record { object = r.region.object; index = r.index; word = r.region.word }) ws st) (IsBuffered types)
+    by_value u is value =
+        let of : IsOfType types (operand_type types f o) u = operand_of types k.ordered k.once 0 [] f k.shaped o u is (value_solid u value) in
+        by_parts Single (ap (parts_if types) of.is ∙ value_parts types k.ordered of.number u of.there value) (value_written (value_there types f rest S st k o r (ap is_value is ∙ value)))
+
+    written : (u : Ty) → type_of types f o ≡ u → is_void u ≡ false → is_pointer u ≡ false → IsCopyable u → (ws : List ℕ) → OnNext (copied_to s (operand_parts types f o) (record { object = r.region.object; index = r.index; word = r.region.word }) ws st) (IsBuffered types)
+    written ty.Bool is solid pointer can = by_value ty.Bool is refl
+    written ty.Char is solid pointer can = by_value ty.Char is refl
+    written ty.Int is solid pointer can = by_value ty.Int is refl
+    written ty.Long is solid pointer can = by_value ty.Long is refl
+    written ty.Size is solid pointer can = by_value ty.Size is refl
+    written ty.Text is solid pointer can =
+        by_parts (Text (characters_type types)) (text_operand types f rest S st k o r s is) (owner_written (Text (characters_type types)) (text_parts types f rest S st k o r s is) refl (λ ws m e. (m, e)) (λ ws row. row))
+    written (ty.Vector element) is solid pointer can =
+        by_parts (Vector element (parts_at types element)) (vector_operand types f rest S st k o r s element is)
+        (owner_written (Vector element (parts_at types element)) (vector_parts types f rest S st k o r s element is) refl (λ ws m e. (m, e)) (λ ws row. row))
+    written (ty.Unique target) is solid pointer can = absurd can
+    written (ty.Struct number) is solid pointer can = absurd can
+    written ty.Void is solid pointer can = absurd (false≢true (sym solid))
+    written _ is solid pointer can = absurd (false≢true (sym pointer))
+
+    copied_over : (from : Operand) → ((ws : List ℕ) → OnNext (copied_to s (operand_parts types f o) (record { object = r.region.object; index = r.index; word = r.region.word }) ws st) (IsBuffered types))
+        → OnNext (on_place (locate types f from st) (λ m i object. copied_to s (operand_parts types f o) (record { object = r.region.object; index = r.index; word = r.region.word }) (words_at st.world.content m i (operand_word types f from st) (width (operand_parts types f o))) st)
+        (λ c. on_character s.texts c (λ z. copied_to s (operand_parts types f o) (record { object = r.region.object; index = r.index; word = r.region.word }) (word_of_number z ∷ []) st))) (IsBuffered types)
+    copied_over from each =
+        on_place_each (locate types f from st) (λ m i object. copied_to s (operand_parts types f o) (record { object = r.region.object; index = r.index; word = r.region.word }) (words_at st.world.content m i (operand_word types f from st) (width (operand_parts types f o))) st)
+        (λ c. on_character s.texts c (λ z. copied_to s (operand_parts types f o) (record { object = r.region.object; index = r.index; word = r.region.word }) (word_of_number z ∷ []) st)) (IsBuffered types)
+        (λ m i object. each (words_at st.world.content m i (operand_word types f from st) (width (operand_parts types f o))))
+        (λ c. on_character_next s.texts c (λ z. copied_to s (operand_parts types f o) (record { object = r.region.object; index = r.index; word = r.region.word }) (word_of_number z ∷ []) st) (IsBuffered types) (λ z. each (word_of_number z ∷ [])))
+
+  pub copy_buffered : Reach types f st NoInput any_root S o → (from : Operand) → is_void (type_of types f o) ≡ false → is_pointer (type_of types f o) ≡ false → IsCopyable (type_of types f o) → OnNext (does s types f (Copy o from) st) (IsBuffered types)
+  copy_buffered reach from solid pointer can =
+      by_next types f S st o reach go (IsBuffered types) (λ r. subst (λ e. OnNext e (IsBuffered types)) (sym (spot_is types f st NoInput any_root S o r go)) (copied_over r from (written r (type_of types f o) refl solid pointer can)))
+    where
+      go : Spot → Effect
+      go spot =
+          on_place (locate types f from st) (λ m i object. copied_to s (operand_parts types f o) spot (words_at st.world.content m i (operand_word types f from st) (width (operand_parts types f o))) st)
+          (λ c. on_character s.texts c (λ z. copied_to s (operand_parts types f o) spot (word_of_number z ∷ []) st))
+
+-- ---- a local comes to life
+
+blank_object : Blank ≡ AnObject → ⊥
+blank_object e = cc
+
+pointer_object : APointer ≡ AnObject → ⊥
+pointer_object e = cc
+
+view_object : AView ≡ AnObject → ⊥
+view_object e = cc
+
+module _ (types : Types) (f : Function) (rest : ℕ → ℕ) (S : Fact → Type 0) (st : State) (k : IsKnownFrame types f rest S st) (s : Setting) (x : ℕ) (form : Form) where
+  owner_born : (ty : TyId) → OnNext (born_owner s ty (parts_at types ty) form x st) (IsBuffered types)
+  owner_born ty =
+      on_got_next (object_with s ty (parts_at types ty) (fresh s form (parts_at types ty)) st.world.content) (λ b. Next (put_cell x (Named b.0) (put_content b.1 st))) (λ b. AreBuffered types b.1) (IsBuffered types)
+      (born_buffered types k.ordered s form ty st.world.content (whole_parts types k.plain ty) k.buffered) (λ b h. h)
+
+  value_born : (ty : TyId) → parts_at types ty ≡ Single → OnNext (born_object s ty x st) (IsBuffered types)
+  value_born ty single = if_room (nat_lt s.given.cells (live_words_of st.world.content + (2 + 1 * 1)))
+    where
+      if_room : (b : Bool) → OnNext (cond b (Traps trap.Cells) (Next (put_cell x (Named st.world.content.births) (put_content (with_value_object ty st.world.content) st)))) (IsBuffered types)
+      if_room true = tt
+      if_room false =
+          all_in types (with_value_object ty st.world.content)
+          (set_but types (λ n. ⊥) st.world.content.births (resized (st.world.content.clock + 1) 1 0 (newborn ty 1 1 st.world.content.clock)) (with_birth ty 1 1 st.world.content) (with_value_object ty st.world.content)
+          (inr (single_have types (resized (st.world.content.clock + 1) 1 0 (newborn ty 1 1 st.world.content.clock)) single)) refl (birth_but types (λ n. ⊥) ty 1 1 st.world.content (none_out types st.world.content k.buffered)))
+
+  of_parts : (ty : TyId) (p : Parts) → parts_at types ty ≡ p → OnNext (live_of s ty p form x st) (IsBuffered types)
+  of_parts ty Single e = tt
+  of_parts ty Raw e = tt
+  of_parts ty Iterates e = k.buffered
+  of_parts ty Views e = k.buffered
+  of_parts ty (Text id) e = subst (λ (p : Parts). OnNext (born_owner s ty p form x st) (IsBuffered types)) e (owner_born ty)
+  of_parts ty (Vector id element) e = subst (λ (p : Parts). OnNext (born_owner s ty p form x st) (IsBuffered types)) e (owner_born ty)
+  of_parts ty (Unique id target) e = subst (λ (p : Parts). OnNext (born_owner s ty p form x st) (IsBuffered types)) e (owner_born ty)
+  of_parts ty (Member first others) e = subst (λ (p : Parts). OnNext (born_owner s ty p form x st) (IsBuffered types)) e (owner_born ty)
+  of_parts ty NoMember e = tt
+
+  as_held : (h : Holding) (ty : TyId) → (h ≡ AnObject → parts_at types ty ≡ Single) → OnNext (live_as s types h ty form x st) (IsBuffered types)
+  as_held Blank ty single = of_parts ty (parts_at types ty) refl
+  as_held AnObject ty single = value_born ty (single refl)
+  as_held ANumber ty single = tt
+  as_held APointer ty single = k.buffered
+  as_held AView ty single = k.buffered
+
+  -- an object of its own is a value's
+  object_single : (o : Option Ty) (kind : LocalKind) → held_if (class o) kind o ≡ AnObject → parts_of types (parts_at types) o ≡ Single
+  object_single None kind e = refl
+  object_single (Some ty.Void) kind e = refl
+  object_single (Some ty.Bool) kind e = refl
+  object_single (Some ty.Char) kind e = refl
+  object_single (Some ty.Int) kind e = refl
+  object_single (Some ty.Long) kind e = refl
+  object_single (Some ty.Size) kind e = refl
+  object_single (Some ty.Text) kind e = absurd (blank_object e)
+  object_single (Some ty.View) kind e = absurd (view_object e)
+  object_single (Some (ty.Vector element)) kind e = absurd (blank_object e)
+  object_single (Some (ty.Unique target)) kind e = absurd (blank_object e)
+  object_single (Some (ty.Struct number)) kind e = absurd (blank_object e)
+  object_single (Some (ty.Raw target constant)) kind e = absurd (pointer_object e)
+  object_single (Some (ty.Reference target constant)) kind e = absurd (pointer_object e)
+  object_single (Some (ty.Iterator target constant)) kind e = absurd (blank_object e)
+  object_single (Some (ty.Span target constant)) kind e = absurd (blank_object e)
+
+  over_cell : (v : Option Cell) (h : Holding) (ty : TyId) → (h ≡ AnObject → parts_at types ty ≡ Single) → OnNext (live_over s types v h ty form x st) (IsBuffered types)
+  over_cell None h ty single = tt
+  over_cell (Some Empty) h ty single = as_held h ty single
+  over_cell (Some (Named n)) h ty single = tt
+  over_cell (Some (Number z)) h ty single = tt
+  over_cell (Some (Points p)) h ty single = tt
+
+  pub live_buffered : OnNext (does s types f (Live x form) st) (IsBuffered types)
+  live_buffered = by_local (slice_get f.locals x) refl
+    where
+      by_local : (o : Option Local) → slice_get f.locals x ≡ o → OnNext (live_local s types f (slice_get f.locals x) form x st) (IsBuffered types)
+      by_local None e = subst (λ (o : Option Local). OnNext (live_local s types f o form x st) (IsBuffered types)) (sym e) tt
+      by_local (Some l) e =
+          subst (λ (o : Option Local). OnNext (live_local s types f o form x st) (IsBuffered types)) (sym e)
+          (over_cell (cell st x) (sort_of types f x) l.ty (λ h. parts_made types k.ordered l.ty ∙ object_single (slice_get types.types l.ty.0) l.kind (sym (ap (held_by types) e) ∙ h)))

@@ -1,0 +1,141 @@
+-- An instruction of a frame without structs and inputs, at which nothing is wrong, makes no fault; and what is known of the frame before it is
+-- known behind it: the facts cover all pointers, and each vector and each string has its buffer.
+use Rattle.std.proofs.Common.{◌≡◌, ℕ, true, false, ◌&&◌, not, Some, List, refl, ap, subst}
+use Rattle.std.specs.Prelude.{if◌then◌else◌}
+use Rattle.std.proofs.lemmas.Bool.{and_parts, false≢true}
+use Rattle.std.proofs.lemmas.List.Elements.{Contains-append_left}
+use Rattle.life_types.specs.Pointees.{ty_of}
+use Rattle.life_types.specs.TypeTests.{is_constant, is_iterator, is_pointer, is_value, is_void}
+use Rattle.life_types.specs.Types.{Types}
+use Rattle.life_types.specs.declared.place.Place.{Place}
+use Rattle.life_types.specs.declared.ty.Ty.{Ty}
+use Rattle.life_types.specs.declared.ty.Ty.TheVariants as ty
+use Rattle.life_types.specs.declared.ty.TyId.{TyId}
+use Rattle.life_core.specs.Function.{Function}
+use Rattle.life_core.specs.Operands.{Location, Operand, whole}
+use Rattle.life_core.specs.Proper.{AreReady}
+use Rattle.life_core.specs.Step.{Advance, Aim, Append, Call, Change, Changes, Clear, Copy, Cursor, Cut, End, Erase, Eval, Live, Load, Make, Move, PopBack, Ports, PushBack, Repoint, Reserve, Same, Save, Set, Size, Step}
+use Rattle.life_core.specs.Step as step
+use Rattle.life_core.specs.Touched.{touched_by}
+use Rattle.life_pset.specs.declared.element.Fact.{Fact}
+use Rattle.life_contract.specs.Signatures.{Signature}
+use Rattle.life_proper.specs.OperandTypes.{aims_at, are_alike, is_range, keeps_const, same, walks}
+use Rattle.life_proper.specs.Placed.{element_of, is_const_base, is_const_place, is_given, is_number_of, register_at, type_at, type_in, type_of, type_of_element}
+use Rattle.life_proper.specs.WellFormed.{is_change_of, is_well_formed_step}
+use Rattle.life_rules.specs.Diagnosing.{used_in}
+use Rattle.life_store.specs.Doing.{changed, does}
+use Rattle.life_store.specs.Effects.{Effect, Next, Traps, Faults, Strays, Setting, cell}
+use Rattle.life_store.specs.Parts.{operand_parts}
+use Rattle.life_store.specs.State.{Named, State, ready_of}
+use Rattle.life_forest.specs.FrameTypes.{Stands}
+use Rattle.life_forest.specs.Frames.{OnNext}
+use Rattle.life_forest.specs.Settled.{IsPoised}
+use Rattle.life_forest.proofs.OneNumber.{same_solid, type_there}
+use Rattle.life_forest.proofs.ReadyCells.{number_any}
+use Rattle.life_forest.proofs.SeenTypes.{aims_seen, iterator_points, range_points, value_parts, walks_seen}
+use Rattle.life_forest.proofs.StandingNumbers.{evaluated_gives, loaded_gives, ports_give, sames_give, sizes_give}
+use Rattle.life_forest.proofs.TypedSteps.{IsSlotFree, value_solid}
+use Rattle.life_cover.specs.Frames.{FrameCovered, NoInput, any_root}
+use Rattle.life_cover.proofs.FrameSteps.{IsSpoken, IsSpokenChange, alike_points, at_pointer, not_false, source_points, step_covered}
+use Rattle.life_cover.proofs.KeptBuffers.{IsBuffered, IsKept, by_next, ends_buffered, text_buffered, vector_buffered}
+use Rattle.life_cover.proofs.KeptCopies.{copy_buffered, live_buffered, save_buffered}
+use Rattle.life_cover.proofs.KnownFrames.{IsKnownFrame, IsRight, number_free, reach_at, used_right}
+use Rattle.life_cover.proofs.Leaving.{advances_leave, aims_leave, cursors_leave, cuts_leave, elements_leave, repoints_leave}
+use Rattle.life_cover.proofs.Pointers.{OnRight}
+use Rattle.life_cover.proofs.Reaching.{IsReached, Reach}
+
+both_right : (e : Effect) (P Q : State → Type 0) → OnRight e P → OnNext e Q → OnRight e (λ st. P st × Q st)
+both_right (Next st) P Q h k = (h, k)
+both_right (Traps kind) P Q h k = tt
+both_right (Faults kind) P Q h k = h
+both_right Strays P Q h k = tt
+
+module _ (types : Types) (f : Function) (rest : ℕ → ℕ) (S : Fact → Type 0) (st : State) (k : IsKnownFrame types f rest S st) (sigs : List Signature) (n : ℕ) (place : Place) (S' : Fact → Type 0) (texts : ℕ) (fs : List Function) (s : Setting) where
+  abbrev Buffered : Step → Type 0
+  Buffered i = OnNext (does s types f i st) (IsBuffered types)
+
+  abbrev Right : Step → Type 0
+  Right i = IsRight sigs types n f place i S S'
+
+  -- ---- changes
+
+  module _ (o : Operand) (c : Change) (right : Right (Changes o c)) where
+    reach_owner : is_void (type_of types f o) ≡ false → Reach types f st NoInput any_root S o
+    reach_owner solid = reach_at types f rest S st k o solid (λ q h. used_right sigs types n f place (Changes o c) S right.clean q h)
+
+    kept_change : (element : TyId) (d : Change) → IsSpokenChange types (ty.Vector element) d → is_change_of types texts fs f (ty.Vector element) d ≡ true → (r : IsReached types f st NoInput any_root S o) (is : type_of types f o ≡ ty.Vector element)
+        → IsKept types f rest S st k o r s element is d
+    kept_change element (PushBack x) value e r is = (
+      value_parts types k.ordered element (ty_of types element) (type_there types element (ty_of types element) refl (value_solid (ty_of types element) value)) value,
+      λ m there. number_free types f rest S st k x (number_any types f (ty_of types element) x (subst (λ b. (if b then is_number_of types f (ty_of types element) x else is_given types f (ty_of types element) x) ≡ true) value e)) m there,
+    )
+    kept_change element (Erase at into) spoken e r is = absurd spoken
+    kept_change element PopBack spoken e r is = tt
+    kept_change element Clear spoken e r is = tt
+    kept_change element (Reserve q) spoken e r is = tt
+    kept_change element (Set given) spoken e r is = tt
+    kept_change element (Append given) spoken e r is = tt
+
+    pushed_free : (x : ℕ) → is_change_of types texts fs f ty.Text (PushBack x) ≡ true → (m : ℕ) → cell st x ≡ Some (Named m) → ⊥
+    pushed_free x e m there = number_free types f rest S st k x (number_any types f ty.Char x e) m there
+
+    change_buffered : (t : Ty) → type_of types f o ≡ t → IsSpokenChange types t c → is_change_of types texts fs f t c ≡ true → Buffered (Changes o c)
+    change_buffered ty.Text is spoken e =
+        by_next types f S st o (reach_owner (ap is_void is)) (λ spot. changed s types f (operand_parts types f o) spot c st) (IsBuffered types)
+        (λ r. text_buffered types f rest S st k o r s is c (λ x push. pushed_free x (subst (λ (d : Change). is_change_of types texts fs f ty.Text d ≡ true) push e)))
+    change_buffered (ty.Vector element) is spoken e =
+        by_next types f S st o (reach_owner (ap is_void is)) (λ spot. changed s types f (operand_parts types f o) spot c st) (IsBuffered types)
+        (λ r. vector_buffered types f rest S st k o r s element is c (kept_change element c spoken e r is))
+    change_buffered _ is spoken e = absurd (false≢true e)
+
+  -- ---- a pointer that is a local is given a value
+
+  to_pointer : (p : Location) → is_pointer (type_in types f p) ≡ true → (P : Location → Type 0) → ((x : ℕ) → P (whole x)) → P p
+  to_pointer p pointer P each = at_pointer types f rest S st k sigs n place S' texts fs s p pointer P each
+
+  -- ---- each instruction
+
+  pub step_buffered : (i : Step) → IsSpoken types f i → Right i → is_well_formed_step types texts fs f i ≡ true → Buffered i
+  step_buffered (Live x form) spoken right e = live_buffered types f rest S st k s x form
+  step_buffered (End xs) spoken right e = ends_buffered types f xs st k.buffered
+  step_buffered (Eval r o) spoken right e = evaluated_gives types f st (IsBuffered types) (λ q z. k.buffered) r o
+  step_buffered (Load r o) spoken right e = loaded_gives types f st (IsBuffered types) (λ q z. k.buffered) s r o
+  step_buffered (Save o r) spoken right e =
+      let number = (and_parts (is_number_of types f (type_of types f o) r) (not (is_const_place types f o)) e).0 in
+      let value = (and_parts (is_value (type_of types f o)) (same (type_of types f o) (type_at types f r)) (and_parts (register_at types f r) (is_value (type_of types f o) && same (type_of types f o) (type_at types f r)) number).1).0 in
+      save_buffered types f rest S st k o s value (reach_at types f rest S st k o (value_solid (type_of types f o) value) (λ q h. used_right sigs types n f place (Save o r) S right.clean q h)) r
+  step_buffered (Copy to from) spoken right e =
+      let first = and_parts (same (type_of types f to) (type_of types f from)) _ e in
+      let pointer = (and_parts (not (is_pointer (type_of types f to))) _ first.1).0 in
+      let solid = same_solid (type_of types f to) (type_of types f from) first.0 in
+      copy_buffered types f rest S st k to s (reach_at types f rest S st k to solid (λ q h. used_right sigs types n f place (Copy to from) S right.clean q (Contains-append_left (used_in to) (used_in from) q h))) from solid (not_false (is_pointer (type_of types f to)) pointer) spoken
+  step_buffered (Move to y) spoken right e = absurd spoken
+  step_buffered (Aim p sr) spoken right e =
+      to_pointer p (source_points types f rest S st k sigs n place S' texts fs s (type_in types f p) sr spoken e) (λ q. Buffered (Aim q sr)) (λ x. aims_leave types f st (IsBuffered types) x (λ v. k.buffered) s sr spoken)
+  step_buffered (Repoint p q) spoken right e =
+      to_pointer p (alike_points types (type_in types f p) (type_in types f q) (and_parts (are_alike types (type_in types f p) (type_in types f q)) _ e).0).0 (λ a. Buffered (Repoint a q)) (λ x. repoints_leave types f st (IsBuffered types) x (λ v. k.buffered) q)
+  step_buffered (step.Element p b w) spoken right e =
+      let both = and_parts (aims_at types (type_in types f p) (type_of_element types f b w)) (keeps_const (is_constant (type_in types f p)) (is_const_base types f b)) e in
+      to_pointer p (aims_seen types k.ordered k.once (type_in types f p) (type_of_element types f b w) both.0).pointer (λ q. Buffered (step.Element q b w)) (λ x. elements_leave types f st (IsBuffered types) x (λ v. k.buffered) b w spoken)
+  step_buffered (Cursor p b end) spoken right e =
+      let both = and_parts (walks types (type_in types f p) (element_of types f b)) (keeps_const (is_constant (type_in types f p)) (is_const_base types f b)) e in
+      to_pointer p (walks_seen types k.ordered k.once (type_in types f p) (element_of types f b) both.0).pointer (λ q. Buffered (Cursor q b end)) (λ x. cursors_leave types f st (IsBuffered types) x (λ v. k.buffered) b end)
+  step_buffered (Advance p q r way) spoken right e =
+      to_pointer p (iterator_points (type_in types f p) (and_parts (is_iterator (type_in types f p)) _ e).0) (λ a. Buffered (Advance a q r way)) (λ x. advances_leave types f st (IsBuffered types) x (λ v. k.buffered) s q r way)
+  step_buffered (Cut p q r count) spoken right e =
+      to_pointer p (range_points (type_in types f p) (and_parts (is_range (type_in types f p)) _ e).0) (λ a. Buffered (Cut a q r count)) (λ x. cuts_leave types f st (IsBuffered types) x (λ v. k.buffered) q r count)
+  step_buffered (Size r b) spoken right e = sizes_give types f st (IsBuffered types) (λ q z. k.buffered) r b
+  step_buffered (Same r a b equal) spoken right e = sames_give types f st (IsBuffered types) (λ q z. k.buffered) s r a b equal
+  step_buffered (Changes o c) spoken right e = change_buffered o c right (type_of types f o) refl spoken (and_parts (is_change_of types texts fs f (type_of types f o) c) (not (is_const_place types f o)) e).0
+  step_buffered (Make u m) spoken right e = absurd spoken
+  step_buffered (Call target g xs) spoken right e = absurd spoken
+  step_buffered (Ports p) spoken right e = ports_give types f st (IsBuffered types) (λ text. k.buffered) (λ q z zs. k.buffered) s p
+
+  -- what is known of it before
+  pub step_right : (i : Step) → IsSpoken types f i → Right i → is_well_formed_step types texts fs f i ≡ true → IsSlotFree types f i → AreReady (ready_of st) (touched_by f i) → OnRight (does s types f i st) (λ after. FrameCovered types f S' after × IsBuffered types after)
+  step_right i spoken right e free ready =
+      both_right (does s types f i st) (FrameCovered types f S') (IsBuffered types) (step_covered types f rest S st k sigs n place S' texts fs s i spoken right e free ready) (step_buffered i spoken right e)
+
+  -- .. is known behind it, where its store and its cells stand
+  pub known_behind : (after : State) → FrameCovered types f S' after × IsBuffered types after → Stands types f rest after → IsPoised types f after → IsKnownFrame types f rest S' after
+  known_behind after h stands poised = record { ordered = k.ordered; once = k.once; plain = k.plain; shaped = k.shaped; short = k.short; stands = stands; poised = poised; covered = h.0; buffered = h.1 }
