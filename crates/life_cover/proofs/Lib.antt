@@ -8,6 +8,7 @@ pub mod Copied
 pub mod Copies
 pub mod CopyKinds
 pub mod EndKinds
+pub mod FramePoints
 pub mod FrameSteps
 pub mod Fresh
 pub mod Guarding

@@ -1,0 +1,107 @@
+-- At each point of a proper function without structs and inputs that is reached with what is known of its frame: an instruction at which nothing
+-- is wrong makes no fault and doesn't stray, and all of this is known behind it.
+use Rattle.std.proofs.Common.{◌≡◌, ℕ, true, List, [], Some, None, sym, subst, ◌∙◌}
+use Rattle.std.specs.Prelude.{slice_get}
+use Rattle.life_types.specs.Trees.{IsOrdered}
+use Rattle.life_types.specs.Types.{HasEachOnce, Types}
+use Rattle.life_types.specs.declared.place.Place.{Place}
+use Rattle.life_core.specs.Function.{Function}
+use Rattle.life_core.specs.Linked.{Linked, code_of, numbered}
+use Rattle.life_core.specs.Proper.{HasReadyWays, IsNodeReady, Reaches, bits_past}
+use Rattle.life_core.specs.Ready.{Ready}
+use Rattle.life_core.specs.Step.{Advance, Aim, Call, Changes, Copy, Cursor, Cut, End, Eval, Live, Load, Make, Move, Ports, Repoint, Same, Save, Size, Step}
+use Rattle.life_core.specs.Step as step
+use Rattle.life_core.specs.Tree.{Node, Action}
+use Rattle.life_pset.specs.Elements.{AreShort, elements_of}
+use Rattle.life_pset.specs.declared.element.Fact.{Fact}
+use Rattle.life_contract.specs.Signatures.{Signature}
+use Rattle.life_proper.specs.WellFormed.{is_well_formed_node}
+use Rattle.life_proper.specs.WellFormedPrograms.{is_well_formed_function}
+use Rattle.life_proper.proofs.SortedNodes.{formed_parts}
+use Rattle.life_store.specs.Cells.{at}
+use Rattle.life_store.specs.Content.{Content}
+use Rattle.life_store.specs.Doing.{does}
+use Rattle.life_store.specs.Effects.{Setting, Effect, Next, Traps, Faults, Strays}
+use Rattle.life_store.specs.State.{Pointer, Points, State, ready_of}
+use Rattle.life_store.proofs.CellLemmas.{none_some}
+use Rattle.life_forest.proofs.HeldPoints.{GoesOn, IsSound, held_goes, poised}
+use Rattle.life_forest.proofs.SettledSteps.{IsOneFrame}
+use Rattle.life_forest.proofs.SettlingLives.{HaveMembers}
+use Rattle.life_forest.proofs.Shaped.{locals_shaped}
+use Rattle.life_forest.proofs.Slots.{ArePointsFormed}
+use Rattle.life_forest.proofs.TypedPoints.{slot_free}
+use Rattle.life_cover.specs.Frames.{FrameCovered}
+use Rattle.life_cover.proofs.FrameSteps.{IsSpoken}
+use Rattle.life_cover.proofs.KeptBuffers.{IsBuffered}
+use Rattle.life_cover.proofs.KnownFrames.{IsKnownFrame, IsRight}
+use Rattle.life_cover.proofs.Pointers.{OnRight}
+use Rattle.life_cover.proofs.WholeSteps.{step_right}
+
+-- there is no call among the instructions that are spoken of
+one_frame : (types : Types) (f : Function) (i : Step) → IsSpoken types f i → IsOneFrame i
+one_frame types f (Live x form) spoken = tt
+one_frame types f (End xs) spoken = tt
+one_frame types f (Eval r o) spoken = tt
+one_frame types f (Load r o) spoken = tt
+one_frame types f (Save o r) spoken = tt
+one_frame types f (Copy to from) spoken = tt
+one_frame types f (Move to y) spoken = tt
+one_frame types f (Aim p sr) spoken = tt
+one_frame types f (Repoint p q) spoken = tt
+one_frame types f (step.Element p b w) spoken = tt
+one_frame types f (Cursor p b end) spoken = tt
+one_frame types f (Advance p q r way) spoken = tt
+one_frame types f (Cut p q r count) spoken = tt
+one_frame types f (Size r b) spoken = tt
+one_frame types f (Same r a b equal) spoken = tt
+one_frame types f (Changes o c) spoken = tt
+one_frame types f (Make u m) spoken = tt
+one_frame types f (Call target g xs) spoken = absurd spoken
+one_frame types f (Ports p) spoken = tt
+
+-- what holds of a frame at each point: it stands and holds well, the facts cover its pointers, and each vector and each string has its buffer
+pub record IsSafe (types : Types) (f : Function) (rest : ℕ → ℕ) (S : Fact → Type 0) (st : State) : Type 0 where
+  pub sound : IsSound types f rest st
+  pub covered : FrameCovered types f S st
+  pub buffered : IsBuffered types st
+
+-- .. in the next state, if there is one, with these locals; there is neither a fault nor a stray step
+abbrev pub GoesSafe : Types → Function → (ℕ → ℕ) → (Fact → Type 0) → Ready → Effect → Type 0
+GoesSafe types f rest S bits (Next st) = IsSafe types f rest S st × (ready_of st ≡ bits)
+GoesSafe types f rest S bits (Traps kind) = Unit {0}
+GoesSafe types f rest S bits (Faults kind) = ⊥
+GoesSafe types f rest S bits Strays = ⊥
+
+goes_safe : (types : Types) (f : Function) (rest : ℕ → ℕ) (S : Fact → Type 0) (c : Content) (bits : Ready) (e : Effect) → GoesOn types f rest c bits e → OnRight e (λ st. FrameCovered types f S st × IsBuffered types st) → GoesSafe types f rest S bits e
+goes_safe types f rest S c bits (Next st) goes right = (record { sound = goes.sound; covered = right.0; buffered = right.1 }, goes.bits)
+goes_safe types f rest S c bits (Traps kind) goes right = tt
+goes_safe types f rest S c bits (Faults kind) goes right = right
+goes_safe types f rest S c bits Strays goes right = goes
+
+-- a frame at its entry is safe with any facts, if it is given no pointer and nothing lives yet
+pub entry_safe : (types : Types) (f : Function) (rest : ℕ → ℕ) (S : Fact → Type 0) (st : State) → IsSound types f rest st → ((x : ℕ) (v : Pointer) → slice_get st.cells x ≡ Some (Points v) → ⊥) → ((n : ℕ) → at st.world.content.objects n ≡ None) → IsSafe types f rest S st
+entry_safe types f rest S st sound none empty = record { sound = sound; covered = λ x v e. absurd (none x v e); buffered = λ n i o t there slot. absurd (none_some (sym (empty n) ∙ there)) }
+
+module _ (types : Types) (ordered : IsOrdered types) (once : HasEachOnce types) (some : HaveMembers types) (names texts : ℕ) (fs : List Function) (f : Function) (formed : is_well_formed_function types names texts fs f ≡ true) (points : ArePointsFormed types texts fs f)
+    (ready : HasReadyWays types f) (plain : types.structs ≡ []) (short : AreShort (elements_of types f)) where
+  known : (rest : ℕ → ℕ) (S : Fact → Type 0) (st : State) → IsSafe types f rest S st → IsKnownFrame types f rest S st
+  known rest S st safe = record {
+    ordered = ordered;
+    once = once;
+    plain = plain;
+    shaped = locals_shaped types ordered names f (formed_parts types names texts fs f formed).locals;
+    short = short;
+    stands = safe.sound.stands;
+    poised = poised types ordered once some names texts fs f formed points ready rest st safe.sound;
+    covered = safe.covered;
+    buffered = safe.buffered;
+  }
+
+  pub point_safe : (rest : ℕ → ℕ) (s : Setting) (sigs : List Signature) (n : ℕ) (place : Place) (S S' : Fact → Type 0) (p : ℕ) (st : State) (l : Linked) (i : Step) → Reaches types f p (ready_of st) → numbered (code_of f) p ≡ Some l → l.spot.node ≡ Action i → IsSpoken types f i
+      → IsRight sigs types n f place i S S' → IsSafe types f rest S st → GoesSafe types f rest S' (bits_past types f (Action i) (ready_of st)) (does s types f i st)
+  point_safe rest s sigs n place S S' p st l i way here is spoken right safe =
+      let are = subst (IsNodeReady types f (ready_of st)) is (ready.ready p (ready_of st) l way here) in
+      goes_safe types f rest S' st.world.content (bits_past types f (Action i) (ready_of st)) (does s types f i st)
+      (held_goes types ordered once some names texts fs f formed points ready rest s p st l i way here is (one_frame types f i spoken) safe.sound)
+      (step_right types f rest S st (known rest S st safe) sigs n place S' texts fs s i spoken right (subst (λ (m : Node). is_well_formed_node types texts fs f m ≡ true) is (points p l here))
+      (slot_free types ordered once names texts fs f formed points ready p (ready_of st) way i are) are)
