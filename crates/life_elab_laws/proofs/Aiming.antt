@@ -1,15 +1,15 @@
 -- A pointer that is given something: it can be, it is a pointer behind it, and const stays const.
-use Rattle.std.proofs.Common.{◌≡◌, inl, inr, ℕ, Bool, true, false, ◌&&◌, List, [], ◌∷◌, None, refl, sym, ap, ◌∙◌, subst}
+use Rattle.std.proofs.Common.{◌≡◌, inl, inr, ℕ, Bool, true, false, ◌&&◌, List, [], ◌∷◌, nat_lt, None, refl, sym, ap, ◌∙◌, subst}
 use Rattle.std.proofs.lemmas.Bool.{and_from, and_parts, false≢true}
 use Rattle.life_types.specs.Pointees.{ty_of}
-use Rattle.life_types.specs.TypeTests.{is_constant, is_raw}
+use Rattle.life_types.specs.TypeTests.{is_constant, is_raw, is_view}
 use Rattle.life_types.specs.Types.{Types}
 use Rattle.life_types.specs.declared.ty.Ty.{Ty}
 use Rattle.life_types.specs.declared.ty.Ty.TheVariants as ty
 use Rattle.life_typed.specs.declared.typed_expr.ExprType.{ExprType}
 use Rattle.life_typed.specs.declared.typed_expr.ExprType.TheVariants.{NullPointer, Of, TextLiteral}
 use Rattle.life_core.specs.Function.{Function}
-use Rattle.life_core.specs.Operands.{Location, Null, Operand, Place as Aimed, whole}
+use Rattle.life_core.specs.Operands.{Location, Null, Operand, Place as Aimed, Text, whole}
 use Rattle.life_core.specs.Served.{is_served_location, is_served_operand}
 use Rattle.life_core.specs.Touched.{touched_by}
 use Rattle.life_proper.specs.Knowing.{known_at}
@@ -26,6 +26,7 @@ use Rattle.life_elab_laws.proofs.Filling.{filling_fills}
 use Rattle.life_elab_laws.proofs.Gifts.{IsAt, IsGivenAs, IsTakenBy, takes_from}
 use Rattle.life_elab_laws.proofs.Held.{one_there}
 use Rattle.life_elab_laws.proofs.Knowledge.{set_length, set_same}
+use Rattle.life_elab_laws.proofs.Locations.{is_location}
 use Rattle.life_elab_laws.proofs.Making.{IsPointer, IsPointing, Keeps}
 use Rattle.life_elab_laws.proofs.OperandsThere.{same_is}
 use Rattle.life_elab_laws.proofs.Shaping.{IsFineStep}
@@ -55,8 +56,8 @@ module _ (f : Function) where
 
 -- ---- what it is given fits it
 
-module _ (types : Types) (texts : ℕ) (fs : List Function) (f : Function) where
-  aims_further : (t u : Ty) (o : Operand) → is_raw t ≡ true → takes types t u ≡ true → (aims_at types u (type_of types f o) && keeps_const (is_constant u) (is_const_place types f o)) ≡ true
+module _ (types : Types) (texts : ℕ) (so_far : Bool) (fs : List Function) (f : Function) where
+  aims_further : (t u : Ty) (o : Operand) → is_location t ≡ true → takes types t u ≡ true → (aims_at types u (type_of types f o) && keeps_const (is_constant u) (is_const_place types f o)) ≡ true
       → (aims_at types t (type_of types f o) && keeps_const (is_constant t) (is_const_place types f o)) ≡ true
   aims_further (ty.Raw target c) (ty.Raw found d) o raw taken aimed =
       let first = and_parts (same (ty_of types target) (ty_of types found)) (keeps_const c d) taken in
@@ -65,33 +66,57 @@ module _ (types : Types) (texts : ℕ) (fs : List Function) (f : Function) where
       (ap (same (ty_of types target)) (sym (same_is (ty_of types found) (type_of types f o) second.0)) ∙ first.0)
       (keeps_further c d (is_const_place types f o) first.1 second.1)
   aims_further (ty.Raw target c) _ o raw taken aimed = absurd (false≢true taken)
+  aims_further ty.View ty.View o raw taken aimed = absurd (false≢true aimed)
+  aims_further ty.View _ o raw taken aimed = absurd (false≢true taken)
   aims_further _ u o raw taken aimed = absurd (false≢true raw)
 
-  -- nullptr is taken by each pointer
-  pub null_given : (t : ExprType) → IsGivenAs types texts fs f t (aimed Null)
-  null_given t = λ u l raw at taken. record { plain = refl; formed = ap is_raw at.typed ∙ raw; served = and_from (is_served_location l) true at.served refl }
+  -- nullptr is taken by each raw pointer
+  pub null_given : IsGivenAs types texts so_far fs f NullPointer (aimed Null)
+  null_given = λ u l loc at taken. record { plain = λ so. refl; formed = ap is_raw at.typed ∙ raw u taken; served = λ so. and_from (is_served_location l) true (at.served so) refl }
+    where
+      clash : (u : Ty) → NullPointer ≡ Of u → ⊥
+      clash u e = cc
+
+      raw : (u : Ty) → IsTakenBy types u NullPointer → is_raw u ≡ true
+      raw u (inl e) = absurd (clash u e)
+      raw u (inr e) = e
+
+  -- a literal by each view
+  pub literal_given : (n : ℕ) → nat_lt n texts ≡ true → IsGivenAs types texts so_far fs f TextLiteral (aimed (Text n))
+  literal_given n few = λ u l loc at taken. record {
+    plain = λ so. refl;
+    formed = and_from (is_view (type_in types f l)) (nat_lt n texts) (ap is_view at.typed ∙ view u taken) few;
+    served = λ so. and_from (is_served_location l) true (at.served so) refl;
+  }
+    where
+      clash : (u : Ty) → TextLiteral ≡ Of u → ⊥
+      clash u e = cc
+
+      view : (u : Ty) → IsTakenBy types u TextLiteral → is_view u ≡ true
+      view u (inl e) = absurd (clash u e)
+      view u (inr e) = e
 
   -- a place by each that takes its address
-  pub place_given : (t : Ty) (o : Operand) → (aims_at types t (type_of types f o) && keeps_const (is_constant t) (is_const_place types f o)) ≡ true → is_served_operand o ≡ true → IsGivenAs types texts fs f (Of t) (aimed (Aimed o))
+  pub place_given : (t : Ty) (o : Operand) → (aims_at types t (type_of types f o) && keeps_const (is_constant t) (is_const_place types f o)) ≡ true → (so_far ≡ true → is_served_operand o ≡ true) → IsGivenAs types texts so_far fs f (Of t) (aimed (Aimed o))
   place_given t o fits served = λ u l raw at taken. record {
-    plain = refl;
+    plain = λ so. refl;
     formed = ap (λ (w : Ty). is_source_of types texts fs f w (Aimed o)) at.typed ∙ go u raw taken;
-    served = and_from (is_served_location l) (is_served_operand o) at.served served;
+    served = λ so. and_from (is_served_location l) (is_served_operand o) (at.served so) (served so);
   }
     where
       same_of : (u : Ty) → Of t ≡ Of u → t ≡ u
       same_of u e = cc
 
-      go : (u : Ty) → is_raw u ≡ true → IsTakenBy types u (Of t) → (aims_at types u (type_of types f o) && keeps_const (is_constant u) (is_const_place types f o)) ≡ true
+      go : (u : Ty) → is_location u ≡ true → IsTakenBy types u (Of t) → (aims_at types u (type_of types f o) && keeps_const (is_constant u) (is_const_place types f o)) ≡ true
       go u raw (inl e) = subst (λ (w : Ty). (aims_at types w (type_of types f o) && keeps_const (is_constant w) (is_const_place types f o)) ≡ true) (same_of u e) fits
       go u raw (inr taken) = aims_further u t o raw taken fits
 
-  pub pointed_fine : (l : Location) (u : Ty) (t : ExprType) (p : Pointing) → is_raw u ≡ true → IsAt types texts fs f u l → takes_from types u t ≡ true → IsGivenAs types texts fs f t p → IsFineStep types texts fs f (pointed p l)
+  pub pointed_fine : (l : Location) (u : Ty) (t : ExprType) (p : Pointing) → is_location u ≡ true → IsAt types texts so_far fs f u l → takes_from types u t ≡ true → IsGivenAs types texts so_far fs f t p → IsFineStep types texts so_far fs f (pointed p l)
   pointed_fine l u t (By step) raw at taken given = given u l raw at (inr taken)
   pointed_fine l u (Of v) (As q) raw at taken given = record {
-    plain = refl;
+    plain = λ so. refl;
     formed = ap (λ (w : Ty). takes types w (type_in types f q)) at.typed ∙ ap (takes types u) given.typed ∙ taken;
-    served = and_from (is_served_location l) (is_served_location q) at.served given.served;
+    served = λ so. and_from (is_served_location l) (is_served_location q) (at.served so) (given.served so);
   }
   pointed_fine l u NullPointer (As q) raw at taken given = absurd given
   pointed_fine l u TextLiteral (As q) raw at taken given = absurd given

@@ -6,7 +6,8 @@ use Rattle.life_types.specs.TypeTests.{is_value, is_void}
 use Rattle.life_types.specs.Types.{Types}
 use Rattle.life_types.specs.declared.ty.Ty.{Ty}
 use Rattle.life_types.specs.declared.ty.Ty.TheVariants as ty
-use Rattle.life_built.specs.Built.{are_built_variables, is_built_result, is_built_variable}
+use Rattle.life_built.specs.Built.{is_built_result}
+use Rattle.life_elab_laws.specs.Reached.{are_reached_variables, is_reached_variable}
 use Rattle.life_typed.specs.BaseTypes.{type_at}
 use Rattle.life_typed.specs.declared.typed_program.ParameterPromise.{ParameterPromise}
 use Rattle.life_typed.specs.declared.typed_program.TypedLocal.{TypedLocal}
@@ -107,11 +108,11 @@ module _ (a : Around) where
   code_same (p ∷ ps) [] s = refl
   code_same (p ∷ ps) (u ∷ us) s = code_same ps us (with_new (parameter_local a p u) s)
 
-  shaped_same : (ps : List ParameterPromise) (us : List TypedLocal) (s : State) → are_built_variables a.program.types us ≡ true → AreShaped a.program.types s.locals → AreShaped a.program.types (elab.with_parameters a ps us s).locals
+  shaped_same : (ps : List ParameterPromise) (us : List TypedLocal) (s : State) → are_reached_variables false a.program.types us ≡ true → AreShaped a.program.types s.locals → AreShaped a.program.types (elab.with_parameters a ps us s).locals
   shaped_same [] us s b h = h
   shaped_same (p ∷ ps) [] s b h = h
   shaped_same (p ∷ ps) (u ∷ us) s b h =
-      let parts = and_parts (is_built_variable a.program.types u.ty) (are_built_variables a.program.types us) b in
+      let parts = and_parts (is_reached_variable false a.program.types u.ty) (are_reached_variables false a.program.types us) b in
       shaped_same ps us (with_new (parameter_local a p u) s) parts.1
       (shaped_more a.program.types s.locals (parameter_local a p u) h (λ is. record { name = u.name; named = refl; built = parts.0 }))
 
@@ -207,7 +208,7 @@ module _ (a : Around) where
     pub first_types : (first_state a T).types ≡ T
     first_types = result_types (type_at a.program.types a.function.result) given ∙ types_same a.function.parameters a.function.locals (nothing_written T)
 
-    pub first_shaped : are_built_variables a.program.types a.function.locals ≡ true → is_built_result a.program.types a.function.result ≡ true → AreShaped a.program.types (first_state a T).locals
+    pub first_shaped : are_reached_variables false a.program.types a.function.locals ≡ true → is_built_result a.program.types a.function.result ≡ true → AreShaped a.program.types (first_state a T).locals
     first_shaped b result =
         (result_grows (type_at a.program.types a.function.result) given result).shaped a.program.types
         (shaped_same a.function.parameters a.function.locals (nothing_written T) b tt)
@@ -244,7 +245,7 @@ module _ (a : Around) where
       sym (ap (λ (o : Option Ty). unwrap_or o ty.Void) at),
     )
 
-    module _ (types : Types) (f : Function) (front : IsFront a.program.types.types types.types) (variables : are_built_variables a.program.types a.function.locals ≡ true) where
+    module _ (types : Types) (f : Function) (front : IsFront a.program.types.types types.types) (variables : are_reached_variables false a.program.types a.function.locals ≡ true) where
       nothing_follows : Follows types f a (with_parameters 0) (nothing_written T)
       nothing_follows = record {
         count = refl;
@@ -263,7 +264,7 @@ module _ (a : Around) where
       each_follows (p ∷ ps) done (u ∷ us) v s e n few h =
           let at : slice_get a.function.locals v.declared ≡ Some u = subst (λ (k : ℕ). slice_get a.function.locals k ≡ Some u) n (subst (λ (xs : List TypedLocal). slice_get xs (length done) ≡ Some u) e (middle_there done u us)) in
           each_follows ps (done ++ u ∷ []) us (with_next v) (with_new (parameter_local a p u) s) (append_assoc done (u ∷ []) us ∙ e) (omega (arith, n, length-append done (u ∷ []))) (omega (arith, few))
-          (follows_new types f a front v u (parameter_local a p u) (record { named = refl; typed = refl; kind = refl }) s h at (variable_built a.program.types a.function.locals v.declared u variables at))
+          (follows_new types f a front v u (parameter_local a p u) (record { named = refl; typed = refl; kind = refl }) s h at (variable_built false a.program.types a.function.locals v.declared u variables at))
 
       given_follows : Follows types f a (with_parameters (length a.function.parameters)) given
       given_follows =

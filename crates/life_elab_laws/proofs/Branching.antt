@@ -22,10 +22,10 @@ use Rattle.life_elab_laws.proofs.Conditions.{Asked, AsksAll, Tests}
 use Rattle.life_elab_laws.proofs.Shaping.{stated_alone, stated_choice, stated_none}
 use Rattle.life_elab_laws.proofs.WrittenLocals.{locals_added}
 
-module _ (types : Types) (texts : ℕ) (fs : List Function) (f : Function) where
+module _ (types : Types) (texts : ℕ) (so_far : Bool) (fs : List Function) (f : Function) where
   -- ---- behind a condition
 
-  module _ (a : Around) (v : Visible) (in_loop : Bool) (s : State) (w : Gives Tree) (h : Follows types f a v s) (test : Tests types texts fs f s w) where
+  module _ (a : Around) (v : Visible) (in_loop : Bool) (s : State) (w : Gives Tree) (h : Follows types f a v s) (test : Tests types texts so_far fs f s w) where
     pub tested_follows : Follows types f a v (with_code [] w.state)
     tested_follows = follows_grown types f a v s w.state test.grown h
 
@@ -33,13 +33,13 @@ module _ (types : Types) (texts : ℕ) (fs : List Function) (f : Function) where
     same_outside = ap (λ (n : ℕ). take n w.state.living) test.grown.outside ∙ ap (take s.outside) test.grown.living
 
     -- what is known on both ways
-    pub known_behind : Begins types f w.state → (k : List Known) (asked : Asked types texts fs f s w.given k) → Knows f s.living k → Knows f s.living asked.on × Knows f s.living asked.off
+    pub known_behind : Begins types f w.state → (k : List Known) (asked : Asked types texts so_far fs f s w.given k) → Knows f s.living k → Knows f s.living asked.on × Knows f s.living asked.off
     known_behind b k asked knows =
         let names = follows_named types f a v s h (begins_added types f s w.state (grows_adds types f s w.state test.grown) b) in
         (knows_written f s.living (length s.locals) None k asked.on names knows asked.keeps_on, knows_written f s.living (length s.locals) None k asked.off names knows asked.keeps_off)
 
     -- both branches, the second of which is written behind the first
-    module _ (u x : Visible) (t r : State) (first : DoesLevel types texts fs f a u in_loop (with_code [] w.state) t) (second : DoesLevel types texts fs f a x in_loop (with_code [] t) r) where
+    module _ (u x : Visible) (t r : State) (first : DoesLevel types texts so_far fs f a u in_loop (with_code [] w.state) t) (second : DoesLevel types texts so_far fs f a x in_loop (with_code [] t) r) where
       abbrev both : State
       both = write (Choice w.given (trees t.code) (trees r.code)) (with_code w.state.code r)
 
@@ -62,13 +62,13 @@ module _ (types : Types) (texts : ℕ) (fs : List Function) (f : Function) where
         tested : Begins types f w.state
         tested = begins_added types f w.state t first.does.adds begun
 
-        asks : AsksAll types texts fs f s w.given
+        asks : AsksAll types texts so_far fs f s w.given
         asks = test.runs tested
 
-        one : Acting types texts fs f in_loop (with_code [] w.state) t first.does.code
+        one : Acting types texts so_far fs f in_loop (with_code [] w.state) t first.does.code
         one = first.does.acts begun
 
-        other : Acting types texts fs f in_loop (with_code [] t) r second.does.code
+        other : Acting types texts so_far fs f in_loop (with_code [] t) r second.does.code
         other = second.does.acts b
 
         outside_second : take t.outside t.living ≡ take s.outside s.living
@@ -76,7 +76,7 @@ module _ (types : Types) (texts : ℕ) (fs : List Function) (f : Function) where
 
         -- .. on each of both ways
         module _ (k : List Known) (knows : Knows f s.living k) where
-          abbrev g : Asked types texts fs f s w.given k
+          abbrev g : Asked types texts so_far fs f s w.given k
           g = asks.goes k (knows_alive types f a v s k knows)
 
           known_on : Knows f w.state.living g.on
@@ -101,19 +101,19 @@ module _ (types : Types) (texts : ℕ) (fs : List Function) (f : Function) where
           returned gives =
               let behind = subst (λ (q : Flow). ReturnsKnown types f (result_local a) (trees first.does.code) q.on_true × ReturnsKnown types f (result_local a) (trees second.does.code) q.on_false) (sym g.decides)
               (first.does.returns begun gives (Some g.on) known_on, second.does.returns b gives (Some g.off) known_off) in
-              ((asks_known types f (result_local a) texts fs w.given asks.fine (Some k), behind), tt)
+              ((asks_known types f (result_local a) texts so_far fs w.given asks.fine (Some k), behind), tt)
 
-        branched_acts : Acting types texts fs f in_loop s both (chosen ∷ [])
+        branched_acts : Acting types texts so_far fs f in_loop s both (chosen ∷ [])
         branched_acts = record {
           stated =
-              stated_alone types texts fs f in_loop chosen (stated_choice types texts fs f in_loop w.given (trees first.does.code) (trees second.does.code) asks.fine one.stated other.stated);
+              stated_alone types texts so_far fs f in_loop chosen (stated_choice types texts so_far fs f in_loop w.given (trees first.does.code) (trees second.does.code) asks.fine one.stated other.stated);
           ways = leaves_may types f in_loop s.living r.living (take s.outside s.living) (trees (chosen ∷ [])) went;
         }
 
         branched_returns : GivesValue a → (o : Knowing) → MayKnow f s.living o → ReturnsKnown types f (result_local a) (trees (chosen ∷ [])) o
         branched_returns gives = known_may types f (result_local a) s.living (trees (chosen ∷ [])) (λ k knows. returned k knows gives)
 
-      pub branched_does : DoesLevel types texts fs f a x in_loop s both
+      pub branched_does : DoesLevel types texts so_far fs f a x in_loop s both
       branched_does = record {
         does = record {
           adds = branched_adds;
@@ -133,16 +133,16 @@ module _ (types : Types) (texts : ℕ) (fs : List Function) (f : Function) where
 
     -- ---- an assertion
 
-    asserted_acts : (keyword : Place) → Begins types f w.state → Acting types texts fs f in_loop s (write (Choice w.given Skip (Stops keyword)) w.state) (Choice w.given Skip (Stops keyword) ∷ [])
+    asserted_acts : (keyword : Place) → Begins types f w.state → Acting types texts so_far fs f in_loop s (write (Choice w.given Skip (Stops keyword)) w.state) (Choice w.given Skip (Stops keyword) ∷ [])
     asserted_acts keyword b = record {
       stated =
-          stated_alone types texts fs f in_loop (Choice w.given Skip (Stops keyword))
-          (stated_choice types texts fs f in_loop w.given Skip (Stops keyword) asks.fine (stated_none types texts fs f in_loop)
-          (record { statement = refl; tests = refl; breaks = refl; plain = refl; formed = refl; served = refl }));
+          stated_alone types texts so_far fs f in_loop (Choice w.given Skip (Stops keyword))
+          (stated_choice types texts so_far fs f in_loop w.given Skip (Stops keyword) asks.fine (stated_none types texts so_far fs f in_loop)
+          (record { statement = refl; tests = refl; breaks = refl; plain = λ so. refl; formed = refl; served = λ so. refl }));
       ways = leaves_may types f in_loop s.living w.state.living (take s.outside s.living) (trees (Choice w.given Skip (Stops keyword) ∷ [])) went;
     }
       where
-        asks : AsksAll types texts fs f s w.given
+        asks : AsksAll types texts so_far fs f s w.given
         asks = test.runs b
 
         went : (k : List Known) → Knows f s.living k → Leaves f in_loop w.state.living (take s.outside s.living) (flow types f (trees (Choice w.given Skip (Stops keyword) ∷ [])) (Some k))
@@ -153,7 +153,7 @@ module _ (types : Types) (texts : ℕ) (fs : List Function) (f : Function) where
             ∙ ap (λ (q : Flow). joined (before_both q) (joined (flow types f Skip q.on_true) (flow types f (Stops keyword) q.on_false))) g.decides))
             (leaves_falling f in_loop w.state.living (take s.outside s.living) g.on (subst (λ (xs : List ℕ). Knows f xs g.on) (sym test.grown.living) (known_behind b k g knows).0))
 
-    pub asserted_does : (keyword : Place) → DoesLevel types texts fs f a v in_loop s (write (Choice w.given Skip (Stops keyword)) w.state)
+    pub asserted_does : (keyword : Place) → DoesLevel types texts so_far fs f a v in_loop s (write (Choice w.given Skip (Stops keyword)) w.state)
     asserted_does keyword = record {
       does = record {
         adds = grows_adds types f s w.state test.grown;
@@ -163,7 +163,7 @@ module _ (types : Types) (texts : ℕ) (fs : List Function) (f : Function) where
         code = Choice w.given Skip (Stops keyword) ∷ [];
         written = ap (λ (c : List Tree). c ++ Choice w.given Skip (Stops keyword) ∷ []) test.unwritten;
         acts = asserted_acts keyword;
-        returns = λ b gives o k. ((asks_known types f (result_local a) texts fs w.given (test.runs b).fine o, (tt, tt)), tt);
+        returns = λ b gives o k. ((asks_known types f (result_local a) texts so_far fs w.given (test.runs b).fine o, (tt, tt)), tt);
       };
       level = test.grown.living;
     }

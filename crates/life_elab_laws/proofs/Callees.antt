@@ -1,17 +1,19 @@
 -- What the core functions of a built program take and give: values.
-use Rattle.std.proofs.Common.{◌≡◌, ◌<◌, ◌≤◌, ◌⊎◌, inl, inr, ℕ, zero, suc, true, false, ◌||◌, List, [], ◌∷◌, ◌++◌, length, map, slice_get, take, Option, Some, None, refl, sym, ap, ◌∙◌, subst, unwrap_or, arith}
+use Rattle.std.proofs.Common.{◌≡◌, ◌<◌, ◌≤◌, ◌⊎◌, inl, inr, ℕ, zero, suc, Bool, true, false, ◌||◌, List, [], ◌∷◌, ◌++◌, length, map, slice_get, take, Option, Some, None, refl, sym, ap, ◌∙◌, subst, unwrap_or, arith}
 use Rattle.std.proofs.lemmas.Bool.{and_parts, false≢true, or_cases}
 use Rattle.std.proofs.lemmas.Option.{none-some, same_Some}
 use Rattle.life_types.specs.Pointees.{or_void, ty_of}
-use Rattle.life_types.specs.TypeTests.{is_value, is_void}
+use Rattle.life_types.specs.TypeTests.{is_char, is_value, is_void}
 use Rattle.life_types.specs.Types.{Types, class, class_at}
 use Rattle.life_types.specs.declared.ty.Class.TheVariants.{Value}
 use Rattle.life_types.specs.declared.ty.Ty.{Ty}
 use Rattle.life_types.specs.declared.ty.Ty.TheVariants as ty
 use Rattle.life_types.specs.declared.ty.TyId.{TyId}
-use Rattle.life_built.specs.Built.{are_built_variables, are_values, is_built_function, is_built_result, is_built_statement, is_default}
+use Rattle.life_built.specs.Built.{are_values, is_built_result, is_default}
+use Rattle.life_elab_laws.specs.Reached.{are_reached_variables, has_chars, is_reached_function, is_reached_statement}
 use Rattle.life_typed.specs.BaseTypes.{type_at}
 use Rattle.life_typed.specs.Programs.{FunctionForm, ProgramForm}
+use Rattle.life_typed.specs.declared.basic.TheConstants.{CHAR}
 use Rattle.life_typed.specs.declared.typed_program.ParameterPromise.{ParameterPromise}
 use Rattle.life_typed.specs.declared.typed_program.TypedLocal.{TypedLocal}
 use Rattle.life_core.specs.Function.{Function}
@@ -24,10 +26,11 @@ use Rattle.life_writer.specs.Around.{Around}
 use Rattle.life_writer.specs.Variables.{kind}
 use Rattle.life_elab.specs.Functions.{parameter_local}
 use Rattle.life_elab.specs.ProgramForms.{first_state}
-use Rattle.life_elab.specs.Programs.{around}
+use Rattle.life_elab.specs.Programs.{around, texts_of}
 use Rattle.life_elab_laws.proofs.Beginning.{parameter_locals, parameters_front, register_there}
 use Rattle.life_elab_laws.proofs.Calls.{IsCallee, objects}
 use Rattle.life_elab_laws.proofs.Fronts.{IsFront, front_cut, front_then}
+use Rattle.life_elab_laws.proofs.Reaching.{variables_any}
 use Rattle.life_elab_laws.proofs.Shaped.{value_later}
 use Rattle.life_elab_laws.proofs.Types.{value_class, value_held}
 use Rattle.life_elab_laws.proofs.Values.{by_results}
@@ -47,22 +50,34 @@ value_found types id w = go (slice_get types.types id.0) refl w
 value_or_void : (t : Ty) → (is_void t || is_value t) ≡ true → class (Some t) ≡ Value
 value_or_void = by_results (λ t. class (Some t) ≡ Value) refl (λ t v. value_class t v)
 
--- ---- what is built
+-- ---- what is reached
 
-pub record IsBuiltFunction (types : Types) (f : FunctionForm) : Type 0 where
+pub record IsReachedFunction (texts : ℕ) (so_far : Bool) (types : Types) (f : FunctionForm) : Type 0 where
   pub result : is_built_result types f.result ≡ true
   pub parameters : are_values types (take (length f.parameters) f.locals) ≡ true
-  pub variables : are_built_variables types f.locals ≡ true
+  pub variables : are_reached_variables so_far types f.locals ≡ true
   pub promise : is_default f.promise ≡ true
-  pub body : is_built_statement types f.locals f.body ≡ true
+  pub chars : so_far ≡ false → type_at types CHAR ≡ ty.Char
+  pub body : is_reached_statement texts so_far types f.locals f.body ≡ true
+  -- whatever is served so far
+  pub any : are_reached_variables false types f.locals ≡ true
 
-pub built_parts : (types : Types) (f : FunctionForm) → is_built_function types f ≡ true → IsBuiltFunction types f
-built_parts types f b =
+has_char : (so_far : Bool) (types : Types) → has_chars so_far types ≡ true → so_far ≡ false → type_at types CHAR ≡ ty.Char
+has_char true types h wide = absurd (false≢true (sym wide))
+has_char false types h wide = char (type_at types CHAR) h
+  where
+    char : (t : Ty) → is_char t ≡ true → t ≡ ty.Char
+    char ty.Char e = refl
+    char _ e = absurd (false≢true e)
+
+pub reached_parts : (texts : ℕ) (so_far : Bool) (types : Types) (f : FunctionForm) → is_reached_function texts so_far types f ≡ true → IsReachedFunction texts so_far types f
+reached_parts texts so_far types f b =
     let one = and_parts (is_built_result types f.result) _ b in
     let two = and_parts (are_values types (take (length f.parameters) f.locals)) _ one.1 in
-    let three = and_parts (are_built_variables types f.locals) _ two.1 in
-    let four = and_parts (is_default f.promise) (is_built_statement types f.locals f.body) three.1 in
-    record { result = one.0; parameters = two.0; variables = three.0; promise = four.0; body = four.1 }
+    let three = and_parts (are_reached_variables so_far types f.locals) _ two.1 in
+    let four = and_parts (is_default f.promise) _ three.1 in
+    let five = and_parts (has_chars so_far types) (is_reached_statement texts so_far types f.locals f.body) four.1 in
+    record { result = one.0; parameters = two.0; variables = three.0; promise = four.0; chars = has_char so_far types five.0; body = five.1; any = variables_any so_far types f.locals three.0 }
 
 pub values_at : (types : Types) (us : List TypedLocal) → are_values types us ≡ true → (n : ℕ) (id : TyId) → slice_get (map type_of us) n ≡ Some id → is_value (type_at types id) ≡ true
 values_at types [] b n id at = absurd (none-some id at)
@@ -108,10 +123,10 @@ value_taken a (p ∷ ps) (u ∷ us) (suc y) few b lt =
 
 -- ---- what its core function takes and gives, where it begins as it is written
 
--- a function of a well typed program that is built
-pub record IsFunctionOf (p : ProgramForm) (f : FunctionForm) : Type 0 where
+-- a function of a well typed program that is reached
+pub record IsFunctionOf (so_far : Bool) (p : ProgramForm) (f : FunctionForm) : Type 0 where
   pub typed : IsWellTypedFunction p f
-  pub built : IsBuiltFunction p.types f
+  pub built : IsReachedFunction (length (texts_of p)) so_far p.types f
   pub ty : Ty
   pub result : slice_get p.types.types f.result.0 ≡ Some ty
 
@@ -123,7 +138,7 @@ pub record IsBegun (p : ProgramForm) (f : FunctionForm) (T types : Types) (core 
   pub same : core.result ≡ f.result
   pub locals : IsFront (first_state (around p f) T).locals core.locals
 
-module _ (p : ProgramForm) (of : FunctionForm) (T types : Types) (core : Function) (is : IsFunctionOf p of) (begun : IsBegun p of T types core) where
+module _ (so_far : Bool) (p : ProgramForm) (of : FunctionForm) (T types : Types) (core : Function) (is : IsFunctionOf so_far p of) (begun : IsBegun p of T types core) where
   front : IsFront p.types.types types.types
   front = front_then p.types.types T.types types.types begun.table begun.later
 

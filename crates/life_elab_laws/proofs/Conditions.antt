@@ -39,7 +39,7 @@ use Rattle.life_elab_laws.proofs.Pending.{same_tested}
 use Rattle.life_elab_laws.proofs.Shaping.{IsFineStep, IsFineTest, fine_acts, fine_asks, fine_behind, fine_both, fine_choice, fine_either, fine_negated}
 use Rattle.life_elab_laws.proofs.WrittenLocals.{AddsRegisters, registers_then}
 
-module _ (types : Types) (texts : ℕ) (fs : List Function) (f : Function) where
+module _ (types : Types) (texts : ℕ) (so_far : Bool) (fs : List Function) (f : Function) where
   -- ---- what a condition writes
 
   pub record Asked (s : State) (t : Tree) (k : List Known) : Type 0 where
@@ -50,7 +50,7 @@ module _ (types : Types) (texts : ℕ) (fs : List Function) (f : Function) where
     pub keeps_off : Keeps f (length s.locals) None k off
 
   pub record AsksAll (s : State) (t : Tree) : Type 0 where
-    pub fine : IsFineTest types texts fs f t
+    pub fine : IsFineTest types texts so_far fs f t
     pub goes : (k : List Known) → Alive f s k → Asked s t k
 
   pub record Tests (s : State) (w : Gives Tree) : Type 0 where
@@ -74,17 +74,17 @@ module _ (types : Types) (texts : ℕ) (fs : List Function) (f : Function) where
   -- ---- single tests
 
   -- of what a part gives
-  pub tested_part : {A : Type 0} (place : Place) (ends : Option Place) (test : A → Test) (value : State → Gives A) (s : State) (Q : Gift types texts fs f A) → ((x : A) (n : ℕ) (k : List Known) → Q.ready x n k → is_node_ready types f k (Question (test x)) ≡ true)
-      → ((x : A) → Q.typed x → (is_well_formed_test types texts fs f (test x) ≡ true) × (is_served_test types f (test x) ≡ true)) → Makes types texts fs f None (with_code [] s) (value (with_code [] s)) Q → Tests s (tested place ends (λ s. mapped test (value s)) s)
+  pub tested_part : {A : Type 0} (place : Place) (ends : Option Place) (test : A → Test) (value : State → Gives A) (s : State) (Q : Gift types texts so_far fs f A) → ((x : A) (n : ℕ) (k : List Known) → Q.ready x n k → is_node_ready types f k (Question (test x)) ≡ true)
+      → ((x : A) → Q.typed x → (is_well_formed_test types texts fs f (test x) ≡ true) × (so_far ≡ true → is_served_test types f (test x) ≡ true)) → Makes types texts so_far fs f None (with_code [] s) (value (with_code [] s)) Q → Tests s (tested place ends (λ s. mapped test (value s)) s)
   tested_part {A = A} place ends test value s Q ready formed made =
       subst (λ (x : State). Tests s (behind_code place (test w.given) (taken s x))) (sym (same_tested s w.state ends made.grown.pending)) asked
     where
       w : Gives A
       w = value (with_code [] s)
 
-      all : Runs types texts fs f (nothing types texts fs f) tt None (with_code [] s) w Q made.code → AsksAll s (Then (trees made.code) (Asks place (test w.given)))
+      all : Runs types texts so_far fs f (nothing types texts so_far fs f) tt None (with_code [] s) w Q made.code → AsksAll s (Then (trees made.code) (Asks place (test w.given)))
       all r = record {
-        fine = fine_behind types texts fs f made.code (Asks place (test w.given)) r.fine (let is = formed w.given r.typed in fine_asks types texts fs f place (test w.given) is.0 is.1);
+        fine = fine_behind types texts so_far fs f made.code (Asks place (test w.given)) r.fine (let is = formed w.given r.typed in fine_asks types texts so_far fs f place (test w.given) is.0 is.1);
         goes = λ k alive. let g = r.goes k alive tt in record {
           on = g.after;
           off = g.after;
@@ -102,14 +102,14 @@ module _ (types : Types) (texts : ℕ) (fs : List Function) (f : Function) where
         runs = λ b. subst (λ (c : List Tree). AsksAll s (Then (trees c) (Asks place (test w.given)))) (sym made.written) (all (made.runs b tt));
       }
 
-  pub non_zero_part : (place : Place) (ends : Option Place) (t : Ty) (value : State → Gives ℕ) (s : State) → Makes types texts fs f None (with_code [] s) (value (with_code [] s)) (a_number types texts fs f t) → Tests s (non_zero place ends value s)
+  pub non_zero_part : (place : Place) (ends : Option Place) (t : Ty) (value : State → Gives ℕ) (s : State) → Makes types texts so_far fs f None (with_code [] s) (value (with_code [] s)) (a_number types texts so_far fs f t) → Tests s (non_zero place ends value s)
   non_zero_part place ends t value s made =
-      tested_part place ends NonZero value s (a_number types texts fs f t) (λ r n k h. uses_ready k (r ∷ []) [] (one_there k r h.1)) (λ r h. (number_any types f t r h, refl)) made
+      tested_part place ends NonZero value s (a_number types texts so_far fs f t) (λ r n k h. uses_ready k (r ∷ []) [] (one_there k r h.1)) (λ r h. (number_any types f t r h, λ so. refl)) made
 
-  pub not_null_part : (place : Place) (ends : Option Place) (t : Ty) (pointer : State → Gives Location) (s : State) → is_raw t ≡ true → Makes types texts fs f None (with_code [] s) (pointer (with_code [] s)) (a_pointer types texts fs f t)
+  pub not_null_part : (place : Place) (ends : Option Place) (t : Ty) (pointer : State → Gives Location) (s : State) → is_raw t ≡ true → Makes types texts so_far fs f None (with_code [] s) (pointer (with_code [] s)) (a_pointer types texts so_far fs f t)
       → Tests s (not_null place ends pointer s)
   not_null_part place ends t pointer s raw made =
-      tested_part place ends NotNull pointer s (a_pointer types texts fs f t) (λ l n k h. uses_ready k (l.local ∷ []) [] (one_there k l.local (ap (λ (q : Location). known_at k q.local) h.is ∙ h.held)))
+      tested_part place ends NotNull pointer s (a_pointer types texts so_far fs f t) (λ l n k h. uses_ready k (l.local ∷ []) [] (one_there k l.local (ap (λ (q : Location). known_at k q.local) h.is ∙ h.held)))
       (λ l h. (or_left (is_raw (type_in types f l)) (is_unique (type_in types f l)) (ap is_raw h.typed ∙ raw), h.served)) made
 
   -- ---- conditions of others
@@ -120,7 +120,7 @@ module _ (types : Types) (texts : ℕ) (fs : List Function) (f : Function) where
     registers = t.registers;
     unwritten = t.unwritten;
     runs = λ b. let r = t.runs b in record {
-      fine = fine_negated types texts fs f (w s).given r.fine;
+      fine = fine_negated types texts so_far fs f (w s).given r.fine;
       goes = λ k alive. let g = r.goes k alive in record {
         on = g.off;
         off = g.on;
@@ -177,7 +177,7 @@ module _ (types : Types) (texts : ℕ) (fs : List Function) (f : Function) where
       where
         both : AsksAll s (left s).given → AsksAll (left s).state (right (left s).state).given → AsksAll s (Both (left s).given (right (left s).state).given)
         both r q = record {
-          fine = fine_both types texts fs f (left s).given (right (left s).state).given r.fine q.fine;
+          fine = fine_both types texts so_far fs f (left s).given (right (left s).state).given r.fine q.fine;
           goes = λ k alive. both_asked k alive (r.goes k alive) q;
         }
 
@@ -191,7 +191,7 @@ module _ (types : Types) (texts : ℕ) (fs : List Function) (f : Function) where
       where
         either : AsksAll s (left s).given → AsksAll (left s).state (right (left s).state).given → AsksAll s (Either (left s).given (right (left s).state).given)
         either r q = record {
-          fine = fine_either types texts fs f (left s).given (right (left s).state).given r.fine q.fine;
+          fine = fine_either types texts so_far fs f (left s).given (right (left s).state).given r.fine q.fine;
           goes = λ k alive. either_asked k alive (r.goes k alive) q;
         }
 
@@ -204,13 +204,13 @@ module _ (types : Types) (texts : ℕ) (fs : List Function) (f : Function) where
   answered : (place : Place) (n : ℤ) (r : ℕ) (k : List Known) → Falls types f (Acts place (constant n r) ∷ []) k (slice_set k r known.Ready)
   answered place n r k = falls_acts types f place (constant n r) k refl
 
-  answer_fine : (n : ℤ) (t : Ty) (r : ℕ) → is_number_of types f t r ≡ true → IsFineStep types texts fs f (constant n r)
-  answer_fine n t r e = (is_constant types texts fs f (nothing types texts fs f) tt t n).fine r e tt
+  answer_fine : (n : ℤ) (t : Ty) (r : ℕ) → is_number_of types f t r ≡ true → IsFineStep types texts so_far fs f (constant n r)
+  answer_fine n t r e = (is_constant types texts so_far fs f (nothing types texts so_far fs f) tt t n).fine r e tt
 
   pub by_branch_part : (into : Option ℕ) (t : Ty) (place : Place) (condition : State → Gives Tree) (s : State) → is_value t ≡ true → IsIntoOf t s into → IsOpen s
-      → Tests s (condition s) → Makes types texts fs f into s (by_branch into t place condition s) (a_number types texts fs f t)
+      → Tests s (condition s) → Makes types texts so_far fs f into s (by_branch into t place condition s) (a_number types texts so_far fs f t)
   by_branch_part into t place condition s v wanted opened test =
-      made (target place into t (condition s).state) (targeted types f place t (condition s).state into v (is_into t (condition s).state into later)) (target_number types texts fs f place into t (condition s).state v later)
+      made (target place into t (condition s).state) (targeted types f place t (condition s).state into v (is_into t (condition s).state into later)) (target_number types texts so_far fs f place into t (condition s).state v later)
     where
       later : IsIntoOf t (condition s).state into
       later = into_of_later t s (condition s).state into test.grown wanted
@@ -219,11 +219,11 @@ module _ (types : Types) (texts : ℕ) (fs : List Function) (f : Function) where
       chosen r = Choice (condition s).given (answer place (pos 1) r) (answer place (pos 0) r)
 
       run : (w : Gives ℕ) → Targets types f into (condition s).state w → IsNameless f w.given → is_number_of types f t w.given ≡ true → AsksAll s (condition s).given
-          → Runs types texts fs f (nothing types texts fs f) tt into s (branched place (condition s).given w.given w.state) (a_number types texts fs f t) (chosen w.given ∷ [])
+          → Runs types texts so_far fs f (nothing types texts so_far fs f) tt into s (branched place (condition s).given w.given w.state) (a_number types texts so_far fs f t) (chosen w.given ∷ [])
       run w target is number asks = record {
-        fine = fine_choice types texts fs f (condition s).given (Acts place (constant (pos 1) w.given) ∷ []) (Acts place (constant (pos 0) w.given) ∷ []) asks.fine
-            (fine_acts types texts fs f place (constant (pos 1) w.given) (answer_fine (pos 1) t w.given number))
-            (fine_acts types texts fs f place (constant (pos 0) w.given) (answer_fine (pos 0) t w.given number));
+        fine = fine_choice types texts so_far fs f (condition s).given (Acts place (constant (pos 1) w.given) ∷ []) (Acts place (constant (pos 0) w.given) ∷ []) asks.fine
+            (fine_acts types texts so_far fs f place (constant (pos 1) w.given) (answer_fine (pos 1) t w.given number))
+            (fine_acts types texts so_far fs f place (constant (pos 0) w.given) (answer_fine (pos 0) t w.given number));
         typed = number;
         goes = λ k alive p. went k alive (asks.goes k alive);
       }
@@ -239,7 +239,7 @@ module _ (types : Types) (texts : ℕ) (fs : List Function) (f : Function) where
           size : (k j : List Known) → Alive f s k → Keeps f (length s.locals) None k j → w.given < length j
           size k j alive keeps = omega (arith, keeps.sized, alive.sized, slice_get_within f.locals w.given is.local is.there)
 
-          went : (k : List Known) → Alive f s k → Asked s (condition s).given k → Goes types texts fs f into s (branched place (condition s).given w.given w.state) (a_number types texts fs f t) (chosen w.given ∷ []) k
+          went : (k : List Known) → Alive f s k → Asked s (condition s).given k → Goes types texts so_far fs f into s (branched place (condition s).given w.given w.state) (a_number types texts so_far fs f t) (chosen w.given ∷ []) k
           went k alive g = record {
             after = agreed_all (slice_set g.on w.given known.Ready) (slice_set g.off w.given known.Ready);
             falls = falls_choice types f (condition s).given (Acts place (constant (pos 1) w.given) ∷ []) (Acts place (constant (pos 0) w.given) ∷ []) k g.on g.off
@@ -254,7 +254,7 @@ module _ (types : Types) (texts : ℕ) (fs : List Function) (f : Function) where
             );
           }
 
-      made : (w : Gives ℕ) → Targets types f into (condition s).state w → (Begins types f w.state → is_number_of types f t w.given ≡ true) → Makes types texts fs f into s (branched place (condition s).given w.given w.state) (a_number types texts fs f t)
+      made : (w : Gives ℕ) → Targets types f into (condition s).state w → (Begins types f w.state → is_number_of types f t w.given ≡ true) → Makes types texts so_far fs f into s (branched place (condition s).given w.given w.state) (a_number types texts so_far fs f t)
       made w target number = record {
         grown = grows_then s (condition s).state w.state test.grown target.grown;
         registers = registers_then types s (condition s).state w.state target.grown.types test.registers target.registers;
@@ -267,8 +267,8 @@ module _ (types : Types) (texts : ℕ) (fs : List Function) (f : Function) where
 
   pub condition_part : (decision : Option (State → Gives Tree)) (t : Ty) (place : Place) (ends : Option Place) (pointer : State → Gives Location) (value : State → Gives ℕ) (s : State) → is_unique t ≡ false
       → ((w : State → Gives Tree) → decision ≡ Some w → Tests s (w s))
-      → (decision ≡ None → is_raw t ≡ true → Makes types texts fs f None (with_code [] s) (pointer (with_code [] s)) (a_pointer types texts fs f t))
-      → (decision ≡ None → is_raw t ≡ false → Makes types texts fs f None (with_code [] s) (value (with_code [] s)) (a_number types texts fs f t))
+      → (decision ≡ None → is_raw t ≡ true → Makes types texts so_far fs f None (with_code [] s) (pointer (with_code [] s)) (a_pointer types texts so_far fs f t))
+      → (decision ≡ None → is_raw t ≡ false → Makes types texts so_far fs f None (with_code [] s) (value (with_code [] s)) (a_number types texts so_far fs f t))
       → Tests s (condition_by decision t place ends pointer value s)
   condition_part (Some w) t place ends pointer value s plain decided pointed valued = decided w refl
   condition_part None t place ends pointer value s plain decided pointed valued =

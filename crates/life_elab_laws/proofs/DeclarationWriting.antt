@@ -1,5 +1,5 @@
 -- What is written for a declaration is ready and well formed: the variable lives, and is given what typing lets it be given.
-use Rattle.std.proofs.Common.{◌≡◌, ◌<◌, ℕ, Bool, true, false, ◌||◌, ◌&&◌, cond, not, List, [], ◌∷◌, ◌++◌, length, slice_get, slice_set, Option, Some, None, refl, sym, ap, ◌∙◌, subst, unwrap_or, arith, append_assoc}
+use Rattle.std.proofs.Common.{◌≡◌, ◌<◌, ℕ, Bool, true, false, ◌&&◌, cond, not, List, [], ◌∷◌, ◌++◌, length, slice_get, slice_set, Option, Some, None, refl, sym, ap, ◌∙◌, subst, unwrap_or, arith, append_assoc}
 use Rattle.std.proofs.lemmas.Bool.{and_parts, false≢true}
 use Rattle.life_types.specs.Pointees.{ty_of}
 use Rattle.life_types.specs.TypeTests.{is_value}
@@ -9,7 +9,8 @@ use Rattle.life_types.specs.declared.place.Place.{Place}
 use Rattle.life_types.specs.declared.ty.Ty.{Ty}
 use Rattle.life_types.specs.declared.ty.Ty.TheVariants as ty
 use Rattle.life_types.specs.declared.ty.TyId.{TyId}
-use Rattle.life_built.specs.Built.{is_built_declaration, is_built_declared, is_built_expression, is_built_initial, is_built_variable, is_pointing, needs_no_temporary}
+use Rattle.life_built.specs.Built.{needs_no_temporary}
+use Rattle.life_elab_laws.specs.Reached.{is_reached_declaration, is_reached_declared, is_reached_expression, is_reached_initial, is_reached_variable}
 use Rattle.life_typed.specs.BaseTypes.{type_at}
 use Rattle.life_typed.specs.Conversions.{is_place}
 use Rattle.life_typed.specs.Programs.{FunctionForm}
@@ -18,9 +19,9 @@ use Rattle.life_typed.specs.TypedStatement.{DeclarationForm, InitialForm, one, s
 use Rattle.life_typed.specs.declared.typed_program.TypedLocal.{TypedLocal}
 use Rattle.life_type_stmt.specs.Declarations.{default_fault}
 use Rattle.life_core.specs.Function.{Function}
-use Rattle.life_core.specs.Operands.{Argument, Location, Place as Aimed, object_named, whole}
+use Rattle.life_core.specs.Operands.{Argument, Empty, Location, Place as Aimed, object_named, whole}
 use Rattle.life_core.specs.ByValue.{is_pointer as points}
-use Rattle.life_core.specs.Holdings.{AView, AnObject, Holding, sort_of}
+use Rattle.life_core.specs.Holdings.{AnObject, sort_of}
 use Rattle.life_core.specs.Served.{is_served_birth}
 use Rattle.life_core.specs.Step.{Aim, Live, Save, Step}
 use Rattle.life_core.specs.Tree.{Tree, Acts}
@@ -28,6 +29,7 @@ use Rattle.life_core.specs.declared.instr.Form.TheVariants.{Plain}
 use Rattle.life_proper.specs.declared.known.Known.{Known}
 use Rattle.life_proper.specs.declared.known.Known.TheVariants as known
 use Rattle.life_proper.specs.Knowing.{known_at}
+use Rattle.life_proper.specs.OperandTypes.{is_range}
 use Rattle.life_proper.proofs.ReadyTests.{one_known, uses_ready}
 use Rattle.life_proper.specs.WellFormed.{can_live, goes_to, is_source_of}
 use Rattle.life_well_typed.specs.Expressions.{IsExpression, parameter_types}
@@ -47,40 +49,48 @@ use Rattle.life_writer.specs.Using.{pointing, value}
 use Rattle.life_writer.specs.Variables.{end_pending, variable_local}
 use Rattle.life_writer.specs.Uses.{Remaining}
 use Rattle.life_writer.specs.Writing.{State, Gives, ◌>>◌, emit, gives, mapped, with_code}
-use Rattle.life_elab.specs.DeclarationForms.{declared, declared_as, default_to, given_initial}
+use Rattle.life_elab.specs.DeclarationForms.{declared, declared_as, default_to, empty, given_initial}
 use Rattle.life_elab.specs.Declarations.{variable as home}
 use Rattle.life_writer.proofs.Called.{call_for_seen, calling}
 use Rattle.life_elab_laws.proofs.Aiming.{pointed_fills, pointed_fine}
 use Rattle.life_elab_laws.proofs.CallParts.{called_fine}
 use Rattle.life_elab_laws.proofs.Calls.{born_fills}
-use Rattle.life_elab_laws.proofs.Declaring.{declared_does, its_local, new_below, new_ends, new_sort, with_new}
+use Rattle.life_elab_laws.proofs.Declaring.{declared_does, its_local, new_below, new_sort, with_new}
 use Rattle.life_elab_laws.proofs.Doing.{Does}
 use Rattle.life_elab_laws.proofs.ExpressionKinds.{variable_built}
 use Rattle.life_elab_laws.proofs.ExpressionForms.{IsWhole}
-use Rattle.life_elab_laws.proofs.Expressions.{expression, points_whole, result_later, whole_expression}
-use Rattle.life_elab_laws.proofs.GivenKinds.{given_number, given_pointer}
+use Rattle.life_elab_laws.proofs.ExpressionTypes.{seen_kind}
+use Rattle.life_elab_laws.proofs.Expressions.{expression, whole_expression}
+use Rattle.life_elab_laws.proofs.PointerForms.{points_whole, result_later}
+use Rattle.life_elab_laws.proofs.GivenKinds.{given_number, given_pointer, given_view}
 use Rattle.life_elab_laws.proofs.Falling.{Falls, Fills, falls_acts, falls_append, falls_filling}
-use Rattle.life_elab_laws.proofs.Following.{Follows, follows_grown, is_variable_sort}
+use Rattle.life_elab_laws.proofs.Following.{Follows, follows_grown}
 use Rattle.life_elab_laws.proofs.Filling.{aimed_filling, filling_fills}
-use Rattle.life_elab_laws.proofs.FormedFits.{IsBoundTo, given_raw, given_reference}
-use Rattle.life_elab_laws.proofs.Gifts.{Gift, a_number, a_place, a_pointing, arguments, nothing}
-use Rattle.life_elab_laws.proofs.Growing.{Begins, Grows}
+use Rattle.life_elab_laws.proofs.FormedFits.{IsBoundTo, given_raw, given_reference, given_seen}
+use Rattle.life_elab_laws.proofs.Gifts.{Gift, a_number, a_place, a_pointing, arguments, nothing, takes_from}
+use Rattle.life_elab_laws.proofs.Growing.{Begins, Grows, grows_none}
 use Rattle.life_elab_laws.proofs.Held.{blank_there, two_there}
 use Rattle.life_elab_laws.proofs.Knowledge.{at_set, beside_set}
-use Rattle.life_elab_laws.proofs.NewVariables.{bound_given, raw_declared, raw_lives, reference_declared, value_goes, value_lives, value_saved}
+use Rattle.life_elab_laws.proofs.Locations.{is_location, is_pointed, seen_pointed}
+use Rattle.life_elab_laws.proofs.NewVariables.{bound_given, location_declared, raw_lives, reference_declared, value_goes, value_lives, value_saved}
 use Rattle.life_elab_laws.proofs.Parts.{Makes, leaf_part}
 use Rattle.life_elab_laws.proofs.Pending.{same_pending}
+use Rattle.life_elab_laws.proofs.Reaching.{variable_any}
 use Rattle.life_elab_laws.proofs.Setting.{Setting}
 use Rattle.life_elab_laws.proofs.Shaping.{IsFineStep, fine_acts, fine_append}
 use Rattle.life_elab_laws.proofs.TypedKinds.{none_some}
 use Rattle.life_elab_laws.proofs.Types.{same_types, value_held}
 use Rattle.life_elab_laws.proofs.Values.{by_values}
-use Rattle.life_elab_laws.proofs.VariablePlaces.{IsVariableType, a_raw, a_reference, a_value, variable_type}
+use Rattle.life_elab_laws.proofs.VariablePlaces.{IsVariableType, a_raw, a_reference, a_value, a_view, variable_type}
 
-module _ (a : Around) (types : Types) (texts : ℕ) (fs : List Function) (f : Function) (setting : Setting a types fs f) (v : Visible) (in_loop : Bool) where
-  module _ (u : TypedLocal) (s : State) (h : Follows types f a v s) (at : slice_get a.function.locals v.declared ≡ Some u) (built : is_built_variable a.program.types u.ty ≡ true) where
+module _ (a : Around) (types : Types) (texts : ℕ) (so_far : Bool) (fs : List Function) (f : Function) (setting : Setting so_far a types fs f) (v : Visible) (in_loop : Bool) where
+  module _ (u : TypedLocal) (s : State) (h : Follows types f a v s) (at : slice_get a.function.locals v.declared ≡ Some u) (built : is_reached_variable so_far a.program.types u.ty ≡ true) where
+    -- whatever is served so far
+    any : is_reached_variable false a.program.types u.ty ≡ true
+    any = variable_any so_far a.program.types u.ty built
+
     abbrev Born : State → Type 0
-    Born s' = Does types texts fs f a (with_next v) in_loop s s'
+    Born s' = Does types texts so_far fs f a (with_next v) in_loop s s'
 
     abbrev Whole : Typed → Type 0
     Whole e = IsExpression a.program a.function.locals v.visible (whole_form e)
@@ -95,40 +105,27 @@ module _ (a : Around) (types : Types) (texts : ℕ) (fs : List Function) (f : Fu
     -- ---- what the variable holds
 
     object_sort : (t : Ty) → slice_get a.program.types.types u.ty.0 ≡ Some t → is_value t ≡ true → (s' : State) → Grows s s' → New s' → sort_of types f (length s'.locals) ≡ AnObject
-    object_sort t is w s' g b = new_sort types f a setting.front v u (variable_local a u) (its_local a u) s' (follows_grown types f a v s s' g h) at built b t is ∙ value_held t w
+    object_sort t is w s' g b = new_sort types f a setting.front v u (variable_local a u) (its_local a u) s' (follows_grown types f a v s s' g h) at any b t is ∙ value_held t w
 
     below : (s' : State) → Grows s s' → New s' → length s'.locals < length f.locals
-    below s' g b = new_below types f a setting.front v u (variable_local a u) (its_local a u) s' (follows_grown types f a v s s' g h) at built b
+    below s' g b = new_below types f a setting.front v u (variable_local a u) (its_local a u) s' (follows_grown types f a v s s' g h) at any b
 
     -- ---- it comes to life
 
     live_fills : (x : ℕ) (k : List Known) → known_at k x ≡ known.Blank → Fills f k (Live x Plain) x
     live_fills x k e = record { ready = one_known known.Blank k x (blank_there k x e); after = refl }
 
-    birth_served : (sort : Holding) → is_variable_sort sort ≡ true → is_served_birth sort ≡ true
-    birth_served AView e = absurd (false≢true e)
-    birth_served _ e = refl
+    live_fine : (s' : State) → can_live types texts fs f (length s'.locals) ≡ true → is_served_birth (sort_of types f (length s'.locals)) ≡ true → IsFineStep types texts so_far fs f (Live (length s'.locals) Plain)
+    live_fine s' lives born = record { plain = λ so. refl; formed = lives; served = λ so. born }
 
-    live_fine : (s' : State) → Follows types f a v s' → New s' → can_live types texts fs f (length s'.locals) ≡ true → IsFineStep types texts fs f (Live (length s'.locals) Plain)
-    live_fine s' follows b lives = record {
-      plain = refl;
-      formed = lives;
-      served = birth_served (sort_of types f (length s'.locals)) (new_ends types f a setting.front v u (variable_local a u) (its_local a u) s' follows at built b);
-    }
+    value_born : (t : Ty) → slice_get a.program.types.types u.ty.0 ≡ Some t → is_value t ≡ true → (s' : State) → Grows s s' → New s' → is_served_birth (sort_of types f (length s'.locals)) ≡ true
+    value_born t is w s' g b = ap is_served_birth (object_sort t is w s' g b)
 
-    lives : default_fault (type_of a u.ty) ≡ None → New s → can_live types texts fs f (length s.locals) ≡ true
-    lives none b = go (variable_type a.program.types u.ty built)
-      where
-        go : IsVariableType a.program.types u.ty → can_live types texts fs f (length s.locals) ≡ true
-        go (a_value t is w) = value_lives a types texts fs f setting.front u s b (ap is_value (type_is t is) ∙ w)
-        go (a_raw target constant is) = raw_lives a types texts fs f setting.front u s b target constant is
-        go (a_reference target constant is w) = absurd (none_some (sym (subst (λ (t : Ty). default_fault t ≡ None) (type_is (ty.Reference target constant) is) none)))
-
-    live_does : default_fault (type_of a u.ty) ≡ None → Born (live (home a u) s).state
-    live_does none =
-        declared_does types texts fs f a setting.front v in_loop u s (gives tt s) (nothing types texts fs f) (Acts u.place (Live (length s.locals) Plain) ∷ []) h at built
-        (leaf_part types texts fs f tt s (nothing types texts fs f) (λ b. tt) (λ b k alive. tt))
-        (λ b q. fine_acts types texts fs f u.place (Live (length s.locals) Plain) (live_fine s h b (lives none b)))
+    live_does : (New s → can_live types texts fs f (length s.locals) ≡ true) → (New s → is_served_birth (sort_of types f (length s.locals)) ≡ true) → Born (live (home a u) s).state
+    live_does lives born =
+        declared_does types texts so_far fs f a setting.front v in_loop u s (gives tt s) (nothing types texts so_far fs f) (Acts u.place (Live (length s.locals) Plain) ∷ []) h at any
+        (leaf_part types texts so_far fs f tt s (nothing types texts so_far fs f) (λ b. tt) (λ b k alive. tt))
+        (λ b q. fine_acts types texts so_far fs f u.place (Live (length s.locals) Plain) (live_fine s (lives b) (born b)))
         (λ b k size q blank. falls_filling types f u.place (Live (length s.locals) Plain) (length s.locals) k (live_fills (length s.locals) k blank))
 
     -- ---- an object
@@ -143,53 +140,53 @@ module _ (a : Around) (types : Types) (texts : ℕ) (fs : List Function) (f : Fu
         (uses_ready j (r ∷ x ∷ []) [] (two_there j r x (beside_set k x r known.Ready (λ e. omega (arith, e, lower)) ∙ number) (at_set k x known.Ready lt))))
 
     -- a value is computed before it lives
-    valued_does : (t : Ty) → slice_get a.program.types.types u.ty.0 ≡ Some t → is_value t ≡ true → (w : Gives ℕ) → Makes types texts fs f None s w (a_number types texts fs f t)
+    valued_does : (t : Ty) → slice_get a.program.types.types u.ty.0 ≡ Some t → is_value t ≡ true → (w : Gives ℕ) → Makes types texts so_far fs f None s w (a_number types texts so_far fs f t)
         → Born (emit u.place (Save (object_named (length w.state.locals)) w.given) (emit u.place (Live (length w.state.locals) Plain) (with_new (variable_local a u) w.state)))
     valued_does t is worth w made =
         let x = length w.state.locals in
         let lives = Acts u.place (Live x Plain) ∷ [] in
         let saves = Acts u.place (Save (object_named x) w.given) ∷ [] in
         let value = ap is_value (type_is t is) ∙ worth in
-        let typed : Makes types texts fs f None s w (a_number types texts fs f (type_of a u.ty)) = subst (λ (x : Ty). Makes types texts fs f None s w (a_number types texts fs f x)) (sym (type_is t is)) made in
+        let typed : Makes types texts so_far fs f None s w (a_number types texts so_far fs f (type_of a u.ty)) = subst (λ (x : Ty). Makes types texts so_far fs f None s w (a_number types texts so_far fs f x)) (sym (type_is t is)) made in
         subst (λ (c : List Tree). Born (with_code c (with_new (variable_local a u) w.state)))
         (sym (append_assoc w.state.code lives saves))
-        (declared_does types texts fs f a setting.front v in_loop u s w (a_number types texts fs f (type_of a u.ty)) (lives ++ saves) h at built typed
+        (declared_does types texts so_far fs f a setting.front v in_loop u s w (a_number types texts so_far fs f (type_of a u.ty)) (lives ++ saves) h at any typed
         (λ b q.
-        fine_append types texts fs f lives saves
-        (fine_acts types texts fs f u.place (Live x Plain) (live_fine w.state (follows_grown types f a v s w.state made.grown h) b (value_lives a types texts fs f setting.front u w.state b value)))
-        (fine_acts types texts fs f u.place (Save (object_named x) w.given) (value_saved a types texts fs f setting.front u w.state b value w.given q)))
+        fine_append types texts so_far fs f lives saves
+        (fine_acts types texts so_far fs f u.place (Live x Plain) (live_fine w.state (value_lives a types texts so_far fs f setting.front u w.state b value) (value_born t is worth w.state made.grown b)))
+        (fine_acts types texts so_far fs f u.place (Save (object_named x) w.given) (value_saved a types texts so_far fs f setting.front u w.state b value w.given q)))
         (λ b k size q blank. saved x w.given k (omega (arith, size, below w.state made.grown b)) blank q.0 q.1))
 
     -- ---- what one instruction brings to life: a call, a pointer, a reference
 
-    filled_does : {A : Type 0} (place : Place) (w : Gives A) (Q : Gift types texts fs f A) (step : A → Location → Step) → Makes types texts fs f None s w Q
-        → (New w.state → Q.typed w.given → IsFineStep types texts fs f (step w.given (whole (length w.state.locals))))
+    filled_does : {A : Type 0} (place : Place) (w : Gives A) (Q : Gift types texts so_far fs f A) (step : A → Location → Step) → Makes types texts so_far fs f None s w Q
+        → (New w.state → Q.typed w.given → IsFineStep types texts so_far fs f (step w.given (whole (length w.state.locals))))
         → (New w.state → (k : List Known) → Q.ready w.given (length w.state.locals) k → known_at k (length w.state.locals) ≡ known.Blank → Fills f k (step w.given (whole (length w.state.locals))) (length w.state.locals))
         → Born (emit place (step w.given (whole (length w.state.locals))) (with_new (variable_local a u) w.state))
     filled_does place w Q step made fits fills =
         let x = length w.state.locals in
-        declared_does types texts fs f a setting.front v in_loop u s w Q (Acts place (step w.given (whole x)) ∷ []) h at built made
-        (λ b q. fine_acts types texts fs f place (step w.given (whole x)) (fits b q))
+        declared_does types texts so_far fs f a setting.front v in_loop u s w Q (Acts place (step w.given (whole x)) ∷ []) h at any made
+        (λ b q. fine_acts types texts so_far fs f place (step w.given (whole x)) (fits b q))
         (λ b k size q blank. falls_filling types f place (step w.given (whole x)) x k (fills b k q blank))
 
     -- a call, where it gives the variable's type
     called_does : (t : Ty) → slice_get a.program.types.types u.ty.0 ≡ Some t → is_value t ≡ true → (g : ℕ) (of : FunctionForm) (place : Place) → slice_get a.program.functions g ≡ Some of
-        → ty_of types of.result ≡ type_of a u.ty → (w : Gives (List Argument)) → Makes types texts fs f None s w (arguments types texts fs f (parameter_types (Some of)))
+        → ty_of types of.result ≡ type_of a u.ty → (w : Gives (List Argument)) → Makes types texts so_far fs f None s w (arguments types texts so_far fs f (parameter_types (Some of)))
         → Born (emit place (called g w.given (whole (length w.state.locals))) (with_new (variable_local a u) w.state))
     called_does t is worth g of place there same w made =
         let x = length w.state.locals in
         let callee = setting.callees g of there in
-        filled_does place w (arguments types texts fs f (parameter_types (Some of))) (called g) made
+        filled_does place w (arguments types texts so_far fs f (parameter_types (Some of))) (called g) made
         (λ b q.
-        called_fine types texts fs f g w.given of x callee q (ap points (object_sort t is worth w.state made.grown b))
-        (ap (λ (r : Ty). goes_to types texts fs f r (Some (whole x))) same ∙ value_goes a types texts fs f setting.front u w.state b (ap is_value (type_is t is) ∙ worth)))
+        called_fine types texts so_far fs f g w.given of x callee q (ap points (object_sort t is worth w.state made.grown b))
+        (ap (λ (r : Ty). goes_to types texts fs f r (Some (whole x))) same ∙ value_goes a types texts so_far fs f setting.front u w.state b (ap is_value (type_is t is) ∙ worth)))
         (λ b k q blank. born_fills f g (parameter_types (Some of)) w.given x k q x blank)
 
     -- ---- any variable that is given one expression
 
-    module _ (e : Typed) (b : is_built_expression e ≡ true) (he : Whole e) (behind : Place) where
-      whole_is : IsWhole a v.visible types texts fs f setting (whole_form e)
-      whole_is = whole_expression a v.visible types texts fs f setting (whole_form e) b he
+    module _ (e : Typed) (b : is_reached_expression texts so_far e ≡ true) (he : Whole e) (behind : Place) where
+      whole_is : IsWhole a v.visible types texts so_far fs f setting (whole_form e)
+      whole_is = whole_expression a v.visible types texts so_far fs f setting (whole_form e) b he
 
       abbrev GivenOne : Ty → State
       GivenOne t = (initial a scoped (uses a (whole_form e)) t behind s >> λ rest s. rest (home a u) s).state
@@ -204,9 +201,9 @@ module _ (a : Around) (types : Types) (texts : ℕ) (fs : List Function) (f : Fu
 
         by_call_does : (c : Called) → form_call e.form ≡ Some c → compared.eq (own_type e.ty) t ≡ true → Born (By (Some c))
         by_call_does c found same =
-            let k = (expression a v.visible types texts fs f setting e.form e b he).calls c found in
+            let k = (expression a v.visible types texts so_far fs f setting e.form e b he).calls c found in
             called_does t is worth c.function k.of e.place k.there
-            (result_later a v.visible types texts fs f setting c.function k.of k.there ∙ sym (ap own_type k.own) ∙ same_types (own_type e.ty) t same ∙ sym (type_is t is))
+            (result_later a v.visible types texts so_far fs f setting c.function k.of k.there ∙ sym (ap own_type k.own) ∙ same_types (own_type e.ty) t same ∙ sym (type_is t is))
             (giving.arguments a (all_uses a c.arguments) c.delimiters (around.parameter_types a c.function) s) (k.hands s h.stands)
 
         -- a call is one where it needs no conversion
@@ -227,16 +224,23 @@ module _ (a : Around) (types : Types) (texts : ℕ) (fs : List Function) (f : Fu
             subst Born (sym (by_values (λ x. (initial a scoped (uses a (whole_form e)) x behind s >> λ rest s. rest (home a u) s).state ≡ (value_by (call_to (uses a (whole_form e)) x) e.place (value (uses a (whole_form e)) behind x None) s >> λ rest s. rest (home a u) s).state) refl refl refl refl refl t worth))
             (subst (λ (o : Option (State → Gives (Location → Step))). Born (value_by o e.place (value (uses a (whole_form e)) behind t None) s >> λ rest s. rest (home a u) s).state) (sym (call_for_seen a e t)) chosen_does)
 
-      raw_does : (target : TyId) (constant : Bool) → slice_get a.program.types.types u.ty.0 ≡ Some (ty.Raw target constant) → is_given a.program.types (ty.Raw target constant) e ≡ true → Born (GivenOne (ty.Raw target constant))
-      raw_does target constant is given =
-          let r = ty.Raw target constant in
+      pointer_does : (t : Ty) → is_location t ≡ true → slice_get a.program.types.types u.ty.0 ≡ Some t → is_pointed e.ty ≡ true → takes_from types t e.ty ≡ true
+          → Born (emit e.place (pointed (pointing (uses a (whole_form e)) s).given (whole (length (pointing (uses a (whole_form e)) s).state.locals))) (with_new (variable_local a u) (pointing (uses a (whole_form e)) s).state))
+      pointer_does t loc is pointed_one taken =
           let w = pointing (uses a (whole_form e)) s in
-          let worth : is_value (type_at a.program.types target) ≡ true = subst (λ (t : Ty). (is_value t || is_pointing a.program.types t) ≡ true) (type_is r is) built in
-          filled_does e.place w (a_pointing types texts fs f e.ty) (λ p l. pointed p l) (points_whole a v.visible types texts fs f setting (whole_form e) whole_is (given_pointer a.program.types r e refl given) s h.stands)
-          (λ b q.
-          pointed_fine types texts fs f (whole (length w.state.locals)) r e.ty w.given refl (raw_declared a types texts fs f setting.front u w.state b target constant is)
-          (given_raw a.program.types types setting.front target constant worth e given) q)
+          filled_does e.place w (a_pointing types texts so_far fs f e.ty) (λ p l. pointed p l) (points_whole a v.visible types texts so_far fs f setting (whole_form e) whole_is pointed_one s h.stands)
+          (λ b q. pointed_fine types texts so_far fs f (whole (length w.state.locals)) t e.ty w.given loc (location_declared a types texts so_far fs f setting.front u w.state b t loc is) taken q)
           (λ b k q blank. pointed_fills f (length w.state.locals) (length w.state.locals) w.given k q)
+
+      raw_does : (target : TyId) (constant : Bool) → slice_get a.program.types.types u.ty.0 ≡ Some (ty.Raw target constant) → is_value (type_at a.program.types target) ≡ true → is_given a.program.types (ty.Raw target constant) e ≡ true
+          → Born (GivenOne (ty.Raw target constant))
+      raw_does target constant is worth given =
+          pointer_does (ty.Raw target constant) refl is (given_pointer a.program.types (ty.Raw target constant) e refl given) (given_raw a.program.types types setting.front target constant worth e given)
+
+      view_does : slice_get a.program.types.types u.ty.0 ≡ Some ty.View → is_given a.program.types ty.View e ≡ true → Born (GivenOne ty.View)
+      view_does is given =
+          let seen = seen_kind so_far a.program.types e whole_is.kind.kind (given_view a.program.types e given) in
+          pointer_does ty.View refl is (seen_pointed e.ty seen) (given_seen types e.ty seen)
 
       -- what would be built where it isn't a place of the type
       abbrev kept_object : TyId → Gives Remaining
@@ -248,18 +252,18 @@ module _ (a : Around) (types : Types) (texts : ℕ) (fs : List Function) (f : Fu
       reference_does target constant is worth bound =
           let w = (uses a (whole_form e)).at s in
           subst (λ (c : Bool). Born ((cond c (mapped (aimed_at e.place) w) (kept_object target) >> λ rest s. rest (home a u) s).state)) (sym bound.here)
-          (filled_does e.place w (a_place types texts fs f (type_at a.program.types target) bound.held) (λ o l. pointed (aimed (Aimed o)) l) (whole_is.names target bound.held bound.place worth s h.stands)
+          (filled_does e.place w (a_place types texts so_far fs f (type_at a.program.types target) bound.held) (λ o l. pointed (aimed (Aimed o)) l) (whole_is.names target bound.held bound.place worth s h.stands)
           (λ b q. record {
-            plain = refl;
+            plain = λ so. refl;
             formed =
-                ap (λ (t : Ty). is_source_of types texts fs f t (Aimed w.given)) (reference_declared a types texts fs f setting.front u w.state b target constant is worth)
-                ∙ bound_given a types texts fs f setting.front target constant bound.held w.given worth bound.kept q;
+                ap (λ (t : Ty). is_source_of types texts fs f t (Aimed w.given)) (reference_declared a types texts so_far fs f setting.front u w.state b target constant is worth)
+                ∙ bound_given a types texts so_far fs f setting.front target constant bound.held w.given worth bound.kept q;
             served = q.served;
           })
           (λ b k q blank. filling_fills f (λ p. Aim p (Aimed w.given)) (length w.state.locals) k (aimed_filling f w.given (length w.state.locals) k q) (length w.state.locals)))
 
       one_does : needs_no_temporary (type_of a u.ty) e ≡ true → is_given a.program.types (type_of a u.ty) e ≡ true → Born (GivenOne (type_of a u.ty))
-      one_does temporary given = go (variable_type a.program.types u.ty built)
+      one_does temporary given = go (variable_type so_far a.program.types u.ty built)
         where
           as_given : (t : Ty) → slice_get a.program.types.types u.ty.0 ≡ Some t → is_given a.program.types t e ≡ true
           as_given t is = subst (λ (x : Ty). is_given a.program.types x e ≡ true) (type_is t is) given
@@ -267,9 +271,10 @@ module _ (a : Around) (types : Types) (texts : ℕ) (fs : List Function) (f : Fu
           as_type : (t : Ty) → slice_get a.program.types.types u.ty.0 ≡ Some t → Born (GivenOne t) → Born (GivenOne (type_of a u.ty))
           as_type t is born = subst (λ (x : Ty). Born (GivenOne x)) (sym (type_is t is)) born
 
-          go : IsVariableType a.program.types u.ty → Born (GivenOne (type_of a u.ty))
+          go : IsVariableType so_far a.program.types u.ty → Born (GivenOne (type_of a u.ty))
           go (a_value t is w) = as_type t is (object_does t is w (given_number a.program.types t e w (as_given t is)))
-          go (a_raw target constant is) = as_type (ty.Raw target constant) is (raw_does target constant is (as_given (ty.Raw target constant) is))
+          go (a_raw target constant is w) = as_type (ty.Raw target constant) is (raw_does target constant is w (as_given (ty.Raw target constant) is))
+          go (a_view so is) = as_type ty.View is (view_does is (as_given ty.View is))
           go (a_reference target constant is w) =
               let r = ty.Reference target constant in
               as_type r is
@@ -278,29 +283,51 @@ module _ (a : Around) (types : Types) (texts : ℕ) (fs : List Function) (f : Fu
 
     -- ---- any variable
 
-    -- no view and no span is built yet
-    plain_default : IsVariableType a.program.types u.ty → default_to (type_of a u.ty) (home a u) s ≡ live (home a u) s
-    plain_default (a_value t is w) =
-        ap (λ (x : Ty). default_to x (home a u) s) (type_is t is) ∙ by_values (λ x. default_to x (home a u) s ≡ live (home a u) s) refl refl refl refl refl t w
-    plain_default (a_raw target constant is) = ap (λ (x : Ty). default_to x (home a u) s) (type_is (ty.Raw target constant) is)
-    plain_default (a_reference target constant is w) = ap (λ (x : Ty). default_to x (home a u) s) (type_is (ty.Reference target constant) is)
+    -- a view sees nothing
+    empty_does : so_far ≡ false → slice_get a.program.types.types u.ty.0 ≡ Some ty.View → Born (empty (home a u) s).state
+    empty_does wide is =
+        filled_does u.place (gives tt s) (nothing types texts so_far fs f) (λ x l. Aim l Empty) (leaf_part types texts so_far fs f tt s (nothing types texts so_far fs f) (λ b. tt) (λ b k alive. tt))
+        (λ b q. record {
+          plain = λ so. refl;
+          formed = ap is_range (location_declared a types texts so_far fs f setting.front u s b ty.View refl is).typed;
+          served = λ so. absurd (false≢true (sym wide ∙ so));
+        })
+        (λ b k q blank. record { ready = refl; after = refl })
 
-    initial_does : (initial : Option InitialForm) (behind : Place) → is_built_initial (type_of a u.ty) initial ≡ true → IsInitialised a.program a.function.locals a.function.result v.visible (Some u) initial → Born (given_initial a u initial behind s)
-    initial_does None behind b i = subst (λ (w : Gives ℕ). Born w.state) (sym (plain_default (variable_type a.program.types u.ty built))) (live_does i)
+    default_does : default_fault (type_of a u.ty) ≡ None → Born (default_to (type_of a u.ty) (home a u) s).state
+    default_does none = go (variable_type so_far a.program.types u.ty built)
+      where
+        as_type : (t : Ty) → slice_get a.program.types.types u.ty.0 ≡ Some t → Born (default_to t (home a u) s).state → Born (default_to (type_of a u.ty) (home a u) s).state
+        as_type t is born = subst (λ (x : Ty). Born (default_to x (home a u) s).state) (sym (type_is t is)) born
+
+        go : IsVariableType so_far a.program.types u.ty → Born (default_to (type_of a u.ty) (home a u) s).state
+        go (a_value t is w) =
+            as_type t is
+            (subst (λ (g : Gives ℕ). Born g.state) (sym (by_values (λ x. default_to x (home a u) s ≡ live (home a u) s) refl refl refl refl refl t w))
+            (live_does (λ b. value_lives a types texts so_far fs f setting.front u s b (ap is_value (type_is t is) ∙ w)) (λ b. value_born t is w s (grows_none s) b)))
+        go (a_raw target constant is w) =
+            as_type (ty.Raw target constant) is
+            (live_does (λ b. raw_lives a types texts so_far fs f setting.front u s b target constant is)
+            (λ b. ap is_served_birth (new_sort types f a setting.front v u (variable_local a u) (its_local a u) s h at any b (ty.Raw target constant) is)))
+        go (a_view wide is) = as_type ty.View is (empty_does wide is)
+        go (a_reference target constant is w) = absurd (none_some (sym (subst (λ (t : Ty). default_fault t ≡ None) (type_is (ty.Reference target constant) is) none)))
+
+    initial_does : (initial : Option InitialForm) (behind : Place) → is_reached_initial texts so_far (type_of a u.ty) initial ≡ true → IsInitialised a.program a.function.locals a.function.result v.visible (Some u) initial → Born (given_initial a u initial behind s)
+    initial_does None behind b i = default_does i
     initial_does (Some (one e)) behind b i =
-        let parts = and_parts (is_built_expression e) (needs_no_temporary (type_of a u.ty) e) b in one_does e parts.0 i.1 behind parts.1 i.0
+        let parts = and_parts (is_reached_expression texts so_far e) (needs_no_temporary (type_of a u.ty) e) b in one_does e parts.0 i.1 behind parts.1 i.0
     initial_does (Some (several list)) behind b i = absurd (false≢true b)
 
-  pub declaration_does : (d : DeclarationForm) (behind : Place) (s : State) → Follows types f a v s → is_built_declaration a.program.types a.function.locals d ≡ true → IsDeclaration a.program a.function.locals a.function.result d v
-      → Does types texts fs f a (with_next v) in_loop s (declared a d behind s)
+  pub declaration_does : (d : DeclarationForm) (behind : Place) (s : State) → Follows types f a v s → is_reached_declaration texts so_far a.program.types a.function.locals d ≡ true → IsDeclaration a.program a.function.locals a.function.result d v
+      → Does types texts so_far fs f a (with_next v) in_loop s (declared a d behind s)
   declaration_does d behind s h b here = ended (declared_as a (slice_get a.function.locals d.local) d.value behind s) (go (slice_get a.function.locals d.local) refl b here.1)
     where
-      go : (o : Option TypedLocal) → slice_get a.function.locals d.local ≡ o → is_built_declared a.program.types o d.value ≡ true → IsInitialised a.program a.function.locals a.function.result v.visible o d.value
-          → Does types texts fs f a (with_next v) in_loop s (declared_as a o d.value behind s)
+      go : (o : Option TypedLocal) → slice_get a.function.locals d.local ≡ o → is_reached_declared texts so_far a.program.types o d.value ≡ true → IsInitialised a.program a.function.locals a.function.result v.visible o d.value
+          → Does types texts so_far fs f a (with_next v) in_loop s (declared_as a o d.value behind s)
       go None at b i = absurd i
       go (Some u) at b i =
-          initial_does u s h (sym (ap (slice_get a.function.locals) here.0) ∙ at) (variable_built a.program.types a.function.locals d.local u setting.variables at) d.value behind b i
+          initial_does u s h (sym (ap (slice_get a.function.locals) here.0) ∙ at) (variable_built so_far a.program.types a.function.locals d.local u setting.variables at) d.value behind b i
 
       -- it makes no temporaries
-      ended : (s' : State) → Does types texts fs f a (with_next v) in_loop s s' → Does types texts fs f a (with_next v) in_loop s (end_pending (length s.pending) behind s')
-      ended s' does = subst (Does types texts fs f a (with_next v) in_loop s) (sym (same_pending s s' behind does.adds.pending)) does
+      ended : (s' : State) → Does types texts so_far fs f a (with_next v) in_loop s s' → Does types texts so_far fs f a (with_next v) in_loop s (end_pending (length s.pending) behind s')
+      ended s' does = subst (Does types texts so_far fs f a (with_next v) in_loop s) (sym (same_pending s s' behind does.adds.pending)) does

@@ -1,12 +1,12 @@
 -- What a declaration adds: the next variable, which is visible and lives from here on.
-use Rattle.std.proofs.Common.{◌≡◌, ◌<◌, ◌⊎◌, inl, inr, ℕ, Bool, true, List, [], ◌∷◌, ◌++◌, Contains, length, slice_get, slice_set, take, Option, Some, None, refl, sym, ap, ◌∙◌, subst, unwrap_or, arith, length-append, append_assoc}
+use Rattle.std.proofs.Common.{◌≡◌, ◌<◌, ◌⊎◌, inl, inr, ℕ, Bool, true, false, List, [], ◌∷◌, ◌++◌, Contains, length, slice_get, slice_set, take, Option, Some, None, refl, sym, ap, ◌∙◌, subst, unwrap_or, arith, length-append, append_assoc}
 use Rattle.std.proofs.lemmas.List.Elements.{Contains-append_left, Contains-push, Contains-push_cases}
 use Rattle.std.proofs.lemmas.Option.{same_Some, slice_get_within}
 use Rattle.life_types.specs.Types.{Types, class, class_at}
 use Rattle.life_types.specs.declared.ty.Ty.{Ty}
 use Rattle.life_types.specs.declared.ty.Ty.TheVariants as ty
 use Rattle.life_types.specs.declared.ty.TyId.{TyId}
-use Rattle.life_built.specs.Built.{is_built_variable}
+use Rattle.life_elab_laws.specs.Reached.{is_reached_variable}
 use Rattle.life_typed.specs.declared.typed_program.TypedLocal.{TypedLocal}
 use Rattle.life_core.specs.Function.{Function}
 use Rattle.life_core.specs.Holdings.{held_by, held_if, sort_of}
@@ -36,7 +36,7 @@ use Rattle.life_elab_laws.proofs.Parts.{Makes, Runs}
 use Rattle.life_elab_laws.proofs.Shaped.{shaped_more, variable_later}
 use Rattle.life_elab_laws.proofs.Shaping.{IsFine, stated_append}
 use Rattle.life_elab_laws.proofs.Types.{value_held}
-use Rattle.life_elab_laws.proofs.VariablePlaces.{IsVariableAt, IsVariableType, a_raw, a_reference, a_value, variable_type}
+use Rattle.life_elab_laws.proofs.VariablePlaces.{IsVariableAt, IsVariableType, a_raw, a_reference, a_value, a_view, variable_type}
 use Rattle.life_elab_laws.proofs.WrittenLocals.{IsLocalOf, locals_added, own_added}
 
 take_before : (xs ys : List ℕ) → take (length xs) (xs ++ ys) ≡ xs
@@ -51,7 +51,7 @@ abbrev pub with_new : Local → State → State
 with_new l s = (with_variable l s).state
 
 module _ (types : Types) (f : Function) (a : Around) (front : IsFront a.program.types.types types.types) where
-  module _ (v : Visible) (u : TypedLocal) (l : Local) (of : IsLocalOf a u l) (s : State) (h : Follows types f a v s) (at : slice_get a.function.locals v.declared ≡ Some u) (built : is_built_variable a.program.types u.ty ≡ true) where
+  module _ (v : Visible) (u : TypedLocal) (l : Local) (of : IsLocalOf a u l) (s : State) (h : Follows types f a v s) (at : slice_get a.function.locals v.declared ≡ Some u) (built : is_reached_variable false a.program.types u.ty ≡ true) where
     pub new_at : slice_get (with_new l s).locals (length s.locals) ≡ Some l
     new_at = last_there s.locals l
 
@@ -75,11 +75,12 @@ module _ (types : Types) (f : Function) (a : Around) (front : IsFront a.program.
         ∙ ap (λ (o : Option Ty). held_if (class (Some t)) (kind (class o)) (Some t)) is
 
     pub new_ends : Begins types f (with_new l s) → is_variable_sort (sort_of types f (length s.locals)) ≡ true
-    new_ends b = go (variable_type a.program.types u.ty built)
+    new_ends b = go (variable_type false a.program.types u.ty built)
       where
-        go : IsVariableType a.program.types u.ty → is_variable_sort (sort_of types f (length s.locals)) ≡ true
+        go : IsVariableType false a.program.types u.ty → is_variable_sort (sort_of types f (length s.locals)) ≡ true
         go (a_value t is e) = ap is_variable_sort (new_sort b t is ∙ value_held t e)
-        go (a_raw target constant is) = ap is_variable_sort (new_sort b (ty.Raw target constant) is)
+        go (a_raw target constant is e) = ap is_variable_sort (new_sort b (ty.Raw target constant) is)
+        go (a_view so is) = ap is_variable_sort (new_sort b ty.View is)
         go (a_reference target constant is e) = ap is_variable_sort (new_sort b (ty.Reference target constant) is)
 
     -- ---- the state
@@ -152,8 +153,8 @@ module _ (types : Types) (f : Function) (a : Around) (front : IsFront a.program.
       sorts = λ b y m. sorted b y (among_either s.living (length s.locals ∷ []) y m);
     }
 
-    its_type : is_built_variable types l.ty ≡ true
-    its_type = ap (is_built_variable types) of.typed ∙ variable_later a.program.types types front u.ty built
+    its_type : is_reached_variable false types l.ty ≡ true
+    its_type = ap (is_reached_variable false types) of.typed ∙ variable_later a.program.types types front false u.ty built
 
     pub adds_new : Adds types f s (with_new l s)
     adds_new = record {
@@ -194,11 +195,11 @@ module _ (types : Types) (f : Function) (a : Around) (front : IsFront a.program.
 
 -- ---- the whole: what computes what it is given, the variable, and what gives it that
 
-module _ (types : Types) (texts : ℕ) (fs : List Function) (f : Function) (a : Around) (front : IsFront a.program.types.types types.types) where
-  module _ {A : Type 0} (v : Visible) (in_loop : Bool) (u : TypedLocal) (s : State) (w : Gives A) (Q : Gift types texts fs f A) (code : List Tree)
-      (h : Follows types f a v s) (at : slice_get a.function.locals v.declared ≡ Some u) (built : is_built_variable a.program.types u.ty ≡ true)
-      (made : Makes types texts fs f None s w Q)
-      (fine : Begins types f (with_new (variable_local a u) w.state) → Q.typed w.given → IsFine types texts fs f code)
+module _ (types : Types) (texts : ℕ) (so_far : Bool) (fs : List Function) (f : Function) (a : Around) (front : IsFront a.program.types.types types.types) where
+  module _ {A : Type 0} (v : Visible) (in_loop : Bool) (u : TypedLocal) (s : State) (w : Gives A) (Q : Gift types texts so_far fs f A) (code : List Tree)
+      (h : Follows types f a v s) (at : slice_get a.function.locals v.declared ≡ Some u) (built : is_reached_variable false a.program.types u.ty ≡ true)
+      (made : Makes types texts so_far fs f None s w Q)
+      (fine : Begins types f (with_new (variable_local a u) w.state) → Q.typed w.given → IsFine types texts so_far fs f code)
       (falls : Begins types f (with_new (variable_local a u) w.state) → (k : List Known) → length k ≡ length f.locals → Q.ready w.given (length w.state.locals) k → known_at k (length w.state.locals) ≡ known.Blank
       → Falls types f code k (slice_set k (length w.state.locals) known.Ready)) where
     later : Follows types f a v w.state
@@ -214,19 +215,19 @@ module _ (types : Types) (texts : ℕ) (fs : List Function) (f : Function) (a : 
     no_returns : Begins types f (with_new (variable_local a u) w.state) → (o : Knowing) → ReturnsKnown types f (result_local a) (trees (made.code ++ code)) o
     no_returns b o =
         let first = made.runs (begins_old types f a front v u (variable_local a u) (its_local a u) w.state later at built b) tt in
-        known_append types f (result_local a) made.code code o (fine_known types f (result_local a) texts fs made.code first.fine o)
-        (fine_known types f (result_local a) texts fs code (fine b first.typed) (flow types f (trees made.code) o).next)
+        known_append types f (result_local a) made.code code o (fine_known types f (result_local a) texts so_far fs made.code first.fine o)
+        (fine_known types f (result_local a) texts so_far fs code (fine b first.typed) (flow types f (trees made.code) o).next)
 
-    acting : Begins types f (with_new (variable_local a u) w.state) → Acting types texts fs f in_loop s done (made.code ++ code)
+    acting : Begins types f (with_new (variable_local a u) w.state) → Acting types texts so_far fs f in_loop s done (made.code ++ code)
     acting b = record {
-      stated = stated_append types texts fs f in_loop made.code code (part.fine.stated in_loop) ((fine b part.typed).stated in_loop);
+      stated = stated_append types texts so_far fs f in_loop made.code code (part.fine.stated in_loop) ((fine b part.typed).stated in_loop);
       ways = leaves_may types f in_loop s.living (w.state.living ++ length w.state.locals ∷ []) (take s.outside s.living) (trees (made.code ++ code)) went;
     }
       where
         before : Begins types f w.state
         before = begins_old types f a front v u (variable_local a u) (its_local a u) w.state later at built b
 
-        part : Runs types texts fs f (nothing types texts fs f) tt None s w Q made.code
+        part : Runs types texts so_far fs f (nothing types texts so_far fs f) tt None s w Q made.code
         part = made.runs before tt
 
         first : Begins types f s
@@ -243,7 +244,7 @@ module _ (types : Types) (texts : ℕ) (fs : List Function) (f : Function) (a : 
             (sym (falls_append types f made.code code k g.after after g.falls (falls b g.after mid.sized g.gives (blank_new types f a front v u (variable_local a u) (its_local a u) w.state later at built b g.after mid))))
             (leaves_falling f in_loop (w.state.living ++ length w.state.locals ∷ []) (take s.outside s.living) after (knows_new types f a front v u (variable_local a u) (its_local a u) w.state later at built b g.after mid))
 
-    pub declared_does : Does types texts fs f a (with_next v) in_loop s done
+    pub declared_does : Does types texts so_far fs f a (with_next v) in_loop s done
     declared_does = record {
       adds = adds;
       locals = λ are.

@@ -21,9 +21,9 @@ use Rattle.life_elab_laws.proofs.OrderedTypes.{KeepsOrder, order_none, order_the
 use Rattle.life_elab_laws.proofs.Shaping.{IsStated, stated_append, stated_none}
 use Rattle.life_elab_laws.proofs.WrittenLocals.{AreWrittenLocals, locals_added}
 
-module _ (types : Types) (texts : ℕ) (fs : List Function) (f : Function) where
+module _ (types : Types) (texts : ℕ) (so_far : Bool) (fs : List Function) (f : Function) where
   pub record Acting (in_loop : Bool) (s s' : State) (code : List Tree) : Type 0 where
-    pub stated : IsStated types texts fs f in_loop (trees code)
+    pub stated : IsStated types texts so_far fs f in_loop (trees code)
     pub ways : (o : Knowing) → MayKnow f s.living o → Leaves f in_loop s'.living (take s.outside s.living) (flow types f (trees code) o)
 
   pub record Does (a : Around) (v : Visible) (in_loop : Bool) (s s' : State) : Type 0 where
@@ -58,13 +58,13 @@ module _ (types : Types) (texts : ℕ) (fs : List Function) (f : Function) where
     follows = h;
     code = [];
     written = sym (append-nil s.code);
-    acts = λ b. record { stated = stated_none types texts fs f in_loop; ways = λ o k. record { fine = refl; next = k; on_break = none_leaves f in_loop (take s.outside s.living); on_continue = none_leaves f in_loop (take s.outside s.living); on_true = refl; on_false = refl } };
+    acts = λ b. record { stated = stated_none types texts so_far fs f in_loop; ways = λ o k. record { fine = refl; next = k; on_break = none_leaves f in_loop (take s.outside s.living); on_continue = none_leaves f in_loop (take s.outside s.living); on_true = refl; on_false = refl } };
     returns = λ b gives o k. tt;
   }
 
   pub acts_then : (in_loop : Bool) (s t r : State) (c d : List Tree) → s.outside ≤ length s.living → Adds types f s t → Acting in_loop s t c → Acting in_loop t r d → Acting in_loop s r (c ++ d)
   acts_then in_loop s t r c d h adds p q = record {
-    stated = stated_append types texts fs f in_loop c d p.stated q.stated;
+    stated = stated_append types texts so_far fs f in_loop c d p.stated q.stated;
     ways = λ o k.
         let w = p.ways o k in
         subst (λ (x : Flow). Leaves f in_loop r.living (take s.outside s.living) x) (sym (flow_append types f c d o))
@@ -90,12 +90,12 @@ module _ (types : Types) (texts : ℕ) (fs : List Function) (f : Function) where
 
   -- ---- what an expression writes, as a statement
 
-  module _ {A : Type 0} (a : Around) (v : Visible) (in_loop : Bool) (into : Option ℕ) (s : State) (w : Gives A) (Q : Gift types texts fs f A) (h : Follows types f a v s) (made : Makes types texts fs f into s w Q) where
+  module _ {A : Type 0} (a : Around) (v : Visible) (in_loop : Bool) (into : Option ℕ) (s : State) (w : Gives A) (Q : Gift types texts so_far fs f A) (h : Follows types f a v s) (made : Makes types texts so_far fs f into s w Q) where
     begun : Begins types f w.state → Begins types f s
     begun b = begins_added types f s w.state (grows_adds types f s w.state made.grown) b
 
     -- behind it the same variables live
-    pub made_knows : Begins types f w.state → (k : List Known) → Knows f s.living k → (g : Goes types texts fs f into s w Q made.code k) → Knows f w.state.living g.after
+    pub made_knows : Begins types f w.state → (k : List Known) → Knows f s.living k → (g : Goes types texts so_far fs f into s w Q made.code k) → Knows f w.state.living g.after
     made_knows b k known g =
         subst (λ (ys : List ℕ). Knows f ys g.after) (sym made.grown.living)
         (knows_written f s.living (length s.locals) into k g.after (follows_named types f a v s h (begun b)) known g.keeps)
@@ -112,7 +112,7 @@ module _ (types : Types) (texts : ℕ) (fs : List Function) (f : Function) where
             subst (Leaves f in_loop w.state.living (take s.outside s.living)) (sym g.falls)
             (leaves_falling f in_loop w.state.living (take s.outside s.living) g.after (made_knows b k known g))
 
-  pub does_made : {A : Type 0} (a : Around) (v : Visible) (in_loop : Bool) (into : Option ℕ) (s : State) (w : Gives A) (Q : Gift types texts fs f A) → Follows types f a v s → Makes types texts fs f into s w Q → Does a v in_loop s w.state
+  pub does_made : {A : Type 0} (a : Around) (v : Visible) (in_loop : Bool) (into : Option ℕ) (s : State) (w : Gives A) (Q : Gift types texts so_far fs f A) → Follows types f a v s → Makes types texts so_far fs f into s w Q → Does a v in_loop s w.state
   does_made a v in_loop into s w Q h made = record {
     adds = grows_adds types f s w.state made.grown;
     locals = locals_added types a s w.state made.grown.types made.registers;
@@ -121,5 +121,5 @@ module _ (types : Types) (texts : ℕ) (fs : List Function) (f : Function) where
     code = made.code;
     written = made.written;
     acts = made_acts a v in_loop into s w Q h made;
-    returns = λ b gives o k. fine_known types f (result_local a) texts fs made.code (made.runs b tt).fine o;
+    returns = λ b gives o k. fine_known types f (result_local a) texts so_far fs made.code (made.runs b tt).fine o;
   }

@@ -1,12 +1,13 @@
 -- Each well typed expression that is built is of one of these kinds.
-use Rattle.std.proofs.Common.{◌≡◌, ℕ, Bool, true, false, cond, List, Option, Some, None, Ok, slice_get, refl, sym, ap, ◌∙◌, subst, true≢false}
-use Rattle.std.proofs.lemmas.Bool.{and_parts}
-use Rattle.life_types.specs.TypeTests.{is_raw, is_value}
+use Rattle.std.proofs.Common.{◌≡◌, ℕ, Bool, true, false, cond, List, Option, Some, None, Ok, slice_get, unwrap_or, refl, sym, ap, ◌∙◌, subst, true≢false}
+use Rattle.std.proofs.lemmas.Bool.{false≢true}
+use Rattle.life_types.specs.Trees.{is_plain, tree_at, tree_of, tree_within}
+use Rattle.life_types.specs.TypeTests.{is_raw, is_value, is_view}
 use Rattle.life_types.specs.Types.{Types}
 use Rattle.life_types.specs.declared.ty.Ty.{Ty}
 use Rattle.life_types.specs.declared.ty.Ty.TheVariants as ty
 use Rattle.life_types.specs.declared.ty.TyId.{TyId}
-use Rattle.life_built.specs.Built.{are_built_functions, are_built_variables, is_built_function, is_built_result, is_built_variable}
+use Rattle.life_elab_laws.specs.Reached.{are_reached_functions, are_reached_variables, is_reached_function, is_reached_variable}
 use Rattle.life_names.specs.Found.{not_found}
 use Rattle.life_names.specs.declared.fault.IllKind.TheVariants as kinds
 use Rattle.life_typed.specs.BaseTypes.{type_at}
@@ -19,22 +20,20 @@ use Rattle.life_typed.specs.declared.typed_expr.ExprType.{ExprType}
 use Rattle.life_typed.specs.declared.typed_expr.ExprType.TheVariants.{Of}
 use Rattle.life_typed.specs.declared.typed_program.TypedLocal.{TypedLocal}
 use Rattle.life_type_expr.specs.Operands.{dereferenced_to, inverted, negated_to, number_type, place_of, pointed_to, value}
-use Rattle.life_well_typed.specs.Expressions.{HasResult, IsAddress, IsVariable}
+use Rattle.life_well_typed.specs.Expressions.{IsAddress, IsVariable}
 use Rattle.life_well_typed.specs.Given.{is_number}
 use Rattle.life_elab_laws.proofs.Fronts.{passed_at}
-use Rattle.life_elab_laws.proofs.TypedKinds.{HasKind, IsKind, a_null, a_number, a_pointer, err_ok, kind_of_result, kind_of_variable, no_value, ok_same, promoted_value, value_place}
+use Rattle.life_elab_laws.proofs.Reaching.{reached_type}
+use Rattle.life_elab_laws.proofs.TypedKinds.{HasKind, IsKind, a_null, a_number, a_pointer, a_text, a_view, err_ok, kind_of_variable, no_value, ok_same, promoted_value, value_place}
 use Rattle.life_elab_laws.proofs.Values.{by_values}
 
 -- ---- what is built
 
-pub variable_built : (types : Types) (vs : List TypedLocal) (x : ℕ) (v : TypedLocal) → are_built_variables types vs ≡ true → slice_get vs x ≡ Some v → is_built_variable types v.ty ≡ true
-variable_built types vs x v = passed_at (λ (u : TypedLocal). is_built_variable types u.ty) (are_built_variables types) (λ u us. refl) vs x v
+pub variable_built : (so_far : Bool) (types : Types) (vs : List TypedLocal) (x : ℕ) (v : TypedLocal) → are_reached_variables so_far types vs ≡ true → slice_get vs x ≡ Some v → is_reached_variable so_far types v.ty ≡ true
+variable_built so_far types vs x v = passed_at (λ (u : TypedLocal). is_reached_variable so_far types u.ty) (are_reached_variables so_far types) (λ u us. refl) vs x v
 
-pub function_built : (types : Types) (fs : List FunctionForm) (g : ℕ) (f : FunctionForm) → are_built_functions types fs ≡ true → slice_get fs g ≡ Some f → is_built_function types f ≡ true
-function_built types fs g f = passed_at (is_built_function types) (are_built_functions types) (λ h hs. refl) fs g f
-
-pub result_built : (types : Types) (f : FunctionForm) → is_built_function types f ≡ true → is_built_result types f.result ≡ true
-result_built types f b = (and_parts (is_built_result types f.result) _ b).0
+pub function_built : (texts : ℕ) (so_far : Bool) (types : Types) (fs : List FunctionForm) (g : ℕ) (f : FunctionForm) → are_reached_functions texts so_far types fs ≡ true → slice_get fs g ≡ Some f → is_reached_function texts so_far types f ≡ true
+function_built texts so_far types fs g f = passed_at (is_reached_function texts so_far types) (are_reached_functions texts so_far types) (λ h hs. refl) fs g f
 
 -- ---- single expressions
 
@@ -45,19 +44,12 @@ number_value n = go _
     go true = refl
     go false = refl
 
-pub kind_local : (types : Types) (locals : List TypedLocal) (x : ℕ) (e : Typed) → are_built_variables types locals ≡ true → IsVariable types x (slice_get locals x) e → IsKind types e
-kind_local types locals x e b h = go (slice_get locals x) refl h
+pub kind_local : (so_far : Bool) (types : Types) (locals : List TypedLocal) (x : ℕ) (e : Typed) → are_reached_variables so_far types locals ≡ true → IsVariable types x (slice_get locals x) e → IsKind so_far types e
+kind_local so_far types locals x e b h = go (slice_get locals x) refl h
   where
-    go : (o : Option TypedLocal) → slice_get locals x ≡ o → IsVariable types x o e → IsKind types e
+    go : (o : Option TypedLocal) → slice_get locals x ≡ o → IsVariable types x o e → IsKind so_far types e
     go None at h = absurd h
-    go (Some v) at h = kind_of_variable types e v.ty v.constant (local x) (type_at types v.ty) refl (variable_built types locals x v b at) h
-
-kind_call : (types : Types) (fs : List FunctionForm) (g : ℕ) (e : Typed) → are_built_functions types fs ≡ true → HasResult types (slice_get fs g) e → IsKind types e
-kind_call types fs g e b h = go (slice_get fs g) refl h
-  where
-    go : (o : Option FunctionForm) → slice_get fs g ≡ o → HasResult types o e → IsKind types e
-    go None at h = absurd h
-    go (Some f) at h = kind_of_result types e (type_at types f.result) (result_built types f (function_built types fs g f b at)) h
+    go (Some v) at h = kind_of_variable so_far types e v.ty v.constant (local x) (type_at types v.ty) refl (reached_type so_far types (type_at types v.ty) (variable_built so_far types locals x v b at)) h
 
 -- what a dereferenced operand is
 pub record IsDereferenced (types : Types) (inner e : Typed) : Type 0 where
@@ -71,16 +63,18 @@ pub record IsDereferenced (types : Types) (inner e : Typed) : Type 0 where
 value_no_target : (t : Ty) → is_value t ≡ true → dereferenced (Of t) ≡ None
 value_no_target = by_values (λ t. dereferenced (Of t) ≡ None) refl refl refl refl refl
 
-pub dereferenced_as : (types : Types) (inner e : Typed) → IsKind types inner → pointed_to types e.place inner ≡ Ok e → IsDereferenced types inner e
-dereferenced_as types inner e k h = go k.kind
+pub dereferenced_as : (so_far : Bool) (types : Types) (inner e : Typed) → IsKind so_far types inner → pointed_to types e.place inner ≡ Ok e → IsDereferenced types inner e
+dereferenced_as so_far types inner e k h = go k.kind
   where
     refused : dereferenced inner.ty ≡ None → IsDereferenced types inner e
     refused none = absurd (err_ok (sym (ap (λ o. dereferenced_to o types e.place inner) none) ∙ h))
 
-    go : HasKind types inner → IsDereferenced types inner e
+    go : HasKind so_far types inner → IsDereferenced types inner e
     go (a_number t is v) = refused (ap dereferenced is ∙ value_no_target t v)
     go (no_value is v) = refused (ap dereferenced is)
     go (a_null is v) = refused (ap dereferenced is)
+    go (a_view so is) = refused (ap dereferenced is)
+    go (a_text is v) = refused (ap dereferenced is)
     go (a_pointer target constant is v) = record {
       target = target;
       constant = constant;
@@ -96,10 +90,10 @@ pub record IsNegated (inner e : Typed) : Type 0 where
   pub worth : is_value ty ≡ true
   pub is : e ≡ value e.place ty e.form
 
-pub negated_as : (types : Types) (inner e : Typed) → IsKind types inner → negated_to (negated inner.ty) e.place inner ≡ Ok e → IsNegated inner e
-negated_as types inner e k h = go k.kind
+pub negated_as : (so_far : Bool) (types : Types) (inner e : Typed) → IsKind so_far types inner → negated_to (negated inner.ty) e.place inner ≡ Ok e → IsNegated inner e
+negated_as so_far types inner e k h = go k.kind
   where
-    go : HasKind types inner → IsNegated inner e
+    go : HasKind so_far types inner → IsNegated inner e
     go (a_number t is v) =
         let here : negated_to (negated_type t) e.place inner ≡ Ok e = subst (λ (x : ExprType). negated_to (negated x) e.place inner ≡ Ok e) is h in
         let plain : negated_to (Ok (promoted t t)) e.place inner ≡ Ok e = rw v at here in
@@ -112,6 +106,8 @@ negated_as types inner e k h = go k.kind
     go (a_pointer target constant is v) = absurd (err_ok (sym (ap (λ t. negated_to (negated t) e.place inner) is) ∙ h))
     go (no_value is v) = absurd (err_ok (sym (ap (λ t. negated_to (negated t) e.place inner) is) ∙ h))
     go (a_null is v) = absurd (err_ok (sym (ap (λ t. negated_to (negated t) e.place inner) is) ∙ h))
+    go (a_view so is) = absurd (err_ok (sym (ap (λ t. negated_to (negated t) e.place inner) is) ∙ h))
+    go (a_text is v) = absurd (err_ok (sym (ap (λ t. negated_to (negated t) e.place inner) is) ∙ h))
 
 pub record IsInverted (inner e : Typed) : Type 0 where
   pub condition : is_condition inner.ty ≡ true
@@ -132,21 +128,36 @@ pub record IsAddressed (types : Types) (inner e : Typed) : Type 0 where
   pub worth : is_value (type_at types target) ≡ true
   pub is : e ≡ value e.place (ty.Raw target constant) e.form
 
-pub addressed_as : (types : Types) (inner e : Typed) → IsKind types inner → IsAddress types inner.category e → IsAddressed types inner e
-addressed_as types inner e k h = go inner.category refl h
+-- a view is a pointer, and so not plain
+view_not_plain : (types : Types) (id : TyId) → type_at types id ≡ ty.View → is_plain (tree_at types id) ≡ false
+unfolding tree_at
+view_not_plain types id is = go (slice_get types.types id.0) (ap is_view is)
   where
-    typed_as : (id : TyId) (c : Bool) → inner.category ≡ category.Place id c → is_raw (type_at types id) ≡ false → HasKind types inner → is_value (type_at types id) ≡ true
-    typed_as id c at raw (a_number t is v) = subst (λ (x : Ty). is_value x ≡ true) (same (sym is ∙ k.place id c at)) v
+    go : (o : Option Ty) → is_view (unwrap_or o ty.Void) ≡ true → is_plain (tree_of types (tree_within id.0 types) o) ≡ false
+    go (Some ty.View) h = refl
+    go (Some _) h = absurd (false≢true h)
+    go None h = absurd (false≢true h)
+
+pub addressed_as : (so_far : Bool) (types : Types) (inner e : Typed) → IsKind so_far types inner → IsAddress types inner.category e → IsAddressed types inner e
+addressed_as so_far types inner e k h = go inner.category refl h
+  where
+    typed_as : (id : TyId) (c : Bool) → inner.category ≡ category.Place id c → is_raw (type_at types id) ≡ false → is_plain (tree_at types id) ≡ true → HasKind so_far types inner → is_value (type_at types id) ≡ true
+    typed_as id c at raw plain (a_number t is v) = subst (λ (x : Ty). is_value x ≡ true) (same (sym is ∙ k.place id c at)) v
       where
         same : Of t ≡ Of (type_at types id) → t ≡ type_at types id
         same e = cc
-    typed_as id c at raw (a_pointer target constant is v) = absurd (true≢false (ap is_raw (same (sym is ∙ k.place id c at)) ∙ raw))
+    typed_as id c at raw plain (a_pointer target constant is v) = absurd (true≢false (ap is_raw (same (sym is ∙ k.place id c at)) ∙ raw))
       where
         same : Of (ty.Raw target constant) ≡ Of (type_at types id) → ty.Raw target constant ≡ type_at types id
         same e = cc
-    typed_as id c at raw (no_value is v) = absurd (value_place (sym v ∙ at))
-    typed_as id c at raw (a_null is v) = absurd (value_place (sym v ∙ at))
+    typed_as id c at raw plain (a_view so is) = absurd (false≢true (sym (view_not_plain types id (same (sym (k.place id c at) ∙ is))) ∙ plain))
+      where
+        same : Of (type_at types id) ≡ Of ty.View → type_at types id ≡ ty.View
+        same e = cc
+    typed_as id c at raw plain (a_text is v) = absurd (value_place (sym v ∙ at))
+    typed_as id c at raw plain (no_value is v) = absurd (value_place (sym v ∙ at))
+    typed_as id c at raw plain (a_null is v) = absurd (value_place (sym v ∙ at))
 
     go : (o : Category) → inner.category ≡ o → IsAddress types o e → IsAddressed types inner e
     go category.Value at h = absurd h
-    go (category.Place id c) at h = record { target = id; constant = c; place = at; worth = typed_as id c at h.0 k.kind; is = h.1 }
+    go (category.Place id c) at h = record { target = id; constant = c; place = at; worth = typed_as id c at h.0 h.2 k.kind; is = h.1 }

@@ -2,7 +2,7 @@
 use Rattle.std.proofs.Common.{◌≡◌, ℕ, true, List, [], ◌∷◌, ◌++◌, refl, sym, ap, ◌∙◌, subst}
 use Rattle.std.proofs.lemmas.Bool.{and_from}
 use Rattle.life_core.specs.Function.{Function}
-use Rattle.life_core.specs.Operands.{Location, Null, Operand, Place as Aimed, whole}
+use Rattle.life_core.specs.Operands.{Location, Null, Operand, Place as Aimed, Text, whole}
 use Rattle.life_core.specs.Step.{Aim, Step}
 use Rattle.life_core.specs.Touched.{Touched, place_uses}
 use Rattle.life_proper.specs.ReadyKnown.{are_known, are_ready, is_known, known_after}
@@ -24,7 +24,7 @@ module _ (f : Function) where
     after = ap (λ (t : Touched). known_after t k) (h.touches x);
   }
 
-  -- it is aimed at a place that is there, or at nothing
+  -- it is aimed at a place that is there, at nothing, or at a literal
   pub aimed_filling : (o : Operand) (n : ℕ) (k : List Known) → IsPlace o n k → IsFilling f (λ p. Aim p (Aimed o)) n k
   aimed_filling o n k h = record {
     uses = place_uses o ++ [];
@@ -34,3 +34,6 @@ module _ (f : Function) where
 
   pub null_filling : (n : ℕ) (k : List Known) → IsFilling f (λ p. Aim p Null) n k
   null_filling n k = record { uses = []; held = tt; touches = λ x. refl }
+
+  pub text_filling : (m n : ℕ) (k : List Known) → IsFilling f (λ p. Aim p (Text m)) n k
+  text_filling m n k = record { uses = []; held = tt; touches = λ x. refl }

@@ -7,17 +7,18 @@ use Rattle.life_types.specs.Types.{Types}
 use Rattle.life_types.specs.declared.ty.Ty.{Ty}
 use Rattle.life_types.specs.declared.ty.Ty.TheVariants as ty
 use Rattle.life_types.specs.declared.ty.TyId.{TyId}
-use Rattle.life_built.specs.Built.{is_built_variable}
+use Rattle.life_elab_laws.specs.Reached.{is_reached_variable}
 use Rattle.life_typed.specs.BaseTypes.{type_at}
 use Rattle.life_core.specs.Function.{Function}
 use Rattle.life_core.specs.declared.program.Local.{Local}
 use Rattle.life_pset.specs.Shapes.{shape_of, ty_if}
 use Rattle.life_proper.specs.OperandTypes.{is_composed}
 use Rattle.life_proper.specs.Placed as placed
-use Rattle.life_elab_laws.proofs.FormedLocals.{variable_fits, variable_found}
+use Rattle.life_elab_laws.proofs.FormedLocals.{variable_fits}
 use Rattle.life_elab_laws.proofs.FormedVariables.{reference_there}
 use Rattle.life_elab_laws.proofs.GivenNothing.{IsFlat}
 use Rattle.life_elab_laws.proofs.OperandsThere.{type_either, type_there}
+use Rattle.life_elab_laws.proofs.Reaching.{variable_found}
 use Rattle.life_elab_laws.proofs.Values.{by_values}
 use Rattle.life_elab_laws.proofs.WrittenLocals.{fits_register}
 
@@ -46,8 +47,8 @@ module _ (types : Types) where
   fits_flat _ h = absurd (false≢true h)
 
   -- a variable
-  pub variable_typed : (l : Local) → is_built_variable types l.ty ≡ true → IsLocalType types l
-  variable_typed l b = let found = variable_found types l.ty b in record { ty = found.0; typed = found.1; fits = variable_fits types found.0 found.2 }
+  pub variable_typed : (l : Local) → is_reached_variable false types l.ty ≡ true → IsLocalType types l
+  variable_typed l b = let found = variable_found false types l.ty b in record { ty = found.0; typed = found.1; fits = variable_fits types false found.0 found.2 }
 
   module _ (f : Function) where
     -- none of these is a slot

@@ -7,7 +7,7 @@ use Rattle.life_types.specs.declared.ty.NameId.{NameId}
 use Rattle.life_typed.specs.BaseTypes.{type_at}
 use Rattle.life_typed.specs.declared.typed_program.TypedLocal.{TypedLocal}
 use Rattle.life_core.specs.Function.{Function}
-use Rattle.life_core.specs.Holdings.{APointer, AnObject, Holding, sort_of}
+use Rattle.life_core.specs.Holdings.{APointer, AView, AnObject, Holding, sort_of}
 use Rattle.life_core.specs.declared.program.Local.{Local}
 use Rattle.life_proper.specs.declared.known.Known.{Known}
 use Rattle.life_well_typed.specs.Visible.{Visible, behind}
@@ -55,6 +55,7 @@ register_later a s s' locals table h worth = let is = (h worth).0 in (
 abbrev pub is_variable_sort : Holding → Bool
 is_variable_sort AnObject = true
 is_variable_sort APointer = true
+is_variable_sort AView = true
 is_variable_sort _ = false
 
 -- ---- lists

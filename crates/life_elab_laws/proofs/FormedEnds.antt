@@ -23,7 +23,7 @@ use Rattle.life_elab_laws.proofs.Among.{Among}
 use Rattle.life_elab_laws.proofs.Shaped.{AreShaped, shaped_at}
 use Rattle.life_elab_laws.proofs.Following.{is_variable_sort}
 use Rattle.life_elab_laws.proofs.Types.{value_class}
-use Rattle.life_elab_laws.proofs.VariablePlaces.{IsVariableType, a_raw, a_reference, a_value, variable_type}
+use Rattle.life_elab_laws.proofs.VariablePlaces.{IsVariableType, a_raw, a_reference, a_value, a_view, variable_type}
 use Rattle.life_proper.specs.Placed.{is_slot_local, object_at, result_at, slot_at}
 use Rattle.life_proper.specs.Placed as placed
 use Rattle.life_proper.specs.WellFormed.{can_end}
@@ -62,7 +62,7 @@ value_object t k v h = go k (subst (λ (c : Class). is_variable_sort (held_if c 
     go Register e = absurd (false≢true e)
     go Range e = absurd (false≢true e)
 
-module _ (types : Types) (texts : ℕ) (fs : List Function) (f : Function) (shaped : AreShaped types f.locals)
+module _ (types : Types) (texts : ℕ) (so_far : Bool) (fs : List Function) (f : Function) (shaped : AreShaped types f.locals)
     (nameless : (l : Local) → slice_get f.locals f.parameters ≡ Some l → is_void (ty_of types f.result) ≡ false → l.name ≡ None) where
   -- a local with a name isn't the result
   no_result : (y : ℕ) (l : Local) → slice_get f.locals y ≡ Some l → is_none l.name ≡ false → not (result_at types f y) ≡ true
@@ -80,7 +80,7 @@ module _ (types : Types) (texts : ℕ) (fs : List Function) (f : Function) (shap
   -- a variable
   pub variable_ends : (y : ℕ) (l : Local) → slice_get f.locals y ≡ Some l → is_none l.name ≡ false → is_variable_sort (sort_of types f y) ≡ true → can_end types texts fs f y ≡ true
   variable_ends y l at named sorts =
-      go (variable_type types l.ty (shaped_at types f.locals y l shaped at (only_named l.kind l.name named)).built)
+      go (variable_type false types l.ty (shaped_at types f.locals y l shaped at (only_named l.kind l.name named)).built)
     where
       only_named : (k : LocalKind) (n : Option NameId) → is_none n ≡ false → (is_register k && is_none n) ≡ false
       only_named Object n e = refl
@@ -92,12 +92,14 @@ module _ (types : Types) (texts : ℕ) (fs : List Function) (f : Function) (shap
           and_from (object_at types f y || is_pointer (placed.type_at types f y)) _ first
           (and_from (not (result_at types f y)) (not (slot_at types f y)) (no_result y l at named) (ap (λ (o : Option Local). not (is_slot_local types f o)) at ∙ ap not slot))
 
-      go : IsVariableType types l.ty → can_end types texts fs f y ≡ true
+      go : IsVariableType false types l.ty → can_end types texts fs f y ≡ true
       go (a_value t found v) =
           let kind = value_object t l.kind v (subst (λ (h : Holding). is_variable_sort h ≡ true) (ap (held_by types) at ∙ ap (λ (o : Option Ty). held_if (class o) l.kind o) found) sorts) in
           both (or_left (object_at types f y) _ (object_there types f y l at kind)) (ap (is_slot_type types) found ∙ value_no_slot types t v)
-      go (a_raw target constant found) =
+      go (a_raw target constant found v) =
           both (or_right (object_at types f y) _ (ap is_pointer (type_there types f y l (ty.Raw target constant) at found refl))) (ap (is_slot_type types) found)
+      go (a_view so found) =
+          both (or_right (object_at types f y) _ (ap is_pointer (type_there types f y l ty.View at found refl))) (ap (is_slot_type types) found)
       go (a_reference target constant found v) =
           both (or_right (object_at types f y) _ (ap is_pointer (reference_there types f y l target constant at found (ap is_value (type_later types types (λ n x e. e) target v) ∙ v))))
           (ap (is_slot_type types) found ∙ reference_no_slot types target constant v)

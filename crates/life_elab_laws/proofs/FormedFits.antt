@@ -22,6 +22,7 @@ use Rattle.life_proper.specs.OperandTypes.{keeps_const, same}
 use Rattle.life_elab_laws.proofs.Gifts.{takes_from}
 use Rattle.life_elab_laws.proofs.FormedVariables.{type_later}
 use Rattle.life_elab_laws.proofs.Fronts.{IsFront}
+use Rattle.life_elab_laws.proofs.Locations.{is_seen}
 use Rattle.life_elab_laws.proofs.OperandsThere.{value_same}
 
 same_id : (a b : TyId) → id.eq a b ≡ true → a ≡ b
@@ -55,6 +56,13 @@ module _ (few more : Types) (front : IsFront few.types more.types) (target : TyI
   -- what is given to a raw pointer
   pub given_raw : (e : Typed) → is_given few (ty.Raw target constant) e ≡ true → takes_from more (ty.Raw target constant) e.ty ≡ true
   given_raw e given = fits_raw e.ty e.category given
+
+-- .. and to a view
+pub given_seen : (types : Types) (t : ExprType) → is_seen t ≡ true → takes_from types ty.View t ≡ true
+given_seen types (Of ty.View) e = refl
+given_seen types (Of _) e = absurd (false≢true e)
+given_seen types NullPointer e = absurd (false≢true e)
+given_seen types TextLiteral e = refl
 
 -- a place that a reference is bound to, which keeps its const
 pub record IsBoundTo (target : TyId) (constant : Bool) (c : Category) : Type 0 where

@@ -1,5 +1,5 @@
 -- The locals of a core function that is translated are well formed, and so is what stands beside its body: its name, its result and its promise.
-use Rattle.std.proofs.Common.{◌≡◌, ◌<◌, ◌+◌, ◌≤◌, ◌⊎◌, inl, inr, ℕ, zero, suc, Bool, true, false, ◌&&◌, ◌||◌, not, List, [], ◌∷◌, length, nat_eq, nat_le, nat_lt, slice_get, Option, Some, None, is_some, refl, sym, ap, ◌∙◌, subst, unwrap_or, arith}
+use Rattle.std.proofs.Common.{◌≡◌, ◌<◌, ◌+◌, ◌≤◌, ◌⊎◌, inl, inr, ℕ, zero, suc, Bool, true, false, ◌&&◌, ◌||◌, not, List, [], ◌∷◌, length, nat_eq, nat_le, nat_lt, slice_get, Option, Some, is_some, refl, sym, ap, ◌∙◌, subst, unwrap_or, arith}
 use Rattle.std.specs.List.{list_all}
 use Rattle.std.proofs.lemmas.Bool.{and_from, and_parts, false≢true, le-leb, or_cases}
 use Rattle.std.proofs.lemmas.Bool.Decides.{nat_tests}
@@ -12,7 +12,7 @@ use Rattle.life_types.specs.declared.ty.NameId.{NameId}
 use Rattle.life_types.specs.declared.ty.Ty.{Ty}
 use Rattle.life_types.specs.declared.ty.Ty.TheVariants as ty
 use Rattle.life_types.specs.declared.ty.TyId.{TyId}
-use Rattle.life_built.specs.Built.{is_built_variable, is_default, is_pointing}
+use Rattle.life_built.specs.Built.{is_default, is_pointing}
 use Rattle.life_typed.specs.BaseTypes.{type_at}
 use Rattle.life_typed.specs.Programs.{FunctionForm, ProgramForm, PromiseForm, default}
 use Rattle.life_typed.specs.declared.typed_program.ParameterPromise.{ParameterPromise}
@@ -35,6 +35,7 @@ use Rattle.life_elab_laws.proofs.Callees.{IsFunctionOf, type_found}
 use Rattle.life_elab_laws.proofs.ExpressionKinds.{variable_built}
 use Rattle.life_elab_laws.proofs.Fronts.{IsFront, front_length, passed_at}
 use Rattle.life_elab_laws.proofs.OperandsThere.{type_either}
+use Rattle.life_elab_laws.proofs.Reaching.{IsReachedType, variable_found}
 use Rattle.life_elab_laws.proofs.WrittenLocals.{AreWrittenLocals, IsIntermediate, IsOwn, fits_later, fits_register}
 
 -- ---- what a register or a variable holds
@@ -95,38 +96,42 @@ module _ (types : Types) where
   fits_kept (ty.Struct number) h = absurd (false≢true h)
   fits_kept _ h = refl
 
-  -- a variable is no view
-  pub variable_fits : (t : Ty) → (is_value t || is_pointing types t) ≡ true → fits_register types t ≡ true
-  variable_fits ty.View b = absurd (false≢true b)
-  variable_fits _ b = b
+  module _ (so_far : Bool) where
+    pub variable_fits : (t : Ty) → IsReachedType so_far types t → fits_register types t ≡ true
+    variable_fits t (inr v) = ap (fits_register types) v.1
+    variable_fits t (inl b) = go t b
+      where
+        go : (t : Ty) → (is_value t || is_pointing types t) ≡ true → fits_register types t ≡ true
+        go ty.View b = absurd (false≢true b)
+        go _ b = b
 
-  variable_kept : (t : Ty) → (is_value t || is_pointing types t) ≡ true → fits_kind (kind (class (Some t))) t ≡ true
-  variable_kept ty.Bool b = refl
-  variable_kept ty.Char b = refl
-  variable_kept ty.Int b = refl
-  variable_kept ty.Long b = refl
-  variable_kept ty.Size b = refl
-  variable_kept (ty.Raw target constant) b = refl
-  variable_kept (ty.Reference target constant) b = refl
-  variable_kept _ b = absurd (false≢true b)
+    variable_kept : (t : Ty) → IsReachedType so_far types t → fits_kind (kind (class (Some t))) t ≡ true
+    variable_kept t (inr v) = ap (λ (u : Ty). fits_kind (kind (class (Some u))) u) v.1
+    variable_kept t (inl b) = go t b
+      where
+        go : (t : Ty) → (is_value t || is_pointing types t) ≡ true → fits_kind (kind (class (Some t))) t ≡ true
+        go ty.Bool b = refl
+        go ty.Char b = refl
+        go ty.Int b = refl
+        go ty.Long b = refl
+        go ty.Size b = refl
+        go (ty.Raw target constant) b = refl
+        go (ty.Reference target constant) b = refl
+        go _ b = absurd (false≢true b)
 
-  variable_named : (t : Ty) (name : NameId) → (is_value t || is_pointing types t) ≡ true → is_named_as (kind (class (Some t))) t (Some name) ≡ true
-  variable_named ty.Bool name b = refl
-  variable_named ty.Char name b = refl
-  variable_named ty.Int name b = refl
-  variable_named ty.Long name b = refl
-  variable_named ty.Size name b = refl
-  variable_named (ty.Raw target constant) name b = refl
-  variable_named (ty.Reference target constant) name b = refl
-  variable_named _ name b = absurd (false≢true b)
-
-  pub variable_found : (id : TyId) → is_built_variable types id ≡ true → (t : Ty) × (slice_get types.types id.0 ≡ Some t) × ((is_value t || is_pointing types t) ≡ true)
-  variable_found id b = go (slice_get types.types id.0) refl b
-    where
-      go : (o : Option Ty) → slice_get types.types id.0 ≡ o → (is_value (unwrap_or o ty.Void) || is_pointing types (unwrap_or o ty.Void)) ≡ true
-          → (t : Ty) × (slice_get types.types id.0 ≡ Some t) × ((is_value t || is_pointing types t) ≡ true)
-      go None at b = absurd (false≢true b)
-      go (Some t) at b = (t, at, b)
+    variable_named : (t : Ty) (name : NameId) → IsReachedType so_far types t → is_named_as (kind (class (Some t))) t (Some name) ≡ true
+    variable_named t name (inr v) = ap (λ (u : Ty). is_named_as (kind (class (Some u))) u (Some name)) v.1
+    variable_named t name (inl b) = go t b
+      where
+        go : (t : Ty) → (is_value t || is_pointing types t) ≡ true → is_named_as (kind (class (Some t))) t (Some name) ≡ true
+        go ty.Bool b = refl
+        go ty.Char b = refl
+        go ty.Int b = refl
+        go ty.Long b = refl
+        go ty.Size b = refl
+        go (ty.Raw target constant) b = refl
+        go (ty.Reference target constant) b = refl
+        go _ b = absurd (false≢true b)
 
   -- ---- a local, and all of them
 
@@ -186,7 +191,7 @@ result_worth types id o ty.Void v h = refl
 result_worth types id o _ v h = h
 
 -- as it is written, in a finished table that begins with the one behind it
-module _ (p : ProgramForm) (of : FunctionForm) (T types : Types) (names : ℕ) (made : IsFunctionOf p of) (table : IsFront p.types.types T.types) (front : IsFront p.types.types types.types)
+module _ (so_far : Bool) (p : ProgramForm) (of : FunctionForm) (T types : Types) (names : ℕ) (made : IsFunctionOf so_far p of) (table : IsFront p.types.types T.types) (front : IsFront p.types.types types.types)
     (grown : IsFront (first_state (around p of) T).locals (written (around p of) T).locals) (later : IsFront (written (around p of) T).types.types types.types)
     (own : AreWrittenLocals p.types (around p of) (written (around p of) T)) (named : is_function_named names of ≡ true) where
   abbrev core : Function
@@ -210,13 +215,13 @@ module _ (p : ProgramForm) (of : FunctionForm) (T types : Types) (names : ℕ) (
 
   own_formed : (x : ℕ) (l : Local) → slice_get core.locals x ≡ Some l → IsOwn (around p of) l → is_well_formed_local types names core.parameters x l ≡ true
   own_formed x l at is =
-      let found = variable_found p.types is.variable.ty (variable_built p.types of.locals is.number is.variable made.built.variables is.there) in
+      let found = variable_found so_far p.types is.variable.ty (variable_built so_far p.types of.locals is.number is.variable made.built.variables is.there) in
       let kept : l.kind ≡ kind (class (Some found.0)) = is.of.kind ∙ ap (λ (o : Option Ty). kind (class o)) found.1 in
       let known = (and_parts (nat_lt of.name.0 names) (list_all (is_local_named names) of.locals) named).1 in
       local_formed types names core.parameters x l found.0 (ap (λ (id : TyId). slice_get types.types id.0) is.of.typed ∙ front is.variable.ty.0 found.0 found.1)
-      (fits_later p.types types front found.0 (variable_fits p.types found.0 found.2))
-      (ap (λ (k : LocalKind). fits_kind k found.0) kept ∙ variable_kept p.types found.0 found.2)
-      (ap (λ (k : LocalKind). is_named_as k found.0 l.name) kept ∙ ap (is_named_as (kind (class (Some found.0))) found.0) is.of.named ∙ variable_named p.types found.0 is.variable.name found.2)
+      (fits_later p.types types front found.0 (variable_fits p.types so_far found.0 found.2))
+      (ap (λ (k : LocalKind). fits_kind k found.0) kept ∙ variable_kept p.types so_far found.0 found.2)
+      (ap (λ (k : LocalKind). is_named_as k found.0 l.name) kept ∙ ap (is_named_as (kind (class (Some found.0))) found.0) is.of.named ∙ variable_named p.types so_far found.0 is.variable.name found.2)
       (ap (is_name_if names) is.of.named ∙ passed_at (is_local_named names) (list_all (is_local_named names)) (λ u us. refl) of.locals is.number is.variable known is.there)
       (has_name x l at)
 

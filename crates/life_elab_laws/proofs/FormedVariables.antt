@@ -2,12 +2,12 @@
 use Rattle.std.proofs.Common.{◌≡◌, ℕ, Bool, true, false, not, if◌then◌else◌, List, [], nat_lt, slice_get, Option, Some, None, refl, sym, ap, ◌∙◌, subst, unwrap_or}
 use Rattle.std.proofs.lemmas.Bool.{false≢true}
 use Rattle.life_types.specs.Pointees.{or_void, pointee, ty_of}
-use Rattle.life_types.specs.TypeTests.{is_constant, is_value, is_void}
+use Rattle.life_types.specs.TypeTests.{is_constant, is_reference, is_value, is_void}
 use Rattle.life_types.specs.Types.{Types}
 use Rattle.life_types.specs.declared.ty.Ty.{Ty}
 use Rattle.life_types.specs.declared.ty.Ty.TheVariants as ty
 use Rattle.life_types.specs.declared.ty.TyId.{TyId}
-use Rattle.life_built.specs.Built.{is_built_variable}
+use Rattle.life_elab_laws.specs.Reached.{is_reached_variable}
 use Rattle.life_typed.specs.BaseTypes.{type_at}
 use Rattle.life_typed.specs.TypedForm.{Form, Typed}
 use Rattle.life_typed.specs.declared.typed_expr.Category.{Category}
@@ -24,10 +24,11 @@ use Rattle.life_writer.specs.Variables.{variable, variable_place}
 use Rattle.life_writer.specs.Writing.{State}
 use Rattle.life_elab_laws.proofs.Fronts.{IsFront}
 use Rattle.life_elab_laws.proofs.Growing.{Begins}
+use Rattle.life_elab_laws.proofs.Locations.{is_location}
 use Rattle.life_elab_laws.proofs.TypedKinds.{place_same}
 use Rattle.life_elab_laws.proofs.Types.{value_kind}
 use Rattle.life_elab_laws.proofs.Values.{by_values}
-use Rattle.life_elab_laws.proofs.VariablePlaces.{IsVariableAt, IsVariableType, a_raw, a_reference, a_value, kind_is, place_is, variable_type}
+use Rattle.life_elab_laws.proofs.VariablePlaces.{IsVariableAt, IsVariableType, a_raw, a_reference, a_value, a_view, kind_is, place_is, variable_type}
 use Rattle.life_proper.specs.OperandTypes.{keeps_const}
 use Rattle.life_proper.specs.Placed as placed
 use Rattle.life_elab_laws.proofs.Gifts.{IsAt, IsPlaceOf}
@@ -73,6 +74,11 @@ value_referred id target ty.View v = absurd (false≢true v)
 value_referred id target (ty.Unique item) v = absurd (false≢true v)
 value_referred id target _ v = refl
 
+pub location_no_reference : (t : Ty) → is_location t ≡ true → is_reference t ≡ false
+location_no_reference (ty.Raw target constant) loc = refl
+location_no_reference ty.View loc = refl
+location_no_reference _ loc = absurd (false≢true loc)
+
 module _ (types : Types) (f : Function) where
   reference_shape : (parameter : Bool) (id target : TyId) (constant : Bool) → ty_of types id ≡ ty.Reference target constant → is_value (ty_of types target) ≡ true → shape_if types parameter id ≡ id
   reference_shape false id target constant at v = refl
@@ -86,18 +92,18 @@ module _ (types : Types) (f : Function) where
       ∙ ap (ty_of types) (reference_shape (nat_lt x f.parameters) l.ty target constant (ap or_void typed) v)
       ∙ ap or_void typed
 
-module _ (types : Types) (texts : ℕ) (fs : List Function) (f : Function) where
+module _ (types : Types) (texts : ℕ) (so_far : Bool) (fs : List Function) (f : Function) where
   -- an object of a value type
-  pub object_place : (y : ℕ) (t : Ty) (c : Bool) → placed.object_at types f y ≡ true → placed.type_at types f y ≡ t → IsPlaceOf types texts fs f t c (object_named y)
+  pub object_place : (y : ℕ) (t : Ty) (c : Bool) → placed.object_at types f y ≡ true → placed.type_at types f y ≡ t → IsPlaceOf types texts so_far fs f t c (object_named y)
   object_place y t c there typed = record {
     typed = ap (λ (b : Bool). if b then placed.type_at types f y else ty.Void) there ∙ typed;
     held = keeps_all c;
-    served = refl;
+    served = λ so. refl;
   }
 
   -- what a pointer of this type points to
-  pub behind_place : (q : Location) (u : Ty) (target : TyId) (c : Bool) (t : Ty) → IsAt types texts fs f u q → pointee types u ≡ ty_of types target → target_of u ≡ Some target → is_constant u ≡ c
-      → ty_of types target ≡ t → is_value t ≡ true → IsPlaceOf types texts fs f t c (Through q [])
+  pub behind_place : (q : Location) (u : Ty) (target : TyId) (c : Bool) (t : Ty) → IsAt types texts so_far fs f u q → pointee types u ≡ ty_of types target → target_of u ≡ Some target → is_constant u ≡ c
+      → ty_of types target ≡ t → is_value t ≡ true → IsPlaceOf types texts so_far fs f t c (Through q [])
   behind_place q u target c t at object has const typed v = record {
     typed =
         ap (λ (w : Ty). if not (is_void (pointee types w)) then ty_if types (target_of w) else ty.Void) at.typed
@@ -116,10 +122,10 @@ module _ (types : Types) (texts : ℕ) (fs : List Function) (f : Function) where
     typed_as t at = ap (λ (i : TyId). slice_get types.types i.0) h.typed ∙ front v.ty.0 t at
 
     -- a variable that is named where a value is, is a place of that type
-    pub variable_formed : (e : Typed) (form : Form) → is_built_variable a.program.types v.ty ≡ true → e ≡ variable_of (type_at a.program.types v.ty) a.program.types v.ty v.constant e.place form
+    pub variable_formed : (e : Typed) (form : Form) → is_reached_variable so_far a.program.types v.ty ≡ true → e ≡ variable_of (type_at a.program.types v.ty) a.program.types v.ty v.constant e.place form
         → (id : TyId) (constant : Bool) → e.category ≡ category.Place id constant → is_value (type_at a.program.types id) ≡ true
-        → IsPlaceOf types texts fs f (type_at a.program.types id) constant (variable_place s x)
-    variable_formed e form built is id constant at value = go (variable_type a.program.types v.ty built)
+        → IsPlaceOf types texts so_far fs f (type_at a.program.types id) constant (variable_place s x)
+    variable_formed e form built is id constant at value = go (variable_type so_far a.program.types v.ty built)
       where
         named : (t : Ty) → slice_get a.program.types.types v.ty.0 ≡ Some t → e ≡ variable_of t a.program.types v.ty v.constant e.place form
         named t found = is ∙ ap (λ (o : Option Ty). variable_of (unwrap_or o ty.Void) a.program.types v.ty v.constant e.place form) found
@@ -128,20 +134,24 @@ module _ (types : Types) (texts : ℕ) (fs : List Function) (f : Function) where
         own u d is = sym (ap (λ (y : Typed). y.category) is) ∙ at
 
         object : (t : Ty) → slice_get a.program.types.types v.ty.0 ≡ Some t → is_value t ≡ true → e ≡ place_typed a.program.types v.ty v.constant e.place form
-            → IsPlaceOf types texts fs f (type_at a.program.types id) constant (variable_place s x)
+            → IsPlaceOf types texts so_far fs f (type_at a.program.types id) constant (variable_place s x)
         object t found w is =
             let one : v.ty ≡ id = place_same v.ty id v.constant constant (own v.ty v.constant is) in
             let here : type_at a.program.types id ≡ t = ap (type_at a.program.types) (sym one) ∙ ap (λ (o : Option Ty). unwrap_or o ty.Void) found in
-            subst (IsPlaceOf types texts fs f (type_at a.program.types id) constant) (sym (place_is a s x v h Object (kind_is a s x v h t found ∙ value_kind t w)))
+            subst (IsPlaceOf types texts so_far fs f (type_at a.program.types id) constant) (sym (place_is a s x v h Object (kind_is a s x v h t found ∙ value_kind t w)))
             (object_place (variable s x) (type_at a.program.types id) constant (object_there types f (variable s x) h.local there (kind_is a s x v h t found ∙ value_kind t w))
             (type_there types f (variable s x) h.local t there (typed_as t found) (value_no_reference t w) ∙ sym here))
 
-        go : IsVariableType a.program.types v.ty → IsPlaceOf types texts fs f (type_at a.program.types id) constant (variable_place s x)
+        go : IsVariableType so_far a.program.types v.ty → IsPlaceOf types texts so_far fs f (type_at a.program.types id) constant (variable_place s x)
         go (a_value t found w) =
             let place : variable_of t a.program.types v.ty v.constant e.place form ≡ place_typed a.program.types v.ty v.constant e.place form =
             by_values (λ u. variable_of u a.program.types v.ty v.constant e.place form ≡ place_typed a.program.types v.ty v.constant e.place form) refl refl refl refl refl t w in
             object t found w (named t found ∙ place)
-        go (a_raw target c found) =
+        go (a_view so found) =
+            let one : v.ty ≡ id = place_same v.ty id v.constant constant (own v.ty v.constant (named ty.View found)) in
+            let here : type_at a.program.types id ≡ ty.View = ap (type_at a.program.types) (sym one) ∙ ap (λ (o : Option Ty). unwrap_or o ty.Void) found in
+            absurd (false≢true (sym (ap is_value here) ∙ value))
+        go (a_raw target c found w) =
             let one : v.ty ≡ id = place_same v.ty id v.constant constant (own v.ty v.constant (named (ty.Raw target c) found)) in
             let here : type_at a.program.types id ≡ ty.Raw target c = ap (type_at a.program.types) (sym one) ∙ ap (λ (o : Option Ty). unwrap_or o ty.Void) found in
             absurd (false≢true (sym (ap is_value here) ∙ value))
@@ -149,11 +159,11 @@ module _ (types : Types) (texts : ℕ) (fs : List Function) (f : Function) where
             let same = own target c (named (ty.Reference target c) found) in
             let later : ty_of types target ≡ type_at a.program.types target = type_later a.program.types types front target w in
             let here : ty_of types target ≡ type_at a.program.types id = later ∙ ap (type_at a.program.types) (place_same target id c constant same) in
-            subst (IsPlaceOf types texts fs f (type_at a.program.types id) constant) (sym (place_is a s x v h Register (kind_is a s x v h (ty.Reference target c) found)))
-            (subst (λ (d : Bool). IsPlaceOf types texts fs f (type_at a.program.types id) d (behind (variable s x))) (const_same target id c constant same)
+            subst (IsPlaceOf types texts so_far fs f (type_at a.program.types id) constant) (sym (place_is a s x v h Register (kind_is a s x v h (ty.Reference target c) found)))
+            (subst (λ (d : Bool). IsPlaceOf types texts so_far fs f (type_at a.program.types id) d (behind (variable s x))) (const_same target id c constant same)
             (behind_place (whole (variable s x)) (ty.Reference target c) target c (type_at a.program.types id)
-            (record { typed = reference_there types f (variable s x) h.local target c there (typed_as (ty.Reference target c) found) (ap is_value later ∙ w); served = refl }) refl refl refl here value))
+            (record { typed = reference_there types f (variable s x) h.local target c there (typed_as (ty.Reference target c) found) (ap is_value later ∙ w); served = λ so. refl }) refl refl refl here value))
 
-    -- a raw pointer variable has its type
-    pub pointer_formed : (target : TyId) (constant : Bool) → slice_get a.program.types.types v.ty.0 ≡ Some (ty.Raw target constant) → IsAt types texts fs f (ty.Raw target constant) (whole (variable s x))
-    pointer_formed target constant found = record { typed = type_there types f (variable s x) h.local (ty.Raw target constant) there (typed_as (ty.Raw target constant) found) refl; served = refl }
+    -- the variable of a raw pointer or a view has its type
+    pub pointer_formed : (t : Ty) → is_location t ≡ true → slice_get a.program.types.types v.ty.0 ≡ Some t → IsAt types texts so_far fs f t (whole (variable s x))
+    pointer_formed t loc found = record { typed = type_there types f (variable s x) h.local t there (typed_as t found) (location_no_reference t loc); served = λ so. refl }

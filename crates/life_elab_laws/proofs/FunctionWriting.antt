@@ -3,7 +3,7 @@ use Rattle.std.proofs.Common.{◌≡◌, ◌<◌, ℕ, Bool, true, false, List, 
 use Rattle.std.proofs.lemmas.Bool.{and_from, false≢true}
 use Rattle.std.proofs.lemmas.Bool.Decides.{nat_tests}
 use Rattle.life_types.specs.Types.{Types}
-use Rattle.life_built.specs.Built.{is_built_statement}
+use Rattle.life_elab_laws.specs.Reached.{is_reached_statement}
 use Rattle.life_typed.specs.Programs.{FunctionForm, ProgramForm}
 use Rattle.life_typed.specs.TypedStatement.{StmtForm, block}
 use Rattle.life_core.specs.Function.{Function}
@@ -38,9 +38,9 @@ use Rattle.life_elab_laws.proofs.Statements.{statement_does}
 use Rattle.life_elab_laws.proofs.Stopping.{stops, stops_next, stops_right}
 
 -- what is asked of the body of a function
-pub record IsProperBody (a : Around) (types : Types) (texts : ℕ) (fs : List Function) (f : Function) : Type 0 where
+pub record IsProperBody (a : Around) (types : Types) (texts : ℕ) (so_far : Bool) (fs : List Function) (f : Function) : Type 0 where
   pub checked : is_checked types f ≡ true
-  pub stated : IsStated types texts fs f false f.body
+  pub stated : IsStated types texts so_far fs f false f.body
   -- where it gives a value back and control doesn't run past its text, each return stands behind that
   pub returns : GivesValue a → ReturnsKnown types f f.parameters f.body (Some (entry_known f))
 
@@ -51,41 +51,41 @@ text_there p f = go (length p.texts) (length (texts_of p)) (omega (arith, length
     go : (m n : ℕ) → m < n → nat_lt m n ≡ true
     go m n h = grind (arith, nat_tests)
 
-module _ (p : ProgramForm) (form : FunctionForm) (T types : Types) (fs : List Function) (f : Function) (setting : Setting (around p form) types fs f) where
+module _ (so_far : Bool) (p : ProgramForm) (form : FunctionForm) (T types : Types) (fs : List Function) (f : Function) (setting : Setting so_far (around p form) types fs f) where
   abbrev texts : ℕ
   texts = length (texts_of p)
 
   -- a body behind which no way goes on
   pub record IsFinished (s s' : State) : Type 0 where
     pub behind : Visible
-    pub does : Does types texts fs f (around p form) behind false s s'
+    pub does : Does types texts so_far fs f (around p form) behind false s s'
     pub stopped : stops (trees s'.code) ≡ true
 
-  finished : (it : StmtForm) (s : State) → ends form.body ≡ ends it → IsBody p form it → is_built_statement p.types form.locals it ≡ true → Follows types f (around p form) (with_parameters (length form.parameters)) s → HasRegister (around p form) s
+  finished : (it : StmtForm) (s : State) → ends form.body ≡ ends it → IsBody p form it → is_reached_statement texts so_far p.types form.locals it ≡ true → Follows types f (around p form) (with_parameters (length form.parameters)) s → HasRegister (around p form) s
       → IsFinished s (body (around p form) it s)
   finished (block items closing) s same h b follows register = go (ends (block items closing)) refl
     where
       go : (e : Bool) → ends (block items closing) ≡ e → IsFinished s (returned_at_end e closing (statement (around p form) items s))
       go true e =
-          let inner = statement_does (around p form) types texts fs f setting (text_there p form) items false (with_parameters (length form.parameters)) s b h follows register in
+          let inner = statement_does (around p form) types texts so_far fs f setting (text_there p form) items false (with_parameters (length form.parameters)) s b h follows register in
           record { behind = after items (with_parameters (length form.parameters)); does = inner.does; stopped = inner.last false (λ n. absurd (false≢true n)) e }
       go false e =
           let u = after items (with_parameters (length form.parameters)) in
           let t = statement (around p form) items s in
-          let inner = statement_does (around p form) types texts fs f setting (text_there p form) items false (with_parameters (length form.parameters)) s b h follows register in
-          let last = return_does (around p form) types texts fs f setting u false t inner.does.follows (λ gives. false≢true (sym e ∙ sym same ∙ gives.1)) closing in
+          let inner = statement_does (around p form) types texts so_far fs f setting (text_there p form) items false (with_parameters (length form.parameters)) s b h follows register in
+          let last = return_does (around p form) types texts so_far fs f setting u false t inner.does.follows (λ gives. false≢true (sym e ∙ sym same ∙ gives.1)) closing in
           record {
             behind = u;
-            does = does_then types texts fs f (around p form) u u false s t (left 0 closing (Returns closing) t) follows.outside inner.does last.does;
+            does = does_then types texts so_far fs f (around p form) u u false s t (left 0 closing (Returns closing) t) follows.outside inner.does last.does;
             stopped = stops_right (end_past 0 closing t).code (Returns closing ∷ []) refl;
           }
   finished _ s same h b follows register = absurd h
 
-  module _ (is : IsFunctionOf p form) (table : IsFront p.types.types T.types) where
+  module _ (is : IsFunctionOf so_far p form) (table : IsFront p.types.types T.types) where
     pub function_finished : IsFinished (first_state (around p form) T) (written (around p form) T)
     function_finished =
         finished form.body (first_state (around p form) T) refl is.typed.body is.built.body
-        (first_follows (around p form) T is.typed.parameters table types f setting.front is.built.variables is.built.result) (register_there (around p form) T is.typed.parameters table is.ty is.result)
+        (first_follows (around p form) T is.typed.parameters table types f setting.front is.built.any is.built.result) (register_there (around p form) T is.typed.parameters table is.ty is.result)
 
     -- ---- in the finished function
 
@@ -96,14 +96,14 @@ module _ (p : ProgramForm) (form : FunctionForm) (T types : Types) (fs : List Fu
       body_is : f.body ≡ trees function_finished.does.code
       body_is = whole ∙ ap trees code_is
 
-      acting : Acting types texts fs f false (first_state (around p form) T) (written (around p form) T) function_finished.does.code
+      acting : Acting types texts so_far fs f false (first_state (around p form) T) (written (around p form) T) function_finished.does.code
       acting = function_finished.does.acts begins
 
       abbrev ways : Flow
       ways = flow types f (trees function_finished.does.code) (Some (entry_known f))
 
       leaves : Leaves f false (written (around p form) T).living (take (first_state (around p form) T).outside (first_state (around p form) T).living) ways
-      leaves = acting.ways (Some (entry_known f)) (entry_knows (around p form) T is.typed.parameters table types f setting.front is.built.variables is.built.result begun.count begun.locals)
+      leaves = acting.ways (Some (entry_known f)) (entry_knows (around p form) T is.typed.parameters table types f setting.front is.built.any is.built.result begun.count begun.locals)
 
       ended : ways.next ≡ None
       ended = stops_next types f (trees function_finished.does.code) acting.stated.statement (ap (λ (c : List Tree). stops (trees c)) (sym code_is) ∙ function_finished.stopped) (Some (entry_known f))
@@ -119,10 +119,10 @@ module _ (p : ProgramForm) (form : FunctionForm) (T types : Types) (fs : List Fu
           (and_from (is_none ways.on_continue) _ (none ways.on_continue leaves.on_continue)
           (and_from (is_none ways.on_true) (is_none ways.on_false) (none ways.on_true leaves.on_true) (none ways.on_false leaves.on_false)))))
 
-      stated : IsStated types texts fs f false f.body
-      stated = subst (IsStated types texts fs f false) (sym body_is) acting.stated
+      stated : IsStated types texts so_far fs f false f.body
+      stated = subst (IsStated types texts so_far fs f false) (sym body_is) acting.stated
 
-      pub function_proper : IsProperBody (around p form) types texts fs f
+      pub function_proper : IsProperBody (around p form) types texts so_far fs f
       function_proper = record {
         checked =
             and_from (is_statement f.body) _ stated.statement
@@ -132,5 +132,5 @@ module _ (p : ProgramForm) (form : FunctionForm) (T types : Types) (fs : List Fu
         returns = λ gives.
             subst (λ (r : ℕ). ReturnsKnown types f r f.body (Some (entry_known f))) (sym begun.count)
             (subst (λ (t : Tree). ReturnsKnown types f (length form.parameters) t (Some (entry_known f))) (sym body_is)
-            (function_finished.does.returns begins gives (Some (entry_known f)) (entry_knows (around p form) T is.typed.parameters table types f setting.front is.built.variables is.built.result begun.count begun.locals)));
+            (function_finished.does.returns begins gives (Some (entry_known f)) (entry_knows (around p form) T is.typed.parameters table types f setting.front is.built.any is.built.result begun.count begun.locals)));
       }

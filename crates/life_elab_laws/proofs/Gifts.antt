@@ -1,7 +1,7 @@
 -- What a part of an expression gives: which type it has in the finished function, and what is known of it where so many locals are there.
-use Rattle.std.proofs.Common.{◌≡◌, ◌≤◌, ◌⊎◌, ℕ, Bool, true, false, List, [], ◌∷◌, None, ◌∙◌, arith}
+use Rattle.std.proofs.Common.{◌≡◌, ◌≤◌, ◌⊎◌, ℕ, Bool, true, List, [], ◌∷◌, None, ◌∙◌, arith}
 use Rattle.std.specs.List.{list_all}
-use Rattle.life_types.specs.TypeTests.{is_raw}
+use Rattle.life_types.specs.TypeTests.{is_raw, is_view}
 use Rattle.life_types.specs.Types.{Types}
 use Rattle.life_types.specs.declared.ty.Ty.{Ty}
 use Rattle.life_types.specs.declared.ty.TyId.{TyId}
@@ -16,6 +16,7 @@ use Rattle.life_proper.specs.Placed.{is_const_place, is_number_of, type_in, type
 use Rattle.life_proper.specs.WellFormed.{are_arguments_for, have_own_slots}
 use Rattle.life_proper.specs.declared.known.Known.{Known}
 use Rattle.life_writer.specs.Pointers.{As, By, Pointing}
+use Rattle.life_elab_laws.proofs.Locations.{is_location}
 use Rattle.life_elab_laws.proofs.Making.{AreHeld, IsFilling, IsHeld, IsPlace, IsPointer, IsPointing, Keeps}
 use Rattle.life_elab_laws.proofs.Shaping.{IsFineStep}
 
@@ -25,16 +26,16 @@ AreNumbersFor [] [] n k = Unit {0}
 AreNumbersFor (id ∷ ids) (Value r ∷ xs) n k = IsHeld r n k × AreNumbersFor ids xs n k
 AreNumbersFor _ _ n k = ⊥
 
--- what a pointer of a type may be given: what it is itself, a pointer that it takes, or nullptr
+-- what a pointer of a type may be given: what it is itself, a pointer that it takes, nullptr, or a literal
 abbrev pub takes_from : Types → Ty → ExprType → Bool
 takes_from types t (Of u) = takes types t u
-takes_from types t NullPointer = true
-takes_from types t TextLiteral = false
+takes_from types t NullPointer = is_raw t
+takes_from types t TextLiteral = is_view t
 
 abbrev pub IsTakenBy : Types → Ty → ExprType → Type 0
 IsTakenBy types u t = (t ≡ Of u) ⊎ (takes_from types u t ≡ true)
 
-module _ (types : Types) (texts : ℕ) (fs : List Function) (f : Function) where
+module _ (types : Types) (texts : ℕ) (so_far : Bool) (fs : List Function) (f : Function) where
   -- what is ready stays so where the locals that are there keep what is known of them
   pub record Gift (A : Type 0) : Type 1 where
     pub typed : A → Type 0
@@ -68,7 +69,7 @@ module _ (types : Types) (texts : ℕ) (fs : List Function) (f : Function) where
   pub record IsPlaceOf (t : Ty) (constant : Bool) (o : Operand) : Type 0 where
     pub typed : type_of types f o ≡ t
     pub held : keeps_const constant (is_const_place types f o) ≡ true
-    pub served : is_served_operand o ≡ true
+    pub served : so_far ≡ true → is_served_operand o ≡ true
 
   pub place_stays : (o : Operand) (n m : ℕ) (k j : List Known) → n ≤ m → IsPlace o n k → Keeps f n None k j → IsPlace o m j
   place_stays o n m k j h p keeps = record { local = p.local; uses = p.uses; below = omega (arith, p.below, h); held = keeps.below p.local p.below tt ∙ p.held }
@@ -80,7 +81,7 @@ module _ (types : Types) (texts : ℕ) (fs : List Function) (f : Function) where
 
   pub record IsAt (t : Ty) (l : Location) : Type 0 where
     pub typed : type_in types f l ≡ t
-    pub served : is_served_location l ≡ true
+    pub served : so_far ≡ true → is_served_location l ≡ true
 
   pub pointer_stays : (l : Location) (n m : ℕ) (k j : List Known) → n ≤ m → IsPointer l n k → Keeps f n None k j → IsPointer l m j
   pointer_stays l n m k j h p keeps = record { local = p.local; is = p.is; below = omega (arith, p.below, h); held = keeps.below p.local p.below tt ∙ p.held }
@@ -92,7 +93,7 @@ module _ (types : Types) (texts : ℕ) (fs : List Function) (f : Function) where
 
   -- an instruction with a hole can stand for each pointer that takes what is given
   abbrev pub IsGivenAs : ExprType → Pointing → Type 0
-  IsGivenAs t (By step) = (u : Ty) (l : Location) → is_raw u ≡ true → IsAt u l → IsTakenBy types u t → IsFineStep types texts fs f (step l)
+  IsGivenAs t (By step) = (u : Ty) (l : Location) → is_location u ≡ true → IsAt u l → IsTakenBy types u t → IsFineStep types texts so_far fs f (step l)
   IsGivenAs (Of t) (As l) = IsAt t l
   IsGivenAs NullPointer (As l) = ⊥
   IsGivenAs TextLiteral (As l) = ⊥
@@ -116,7 +117,7 @@ module _ (types : Types) (texts : ℕ) (fs : List Function) (f : Function) where
   pub record AreHanded (ids : List TyId) (xs : List Argument) : Type 0 where
     pub fit : are_arguments_for types texts fs f ids xs ≡ true
     pub own : have_own_slots types texts fs f xs ≡ true
-    pub served : list_all is_served_argument xs ≡ true
+    pub served : so_far ≡ true → list_all is_served_argument xs ≡ true
 
   pub numbers_stay : (ids : List TyId) (xs : List Argument) (n m : ℕ) (k j : List Known) → n ≤ m → AreNumbersFor ids xs n k → Keeps f n None k j → AreNumbersFor ids xs m j
   numbers_stay [] [] n m k j h p keeps = tt

@@ -34,26 +34,26 @@ use Rattle.life_elab_laws.proofs.OrderedTypes.{order_none}
 use Rattle.life_elab_laws.proofs.Setting.{Setting}
 use Rattle.life_elab_laws.proofs.Shaping.{IsFine, IsStated, fine_acts, fine_none, stated_alone, stated_append}
 
-module _ (types : Types) (texts : ℕ) (fs : List Function) (f : Function) where
+module _ (types : Types) (texts : ℕ) (so_far : Bool) (fs : List Function) (f : Function) where
   -- ---- these end
 
   pub record IsEnded (xs : List ℕ) (place : Place) (s : State) : Type 0 where
     pub code : List Tree
     pub written : end xs place s ≡ with_code (s.code ++ code) s
-    pub fine : list_all (can_end types texts fs f) xs ≡ true → IsFine types texts fs f code
+    pub fine : list_all (can_end types texts fs f) xs ≡ true → IsFine types texts so_far fs f code
     pub falls : (k : List Known) → can_leave k xs ≡ true → Falls types f code k (set_blank xs k)
 
   pub ended : (xs : List ℕ) (place : Place) (s : State) → IsEnded xs place s
   ended [] place s = record {
     code = [];
     written = ap (λ (c : List Tree). with_code c s) (sym (append-nil s.code));
-    fine = λ ends. fine_none types texts fs f;
+    fine = λ ends. fine_none types texts so_far fs f;
     falls = λ k ready. refl;
   }
   ended (x ∷ xs) place s = record {
     code = Acts place (End (x ∷ xs)) ∷ [];
     written = refl;
-    fine = λ ends. fine_acts types texts fs f place (End (x ∷ xs)) (record { plain = refl; formed = ends; served = refl });
+    fine = λ ends. fine_acts types texts so_far fs f place (End (x ∷ xs)) (record { plain = λ so. refl; formed = ends; served = λ so. refl });
     falls = λ k ready. falls_acts types f place (End (x ∷ xs)) k (all_ready k (touched_by f (End (x ∷ xs))) refl ready refl);
   }
 
@@ -62,29 +62,29 @@ module _ (types : Types) (texts : ℕ) (fs : List Function) (f : Function) where
   end_living (x ∷ xs) place s = refl
 
   -- all past so many
-  module _ (a : Around) (setting : Setting a types fs f) (v : Visible) (s : State) (h : Follows types f a v s) (b : Begins types f s) (n : ℕ) where
+  module _ (a : Around) (setting : Setting so_far a types fs f) (v : Visible) (s : State) (h : Follows types f a v s) (b : Begins types f s) (n : ℕ) where
     -- .. each is a variable, so it can end
-    pub past_fine : (place : Place) (e : IsEnded (reverse (drop n s.living)) place s) → IsFine types texts fs f e.code
-    past_fine place e = e.fine (all_end types texts fs f setting.shaped setting.nameless (reverse (drop n s.living)) (λ y m. one y (among_drop n s.living y (reverse_among (drop n s.living) y m))))
+    pub past_fine : (place : Place) (e : IsEnded (reverse (drop n s.living)) place s) → IsFine types texts so_far fs f e.code
+    past_fine place e = e.fine (all_end types texts so_far fs f setting.shaped setting.nameless (reverse (drop n s.living)) (λ y m. one y (among_drop n s.living y (reverse_among (drop n s.living) y m))))
       where
         one : (y : ℕ) → Among y s.living → can_end types texts fs f y ≡ true
         one y m =
             let is = h.living y m in
-            variable_ends types texts fs f setting.shaped setting.nameless y is.local (b.locals y is.local is.there) (ap (λ (o : Option NameId). is_none o) is.named) (h.sorts b y m)
+            variable_ends types texts so_far fs f setting.shaped setting.nameless y is.local (b.locals y is.local is.there) (ap (λ (o : Option NameId). is_none o) is.named) (h.sorts b y m)
 
   -- ---- the end of a block
 
   -- what was visible before it is visible again, and only what lived before lives
-  module _ (a : Around) (setting : Setting a types fs f) (v u : Visible) (in_loop : Bool) (s t : State) (h : Follows types f a v s) (inner : Does types texts fs f a u in_loop s t) (place : Place) where
+  module _ (a : Around) (setting : Setting so_far a types fs f) (v u : Visible) (in_loop : Bool) (s t : State) (h : Follows types f a v s) (inner : Does types texts so_far fs f a u in_loop s t) (place : Place) where
     is : IsEnded (reverse (drop (length s.living) t.living)) place t
     is = ended (reverse (drop (length s.living) t.living)) place t
 
     abbrev behind_block : List Tree → State
     behind_block code = with_living_of (length s.living) (with_code (t.code ++ code) t)
 
-    ended_acts : (e : IsEnded (reverse (drop (length s.living) t.living)) place t) → Begins types f t → Acting types texts fs f in_loop s (behind_block e.code) (inner.code ++ e.code)
+    ended_acts : (e : IsEnded (reverse (drop (length s.living) t.living)) place t) → Begins types f t → Acting types texts so_far fs f in_loop s (behind_block e.code) (inner.code ++ e.code)
     ended_acts e b = record {
-      stated = stated_append types texts fs f in_loop inner.code e.code (inner.acts b).stated ((past_fine a setting u t inner.follows b (length s.living) place e).stated in_loop);
+      stated = stated_append types texts so_far fs f in_loop inner.code e.code (inner.acts b).stated ((past_fine a setting u t inner.follows b (length s.living) place e).stated in_loop);
       ways = ways;
     }
       where
@@ -103,7 +103,7 @@ module _ (types : Types) (texts : ℕ) (fs : List Function) (f : Function) where
             (leaves_then f in_loop t.living (take (length s.living) t.living) (take s.outside s.living) (flow types f (trees inner.code) o) (flow types f (trees e.code) between) w
             (leaves_may types f in_loop t.living (take (length s.living) t.living) (take s.outside s.living) (trees e.code) last between w.next))
 
-    ended_does : (e : IsEnded (reverse (drop (length s.living) t.living)) place t) → Does types texts fs f a (behind v u) in_loop s (behind_block e.code)
+    ended_does : (e : IsEnded (reverse (drop (length s.living) t.living)) place t) → Does types texts so_far fs f a (behind v u) in_loop s (behind_block e.code)
     ended_does e = record {
       adds = record {
         locals = inner.adds.locals;
@@ -124,22 +124,22 @@ module _ (types : Types) (texts : ℕ) (fs : List Function) (f : Function) where
       acts = ended_acts e;
       returns = λ b gives o k.
           known_append types f (result_local a) inner.code e.code o (inner.returns b gives o k)
-          (fine_known types f (result_local a) texts fs e.code (past_fine a setting u t inner.follows b (length s.living) place e) (flow types f (trees inner.code) o).next);
+          (fine_known types f (result_local a) texts so_far fs e.code (past_fine a setting u t inner.follows b (length s.living) place e) (flow types f (trees inner.code) o).next);
     }
 
-    pub block_does : Does types texts fs f a (behind v u) in_loop s (end_since place (length s.living) t)
-    block_does = subst (λ (r : State). Does types texts fs f a (behind v u) in_loop s (with_living_of (length s.living) r)) (sym is.written) (ended_does is)
+    pub block_does : Does types texts so_far fs f a (behind v u) in_loop s (end_since place (length s.living) t)
+    block_does = subst (λ (r : State). Does types texts so_far fs f a (behind v u) in_loop s (with_living_of (length s.living) r)) (sym is.written) (ended_does is)
 
     pub block_level : (end_since place (length s.living) t).living ≡ s.living
     block_level = ap (take (length s.living)) (end_living (reverse (drop (length s.living) t.living)) place t) ∙ inner.adds.living
 
   -- ---- control goes elsewhere
 
-  module _ (a : Around) (setting : Setting a types fs f) (v : Visible) (in_loop : Bool) (s : State) (h : Follows types f a v s) (n : ℕ) (place : Place) (t : Tree) (stated : IsStated types texts fs f in_loop t)
+  module _ (a : Around) (setting : Setting so_far a types fs f) (v : Visible) (in_loop : Bool) (s : State) (h : Follows types f a v s) (n : ℕ) (place : Place) (t : Tree) (stated : IsStated types texts so_far fs f in_loop t)
       (leaves : (k : List Known) → Knows f (take n s.living) k → Leaves f in_loop s.living (take s.outside s.living) (flow types f (trees (t ∷ [])) (Some k))) where
-    pub left_acts : (e : IsEnded (reverse (drop n s.living)) place s) → Begins types f s → Acting types texts fs f in_loop s (write t (with_code (s.code ++ e.code) s)) (e.code ++ t ∷ [])
+    pub left_acts : (e : IsEnded (reverse (drop n s.living)) place s) → Begins types f s → Acting types texts so_far fs f in_loop s (write t (with_code (s.code ++ e.code) s)) (e.code ++ t ∷ [])
     left_acts e b = record {
-      stated = stated_append types texts fs f in_loop e.code (t ∷ []) ((past_fine a setting v s h b n place e).stated in_loop) (stated_alone types texts fs f in_loop t stated);
+      stated = stated_append types texts so_far fs f in_loop e.code (t ∷ []) ((past_fine a setting v s h b n place e).stated in_loop) (stated_alone types texts so_far fs f in_loop t stated);
       ways = leaves_may types f in_loop s.living s.living (take s.outside s.living) (trees (e.code ++ t ∷ [])) went;
     }
       where
@@ -154,7 +154,7 @@ module _ (types : Types) (texts : ℕ) (fs : List Function) (f : Function) where
 
     -- .. and where that is a return, no value has to be given back
     left_from : (GivesValue a → (o : Knowing) → ReturnsKnown types f (result_local a) (trees (t ∷ [])) o) → (e : IsEnded (reverse (drop n s.living)) place s)
-        → Does types texts fs f a v in_loop s (write t (with_code (s.code ++ e.code) s))
+        → Does types texts so_far fs f a v in_loop s (write t (with_code (s.code ++ e.code) s))
     left_from back e = record {
       adds = adds_none types f s;
       locals = λ are. are;
@@ -165,11 +165,11 @@ module _ (types : Types) (texts : ℕ) (fs : List Function) (f : Function) where
       acts = left_acts e;
       returns = λ b gives o k.
           let ends : Knowing = (flow types f (trees e.code) o).next in
-          known_append types f (result_local a) e.code (t ∷ []) o (fine_known types f (result_local a) texts fs e.code (past_fine a setting v s h b n place e) o) (back gives ends);
+          known_append types f (result_local a) e.code (t ∷ []) o (fine_known types f (result_local a) texts so_far fs e.code (past_fine a setting v s h b n place e) o) (back gives ends);
     }
 
-    pub left_does : (GivesValue a → (o : Knowing) → ReturnsKnown types f (result_local a) (trees (t ∷ [])) o) → Does types texts fs f a v in_loop s (left n place t s)
-    left_does back = subst (λ (r : State). Does types texts fs f a v in_loop s (write t r)) (sym (ended (reverse (drop n s.living)) place s).written) (left_from back (ended (reverse (drop n s.living)) place s))
+    pub left_does : (GivesValue a → (o : Knowing) → ReturnsKnown types f (result_local a) (trees (t ∷ [])) o) → Does types texts so_far fs f a v in_loop s (left n place t s)
+    left_does back = subst (λ (r : State). Does types texts so_far fs f a v in_loop s (write t r)) (sym (ended (reverse (drop n s.living)) place s).written) (left_from back (ended (reverse (drop n s.living)) place s))
 
   pub left_level : (s : State) (n : ℕ) (place : Place) (t : Tree) → (left n place t s).living ≡ s.living
   left_level s n place t = end_living (reverse (drop n s.living)) place s

@@ -50,7 +50,7 @@ forgotten_at (u ∷ ls) (x ∷ k) zero l at e = rw here refl
     here = ap (λ (b : Bool). b && is_lost u.kind x) (ap (λ (v : Local). is_none v.name) (same_Some u l at) ∙ e)
 forgotten_at (u ∷ ls) (x ∷ k) (suc y) l at e = forgotten_at ls k y l at e
 
-module _ (types : Types) (texts : ℕ) (fs : List Function) (f : Function) where
+module _ (types : Types) (texts : ℕ) (so_far : Bool) (fs : List Function) (f : Function) where
   knows_forgotten : (living : List ℕ) (k : List Known) → AreNamed f living → Knows f living k → Knows f living (forgotten f.locals k)
   knows_forgotten living k names knows = record {
     sized = forgotten_length f.locals k ∙ knows.sized;
@@ -100,7 +100,7 @@ module _ (types : Types) (texts : ℕ) (fs : List Function) (f : Function) where
 
   -- ---- the whole loop
 
-  module _ (a : Around) (v : Visible) (in_loop : Bool) (s : State) (w : Gives Tree) (h : Follows types f a v s) (test : Tests types texts fs f s w) (shaped : AreShaped types f.locals) where
+  module _ (a : Around) (v : Visible) (in_loop : Bool) (s : State) (w : Gives Tree) (h : Follows types f a v s) (test : Tests types texts so_far fs f s w) (shaped : AreShaped types f.locals) where
     -- the body is written where all that lives stays outside of the loop
     abbrev pub inside : State
     inside = with_outside (length w.state.living) (with_code [] w.state)
@@ -114,13 +114,13 @@ module _ (types : Types) (texts : ℕ) (fs : List Function) (f : Function) where
         follows_again types f a v w.state inside v.declared later (front_itself w.state.locals) (front_itself w.state.types.types) (front_itself w.state.variables) refl (omega arith) later.count (omega arith)
 
     -- .. and the step where what was visible before the body is again
-    pub step_follows : (u : Visible) (t : State) → DoesLevel types texts fs f a u true inside t → Follows types f a (behind v u) (with_code [] (past t))
+    pub step_follows : (u : Visible) (t : State) → DoesLevel types texts so_far fs f a u true inside t → Follows types f a (behind v u) (with_code [] (past t))
     step_follows u t body =
         let again = visible_again types f a v u inside t inside_follows body.does.adds body.does.follows body.level in
         follows_again types f a (behind v u) t (with_code [] (past t)) u.declared again (front_itself t.locals) (front_itself t.types.types) (front_itself t.variables) refl
         (omega (arith, test.grown.outside, h.outside, ap length body.level, ap length test.grown.living)) again.count (omega arith)
 
-    module _ (u x : Visible) (t r : State) (body : DoesLevel types texts fs f a u true inside t) (step : DoesLevel types texts fs f a x false (with_code [] (past t)) r) where
+    module _ (u x : Visible) (t r : State) (body : DoesLevel types texts so_far fs f a u true inside t) (step : DoesLevel types texts so_far fs f a x false (with_code [] (past t)) r) where
       abbrev whole : State
       whole = write (Turns w.given (trees t.code) (trees r.code)) (with_code w.state.code r)
 
@@ -145,13 +145,13 @@ module _ (types : Types) (texts : ℕ) (fs : List Function) (f : Function) where
         tested : Begins types f w.state
         tested = begins_added types f w.state (past t) to_body begun
 
-        asks : AsksAll types texts fs f s w.given
+        asks : AsksAll types texts so_far fs f s w.given
         asks = test.runs tested
 
-        one : Acting types texts fs f true inside t body.does.code
+        one : Acting types texts so_far fs f true inside t body.does.code
         one = body.does.acts begun
 
-        other : Acting types texts fs f false (with_code [] (past t)) r step.does.code
+        other : Acting types texts so_far fs f false (with_code [] (past t)) r step.does.code
         other = step.does.acts b
 
         body_living : t.living ≡ s.living
@@ -177,11 +177,11 @@ module _ (types : Types) (texts : ℕ) (fs : List Function) (f : Function) where
           at_head : Knows f s.living head
           at_head = knows_forgotten s.living k names knows
 
-          abbrev g : Asked types texts fs f s w.given head
+          abbrev g : Asked types texts so_far fs f s w.given head
           g = asks.goes head (knows_alive types f a v s head at_head)
 
           both : Knows f s.living g.on × Knows f s.living g.off
-          both = known_behind types texts fs f a v in_loop s w h test tested head g at_head
+          both = known_behind types texts so_far fs f a v in_loop s w h test tested head g at_head
 
           known_on : Knows f w.state.living g.on
           known_on = subst (λ (xs : List ℕ). Knows f xs g.on) (sym test.grown.living) both.0
@@ -223,19 +223,19 @@ module _ (types : Types) (texts : ℕ) (fs : List Function) (f : Function) where
           returned : GivesValue a → ReturnsKnown types f (result_local a) (trees (turns ∷ [])) (Some k)
           returned gives =
               let behind = subst ReturnBehind (sym g.decides) (body.does.returns begun gives (Some g.on) known_on, step.does.returns b gives back known_back) in
-              ((asks_known types f (result_local a) texts fs w.given asks.fine (Some head), behind), tt)
+              ((asks_known types f (result_local a) texts so_far fs w.given asks.fine (Some head), behind), tt)
 
-        loop_acts : Acting types texts fs f in_loop s whole (turns ∷ [])
+        loop_acts : Acting types texts so_far fs f in_loop s whole (turns ∷ [])
         loop_acts = record {
           stated =
-              stated_alone types texts fs f in_loop turns (stated_turns types texts fs f in_loop w.given (trees body.does.code) (trees step.does.code) asks.fine one.stated other.stated);
+              stated_alone types texts so_far fs f in_loop turns (stated_turns types texts so_far fs f in_loop w.given (trees body.does.code) (trees step.does.code) asks.fine one.stated other.stated);
           ways = leaves_may types f in_loop s.living r.living (take s.outside s.living) (trees (turns ∷ [])) went;
         }
 
         loop_returns : GivesValue a → (o : Knowing) → MayKnow f s.living o → ReturnsKnown types f (result_local a) (trees (turns ∷ [])) o
         loop_returns gives = known_may types f (result_local a) s.living (trees (turns ∷ [])) (λ k knows. returned k knows gives)
 
-      pub loop_does : DoesLevel types texts fs f a x in_loop s whole
+      pub loop_does : DoesLevel types texts so_far fs f a x in_loop s whole
       loop_does = record {
         does = record {
           adds = adds_then types f s (past t) r (adds_then types f s w.state (past t) (grows_adds types f s w.state test.grown) to_body) step.does.adds;

@@ -23,18 +23,19 @@ use Rattle.life_writer.specs.Writing.{State}
 use Rattle.life_elab_laws.proofs.Aiming.{keeps_further}
 use Rattle.life_elab_laws.proofs.CallParts.{goes_object}
 use Rattle.life_elab_laws.proofs.Declaring.{with_new}
-use Rattle.life_elab_laws.proofs.FormedVariables.{object_place, reference_there, type_found, type_later}
+use Rattle.life_elab_laws.proofs.FormedVariables.{location_no_reference, object_place, reference_there, type_found, type_later}
 use Rattle.life_elab_laws.proofs.Fronts.{IsFront, front_itself, last_there}
 use Rattle.life_elab_laws.proofs.Gifts.{IsAt, IsPlaceOf}
 use Rattle.life_elab_laws.proofs.Growing.{Begins}
+use Rattle.life_elab_laws.proofs.Locations.{is_location}
 use Rattle.life_elab_laws.proofs.OperandsThere.{object_there, register_there, type_there, value_no_reference, value_same}
 use Rattle.life_elab_laws.proofs.Shaping.{IsFineStep}
 use Rattle.life_elab_laws.proofs.Types.{value_kind}
 
-module _ (a : Around) (types : Types) (texts : ℕ) (fs : List Function) (f : Function) (front : IsFront a.program.types.types types.types) where
+module _ (a : Around) (types : Types) (texts : ℕ) (so_far : Bool) (fs : List Function) (f : Function) (front : IsFront a.program.types.types types.types) where
   -- what a reference is bound to fits it
   pub bound_given : (target : TyId) (constant held : Bool) (o : Operand) → is_value (type_at a.program.types target) ≡ true → keeps_const constant held ≡ true
-      → IsPlaceOf types texts fs f (type_at a.program.types target) held o → (same (ty_of types target) (placed.type_of types f o) && keeps_const constant (is_const_place types f o)) ≡ true
+      → IsPlaceOf types texts so_far fs f (type_at a.program.types target) held o → (same (ty_of types target) (placed.type_of types f o) && keeps_const constant (is_const_place types f o)) ≡ true
   bound_given target constant held o worth kept place =
       let later = type_later a.program.types types front target worth in
       and_from (same (ty_of types target) (placed.type_of types f o)) (keeps_const constant (is_const_place types f o))
@@ -61,29 +62,29 @@ module _ (a : Around) (types : Types) (texts : ℕ) (fs : List Function) (f : Fu
       pub value_lives : can_live types texts fs f (length s.locals) ≡ true
       value_lives = or_left (object_at types f (length s.locals)) _ object_declared
 
-      pub value_saved : (r : ℕ) → is_number_of types f (type_at a.program.types v.ty) r ≡ true → IsFineStep types texts fs f (Save (object_named (length s.locals)) r)
+      pub value_saved : (r : ℕ) → is_number_of types f (type_at a.program.types v.ty) r ≡ true → IsFineStep types texts so_far fs f (Save (object_named (length s.locals)) r)
       value_saved r h = record {
-        plain = refl;
+        plain = λ so. refl;
         formed =
             and_from (is_number_of types f (placed.type_of types f (object_named (length s.locals))) r) true
-            (ap (λ (t : Ty). is_number_of types f t r) (object_place types texts fs f (length s.locals) (type_at a.program.types v.ty) false object_declared type_declared).typed ∙ h) refl;
-        served = refl;
+            (ap (λ (t : Ty). is_number_of types f t r) (object_place types texts so_far fs f (length s.locals) (type_at a.program.types v.ty) false object_declared type_declared).typed ∙ h) refl;
+        served = λ so. refl;
       }
 
       -- a call brings it to life
       pub value_goes : goes_to types texts fs f (type_at a.program.types v.ty) (Some (whole (length s.locals))) ≡ true
-      value_goes = goes_object types texts fs f (type_at a.program.types v.ty) (length s.locals) worth type_declared object_declared
+      value_goes = goes_object types texts so_far fs f (type_at a.program.types v.ty) (length s.locals) worth type_declared object_declared
 
-    -- of a raw pointer type
-    module _ (target : TyId) (constant : Bool) (found : slice_get a.program.types.types v.ty.0 ≡ Some (ty.Raw target constant)) where
-      pub raw_declared : IsAt types texts fs f (ty.Raw target constant) (whole (length s.locals))
-      raw_declared = record { typed = type_there types f (length s.locals) (variable_local a v) (ty.Raw target constant) there (front v.ty.0 (ty.Raw target constant) found) refl; served = refl }
+    -- of the type of a raw pointer or a view
+    pub location_declared : (t : Ty) → is_location t ≡ true → slice_get a.program.types.types v.ty.0 ≡ Some t → IsAt types texts so_far fs f t (whole (length s.locals))
+    location_declared t loc found = record { typed = type_there types f (length s.locals) (variable_local a v) t there (front v.ty.0 t found) (location_no_reference t loc); served = λ so. refl }
 
-      pub raw_lives : can_live types texts fs f (length s.locals) ≡ true
-      raw_lives =
-          or_right (object_at types f (length s.locals)) _
-          (and_from (register_at types f (length s.locals)) _ (register_there types f (length s.locals) (variable_local a v) there (ap (λ (o : Option Ty). kind (class o)) found))
-          (and_from (is_pointer (placed.type_at types f (length s.locals))) (not (is_reference (placed.type_at types f (length s.locals)))) (ap is_pointer raw_declared.typed) (ap (λ (t : Ty). not (is_reference t)) raw_declared.typed)))
+    pub raw_lives : (target : TyId) (constant : Bool) → slice_get a.program.types.types v.ty.0 ≡ Some (ty.Raw target constant) → can_live types texts fs f (length s.locals) ≡ true
+    raw_lives target constant found =
+        let at = location_declared (ty.Raw target constant) refl found in
+        or_right (object_at types f (length s.locals)) _
+        (and_from (register_at types f (length s.locals)) _ (register_there types f (length s.locals) (variable_local a v) there (ap (λ (o : Option Ty). kind (class o)) found))
+        (and_from (is_pointer (placed.type_at types f (length s.locals))) (not (is_reference (placed.type_at types f (length s.locals)))) (ap is_pointer at.typed) (ap (λ (t : Ty). not (is_reference t)) at.typed)))
 
     -- of a reference type
     module _ (target : TyId) (constant : Bool) (found : slice_get a.program.types.types v.ty.0 ≡ Some (ty.Reference target constant)) (worth : is_value (type_at a.program.types target) ≡ true) where

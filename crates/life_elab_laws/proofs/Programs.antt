@@ -1,12 +1,13 @@
--- The core program of a well typed program that is built: each of its functions is checked, among all of them, and has short places.
-use Rattle.std.proofs.Common.{◌≡◌, ◌<◌, ℕ, zero, suc, Bool, true, ◌&&◌, List, [], ◌∷◌, ◌++◌, length, map, slice_get, take, Some, option_map, refl, sym, ap, ◌∙◌, subst, arith, append_assoc, append-nil}
+-- The core program of a well typed program that the law reaches: each of its functions is checked, among all of them, and has short places.
+use Rattle.std.proofs.Common.{◌≡◌, ◌<◌, ℕ, zero, suc, Bool, true, false, ◌&&◌, List, [], ◌∷◌, ◌++◌, length, map, slice_get, take, Some, option_map, refl, sym, ap, ◌∙◌, subst, arith, append_assoc, append-nil}
 use Rattle.std.proofs.lemmas.Bool.{and_from, and_parts}
 use Rattle.std.proofs.lemmas.Option.{none-some, same_Some, slice_get-map}
 use Rattle.std.specs.List.{list_all}
 use Rattle.life_types.specs.Types.{Types}
 use Rattle.life_types.specs.declared.ty.Ty.{Ty}
 use Rattle.life_types.specs.declared.ty.TyId.{TyId}
-use Rattle.life_built.specs.Built.{are_built_functions, has_built_types, has_no_structs, is_built}
+use Rattle.life_built.specs.Built.{has_no_structs}
+use Rattle.life_elab_laws.specs.Reached.{are_reached_functions, is_reached}
 use Rattle.life_typed.specs.BaseTypes.{type_at}
 use Rattle.life_typed.specs.Programs.{FunctionForm, ProgramForm}
 use Rattle.life_core.specs.Function.{Function}
@@ -22,7 +23,7 @@ use Rattle.life_elab.specs.Programs.{Functions, around, texts_of, with_function}
 use Rattle.life_well_typed.specs.Names.{HasNames, is_function_named}
 use Rattle.life_well_typed.specs.Results.{HasResults, HaveResults}
 use Rattle.life_elab_laws.proofs.Beginning.{first_locals, first_shaped, first_types}
-use Rattle.life_elab_laws.proofs.Callees.{IsBegun, IsFunctionOf, built_parts, callee_from, gives_from, result_nameless, takes_values, type_found, values_at}
+use Rattle.life_elab_laws.proofs.Callees.{IsBegun, IsFunctionOf, callee_from, gives_from, reached_parts, result_nameless, takes_values, type_found, values_at}
 use Rattle.life_elab_laws.proofs.Calls.{IsCallee}
 use Rattle.life_elab_laws.proofs.ExpressionKinds.{function_built}
 use Rattle.life_elab_laws.proofs.FormedLocals.{HasFormedHead, head_formed}
@@ -94,25 +95,26 @@ all_written p (f ∷ fs) w grows table =
       each = λ types later. (record { before = w.types; table = table; is = refl; later = front_then s.types.types _ types.types rest.table later }, rest.each types later);
     }
 
-module _ (p : ProgramForm) (typed : IsWellTyped p) (built : are_built_functions p.types p.functions ≡ true) (results : HasResults p) where
-  pub of_program : (n : ℕ) (f : FunctionForm) → slice_get p.functions n ≡ Some f → IsFunctionOf p f
+module _ (so_far : Bool) (p : ProgramForm) (typed : IsWellTyped p) (built : are_reached_functions (length (texts_of p)) so_far p.types p.functions ≡ true) (results : HasResults p) where
+  pub of_program : (n : ℕ) (f : FunctionForm) → slice_get p.functions n ≡ Some f → IsFunctionOf so_far p f
   of_program n f at =
       let t = result_at p.types p.functions n f results at in
-      record { typed = each_at (IsWellTypedFunction p) (AreWellTyped p) (λ g gs h. h) p.functions n f typed at; built = built_parts p.types f (function_built p.types p.functions n f built at); ty = t.0; result = t.1 }
+      record { typed = each_at (IsWellTypedFunction p) (AreWellTyped p) (λ g gs h. h) p.functions n f typed at; built = reached_parts (length (texts_of p)) so_far p.types f (function_built (length (texts_of p)) so_far p.types p.functions n f built at); ty = t.0; result = t.1 }
 
   setting_of : (T types : Types) (fs : List Function) (f : FunctionForm) (core : Function) (n : ℕ) → slice_get p.functions n ≡ Some f → IsBegun p f T types core
-      → ((g : ℕ) (of : FunctionForm) → slice_get p.functions g ≡ Some of → IsCallee types fs g of) → AreShaped types core.locals → Setting (around p f) types fs core
+      → ((g : ℕ) (of : FunctionForm) → slice_get p.functions g ≡ Some of → IsCallee types fs g of) → AreShaped types core.locals → Setting so_far (around p f) types fs core
   setting_of T types fs f core n at begun callees shaped = let is = of_program n f at in record {
     front = front_then p.types.types T.types types.types begun.table begun.later;
     variables = is.built.variables;
-    functions = built;
+    chars = is.built.chars;
+    returned = λ g of there. (of_program g of there).built.result;
     result = is.built.result;
     taken = λ g of there m id at. values_at p.types (take (length of.parameters) of.locals) (of_program g of there).built.parameters m id at;
     callees = callees;
     results = λ g of there. result_at p.types p.functions g of results there;
-    gives = gives_from p f T types core is begun;
+    gives = gives_from so_far p f T types core is begun;
     shaped = shaped;
-    nameless = result_nameless p f T types core is begun;
+    nameless = result_nameless so_far p f T types core is begun;
   }
 
   -- ---- what is written grows: shown with functions that only begin
@@ -127,22 +129,22 @@ module _ (p : ProgramForm) (typed : IsWellTyped p) (built : are_built_functions 
   begun_so f = record { table = front_itself p.types.types; later = front_itself p.types.types; count = refl; same = refl; locals = front_itself (first_state (around p f) p.types).locals }
 
   begun_callee : (g : ℕ) (of : FunctionForm) → slice_get p.functions g ≡ Some of → IsCallee p.types (map begun p.functions) g of
-  begun_callee g of at = callee_from p of p.types p.types (begun of) (of_program g of at) (begun_so of) (map begun p.functions) g (begun_there g of at)
+  begun_callee g of at = callee_from so_far p of p.types p.types (begun of) (of_program g of at) (begun_so of) (map begun p.functions) g (begun_there g of at)
 
-  begun_setting : (n : ℕ) (f : FunctionForm) → slice_get p.functions n ≡ Some f → Setting (around p f) p.types (map begun p.functions) (begun f)
+  begun_setting : (n : ℕ) (f : FunctionForm) → slice_get p.functions n ≡ Some f → Setting so_far (around p f) p.types (map begun p.functions) (begun f)
   begun_setting n f at =
       let is = of_program n f at in
-      setting_of p.types p.types (map begun p.functions) f (begun f) n at (begun_so f) begun_callee (first_shaped (around p f) p.types is.typed.parameters (front_itself p.types.types) is.built.variables is.built.result)
+      setting_of p.types p.types (map begun p.functions) f (begun f) n at (begun_so f) begun_callee (first_shaped (around p f) p.types is.typed.parameters (front_itself p.types.types) is.built.any is.built.result)
 
   pub grows : (n : ℕ) (f : FunctionForm) → slice_get p.functions n ≡ Some f → (T : Types) → IsFront p.types.types T.types → FunctionGrows p f T
   grows n f at T table =
       let is = of_program n f at in
       let first = first_types (around p f) T is.typed.parameters table in
-      let done = function_finished p f T p.types (map begun p.functions) (begun f) (begun_setting n f at) is table in
+      let done = function_finished so_far p f T p.types (map begun p.functions) (begun f) (begun_setting n f at) is table in
       record {
         locals = done.does.adds.locals;
         table = subst (λ (x : Types). IsFront x.types (written (around p f) T).types.types) first done.does.adds.table;
-        shaped = done.does.adds.shaped (first_shaped (around p f) T is.typed.parameters table is.built.variables is.built.result);
+        shaped = done.does.adds.shaped (first_shaped (around p f) T is.typed.parameters table is.built.any is.built.result);
         own = done.does.locals (first_locals (around p f) T is.typed.parameters table p.types is.ty is.result is.built.result);
         order = subst (λ (x : Types). KeepsOrder x (written (around p f) T).types) first done.does.order;
       }
@@ -193,28 +195,28 @@ module _ (p : ProgramForm) (typed : IsWellTyped p) (built : are_built_functions 
   callee : (g : ℕ) (of : FunctionForm) → slice_get p.functions g ≡ Some of → IsCallee whole.types whole.functions g of
   callee g of at =
       let found = written_at p whole.types p.functions whole.functions g of each_written at in
-      callee_from p of found.2.before whole.types found.0 (of_program g of at) (as_begun g of at found.0 found.2) whole.functions g found.1
+      callee_from so_far p of found.2.before whole.types found.0 (of_program g of at) (as_begun g of at found.0 found.2) whole.functions g found.1
 
   -- ---- one function
 
   module _ (n : ℕ) (f : FunctionForm) (at : slice_get p.functions n ≡ Some f) (core : Function) (w : IsWritten p whole.types f core) where
-    is : IsFunctionOf p f
+    is : IsFunctionOf so_far p f
     is = of_program n f at
 
-    pub one_body : IsProperBody (around p f) whole.types (length (texts_of p)) whole.functions core
+    pub one_body : IsProperBody (around p f) whole.types (length (texts_of p)) so_far whole.functions core
     one_body =
         let setting = setting_of w.before whole.types whole.functions f core n at (as_begun n f at core w) callee (shaped n f at core w) in
-        function_proper p f w.before whole.types whole.functions core setting is w.table (as_begun n f at core w) (written_begins n f at core w) (ap (λ (c : Function). c.body) w.is)
+        function_proper so_far p f w.before whole.types whole.functions core setting is w.table (as_begun n f at core w) (written_begins n f at core w) (ap (λ (c : Function). c.body) w.is)
 
     one_short : AreShort (elements_of whole.types core)
-    one_short = short_function whole.types core (shaped n f at core w) (takes_values p f w.before whole.types core is (as_begun n f at core w))
+    one_short = short_function whole.types core (shaped n f at core w) (takes_values so_far p f w.before whole.types core is (as_begun n f at core w))
 
     -- the locals are well formed, and what else stands beside the body
     pub one_head : HasNames p → HasFormedHead whole.types (length p.names) core
     one_head names =
         let g = grows n f at w.before w.table in
         subst (HasFormedHead whole.types (length p.names)) (sym w.is)
-        (head_formed p f w.before whole.types (length p.names) is w.table (front n f at core w) g.locals w.later g.own
+        (head_formed so_far p f w.before whole.types (length p.names) is w.table (front n f at core w) g.locals w.later g.own
         (passed_at (is_function_named (length p.names)) (list_all (is_function_named (length p.names))) (λ g gs. refl) p.functions n f names.named at))
 
   -- ---- what is so of each function is so of all
@@ -238,8 +240,8 @@ module _ (p : ProgramForm) (typed : IsWellTyped p) (built : are_built_functions 
   pub program_checked : checked (translated p) ≡ true
   program_checked = passed_by_all (is_checked whole.types) (list_all (is_checked whole.types)) refl (λ core cores. refl) (λ n f at core w. (one_body n f at core w).checked)
 
-  pub program_plain : is_plain (translated p) ≡ true
-  program_plain = passed_by_all (λ core. is_plain_tree whole.types whole.functions core core.body) (are_plain whole.types whole.functions) refl (λ core cores. refl) (λ n f at core w. (one_body n f at core w).stated.plain)
+  pub program_plain : so_far ≡ true → is_plain (translated p) ≡ true
+  program_plain so = passed_by_all (λ core. is_plain_tree whole.types whole.functions core core.body) (are_plain whole.types whole.functions) refl (λ core cores. refl) (λ n f at core w. (one_body n f at core w).stated.plain so)
 
   pub program_breaks : have_own_breaks (translated p) ≡ true
   program_breaks = passed_by_all has_own_breaks (list_all has_own_breaks) refl (λ core cores. refl) (λ n f at core w. (one_body n f at core w).stated.breaks)
@@ -247,10 +249,10 @@ module _ (p : ProgramForm) (typed : IsWellTyped p) (built : are_built_functions 
   pub program_short : HaveShortPlaces whole.types whole.functions
   program_short = of_all (λ core. AreShort (elements_of whole.types core)) (HaveShortPlaces whole.types) tt (λ core cores one others. (one, others)) one_short
 
--- ---- of what is built
+-- ---- of what is reached
 
-pub functions_built : (p : ProgramForm) → is_built p ≡ true → are_built_functions p.types p.functions ≡ true
-functions_built p b = (and_parts (has_no_structs p.structs) (are_built_functions p.types p.functions) (and_parts (has_built_types p.types) _ b).1).1
+pub functions_reached : (p : ProgramForm) → is_reached p ≡ true → are_reached_functions (length (texts_of p)) false p.types p.functions ≡ true
+functions_reached p b = (and_parts (has_no_structs p.structs) (are_reached_functions (length (texts_of p)) false p.types p.functions) b).1
 
-pub translation_short : (p : ProgramForm) → IsWellTyped p → HasResults p → is_built p ≡ true → HaveShortPlaces (translated p).types (translated p).functions
-translation_short p typed results b = program_short p typed (functions_built p b) results
+pub reached_short : (p : ProgramForm) → IsWellTyped p → HasResults p → is_reached p ≡ true → HaveShortPlaces (translated p).types (translated p).functions
+reached_short p typed results b = program_short false p typed (functions_reached p b) results

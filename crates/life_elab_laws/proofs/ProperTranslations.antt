@@ -1,6 +1,7 @@
--- The core program of a well typed program that is built and passes no limit is proper.
-use Rattle.std.proofs.Common.{◌≡◌, true, ◌∙◌}
-use Rattle.life_built.specs.Built.{is_built}
+-- The core program of a well typed program that the law reaches and that passes no limit is proper; where the program is built, all of it is served so far.
+use Rattle.std.proofs.Common.{◌≡◌, Bool, true, false, length, refl, ◌∙◌}
+use Rattle.std.proofs.lemmas.Bool.{and_parts}
+use Rattle.life_built.specs.Built.{are_built_functions, has_built_types, has_no_structs, is_built}
 use Rattle.life_typed.specs.Programs.{ProgramForm}
 use Rattle.life_pset.specs.Limits.{IsProgramWithinLimits}
 use Rattle.life_proper.specs.ProperPrograms.{IsProperProgram}
@@ -10,21 +11,61 @@ use Rattle.life_well_typed.specs.Functions.{IsWellTyped}
 use Rattle.life_well_typed.specs.Mains.{HasIntMain}
 use Rattle.life_well_typed.specs.Names.{HasNames}
 use Rattle.life_well_typed.specs.Results.{HasResults, HasTable}
+use Rattle.life_elab.specs.Bounds.{HaveShortPlaces}
 use Rattle.life_elab.specs.ProgramForms.{translated}
-use Rattle.life_elab_laws.proofs.Programs.{functions_built, program_breaks, program_checked, program_plain}
-use Rattle.life_elab_laws.proofs.WellFormedTranslations.{program_keeps_given, program_served, program_well_formed}
+use Rattle.life_elab.specs.Programs.{texts_of}
+use Rattle.life_elab_laws.specs.ProperParts.{HasProperParts}
+use Rattle.life_elab_laws.specs.Reached.{are_reached_functions, is_reached}
+use Rattle.life_elab_laws.proofs.BuiltReached.{functions_as}
+use Rattle.life_elab_laws.proofs.ProgramNames.{no_structs_there}
+use Rattle.life_elab_laws.proofs.Programs.{program_breaks, program_checked, program_plain, program_short}
+use Rattle.life_elab_laws.proofs.WellFormedTranslations.{program_formed, program_keeps, program_serves}
 use Rattle.life_elab_laws.proofs.WrittenResults.{program_writes_results}
 
-pub translation_proper : (p : ProgramForm) → IsWellTyped p → HasResults p → HasTable p → HasNames p → HasIntMain p → is_built p ≡ true → IsProgramWithinLimits (translated p) → IsProperProgram (translated p)
-translation_proper p typed results table names mains built limits = record {
-  well_formed = program_well_formed p typed results names table.ordered table.once table.structs built;
-  ready = ready_program (translated p) (program_checked p typed (functions_built p built) results);
-  results = program_writes_results p typed results mains built;
-  breaks = program_breaks p typed (functions_built p built) results;
-  given = program_keeps_given p typed results built;
+proper_parts : (so_far : Bool) (p : ProgramForm) → IsWellTyped p → HasResults p → HasTable p → HasNames p → HasIntMain p → has_no_structs p.structs ≡ true → are_reached_functions (length (texts_of p)) so_far p.types p.functions ≡ true
+    → IsProgramWithinLimits (translated p) → HasProperParts (translated p)
+proper_parts so_far p typed results table names mains none reached limits = record {
+  well_formed = program_formed so_far p typed reached results names table.ordered table.once (no_structs_there p.structs p.types.structs none table.structs) none;
+  ready = ready_program (translated p) (program_checked so_far p typed reached results);
+  results = program_writes_results so_far p typed reached results mains;
+  breaks = program_breaks so_far p typed reached results;
+  given = program_keeps so_far p typed reached results;
   limits = limits;
-  so_far = record {
-    by_value = plain_calls (translated p) ∙ program_plain p typed (functions_built p built) results;
-    serves = program_served p typed results built;
-  };
 }
+
+pub reached_proper : (p : ProgramForm) → IsWellTyped p → HasResults p → HasTable p → HasNames p → HasIntMain p → is_reached p ≡ true → IsProgramWithinLimits (translated p) → HasProperParts (translated p)
+reached_proper p typed results table names mains reached limits =
+    let parts = and_parts (has_no_structs p.structs) (are_reached_functions (length (texts_of p)) false p.types p.functions) reached in
+    proper_parts false p typed results table names mains parts.0 parts.1 limits
+
+-- ---- where the program is built
+
+module _ (p : ProgramForm) (built : is_built p ≡ true) where
+  none : has_no_structs p.structs ≡ true
+  none = (and_parts (has_no_structs p.structs) (are_built_functions p.types p.functions) (and_parts (has_built_types p.types) _ built).1).0
+
+  reached : are_reached_functions (length (texts_of p)) true p.types p.functions ≡ true
+  reached = functions_as (length (texts_of p)) p.types p.functions (and_parts (has_no_structs p.structs) (are_built_functions p.types p.functions) (and_parts (has_built_types p.types) _ built).1).1
+
+  pub built_short : IsWellTyped p → HasResults p → HaveShortPlaces (translated p).types (translated p).functions
+  built_short typed results = program_short true p typed reached results
+
+  pub built_proper : IsWellTyped p → HasResults p → HasTable p → HasNames p → HasIntMain p → IsProgramWithinLimits (translated p) → IsProperProgram (translated p)
+  built_proper typed results table names mains limits = let parts = proper_parts true p typed results table names mains none reached limits in record {
+    well_formed = parts.well_formed;
+    ready = parts.ready;
+    results = parts.results;
+    breaks = parts.breaks;
+    given = parts.given;
+    limits = parts.limits;
+    so_far = record {
+      by_value = plain_calls (translated p) ∙ program_plain true p typed reached results refl;
+      serves = program_serves true p typed reached results refl;
+    };
+  }
+
+pub translation_proper : (p : ProgramForm) → IsWellTyped p → HasResults p → HasTable p → HasNames p → HasIntMain p → is_built p ≡ true → IsProgramWithinLimits (translated p) → IsProperProgram (translated p)
+translation_proper p typed results table names mains built limits = built_proper p built typed results table names mains limits
+
+pub translation_short : (p : ProgramForm) → IsWellTyped p → HasResults p → is_built p ≡ true → HaveShortPlaces (translated p).types (translated p).functions
+translation_short p typed results built = built_short p built typed results

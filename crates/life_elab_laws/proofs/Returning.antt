@@ -11,7 +11,7 @@ use Rattle.life_types.specs.declared.ty.NameId.{NameId}
 use Rattle.life_types.specs.declared.ty.Ty.{Ty}
 use Rattle.life_types.specs.declared.ty.Ty.TheVariants as ty
 use Rattle.life_types.specs.declared.ty.TyId.{TyId}
-use Rattle.life_built.specs.Built.{is_built_expression, is_built_if_any}
+use Rattle.life_elab_laws.specs.Reached.{is_reached_expression, is_reached_if_any}
 use Rattle.life_typed.specs.BaseTypes.{type_at}
 use Rattle.life_typed.specs.TypedForm.{Typed, whole as whole_form}
 use Rattle.life_typed.specs.declared.typed_program.TypedLocal.{TypedLocal}
@@ -63,7 +63,7 @@ value_back : (t : Ty) (result : TyId) (named : Option TypedLocal) (given : Bool)
 value_back (ty.Unique target) result named given worth h = absurd (false≢true worth)
 value_back _ result named given worth h = h
 
-module _ (a : Around) (types : Types) (texts : ℕ) (fs : List Function) (f : Function) (setting : Setting a types fs f) (v : Visible) (in_loop : Bool) where
+module _ (a : Around) (types : Types) (texts : ℕ) (so_far : Bool) (fs : List Function) (f : Function) (setting : Setting so_far a types fs f) (v : Visible) (in_loop : Bool) where
   -- a value that is given back may be left unwritten
   result_ready : (k : List Known) → is_node_ready types f k Return ≡ true
   result_ready k = ap (λ (c : Class). are_ready k (record nothing { uses = result_uses c f.parameters })) setting.gives
@@ -80,9 +80,9 @@ module _ (a : Around) (types : Types) (texts : ℕ) (fs : List Function) (f : Fu
   }
 
   module _ (s : State) (h : Follows types f a v s) where
-    pub break_does : in_loop ≡ true → (keyword : Place) → DoesLevel types texts fs f a v in_loop s (left s.outside keyword Breaks s)
+    pub break_does : in_loop ≡ true → (keyword : Place) → DoesLevel types texts so_far fs f a v in_loop s (left s.outside keyword Breaks s)
     break_does e keyword = record {
-      does = left_does types texts fs f a setting v in_loop s h s.outside keyword Breaks (record { statement = refl; tests = refl; breaks = e; plain = refl; formed = refl; served = refl })
+      does = left_does types texts so_far fs f a setting v in_loop s h s.outside keyword Breaks (record { statement = refl; tests = refl; breaks = e; plain = λ so. refl; formed = refl; served = λ so. refl })
           (λ k knows. record {
             fine = refl;
             next = tt;
@@ -92,12 +92,12 @@ module _ (a : Around) (types : Types) (texts : ℕ) (fs : List Function) (f : Fu
             on_false = refl;
           })
           (λ gives o. (tt, tt));
-      level = left_level types texts fs f s s.outside keyword Breaks;
+      level = left_level types texts so_far fs f s s.outside keyword Breaks;
     }
 
-    pub continue_does : in_loop ≡ true → (keyword : Place) → DoesLevel types texts fs f a v in_loop s (left s.outside keyword Continues s)
+    pub continue_does : in_loop ≡ true → (keyword : Place) → DoesLevel types texts so_far fs f a v in_loop s (left s.outside keyword Continues s)
     continue_does e keyword = record {
-      does = left_does types texts fs f a setting v in_loop s h s.outside keyword Continues (record { statement = refl; tests = refl; breaks = e; plain = refl; formed = refl; served = refl })
+      does = left_does types texts so_far fs f a setting v in_loop s h s.outside keyword Continues (record { statement = refl; tests = refl; breaks = e; plain = λ so. refl; formed = refl; served = λ so. refl })
           (λ k knows. record {
             fine = refl;
             next = tt;
@@ -107,18 +107,18 @@ module _ (a : Around) (types : Types) (texts : ℕ) (fs : List Function) (f : Fu
             on_false = refl;
           })
           (λ gives o. (tt, tt));
-      level = left_level types texts fs f s s.outside keyword Continues;
+      level = left_level types texts so_far fs f s s.outside keyword Continues;
     }
 
     -- control returns where no value has to be given back
-    pub return_does : (GivesValue a → ⊥) → (keyword : Place) → DoesLevel types texts fs f a v in_loop s (left 0 keyword (Returns keyword) s)
+    pub return_does : (GivesValue a → ⊥) → (keyword : Place) → DoesLevel types texts so_far fs f a v in_loop s (left 0 keyword (Returns keyword) s)
     return_does never keyword = record {
-      does = left_does types texts fs f a setting v in_loop s h 0 keyword (Returns keyword) (record { statement = refl; tests = refl; breaks = refl; plain = refl; formed = refl; served = refl }) (λ k knows. return_leaves s keyword k) (λ gives o. absurd (never gives));
-      level = left_level types texts fs f s 0 keyword (Returns keyword);
+      does = left_does types texts so_far fs f a setting v in_loop s h 0 keyword (Returns keyword) (record { statement = refl; tests = refl; breaks = refl; plain = λ so. refl; formed = refl; served = λ so. refl }) (λ k knows. return_leaves s keyword k) (λ gives o. absurd (never gives));
+      level = left_level types texts so_far fs f s 0 keyword (Returns keyword);
     }
 
     -- .. and behind the value that is given back
-    module _ (register : HasRegister a s) (e : Typed) (keyword token : Place) (b_e : is_built_expression e ≡ true) (r : IsReturned a.program a.function.locals a.function.result v.visible (Some e)) where
+    module _ (register : HasRegister a s) (e : Typed) (keyword token : Place) (b_e : is_reached_expression texts so_far e ≡ true) (r : IsReturned a.program a.function.locals a.function.result v.visible (Some e)) where
       abbrev t : Ty
       t = type_at a.program.types a.function.result
 
@@ -131,10 +131,10 @@ module _ (a : Around) (types : Types) (texts : ℕ) (fs : List Function) (f : Fu
       number : is_number e.ty ≡ true
       number = given_number a.program.types t e worth (value_back t a.function.result (named_local a.function.locals (named_in e.form)) (is_given a.program.types t e) worth r.1)
 
-      whole_is : IsWhole a v.visible types texts fs f setting (whole_form e)
-      whole_is = whole_expression a v.visible types texts fs f setting (whole_form e) b_e r.2
+      whole_is : IsWhole a v.visible types texts so_far fs f setting (whole_form e)
+      whole_is = whole_expression a v.visible types texts so_far fs f setting (whole_form e) b_e r.2
 
-      made : Makes types texts fs f (Some (result_local a)) s w (a_number types texts fs f t)
+      made : Makes types texts so_far fs f (Some (result_local a)) s w (a_number types texts so_far fs f t)
       made = whole_is.valued number token t worth (Some (result_local a)) s (register worth) h.stands
 
       later : Follows types f a v w.state
@@ -153,7 +153,7 @@ module _ (a : Around) (types : Types) (texts : ℕ) (fs : List Function) (f : Fu
           named : (l u : Local) (name : NameId) → l ≡ u → l.name ≡ Some name → u.name ≡ None → ⊥
           named l u name same e n = none-some name (sym n ∙ ap (λ (x : Local). x.name) (sym same) ∙ e)
 
-      module _ (d : IsEnded types texts fs f ending keyword w.state) where
+      module _ (d : IsEnded types texts so_far fs f ending keyword w.state) where
         abbrev back : List Tree
         back = d.code ++ Returns keyword ∷ []
 
@@ -167,14 +167,14 @@ module _ (a : Around) (types : Types) (texts : ℕ) (fs : List Function) (f : Fu
             (nowhere_flows types f (trees d.code) (flow types f (trees made.code) None).next (nowhere_flows types f (trees made.code) None refl).next).next
         known_there b (Some k) known =
             let g = (made.runs b tt).goes k (knows_alive types f a v s k known) tt in
-            let mid = made_knows types texts fs f a v in_loop (Some (result_local a)) s w (a_number types texts fs f t) h made b k known g in
+            let mid = made_knows types texts so_far fs f a v in_loop (Some (result_local a)) s w (a_number types texts so_far fs f t) h made b k known g in
             subst (λ (q : Flow). IsKnownReady (result_local a) (flow types f (trees d.code) q.next).next) (sym g.falls)
             (subst (λ (q : Flow). IsKnownReady (result_local a) q.next) (sym (d.falls g.after (end_ready f w.state.living 0 0 later.ascend g.after mid)))
             (blank_beside ending g.after (result_local a) not_ending
             ∙ ap (known_at g.after) (sym (whole_is.lands number token t (result_local a) s))
             ∙ g.gives.1))
 
-        returned_from : Does types texts fs f a v in_loop s behind
+        returned_from : Does types texts so_far fs f a v in_loop s behind
         returned_from = record {
           adds = grows_adds types f s w.state made.grown;
           locals = locals_added types a s w.state made.grown.types made.registers;
@@ -188,30 +188,30 @@ module _ (a : Around) (types : Types) (texts : ℕ) (fs : List Function) (f : Fu
           acts = acting;
           returns = λ b gives o known.
               let between : Knowing = (flow types f (trees made.code) o).next in
-              known_append types f (result_local a) made.code back o (fine_known types f (result_local a) texts fs made.code (made.runs b tt).fine o)
-              (known_append types f (result_local a) d.code (Returns keyword ∷ []) between (fine_known types f (result_local a) texts fs d.code (past_fine types texts fs f a setting v w.state later b 0 keyword d) between)
+              known_append types f (result_local a) made.code back o (fine_known types f (result_local a) texts so_far fs made.code (made.runs b tt).fine o)
+              (known_append types f (result_local a) d.code (Returns keyword ∷ []) between (fine_known types f (result_local a) texts so_far fs d.code (past_fine types texts so_far fs f a setting v w.state later b 0 keyword d) between)
               (known_there b o known, tt));
         }
           where
-            acting : Begins types f w.state → Acting types texts fs f in_loop s behind (made.code ++ back)
+            acting : Begins types f w.state → Acting types texts so_far fs f in_loop s behind (made.code ++ back)
             acting b =
-                acts_then types texts fs f in_loop s w.state behind made.code back h.outside (grows_adds types f s w.state made.grown)
-                (made_acts types texts fs f a v in_loop (Some (result_local a)) s w (a_number types texts fs f t) h made b)
-                (left_acts types texts fs f a setting v in_loop w.state later 0 keyword (Returns keyword) (record { statement = refl; tests = refl; breaks = refl; plain = refl; formed = refl; served = refl }) (λ k knows. return_leaves w.state keyword k) d b)
+                acts_then types texts so_far fs f in_loop s w.state behind made.code back h.outside (grows_adds types f s w.state made.grown)
+                (made_acts types texts so_far fs f a v in_loop (Some (result_local a)) s w (a_number types texts so_far fs f t) h made b)
+                (left_acts types texts so_far fs f a setting v in_loop w.state later 0 keyword (Returns keyword) (record { statement = refl; tests = refl; breaks = refl; plain = λ so. refl; formed = refl; served = λ so. refl }) (λ k knows. return_leaves w.state keyword k) d b)
 
-      pub value_returned : DoesLevel types texts fs f a v in_loop s (left 0 keyword (Returns keyword) w.state)
+      pub value_returned : DoesLevel types texts so_far fs f a v in_loop s (left 0 keyword (Returns keyword) w.state)
       value_returned =
-          let d = ended types texts fs f ending keyword w.state in
+          let d = ended types texts so_far fs f ending keyword w.state in
           record {
-            does = subst (λ (q : State). Does types texts fs f a v in_loop s (write (Returns keyword) q)) (sym d.written) (returned_from d);
-            level = left_level types texts fs f w.state 0 keyword (Returns keyword) ∙ made.grown.living;
+            does = subst (λ (q : State). Does types texts so_far fs f a v in_loop s (write (Returns keyword) q)) (sym d.written) (returned_from d);
+            level = left_level types texts so_far fs f w.state 0 keyword (Returns keyword) ∙ made.grown.living;
           }
 
       -- it makes no temporaries
-      pub result_returned : DoesLevel types texts fs f a v in_loop s (left 0 keyword (Returns keyword) (result_given a (Some e) keyword token s))
+      pub result_returned : DoesLevel types texts so_far fs f a v in_loop s (left 0 keyword (Returns keyword) (result_given a (Some e) keyword token s))
       result_returned =
-          subst (λ (x : State). DoesLevel types texts fs f a v in_loop s (left 0 keyword (Returns keyword) (end_pending (length s.pending) token x))) (sym by_value)
-          (subst (λ (x : State). DoesLevel types texts fs f a v in_loop s (left 0 keyword (Returns keyword) x)) (sym (same_pending s w.state token made.grown.pending)) value_returned)
+          subst (λ (x : State). DoesLevel types texts so_far fs f a v in_loop s (left 0 keyword (Returns keyword) (end_pending (length s.pending) token x))) (sym by_value)
+          (subst (λ (x : State). DoesLevel types texts so_far fs f a v in_loop s (left 0 keyword (Returns keyword) x)) (sym (same_pending s w.state token made.grown.pending)) value_returned)
         where
           by_value : given_back a e keyword token s ≡ w.state
           by_value = ap (λ (k : Class). result_by a k (uses a (whole_form e)) t keyword token s) (by_values (λ x. class (Some x) ≡ classes.Value) refl refl refl refl refl t worth)
@@ -220,7 +220,7 @@ module _ (a : Around) (types : Types) (texts : ℕ) (fs : List Function) (f : Fu
     no_value ty.Void e = refl
     no_value _ e = absurd (false≢true e)
 
-    pub returned_does : HasRegister a s → (keyword : Place) (given : Option Typed) (token : Place) → is_built_if_any given ≡ true → IsReturned a.program a.function.locals a.function.result v.visible given
-        → DoesLevel types texts fs f a v in_loop s (left 0 keyword (Returns keyword) (result_given a given keyword token s))
+    pub returned_does : HasRegister a s → (keyword : Place) (given : Option Typed) (token : Place) → is_reached_if_any texts so_far given ≡ true → IsReturned a.program a.function.locals a.function.result v.visible given
+        → DoesLevel types texts so_far fs f a v in_loop s (left 0 keyword (Returns keyword) (result_given a given keyword token s))
     returned_does register keyword None token b r = return_does (λ gives. false≢true (sym (no_value (type_at a.program.types a.function.result) r) ∙ gives.0)) keyword
     returned_does register keyword (Some e) token b r = result_returned register e keyword token b r

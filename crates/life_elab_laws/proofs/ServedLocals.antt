@@ -1,5 +1,5 @@
 -- The locals of a function that is translated are served: what lies in memory is a value, what doesn't is a number, a pointer or a view, and none is a slot.
-use Rattle.std.proofs.Common.{◌≡◌, ℕ, zero, suc, Bool, true, false, ◌||◌, not, List, [], ◌∷◌, slice_get, Option, Some, refl, ap, ◌∙◌}
+use Rattle.std.proofs.Common.{◌≡◌, inl, inr, ℕ, zero, suc, Bool, true, false, ◌||◌, not, List, [], ◌∷◌, slice_get, Option, Some, refl, ap, ◌∙◌}
 use Rattle.std.proofs.lemmas.Bool.{and_from, false≢true}
 use Rattle.std.specs.List.{list_all}
 use Rattle.life_types.specs.TypeTests.{is_value}
@@ -14,6 +14,7 @@ use Rattle.life_core.specs.declared.program.LocalKind.{LocalKind}
 use Rattle.life_core.specs.declared.program.LocalKind.TheVariants.{Register}
 use Rattle.life_writer.specs.Variables.{kind}
 use Rattle.life_elab_laws.proofs.FormedEnds.{reference_no_slot}
+use Rattle.life_elab_laws.proofs.Reaching.{IsReachedType}
 use Rattle.life_elab_laws.proofs.WrittenLocals.{fits_register}
 
 -- what each of a list passes, all do
@@ -37,15 +38,19 @@ module _ (types : Types) where
   register_served (ty.Reference target constant) h = refl
   register_served _ h = absurd (false≢true h)
 
-  pub variable_served : (t : Ty) → (is_value t || is_pointing types t) ≡ true → IsServedAs (kind (class (Some t))) t
-  variable_served ty.Bool b = refl
-  variable_served ty.Char b = refl
-  variable_served ty.Int b = refl
-  variable_served ty.Long b = refl
-  variable_served ty.Size b = refl
-  variable_served (ty.Raw target constant) b = refl
-  variable_served (ty.Reference target constant) b = refl
-  variable_served _ b = absurd (false≢true b)
+  pub variable_served : (so_far : Bool) (t : Ty) → IsReachedType so_far types t → IsServedAs (kind (class (Some t))) t
+  variable_served so_far t (inr v) = ap (λ (u : Ty). is_served_as (kind (class (Some u))) (held_if (class (Some u)) (kind (class (Some u))) (Some u))) v.1
+  variable_served so_far t (inl b) = go t b
+    where
+      go : (t : Ty) → (is_value t || is_pointing types t) ≡ true → IsServedAs (kind (class (Some t))) t
+      go ty.Bool b = refl
+      go ty.Char b = refl
+      go ty.Int b = refl
+      go ty.Long b = refl
+      go ty.Size b = refl
+      go (ty.Raw target constant) b = refl
+      go (ty.Reference target constant) b = refl
+      go _ b = absurd (false≢true b)
 
   no_slot : (t : Ty) → fits_register types t ≡ true → is_slot_type types (Some t) ≡ false
   no_slot ty.Bool h = refl

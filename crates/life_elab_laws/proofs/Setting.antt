@@ -1,14 +1,17 @@
--- Where a function is written: in a program that is built, whose core functions take and give what they should.
-use Rattle.std.proofs.Common.{◌≡◌, ℕ, true, false, List, None, Some, slice_get}
+-- Where a function is written: in a program that the law reaches, whose core functions take and give what they should.
+use Rattle.std.proofs.Common.{◌≡◌, ℕ, Bool, true, false, List, None, Some, slice_get}
 use Rattle.life_types.specs.Pointees.{ty_of}
 use Rattle.life_types.specs.TypeTests.{is_value, is_void}
 use Rattle.life_types.specs.Types.{Types, class_at}
 use Rattle.life_types.specs.declared.ty.Class.TheVariants.{Value}
 use Rattle.life_types.specs.declared.ty.Ty.{Ty}
+use Rattle.life_types.specs.declared.ty.Ty.TheVariants as ty
 use Rattle.life_types.specs.declared.ty.TyId.{TyId}
-use Rattle.life_built.specs.Built.{are_built_functions, are_built_variables, is_built_result}
+use Rattle.life_built.specs.Built.{is_built_result}
+use Rattle.life_elab_laws.specs.Reached.{are_reached_variables}
 use Rattle.life_typed.specs.BaseTypes.{type_at}
 use Rattle.life_typed.specs.Programs.{FunctionForm}
+use Rattle.life_typed.specs.declared.basic.TheConstants.{CHAR}
 use Rattle.life_core.specs.Function.{Function}
 use Rattle.life_core.specs.declared.program.Local.{Local}
 use Rattle.life_well_typed.specs.Expressions.{parameter_types}
@@ -17,10 +20,12 @@ use Rattle.life_elab_laws.proofs.Calls.{IsCallee}
 use Rattle.life_elab_laws.proofs.Fronts.{IsFront}
 use Rattle.life_elab_laws.proofs.Shaped.{AreShaped}
 
-pub record Setting (a : Around) (types : Types) (fs : List Function) (f : Function) : Type 0 where
+pub record Setting (so_far : Bool) (a : Around) (types : Types) (fs : List Function) (f : Function) : Type 0 where
   pub front : IsFront a.program.types.types types.types
-  pub variables : are_built_variables a.program.types a.function.locals ≡ true
-  pub functions : are_built_functions a.program.types a.program.functions ≡ true
+  pub variables : are_reached_variables so_far a.program.types a.function.locals ≡ true
+  -- the table has chars, where views have elements
+  pub chars : so_far ≡ false → type_at a.program.types CHAR ≡ ty.Char
+  pub returned : (g : ℕ) (of : FunctionForm) → slice_get a.program.functions g ≡ Some of → is_built_result a.program.types of.result ≡ true
   pub result : is_built_result a.program.types a.function.result ≡ true
   pub taken : (g : ℕ) (of : FunctionForm) → slice_get a.program.functions g ≡ Some of → (n : ℕ) (id : TyId) → slice_get (parameter_types (Some of)) n ≡ Some id → is_value (type_at a.program.types id) ≡ true
   pub callees : (g : ℕ) (of : FunctionForm) → slice_get a.program.functions g ≡ Some of → IsCallee types fs g of

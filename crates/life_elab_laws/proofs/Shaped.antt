@@ -1,5 +1,5 @@
 -- The locals of a function: one without a name is a register, and one with a name has the type of a variable that is built.
-use Rattle.std.proofs.Common.{◌≡◌, ℕ, true, false, ◌||◌, List, [], ◌∷◌, ◌++◌, slice_get, Option, Some, None, refl, ap, ◌∙◌, unwrap_or}
+use Rattle.std.proofs.Common.{◌≡◌, inl, inr, ℕ, Bool, true, false, ◌||◌, List, [], ◌∷◌, ◌++◌, slice_get, Option, Some, None, refl, ap, ◌∙◌, unwrap_or}
 use Rattle.std.proofs.lemmas.Bool.{false≢true}
 use Rattle.life_types.specs.TypeTests.{is_value}
 use Rattle.life_types.specs.Types.{Types}
@@ -7,11 +7,13 @@ use Rattle.life_types.specs.declared.ty.NameId.{NameId}
 use Rattle.life_types.specs.declared.ty.Ty.{Ty}
 use Rattle.life_types.specs.declared.ty.Ty.TheVariants as ty
 use Rattle.life_types.specs.declared.ty.TyId.{TyId}
-use Rattle.life_built.specs.Built.{is_built_variable, is_pointing}
+use Rattle.life_built.specs.Built.{is_pointing}
+use Rattle.life_elab_laws.specs.Reached.{is_reached_variable}
 use Rattle.life_typed.specs.BaseTypes.{type_at}
 use Rattle.life_core.specs.declared.program.Local.{Local}
 use Rattle.life_proper.specs.Knowing.{is_intermediate}
 use Rattle.life_elab_laws.proofs.Fronts.{IsFront, each_at}
+use Rattle.life_elab_laws.proofs.Reaching.{IsReachedType, reaches, type_reached, variable_found}
 
 -- ---- the type of a variable that is built is one in a table with more types too
 
@@ -28,12 +30,14 @@ module _ (few more : Types) (front : IsFront few.types more.types) where
   type_later (ty.Reference target constant) b = value_later target b
   type_later _ b = b
 
-  pub variable_later : (id : TyId) → is_built_variable few id ≡ true → is_built_variable more id ≡ true
-  variable_later id b = go (slice_get few.types id.0) refl b
-    where
-      go : (o : Option Ty) → slice_get few.types id.0 ≡ o → (is_value (unwrap_or o ty.Void) || is_pointing few (unwrap_or o ty.Void)) ≡ true → is_built_variable more id ≡ true
-      go None at b = absurd (false≢true b)
-      go (Some t) at b = ap (λ (o : Option Ty). is_value (unwrap_or o ty.Void) || is_pointing more (unwrap_or o ty.Void)) (front id.0 t at) ∙ type_later t b
+  reached_later : (so_far : Bool) (t : Ty) → IsReachedType so_far few t → IsReachedType so_far more t
+  reached_later so_far t (inl b) = inl (type_later t b)
+  reached_later so_far t (inr v) = inr v
+
+  pub variable_later : (so_far : Bool) (id : TyId) → is_reached_variable so_far few id ≡ true → is_reached_variable so_far more id ≡ true
+  variable_later so_far id b =
+      let found = variable_found so_far few id b in
+      ap (λ (o : Option Ty). reaches so_far more (unwrap_or o ty.Void)) (front id.0 found.0 found.1) ∙ type_reached so_far more found.0 (reached_later so_far found.0 found.2)
 
 -- ---- locals
 
@@ -41,7 +45,7 @@ module _ (few more : Types) (front : IsFront few.types more.types) where
 pub record IsVariable (types : Types) (l : Local) : Type 0 where
   pub name : NameId
   pub named : l.name ≡ Some name
-  pub built : is_built_variable types l.ty ≡ true
+  pub built : is_reached_variable false types l.ty ≡ true
 
 abbrev pub IsShaped : Types → Local → Type 0
 IsShaped types l = is_intermediate l ≡ false → IsVariable types l
@@ -64,4 +68,4 @@ module _ (types : Types) where
   shaped_later more front (l ∷ ls) h = (λ not. later (h.0 not), shaped_later more front ls h.1)
     where
       later : IsVariable types l → IsVariable more l
-      later is = record { name = is.name; named = is.named; built = variable_later types more front l.ty is.built }
+      later is = record { name = is.name; named = is.named; built = variable_later types more front false l.ty is.built }

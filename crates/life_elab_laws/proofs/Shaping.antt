@@ -1,5 +1,5 @@
 -- The shape of what is written: statements and conditions where they belong, straight before tests, with no break or continue outside of a loop,
--- plain, well formed, and served so far.
+-- well formed, and, where the program is one that is served so far, plain and served.
 use Rattle.std.proofs.Common.{◌≡◌, ℕ, Bool, true, false, ◌&&◌, List, [], ◌∷◌, ◌++◌, refl, sym, ◌∙◌}
 use Rattle.std.proofs.lemmas.Bool.{and_from, and_parts, false≢true}
 use Rattle.std.proofs.lemmas.List.Folds.{list_all-append}
@@ -54,7 +54,7 @@ breaks_anywhere in_loop Continues h = absurd (false≢true h)
 breaks_anywhere in_loop (Returns place) h = refl
 breaks_anywhere in_loop (Stops place) h = refl
 
-module _ (types : Types) (texts : ℕ) (fs : List Function) (f : Function) where
+module _ (types : Types) (texts : ℕ) (so_far : Bool) (fs : List Function) (f : Function) where
   abbrev is_plain : Tree → Bool
   is_plain t = is_plain_tree types fs f t
 
@@ -77,21 +77,21 @@ module _ (types : Types) (texts : ℕ) (fs : List Function) (f : Function) where
     pub condition : is_condition t ≡ true
     pub straight : test_straight t ≡ true
     pub breaks : (in_loop : Bool) → breaks_inside in_loop t ≡ true
-    pub plain : is_plain_tree types fs f t ≡ true
+    pub plain : so_far ≡ true → is_plain_tree types fs f t ≡ true
     pub formed : is_well_formed_tree types texts fs f t ≡ true
-    pub served : is_served_tree t ≡ true
+    pub served : so_far ≡ true → is_served_tree t ≡ true
 
-  pub fine_asks : (place : Place) (t : Test) → is_well_formed_test types texts fs f t ≡ true → is_served_test types f t ≡ true → IsFineTest (Asks place t)
-  fine_asks place t e g = record { condition = refl; straight = refl; breaks = λ in_loop. refl; plain = refl; formed = e; served = and_from (is_served_test types f t) true g refl }
+  pub fine_asks : (place : Place) (t : Test) → is_well_formed_test types texts fs f t ≡ true → (so_far ≡ true → is_served_test types f t ≡ true) → IsFineTest (Asks place t)
+  fine_asks place t e g = record { condition = refl; straight = refl; breaks = λ in_loop. refl; plain = λ so. refl; formed = e; served = λ so. and_from (is_served_test types f t) true (g so) refl }
 
   pub fine_both : (a b : Tree) → IsFineTest a → IsFineTest b → IsFineTest (Both a b)
   fine_both a b first second = record {
     condition = and_from (is_condition a) (is_condition b) first.condition second.condition;
     straight = and_from (test_straight a) (test_straight b) first.straight second.straight;
     breaks = λ in_loop. and_from (breaks_inside in_loop a) (breaks_inside in_loop b) (first.breaks in_loop) (second.breaks in_loop);
-    plain = and_from (is_plain a) (is_plain b) first.plain second.plain;
+    plain = λ so. and_from (is_plain a) (is_plain b) (first.plain so) (second.plain so);
     formed = and_from (is_formed a) (is_formed b) first.formed second.formed;
-    served = served_both a b first.served second.served;
+    served = λ so. served_both a b (first.served so) (second.served so);
   }
 
   pub fine_either : (a b : Tree) → IsFineTest a → IsFineTest b → IsFineTest (Either a b)
@@ -99,9 +99,9 @@ module _ (types : Types) (texts : ℕ) (fs : List Function) (f : Function) where
     condition = and_from (is_condition a) (is_condition b) first.condition second.condition;
     straight = and_from (test_straight a) (test_straight b) first.straight second.straight;
     breaks = λ in_loop. and_from (breaks_inside in_loop a) (breaks_inside in_loop b) (first.breaks in_loop) (second.breaks in_loop);
-    plain = and_from (is_plain a) (is_plain b) first.plain second.plain;
+    plain = λ so. and_from (is_plain a) (is_plain b) (first.plain so) (second.plain so);
     formed = and_from (is_formed a) (is_formed b) first.formed second.formed;
-    served = served_both a b first.served second.served;
+    served = λ so. served_both a b (first.served so) (second.served so);
   }
 
   pub fine_negated : (a : Tree) → IsFineTest a → IsFineTest (Negated a)
@@ -113,21 +113,21 @@ module _ (types : Types) (texts : ℕ) (fs : List Function) (f : Function) where
     pub statement : is_statement t ≡ true
     pub tests : tests_straight t ≡ true
     pub breaks : breaks_inside in_loop t ≡ true
-    pub plain : is_plain_tree types fs f t ≡ true
+    pub plain : so_far ≡ true → is_plain_tree types fs f t ≡ true
     pub formed : is_well_formed_tree types texts fs f t ≡ true
-    pub served : is_served_tree t ≡ true
+    pub served : so_far ≡ true → is_served_tree t ≡ true
 
   pub stated_none : (in_loop : Bool) → IsStated in_loop Skip
-  stated_none in_loop = record { statement = refl; tests = refl; breaks = refl; plain = refl; formed = refl; served = refl }
+  stated_none in_loop = record { statement = refl; tests = refl; breaks = refl; plain = λ so. refl; formed = refl; served = λ so. refl }
 
   pub stated_alone : (in_loop : Bool) (t : Tree) → IsStated in_loop t → IsStated in_loop (trees (t ∷ []))
   stated_alone in_loop t h = record {
     statement = and_from (is_statement t) true h.statement refl;
     tests = and_from (tests_straight t) true h.tests refl;
     breaks = and_from (breaks_inside in_loop t) true h.breaks refl;
-    plain = and_from (is_plain t) true h.plain refl;
+    plain = λ so. and_from (is_plain t) true (h.plain so) refl;
     formed = and_from (is_formed t) true h.formed refl;
-    served = served_both t Skip h.served refl;
+    served = λ so. served_both t Skip (h.served so) refl;
   }
 
   pub stated_append : (in_loop : Bool) (c d : List Tree) → IsStated in_loop (trees c) → IsStated in_loop (trees d) → IsStated in_loop (trees (c ++ d))
@@ -135,9 +135,9 @@ module _ (types : Types) (texts : ℕ) (fs : List Function) (f : Function) where
     statement = all_append is_statement refl (λ a b. refl) c d first.statement second.statement;
     tests = all_append tests_straight refl (λ a b. refl) c d first.tests second.tests;
     breaks = all_append (breaks_inside in_loop) refl (λ a b. refl) c d first.breaks second.breaks;
-    plain = all_append (is_plain_tree types fs f) refl (λ a b. refl) c d first.plain second.plain;
+    plain = λ so. all_append (is_plain_tree types fs f) refl (λ a b. refl) c d (first.plain so) (second.plain so);
     formed = all_append (is_well_formed_tree types texts fs f) refl (λ a b. refl) c d first.formed second.formed;
-    served = all_append is_served_tree refl (λ a b. list_all-append (is_served_spot types f) (spots a) (spots b)) c d first.served second.served;
+    served = λ so. all_append is_served_tree refl (λ a b. list_all-append (is_served_spot types f) (spots a) (spots b)) c d (first.served so) (second.served so);
   }
 
   pub stated_choice : (in_loop : Bool) (t a b : Tree) → IsFineTest t → IsStated in_loop a → IsStated in_loop b → IsStated in_loop (Choice t a b)
@@ -145,9 +145,9 @@ module _ (types : Types) (texts : ℕ) (fs : List Function) (f : Function) where
     statement = and_from (is_condition t) _ test.condition (and_from (is_statement a) (is_statement b) first.statement second.statement);
     tests = and_from (test_straight t) _ test.straight (and_from (tests_straight a) (tests_straight b) first.tests second.tests);
     breaks = and_from (breaks_inside in_loop t) _ (test.breaks in_loop) (and_from (breaks_inside in_loop a) (breaks_inside in_loop b) first.breaks second.breaks);
-    plain = and_from (is_plain t) _ test.plain (and_from (is_plain a) (is_plain b) first.plain second.plain);
+    plain = λ so. and_from (is_plain t) _ (test.plain so) (and_from (is_plain a) (is_plain b) (first.plain so) (second.plain so));
     formed = and_from (is_formed t) _ test.formed (and_from (is_formed a) (is_formed b) first.formed second.formed);
-    served = served_all t a b test.served first.served second.served;
+    served = λ so. served_all t a b (test.served so) (first.served so) (second.served so);
   }
 
   pub stated_turns : (in_loop : Bool) (t body step : Tree) → IsFineTest t → IsStated true body → IsStated false step → IsStated in_loop (Turns t body step)
@@ -156,9 +156,9 @@ module _ (types : Types) (texts : ℕ) (fs : List Function) (f : Function) where
     tests = and_from (test_straight t) _ test.straight (and_from (tests_straight body) (tests_straight step) first.tests second.tests);
     breaks = and_from (breaks_inside in_loop t) _ (test.breaks in_loop)
         (and_from (breaks_inside true body) (breaks_inside in_loop step) first.breaks (breaks_anywhere in_loop step second.breaks));
-    plain = and_from (is_plain t) _ test.plain (and_from (is_plain body) (is_plain step) first.plain second.plain);
+    plain = λ so. and_from (is_plain t) _ (test.plain so) (and_from (is_plain body) (is_plain step) (first.plain so) (second.plain so));
     formed = and_from (is_formed t) _ test.formed (and_from (is_formed body) (is_formed step) first.formed second.formed);
-    served = served_all t body step test.served first.served second.served;
+    served = λ so. served_all t body step (test.served so) (first.served so) (second.served so);
   }
 
   -- ---- code of an expression
@@ -178,15 +178,15 @@ module _ (types : Types) (texts : ℕ) (fs : List Function) (f : Function) where
 
   -- an instruction by itself
   pub record IsFineStep (i : Step) : Type 0 where
-    pub plain : is_by_value types fs f i ≡ true
+    pub plain : so_far ≡ true → is_by_value types fs f i ≡ true
     pub formed : is_well_formed_step types texts fs f i ≡ true
-    pub served : is_served_step types f i ≡ true
+    pub served : so_far ≡ true → is_served_step types f i ≡ true
 
   pub fine_acts : (place : Place) (i : Step) → IsFineStep i → IsFine (Acts place i ∷ [])
   fine_acts place i is = record {
     straight = refl;
     stated = λ in_loop. stated_alone in_loop (Acts place i)
-        (record { statement = refl; tests = refl; breaks = refl; plain = is.plain; formed = is.formed; served = and_from (is_served_step types f i) true is.served refl });
+        (record { statement = refl; tests = refl; breaks = refl; plain = is.plain; formed = is.formed; served = λ so. and_from (is_served_step types f i) true (is.served so) refl });
   }
 
   -- a branch whose branches are straight
@@ -202,7 +202,7 @@ module _ (types : Types) (texts : ℕ) (fs : List Function) (f : Function) where
     condition = and_from (is_statement (trees c)) (is_condition t) one.statement second.condition;
     straight = and_from (is_straight (trees c)) (tests_straight (trees c) && test_straight t) first.straight (and_from (tests_straight (trees c)) (test_straight t) one.tests second.straight);
     breaks = λ in_loop. and_from (breaks_inside in_loop (trees c)) (breaks_inside in_loop t) (first.stated in_loop).breaks (second.breaks in_loop);
-    plain = and_from (is_plain (trees c)) (is_plain t) one.plain second.plain;
+    plain = λ so. and_from (is_plain (trees c)) (is_plain t) (one.plain so) (second.plain so);
     formed = and_from (is_formed (trees c)) (is_formed t) one.formed second.formed;
-    served = served_both (trees c) t one.served second.served;
+    served = λ so. served_both (trees c) t (one.served so) (second.served so);
   }

@@ -1,6 +1,6 @@
 -- The places of a function that is translated have no steps: its objects are values, and nothing is behind its parameters.
 use Rattle.std.proofs.Common.{◌≡◌, ◌<◌, ◌+◌, ℕ, zero, suc, Bool, true, false, ◌&&◌, ◌||◌, List, [], ◌∷◌, ◌++◌, if◌then◌else◌, flat_map, map, nat_lt, slice_get, Option, Some, None, is_none, refl, ap, ◌∙◌, subst, sym, unwrap_or, arith}
-use Rattle.std.proofs.lemmas.Bool.{false≢true, or_left}
+use Rattle.std.proofs.lemmas.Bool.{false≢true}
 use Rattle.std.proofs.lemmas.Bool.Decides.{nat_tests}
 use Rattle.life_types.specs.Pointees.{or_void, ty_of}
 use Rattle.life_types.specs.Trees.{tree_at, tree_of, tree_within}
@@ -10,7 +10,7 @@ use Rattle.life_types.specs.declared.place.Place.{Place}
 use Rattle.life_types.specs.declared.ty.Ty.{Ty}
 use Rattle.life_types.specs.declared.ty.Ty.TheVariants as ty
 use Rattle.life_types.specs.declared.ty.TyId.{TyId}
-use Rattle.life_built.specs.Built.{is_built_variable, is_pointing}
+use Rattle.life_elab_laws.specs.Reached.{is_reached_variable}
 use Rattle.life_typed.specs.BaseTypes.{type_at}
 use Rattle.life_core.specs.Function.{Function}
 use Rattle.life_core.specs.Linked.{Linked, code_of}
@@ -26,6 +26,7 @@ use Rattle.life_pset.specs.declared.element.AbsPlace.{AbsPlace}
 use Rattle.life_pset.specs.declared.element.Cause.{Cause}
 use Rattle.life_pset.specs.declared.element.Element.{Element}
 use Rattle.life_pset.specs.declared.element.Element.TheVariants as element
+use Rattle.life_elab_laws.proofs.Reaching.{reaches, value_reached}
 use Rattle.life_elab_laws.proofs.Shaped.{AreShaped, IsShaped}
 
 -- ---- lists
@@ -72,11 +73,11 @@ module _ (f : Function) where
 
 module _ (types : Types) where
   -- a value or a pointer has no parts
-  no_parts : (id : TyId) → is_built_variable types id ≡ true → (at : AbsPlace) → places_in at (tree_at types id) ≡ at ∷ []
+  no_parts : (id : TyId) → is_reached_variable false types id ≡ true → (at : AbsPlace) → places_in at (tree_at types id) ≡ at ∷ []
   unfolding tree_at
   no_parts id b at = go (slice_get types.types id.0) b
     where
-      go : (o : Option Ty) → (is_value (unwrap_or o ty.Void) || is_pointing types (unwrap_or o ty.Void)) ≡ true → places_in at (tree_of types (tree_within id.0 types) o) ≡ at ∷ []
+      go : (o : Option Ty) → reaches false types (unwrap_or o ty.Void) ≡ true → places_in at (tree_of types (tree_within id.0 types) o) ≡ at ∷ []
       go (Some ty.Text) b = absurd (false≢true b)
       go (Some (ty.Vector item)) b = absurd (false≢true b)
       go (Some (ty.Unique target)) b = absurd (false≢true b)
@@ -84,7 +85,7 @@ module _ (types : Types) where
       go _ b = refl
 
   -- .. and stands as it is, also where a parameter has it
-  same_shape : (parameter : Bool) (id : TyId) → is_built_variable types id ≡ true → shape_if types parameter id ≡ id
+  same_shape : (parameter : Bool) (id : TyId) → is_reached_variable false types id ≡ true → shape_if types parameter id ≡ id
   same_shape false id b = refl
   same_shape true id b = go (slice_get types.types id.0) b
     where
@@ -95,8 +96,12 @@ module _ (types : Types) where
       to target (Some (ty.Unique item)) w = absurd (false≢true w)
       to target _ w = refl
 
-      go : (o : Option Ty) → (is_value (unwrap_or o ty.Void) || is_pointing types (unwrap_or o ty.Void)) ≡ true → unslotted types id (or_void o) ≡ id
-      go (Some (ty.Reference target false)) b = to target (slice_get types.types target.0) b
+      plain : (b : Bool) → (b || false) ≡ true → b ≡ true
+      plain true e = refl
+      plain false e = e
+
+      go : (o : Option Ty) → reaches false types (unwrap_or o ty.Void) ≡ true → unslotted types id (or_void o) ≡ id
+      go (Some (ty.Reference target false)) b = to target (slice_get types.types target.0) (plain (is_value (type_at types target)) b)
       go _ b = refl
 
   -- ---- objects
@@ -159,7 +164,7 @@ module _ (types : Types) where
       go false is = refl
       go true is =
           let w = value (lt_of x n is) in
-          let same : shape_if types true l.ty ≡ l.ty = same_shape true l.ty (or_left (is_value (type_at types l.ty)) _ w) in
+          let same : shape_if types true l.ty ≡ l.ty = same_shape true l.ty (value_reached false types (type_at types l.ty) w) in
           ap (inputs_among types x (shape_if types true l.ty) 0) (ap (λ (id : TyId). locations_in types l.kind id (local_place x)) same ∙ no_locations l.kind l.ty w (local_place x))
 
   no_inputs : (n x : ℕ) (ls : List Local) → ((y : ℕ) (l : Local) → slice_get ls y ≡ Some l → x + y < n → is_value (type_at types l.ty) ≡ true) → inputs_from types n x ls ≡ []

@@ -1,7 +1,7 @@
 -- What is assigned, stepped, computed back and printed, by its type.
-use Rattle.std.proofs.Common.{◌≡◌, Bool, true, false, ◌&&◌, refl, sym, ap, ◌∙◌, true≢false, not, subst}
+use Rattle.std.proofs.Common.{◌≡◌, ◌⊎◌, inl, inr, Bool, true, false, ◌&&◌, refl, sym, ap, ◌∙◌, not}
 use Rattle.std.proofs.lemmas.Bool.{and_parts, false≢true}
-use Rattle.life_types.specs.TypeTests.{is_iterator, is_raw, is_text, is_value}
+use Rattle.life_types.specs.TypeTests.{is_iterator, is_text, is_value}
 use Rattle.life_types.specs.Types.{Types}
 use Rattle.life_types.specs.declared.ty.Ty.{Ty}
 use Rattle.life_types.specs.declared.ty.Ty.TheVariants as ty
@@ -25,7 +25,8 @@ use Rattle.life_proper.specs.WellFormed.{answer_of}
 use Rattle.life_well_typed.specs.Given.{is_number}
 use Rattle.life_writer.specs.Around.{own_type}
 use Rattle.life_elab.specs.Simples.{compound_operator, step_operator}
-use Rattle.life_elab_laws.proofs.TypedKinds.{HasKind, IsKind, IsOperand, IsSimple as IsPlain, a_null, a_number, a_pointer, no_value, of_null, of_type}
+use Rattle.life_elab_laws.proofs.Locations.{is_seen}
+use Rattle.life_elab_laws.proofs.TypedKinds.{HasKind, IsKind, a_null, a_number, a_pointer, a_text, a_view, no_value}
 use Rattle.life_elab_laws.proofs.Values.{by_values}
 
 -- ---- targets
@@ -39,31 +40,20 @@ value_no_owner : (t : Ty) → is_value t ≡ true → typing.is_owner t ≡ fals
 value_no_owner = by_values (λ t. typing.is_owner t ≡ false) refl refl refl refl refl
 
 -- what is assigned to is a place
-pub target_place : (types : Types) (e : Typed) → IsKind types e → is_place e.ty e.category ≡ true → (id : TyId) × (constant : Bool) × (e.category ≡ category.Place id constant)
-target_place types e k h = go e.category refl h
+pub target_place : (so_far : Bool) (types : Types) (e : Typed) → IsKind so_far types e → is_place e.ty e.category ≡ true → (id : TyId) × (constant : Bool) × (e.category ≡ category.Place id constant)
+target_place so_far types e k h = go e.category refl h
   where
-    refused : HasKind types e → is_place e.ty category.Value ≡ true → ⊥
+    refused : HasKind so_far types e → is_place e.ty category.Value ≡ true → ⊥
     refused (a_number t is v) h = false≢true (sym (ap (λ (x : ExprType). is_place x category.Value) is ∙ value_no_owner t v) ∙ h)
     refused (a_pointer target constant is v) h = false≢true (sym (ap (λ (x : ExprType). is_place x category.Value) is) ∙ h)
+    refused (a_view so is) h = false≢true (sym (ap (λ (x : ExprType). is_place x category.Value) is) ∙ h)
+    refused (a_text is v) h = false≢true (sym (ap (λ (x : ExprType). is_place x category.Value) is) ∙ h)
     refused (no_value is v) h = false≢true (sym (ap (λ (x : ExprType). is_place x category.Value) is) ∙ h)
     refused (a_null is v) h = false≢true (sym (ap (λ (x : ExprType). is_place x category.Value) is) ∙ h)
 
     go : (c : Category) → e.category ≡ c → is_place e.ty c ≡ true → (id : TyId) × (constant : Bool) × (e.category ≡ category.Place id constant)
     go category.Value at h = absurd (refused k.kind h)
     go (category.Place id constant) at h = (id, constant, at)
-
--- what is assigned to is a number, or a pointer
-place_number : (types : Types) (e : Typed) (id : TyId) (c : Bool) → e.category ≡ category.Place id c → HasKind types e → is_raw (own_type e.ty) ≡ false → is_number e.ty ≡ true
-place_number types e id c at (a_number t is v) raw = ap is_number is ∙ v
-place_number types e id c at (a_pointer target constant is v) raw = absurd (true≢false (sym (ap (λ (x : ExprType). is_raw (own_type x)) is) ∙ raw))
-place_number types e id c at (no_value is v) raw = absurd (clash (sym v ∙ at))
-  where
-    clash : category.Value ≡ category.Place id c → ⊥
-    clash e = cc
-place_number types e id c at (a_null is v) raw = absurd (clash (sym v ∙ at))
-  where
-    clash : category.Value ≡ category.Place id c → ⊥
-    clash e = cc
 
 -- ---- what is computed with is a number
 
@@ -96,19 +86,14 @@ step_value ty.Size i h = refl
 step_value (ty.Iterator target constant) i h = absurd (false≢true (sym i))
 step_value _ i h = absurd (false≢true h)
 
--- an operand's own type is neither text nor an iterator
-pub own_plain : (t : ExprType) → IsOperand t → IsPlain (own_type t)
-own_plain t (of_type u is s) = subst (λ (x : ExprType). IsPlain (own_type x)) (sym is) s
-own_plain t (of_null is) = subst (λ (x : ExprType). IsPlain (own_type x)) (sym is) (record { text = refl; view = refl; unique = refl; iterator = refl })
-
 -- what may be assigned to is a place that isn't const, of its own type
 pub record IsFree (types : Types) (e : Typed) : Type 0 where
   pub id : TyId
   pub place : e.category ≡ category.Place id false
   pub own : own_type e.ty ≡ type_at types id
 
-pub free_place : (types : Types) (e : Typed) → IsKind types e → (is_place e.ty e.category && not (is_constant e.category)) ≡ true → IsFree types e
-free_place types e k h = go (target_place types e k parts.0)
+pub free_place : (so_far : Bool) (types : Types) (e : Typed) → IsKind so_far types e → (is_place e.ty e.category && not (is_constant e.category)) ≡ true → IsFree types e
+free_place so_far types e k h = go (target_place so_far types e k parts.0)
   where
     parts : (is_place e.ty e.category ≡ true) × (not (is_constant e.category) ≡ true)
     parts = and_parts (is_place e.ty e.category) (not (is_constant e.category)) h
@@ -122,12 +107,14 @@ free_place types e k h = go (target_place types e k parts.0)
         let open_place = at.2 ∙ ap (category.Place at.0) (free at.1 (sym (ap (λ c. not (is_constant c)) at.2) ∙ parts.1)) in
         record { id = at.0; place = open_place; own = ap own_type (k.place at.0 false open_place) }
 
--- what is printed is a number
-pub printed_number : (types : Types) (e : Typed) → HasKind types e → is_printed e.ty ≡ true → is_number e.ty ≡ true
-printed_number types e (a_number t is v) h = ap is_number is ∙ v
-printed_number types e (a_pointer target constant is v) h = absurd (false≢true (sym (ap is_printed is) ∙ h))
-printed_number types e (no_value is v) h = absurd (false≢true (sym (ap is_printed is) ∙ h))
-printed_number types e (a_null is v) h = absurd (false≢true (sym (ap is_printed is) ∙ h))
+-- what is printed is a number, a view, or a literal
+pub printed_type : (so_far : Bool) (types : Types) (e : Typed) → HasKind so_far types e → is_printed e.ty ≡ true → (is_number e.ty ≡ true) ⊎ (is_seen e.ty ≡ true)
+printed_type so_far types e (a_number t is v) h = inl (ap is_number is ∙ v)
+printed_type so_far types e (a_pointer target constant is v) h = absurd (false≢true (sym (ap is_printed is) ∙ h))
+printed_type so_far types e (a_view so is) h = inr (ap is_seen is)
+printed_type so_far types e (a_text is v) h = inr (ap is_seen is)
+printed_type so_far types e (no_value is v) h = absurd (false≢true (sym (ap is_printed is) ∙ h))
+printed_type so_far types e (a_null is v) h = absurd (false≢true (sym (ap is_printed is) ∙ h))
 
 -- what computes answers in its operands' type
 pub compound_answer : (o : CompoundOperator) (t : Ty) → answer_of (compound_operator o) t ≡ t

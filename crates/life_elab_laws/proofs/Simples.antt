@@ -9,11 +9,10 @@ use Rattle.life_types.specs.declared.ty.Class.{Class}
 use Rattle.life_types.specs.declared.ty.Class.TheVariants as classes
 use Rattle.life_types.specs.declared.ty.Ty.{Ty}
 use Rattle.life_types.specs.declared.ty.Ty.TheVariants as ty
-use Rattle.life_types.specs.declared.ty.TyId.{TyId}
 use Rattle.life_tree.specs.declared.operator.CompoundOperator.{CompoundOperator}
 use Rattle.life_tree.specs.declared.operator.StepOperator.{StepOperator}
-use Rattle.life_built.specs.Built.{is_built_expression, is_built_simple, is_call}
-use Rattle.life_typed.specs.BaseTypes.{type_at}
+use Rattle.life_built.specs.Built.{is_call}
+use Rattle.life_elab_laws.specs.Reached.{is_reached_expression, is_reached_simple}
 use Rattle.life_typed.specs.Operators.{promoted}
 use Rattle.life_typed.specs.Statements.{can_step, compounded}
 use Rattle.life_typed.specs.TypedForm.{Form, Typed, call, typed, whole as whole_form}
@@ -57,29 +56,31 @@ use Rattle.life_elab.specs.Simples.{compound_operator, held, put_back, step_oper
 use Rattle.life_elab_laws.proofs.Aiming.{pointed_fine, pointed_keeps, pointed_ready}
 use Rattle.life_elab_laws.proofs.CallParts.{alone_fine}
 use Rattle.life_elab_laws.proofs.Calls.{alone_after, alone_ready}
-use Rattle.life_elab_laws.proofs.ExpressionTypes.{own_value}
+use Rattle.life_elab_laws.proofs.ExpressionTypes.{own_no_iterator, own_no_text, own_value, seen_kind}
 use Rattle.life_elab_laws.proofs.ExpressionForms.{IsCall, IsWhole}
-use Rattle.life_elab_laws.proofs.Expressions.{expression, placed_operand, pointer_whole, points_whole, result_later, whole_expression}
-use Rattle.life_elab_laws.proofs.FormedFits.{given_raw}
-use Rattle.life_elab_laws.proofs.Gifts.{Gift, IsPlaceOf, a_number, a_place, a_pointer, a_pointing, arguments, both, nothing}
-use Rattle.life_elab_laws.proofs.GivenKinds.{given_number, given_pointer}
+use Rattle.life_elab_laws.proofs.Expressions.{expression, whole_expression}
+use Rattle.life_elab_laws.proofs.PointerForms.{placed_operand, pointer_whole, points_whole, result_later}
+use Rattle.life_elab_laws.proofs.FormedFits.{given_raw, given_seen}
+use Rattle.life_elab_laws.proofs.Gifts.{Gift, IsPlaceOf, takes_from, a_number, a_place, a_pointer, a_pointing, arguments, both, nothing}
+use Rattle.life_elab_laws.proofs.GivenKinds.{given_number, given_pointer, given_view}
 use Rattle.life_elab_laws.proofs.Growing.{Grows}
 use Rattle.life_elab_laws.proofs.Held.{place_there, ready_there}
 use Rattle.life_elab_laws.proofs.Instructions.{acted_part, as_type_part, constant_part, converted_part, load_part, operator_part}
+use Rattle.life_elab_laws.proofs.Locations.{is_location, is_pointed, seen_pointed}
 use Rattle.life_elab_laws.proofs.Making.{IsHeld, IsOpen, IsPlace, Keeps, keeps_all}
 use Rattle.life_elab_laws.proofs.Parts.{Makes, Part, and_part, gives_part, keep_part, seen_part, then_part, under_part}
 use Rattle.life_elab_laws.proofs.Pending.{same_pending}
 use Rattle.life_elab_laws.proofs.RowTypes.{promoted_is}
 use Rattle.life_elab_laws.proofs.Setting.{Setting}
-use Rattle.life_elab_laws.proofs.SimpleTypes.{IsFree, compound_answer, compounded_numbers, free_place, own_counts, own_plain, own_same, step_answer, step_value}
-use Rattle.life_elab_laws.proofs.TypedKinds.{HasKind, a_null, a_number as of_number, a_pointer as of_pointer, no_value, operand_kind, promoted_value, value_place}
+use Rattle.life_elab_laws.proofs.SimpleTypes.{IsFree, compound_answer, compounded_numbers, free_place, own_counts, own_same, step_answer, step_value}
+use Rattle.life_elab_laws.proofs.TypedKinds.{HasKind, a_null, a_number as of_number, a_pointer as of_pointer, a_text, a_view as of_view, no_value, promoted_value, value_place}
 use Rattle.life_elab_laws.proofs.Values.{by_values}
 use Rattle.life_elab_laws.proofs.VariablePlaces.{Stands, stands_later}
 
 value_class : (t : Ty) → is_value t ≡ true → class (Some t) ≡ classes.Value
 value_class = by_values (λ t. class (Some t) ≡ classes.Value) refl refl refl refl refl
 
-module _ (a : Around) (visible : List ℕ) (types : Types) (texts : ℕ) (fs : List Function) (f : Function) (setting : Setting a types fs f) where
+module _ (a : Around) (visible : List ℕ) (types : Types) (texts : ℕ) (so_far : Bool) (fs : List Function) (f : Function) (setting : Setting so_far a types fs f) where
   abbrev Whole : Typed → Type 0
   Whole e = IsExpression a.program a.function.locals visible (whole_form e)
 
@@ -87,37 +88,37 @@ module _ (a : Around) (visible : List ℕ) (types : Types) (texts : ℕ) (fs : L
   Standing s = Stands a visible s
 
   abbrev Giving : Type 0 → Type 1
-  Giving A = Gift types texts fs f A
+  Giving A = Gift types texts so_far fs f A
 
   abbrev no_gift : Giving (Unit {0})
-  no_gift = nothing types texts fs f
+  no_gift = nothing types texts so_far fs f
 
   abbrev a_value : Ty → Giving ℕ
-  a_value t = a_number types texts fs f t
+  a_value t = a_number types texts so_far fs f t
 
   abbrev a_target : Ty → Giving Operand
-  a_target t = a_place types texts fs f t false
+  a_target t = a_place types texts so_far fs f t false
 
   abbrev both_of : {A B : Type 0} → Giving A → Giving B → Giving (A × B)
-  both_of P Q = both types texts fs f P Q
+  both_of P Q = both types texts so_far fs f P Q
 
   -- what is written and gives nothing
   abbrev pub Acts : State → State → Type 0
-  Acts s s' = Makes types texts fs f None s (gives tt s') (nothing types texts fs f)
+  Acts s s' = Makes types texts so_far fs f None s (gives tt s') (nothing types texts so_far fs f)
 
-  abbrev whole : (e : Typed) → is_built_expression e ≡ true → Whole e → IsWhole a visible types texts fs f setting (whole_form e)
-  whole e b h = whole_expression a visible types texts fs f setting (whole_form e) b h
+  abbrev whole : (e : Typed) → is_reached_expression texts so_far e ≡ true → Whole e → IsWhole a visible types texts so_far fs f setting (whole_form e)
+  whole e b h = whole_expression a visible types texts so_far fs f setting (whole_form e) b h
 
   opened_later : (s s' : State) → IsOpen s → Grows s s' → IsOpen s'
   opened_later s s' h g y c = omega (arith, h y (subst (λ (ys : List ℕ). Contains ys y) g.living c), g.count)
 
   -- a number is saved at a place
-  saved_part : {A : Type 0} (P : Giving A) (x : A) (t : Ty) (r : ℕ) (o : Operand) (place : Place) (s : State) → (P.typed x → is_number_of types f t r ≡ true) → (P.typed x → IsPlaceOf types texts fs f t false o)
-      → ((n : ℕ) (k : List Known) → P.ready x n k → IsHeld r n k × IsPlace o n k) → Part types texts fs f P x None s (gives tt (emit place (Save o r) s)) no_gift
+  saved_part : {A : Type 0} (P : Giving A) (x : A) (t : Ty) (r : ℕ) (o : Operand) (place : Place) (s : State) → (P.typed x → is_number_of types f t r ≡ true) → (P.typed x → IsPlaceOf types texts so_far fs f t false o)
+      → ((n : ℕ) (k : List Known) → P.ready x n k → IsHeld r n k × IsPlace o n k) → Part types texts so_far fs f P x None s (gives tt (emit place (Save o r) s)) no_gift
   saved_part P x t r o place s number at ready =
-      acted_part types texts fs f P x place (Save o r) s
+      acted_part types texts so_far fs f P x place (Save o r) s
       (λ h. record {
-        plain = refl;
+        plain = λ so. refl;
         formed = and_from (is_number_of types f (type_of types f o) r) (not (is_const_place types f o)) (ap (λ (u : Ty). is_number_of types f u r) (at h).typed ∙ number h) (at h).held;
         served = (at h).served;
       })
@@ -126,15 +127,15 @@ module _ (a : Around) (visible : List ℕ) (types : Types) (texts : ℕ) (fs : L
       (λ n m k p. keeps_all f m None k)
 
   -- what is written is a place of its own type that isn't const
-  free_target : (target : Typed) (at : IsFree a.program.types target) → IsWhole a visible types texts fs f setting (whole_form target) → is_value (own_type target.ty) ≡ true → (s : State) → Standing s
-      → Makes types texts fs f None s (operand (uses a (whole_form target)) s) (a_target (own_type target.ty))
+  free_target : (target : Typed) (at : IsFree a.program.types target) → IsWhole a visible types texts so_far fs f setting (whole_form target) → is_value (own_type target.ty) ≡ true → (s : State) → Standing s
+      → Makes types texts so_far fs f None s (operand (uses a (whole_form target)) s) (a_target (own_type target.ty))
   free_target target at is v s stands =
-      subst (λ (w : Gives Operand). Makes types texts fs f None s w (a_target (own_type target.ty))) (sym (placed_operand a visible types texts fs f setting (whole_form target) at.id false s at.place))
-      (subst (λ (t : Ty). Makes types texts fs f None s ((uses a (whole_form target)).at s) (a_target t)) (sym at.own) (is.names at.id false at.place (ap is_value (sym at.own) ∙ v) s stands))
+      subst (λ (w : Gives Operand). Makes types texts so_far fs f None s w (a_target (own_type target.ty))) (sym (placed_operand a visible types texts so_far fs f setting (whole_form target) at.id false s at.place))
+      (subst (λ (t : Ty). Makes types texts so_far fs f None s ((uses a (whole_form target)).at s) (a_target t)) (sym at.own) (is.names at.id false at.place (ap is_value (sym at.own) ∙ v) s stands))
 
   -- ---- assignments: the right side, the place, and what gives it that
 
-  value_assigned_part : (target e : Typed) (equals behind : Place) (s : State) → IsWhole a visible types texts fs f setting (whole_form target) → IsWhole a visible types texts fs f setting (whole_form e) → IsFree a.program.types target → is_number target.ty ≡ true
+  value_assigned_part : (target e : Typed) (equals behind : Place) (s : State) → IsWhole a visible types texts so_far fs f setting (whole_form target) → IsWhole a visible types texts so_far fs f setting (whole_form e) → IsFree a.program.types target → is_number target.ty ≡ true
       → is_given a.program.types (own_type target.ty) e ≡ true → Standing s → Acts s (assigned_by classes.Value (uses a (whole_form e)) (own_type target.ty) (target_of (uses a (whole_form target))) equals behind s)
   value_assigned_part target e equals behind s to from at n given stands =
       let t = own_type target.ty in
@@ -143,36 +144,35 @@ module _ (a : Around) (visible : List ℕ) (types : Types) (texts : ℕ) (fs : L
       let u = operand (uses a (whole_form target)) w.state in
       let first = from.valued (given_number a.program.types t e v given) behind t v None s tt stands in
       let second = free_target target at to v w.state (stands_later a visible s w.state first.grown stands) in
-      then_part types texts fs f no_gift tt None s (gives (w.given, u.given) u.state) _ (both_of (a_value t) (a_target t)) no_gift stands.opened
-      (and_part types texts fs f no_gift tt s w u (a_value t) (a_target t) stands.opened first second)
+      then_part types texts so_far fs f no_gift tt None s (gives (w.given, u.given) u.state) _ (both_of (a_value t) (a_target t)) no_gift stands.opened
+      (and_part types texts so_far fs f no_gift tt s w u (a_value t) (a_target t) stands.opened first second)
       (saved_part (both_of (a_value t) (a_target t)) (w.given, u.given) t w.given u.given equals u.state (λ h. h.0) (λ h. h.1) (λ n k p. p))
 
-  pointer_assigned_part : (target e : Typed) (equals behind : Place) (s : State) (to : TyId) (constant : Bool) → IsWhole a visible types texts fs f setting (whole_form target) → IsWhole a visible types texts fs f setting (whole_form e) → target.ty ≡ Of (ty.Raw to constant)
-      → is_value (type_at a.program.types to) ≡ true → is_given a.program.types (ty.Raw to constant) e ≡ true → Standing s → Acts s (assigned_by classes.Pointer (uses a (whole_form e)) (own_type target.ty) (target_of (uses a (whole_form target))) equals behind s)
-  pointer_assigned_part target e equals behind s to constant at from is worth given stands =
-      let u = ty.Raw to constant in
+  pointer_assigned_part : (target e : Typed) (equals behind : Place) (s : State) (u : Ty) → is_location u ≡ true → IsWhole a visible types texts so_far fs f setting (whole_form target) → IsWhole a visible types texts so_far fs f setting (whole_form e) → target.ty ≡ Of u
+      → is_pointed e.ty ≡ true → takes_from types u e.ty ≡ true → Standing s → Acts s (assigned_by classes.Pointer (uses a (whole_form e)) (own_type target.ty) (target_of (uses a (whole_form target))) equals behind s)
+  pointer_assigned_part target e equals behind s u loc at from is pointed_one taken stands =
       let w = pointing (uses a (whole_form e)) s in
       let l = pointer (uses a (whole_form target)) (own (uses a (whole_form target))) w.state in
-      let P = a_pointing types texts fs f e.ty in
-      let Q = a_pointer types texts fs f u in
-      let first = points_whole a visible types texts fs f setting (whole_form e) from (given_pointer a.program.types u e refl given) s stands in
-      let second = pointer_whole a visible types texts fs f setting (whole_form target) at u is refl (own (uses a (whole_form target))) w.state (stands_later a visible s w.state first.grown stands) in
-      then_part types texts fs f no_gift tt None s (gives (w.given, l.given) l.state) _ (both_of P Q) no_gift stands.opened
-      (and_part types texts fs f no_gift tt s w l P Q stands.opened first second)
-      (acted_part types texts fs f (both_of P Q) (w.given, l.given) e.place (pointed w.given l.given) l.state
-      (λ h. pointed_fine types texts fs f l.given u e.ty w.given refl h.1 (given_raw a.program.types types setting.front to constant worth e given) h.0)
+      let P = a_pointing types texts so_far fs f e.ty in
+      let Q = a_pointer types texts so_far fs f u in
+      let first = points_whole a visible types texts so_far fs f setting (whole_form e) from pointed_one s stands in
+      let second = pointer_whole a visible types texts so_far fs f setting (whole_form target) at u is loc (own (uses a (whole_form target))) w.state (stands_later a visible s w.state first.grown stands) in
+      then_part types texts so_far fs f no_gift tt None s (gives (w.given, l.given) l.state) _ (both_of P Q) no_gift stands.opened
+      (and_part types texts so_far fs f no_gift tt s w l P Q stands.opened first second)
+      (acted_part types texts so_far fs f (both_of P Q) (w.given, l.given) e.place (pointed w.given l.given) l.state
+      (λ h. pointed_fine types texts so_far fs f l.given u e.ty w.given loc h.1 taken h.0)
       (λ n k p. pointed_ready f l.given n n w.given k p.1 p.0)
       (λ n m k p. pointed_keeps f l.given n n m w.given k p.1 p.0))
 
-  assigned_part : (target e : Typed) (equals behind : Place) (s : State) → (bt : is_built_expression target ≡ true) → (be : is_built_expression e ≡ true) → IsSimple a.program a.function.locals a.function.result visible (assign target equals (one e)) → Standing s
+  assigned_part : (target e : Typed) (equals behind : Place) (s : State) → (bt : is_reached_expression texts so_far target ≡ true) → (be : is_reached_expression texts so_far e ≡ true) → IsSimple a.program a.function.locals a.function.result visible (assign target equals (one e)) → Standing s
       → Acts s (assigned a target equals (one e) behind s)
   assigned_part target e equals behind s bt be h stands = go is.kind.kind
     where
-      is : IsWhole a visible types texts fs f setting (whole_form target)
+      is : IsWhole a visible types texts so_far fs f setting (whole_form target)
       is = whole target bt h.0.1
 
       at : IsFree a.program.types target
-      at = free_place a.program.types target is.kind h.0.0
+      at = free_place so_far a.program.types target is.kind h.0.0
 
       given : is_given a.program.types (own_type target.ty) e ≡ true
       given = subst (λ (t : Ty). is_given a.program.types t e ≡ true) (own_same target.ty) h.1.0
@@ -180,42 +180,49 @@ module _ (a : Around) (visible : List ℕ) (types : Types) (texts : ℕ) (fs : L
       chosen : (k : Class) → class (Some (own_type target.ty)) ≡ k → Acts s (assigned_by k (uses a (whole_form e)) (own_type target.ty) (target_of (uses a (whole_form target))) equals behind s) → Acts s (assigned a target equals (one e) behind s)
       chosen k is part = subst (λ (x : Class). Acts s (assigned_by x (uses a (whole_form e)) (own_type target.ty) (target_of (uses a (whole_form target))) equals behind s)) (sym is) part
 
-      go : HasKind a.program.types target → Acts s (assigned a target equals (one e) behind s)
+      go : HasKind so_far a.program.types target → Acts s (assigned a target equals (one e) behind s)
       go (of_number t own_is v) =
           chosen classes.Value (ap (λ (x : ExprType). class (Some (own_type x))) own_is ∙ value_class t v) (value_assigned_part target e equals behind s is (whole e be h.1.1) at (ap is_number own_is ∙ v) given stands)
       go (of_pointer to constant own_is v) =
           chosen classes.Pointer (ap (λ (x : ExprType). class (Some (own_type x))) own_is)
-          (pointer_assigned_part target e equals behind s to constant is (whole e be h.1.1) own_is v (subst (λ (x : ExprType). is_given a.program.types (own_type x) e ≡ true) own_is given) stands)
+          (let fits = subst (λ (x : ExprType). is_given a.program.types (own_type x) e ≡ true) own_is given in
+          pointer_assigned_part target e equals behind s (ty.Raw to constant) refl is (whole e be h.1.1) own_is (given_pointer a.program.types (ty.Raw to constant) e refl fits) (given_raw a.program.types types setting.front to constant v e fits) stands)
+      go (of_view so own_is) =
+          chosen classes.Pointer (ap (λ (x : ExprType). class (Some (own_type x))) own_is)
+          (let from = whole e be h.1.1 in
+          let seen = seen_kind so_far a.program.types e from.kind.kind (given_view a.program.types e (subst (λ (x : ExprType). is_given a.program.types (own_type x) e ≡ true) own_is given)) in
+          pointer_assigned_part target e equals behind s ty.View refl is from own_is (seen_pointed e.ty seen) (given_seen types e.ty seen) stands)
+      go (a_text own v) = absurd (value_place (sym v ∙ at.place))
       go (no_value own v) = absurd (value_place (sym v ∙ at.place))
       go (a_null own v) = absurd (value_place (sym v ∙ at.place))
 
   -- ---- assignments that compute, and steps
 
   -- what a place holds, as a value of a type
-  held_part : (target : Typed) (o : Operand) (t : Ty) (s : State) → is_value (own_type target.ty) ≡ true → is_value t ≡ true → IsOpen s → Part types texts fs f (a_target (own_type target.ty)) o None s (held target o t s) (a_value t)
+  held_part : (target : Typed) (o : Operand) (t : Ty) (s : State) → is_value (own_type target.ty) ≡ true → is_value t ≡ true → IsOpen s → Part types texts so_far fs f (a_target (own_type target.ty)) o None s (held target o t s) (a_value t)
   held_part target o t s v w opened =
-      as_type_part types texts fs f (a_target (own_type target.ty)) o (own_type target.ty) t target.place (read (own_type target.ty) target.place (gives o)) None s w tt opened
-      (λ into wanted. load_part types texts fs f into (own_type target.ty) false target.place o s v wanted)
+      as_type_part types texts so_far fs f (a_target (own_type target.ty)) o (own_type target.ty) t target.place (read (own_type target.ty) target.place (gives o)) None s w tt opened
+      (λ into wanted. load_part types texts so_far fs f into (own_type target.ty) false target.place o s v wanted)
 
   -- the answer goes back
   put_back_part : (target : Typed) (x : (ℕ × ℕ) × Operand) (t : Ty) (place : Place) (o : Operator) (s : State) → is_value (own_type target.ty) ≡ true → is_value t ≡ true → is_promoted t ≡ true → answer_of o t ≡ t → IsOpen s
-      → Part types texts fs f (both_of (both_of (a_value t) (a_value t)) (a_target (own_type target.ty))) x None s (gives tt (put_back target x.1 t place (operation.Binary o x.0.0 x.0.1) s)) no_gift
+      → Part types texts so_far fs f (both_of (both_of (a_value t) (a_value t)) (a_target (own_type target.ty))) x None s (gives tt (put_back target x.1 t place (operation.Binary o x.0.0 x.0.1) s)) no_gift
   put_back_part target x t place o s v w p answers opened =
       let u = own_type target.ty in
       let N = both_of (a_value t) (a_value t) in
       let P = both_of N (a_target u) in
       let y = computed None t place (values.binary o x.0.0 x.0.1) s in
       let z = converted t u place y.given y.state in
-      let one = under_part types texts fs f N x.0 P x None s y (a_value t) (operator_part types texts fs f None t t place o x.0 s p answers w tt) (λ h. h.0) (λ n k h. h.0) in
-      let first = keep_part types texts fs f P x s (gives x s) y P (a_value t) opened (gives_part types texts fs f P x None x s P (λ b h. h) (λ b k alive h. h)) one in
+      let one = under_part types texts so_far fs f N x.0 P x None s y (a_value t) (operator_part types texts so_far fs f None t t place o x.0 s p answers w tt) (λ h. h.0) (λ n k h. h.0) in
+      let first = keep_part types texts so_far fs f P x s (gives x s) y P (a_value t) opened (gives_part types texts so_far fs f P x None x s P (λ b h. h) (λ b k alive h. h)) one in
       let later = opened_later s y.state opened one.grown in
-      let second = under_part types texts fs f (a_value t) y.given (both_of P (a_value t)) (x, y.given) None y.state z (a_value u) (converted_part types texts fs f t u place y.given y.state v later) (λ h. h.1) (λ n k h. h.1) in
-      then_part types texts fs f P x None s (gives ((x, y.given), z.given) z.state) _ (both_of (both_of P (a_value t)) (a_value u)) no_gift opened
-      (keep_part types texts fs f P x s (gives (x, y.given) y.state) z (both_of P (a_value t)) (a_value u) opened first second)
+      let second = under_part types texts so_far fs f (a_value t) y.given (both_of P (a_value t)) (x, y.given) None y.state z (a_value u) (converted_part types texts so_far fs f t u place y.given y.state v later) (λ h. h.1) (λ n k h. h.1) in
+      then_part types texts so_far fs f P x None s (gives ((x, y.given), z.given) z.state) _ (both_of (both_of P (a_value t)) (a_value u)) no_gift opened
+      (keep_part types texts so_far fs f P x s (gives (x, y.given) y.state) z (both_of P (a_value t)) (a_value u) opened first second)
       (saved_part (both_of (both_of P (a_value t)) (a_value u)) ((x, y.given), z.given) u z.given x.1 place z.state (λ h. h.1) (λ h. h.0.0.1) (λ n k h. (h.1, h.0.0.1)))
 
   -- the right side, the place, what it holds, and the operator
-  combined_part : (target e : Typed) (o : CompoundOperator) (place behind : Place) (t : Ty) (s : State) → IsWhole a visible types texts fs f setting (whole_form target) → IsWhole a visible types texts fs f setting (whole_form e) → IsFree a.program.types target
+  combined_part : (target e : Typed) (o : CompoundOperator) (place behind : Place) (t : Ty) (s : State) → IsWhole a visible types texts so_far fs f setting (whole_form target) → IsWhole a visible types texts so_far fs f setting (whole_form e) → IsFree a.program.types target
       → is_number target.ty ≡ true → is_number e.ty ≡ true → is_value t ≡ true → is_promoted t ≡ true → Standing s → Acts s (combined a target o place e behind t s)
   combined_part target e o place behind t s to from at n m w p stands =
       let u = own_type target.ty in
@@ -228,16 +235,16 @@ module _ (a : Around) (visible : List ℕ) (types : Types) (texts : ℕ) (fs : L
       let P = both_of (a_value t) (a_target u) in
       let Q = both_of P (a_value t) in
       let R = both_of (both_of (a_value t) (a_value t)) (a_target u) in
-      let pair = and_part types texts fs f no_gift tt s r l (a_value t) (a_target u) stands.opened first second in
+      let pair = and_part types texts so_far fs f no_gift tt s r l (a_value t) (a_target u) stands.opened first second in
       let later = opened_later s l.state stands.opened pair.grown in
-      let third = under_part types texts fs f (a_target u) l.given P (r.given, l.given) None l.state h (a_value t) (held_part target l.given t l.state v w later) (λ q. q.1) (λ n k q. q.1) in
+      let third = under_part types texts so_far fs f (a_target u) l.given P (r.given, l.given) None l.state h (a_value t) (held_part target l.given t l.state v w later) (λ q. q.1) (λ n k q. q.1) in
       let back = put_back_part target ((h.given, r.given), l.given) t place (compound_operator o) h.state v w p (compound_answer o t) (opened_later l.state h.state later third.grown) in
-      then_part types texts fs f no_gift tt None s (gives ((r.given, l.given), h.given) h.state) _ Q no_gift stands.opened
-      (keep_part types texts fs f no_gift tt s (gives (r.given, l.given) l.state) h P (a_value t) stands.opened pair third)
-      (under_part types texts fs f R ((h.given, r.given), l.given) Q ((r.given, l.given), h.given) None h.state _ no_gift back (λ q. ((q.1, q.0.0), q.0.1)) (λ n k q. ((q.1, q.0.0), q.0.1)))
+      then_part types texts so_far fs f no_gift tt None s (gives ((r.given, l.given), h.given) h.state) _ Q no_gift stands.opened
+      (keep_part types texts so_far fs f no_gift tt s (gives (r.given, l.given) l.state) h P (a_value t) stands.opened pair third)
+      (under_part types texts so_far fs f R ((h.given, r.given), l.given) Q ((r.given, l.given), h.given) None h.state _ no_gift back (λ q. ((q.1, q.0.0), q.0.1)) (λ n k q. ((q.1, q.0.0), q.0.1)))
 
   -- the place, what it holds, 1, and the operator
-  stepped_part : (target : Typed) (o : StepOperator) (place : Place) (t : Ty) (s : State) → IsWhole a visible types texts fs f setting (whole_form target) → IsFree a.program.types target → is_number target.ty ≡ true → is_value t ≡ true → is_promoted t ≡ true
+  stepped_part : (target : Typed) (o : StepOperator) (place : Place) (t : Ty) (s : State) → IsWhole a visible types texts so_far fs f setting (whole_form target) → IsFree a.program.types target → is_number target.ty ≡ true → is_value t ≡ true → is_promoted t ≡ true
       → Standing s → Acts s (stepped a target o place t s)
   stepped_part target o place t s to at n w p stands =
       let u = own_type target.ty in
@@ -249,31 +256,31 @@ module _ (a : Around) (visible : List ℕ) (types : Types) (texts : ℕ) (fs : L
       let opened = opened_later s l.state stands.opened first.grown in
       let second = held_part target l.given t l.state v w opened in
       let later = opened_later l.state h.state opened second.grown in
-      let third = constant_part types texts fs f None t place (pos 1) h.state w tt in
+      let third = constant_part types texts so_far fs f None t place (pos 1) h.state w tt in
       let P = both_of (a_target u) (a_value t) in
       let Q = both_of P (a_value t) in
       let R = both_of (both_of (a_value t) (a_value t)) (a_target u) in
       let back = put_back_part target ((h.given, r.given), l.given) t place (step_operator o) r.state v w p (step_answer o t) (opened_later h.state r.state later third.grown) in
-      then_part types texts fs f no_gift tt None s (gives ((l.given, h.given), r.given) r.state) _ Q no_gift stands.opened
-      (and_part types texts fs f no_gift tt s (gives (l.given, h.given) h.state) r P (a_value t) stands.opened (keep_part types texts fs f no_gift tt s l h (a_target u) (a_value t) stands.opened first second) third)
-      (under_part types texts fs f R ((h.given, r.given), l.given) Q ((l.given, h.given), r.given) None r.state _ no_gift back (λ q. ((q.0.1, q.1), q.0.0)) (λ n k q. ((q.0.1, q.1), q.0.0)))
+      then_part types texts so_far fs f no_gift tt None s (gives ((l.given, h.given), r.given) r.state) _ Q no_gift stands.opened
+      (and_part types texts so_far fs f no_gift tt s (gives (l.given, h.given) h.state) r P (a_value t) stands.opened (keep_part types texts so_far fs f no_gift tt s l h (a_target u) (a_value t) stands.opened first second) third)
+      (under_part types texts so_far fs f R ((h.given, r.given), l.given) Q ((l.given, h.given), r.given) None r.state _ no_gift back (λ q. ((q.0.1, q.1), q.0.0)) (λ n k q. ((q.0.1, q.1), q.0.0)))
 
   -- ---- calls whose answer is thrown away
 
   -- a value that nothing is done with
-  kept_part : (e : Typed) (behind : Place) (s : State) → IsWhole a visible types texts fs f setting (whole_form e) → is_number e.ty ≡ true → Standing s → Acts s (value (uses a (whole_form e)) behind (own_type e.ty) None s).state
+  kept_part : (e : Typed) (behind : Place) (s : State) → IsWhole a visible types texts so_far fs f setting (whole_form e) → is_number e.ty ≡ true → Standing s → Acts s (value (uses a (whole_form e)) behind (own_type e.ty) None s).state
   kept_part e behind s is n stands =
-      seen_part types texts fs f no_gift tt None s (value (uses a (whole_form e)) behind (own_type e.ty) None s) (a_value (own_type e.ty)) (λ (r : ℕ). tt) no_gift (is.valued n behind (own_type e.ty) (own_value e.ty n) None s tt stands) (λ b h. tt) (λ n k h. tt)
+      seen_part types texts so_far fs f no_gift tt None s (value (uses a (whole_form e)) behind (own_type e.ty) None s) (a_value (own_type e.ty)) (λ (r : ℕ). tt) no_gift (is.valued n behind (own_type e.ty) (own_value e.ty n) None s tt stands) (λ b h. tt) (λ n k h. tt)
 
-  alone_part : (e : Typed) (c : Called) (s : State) → IsCall a visible types texts fs f setting c e.ty e.category → e.ty ≡ Of ty.Void → Standing s
+  alone_part : (e : Typed) (c : Called) (s : State) → IsCall a visible types texts so_far fs f setting c e.ty e.category → e.ty ≡ Of ty.Void → Standing s
       → Acts s (giving.arguments a (all_uses a c.arguments) c.delimiters (around.parameter_types a c.function) s >> λ given s. emit e.place (called_alone c.function given) s)
   alone_part e c s is void stands =
       let w = giving.arguments a (all_uses a c.arguments) c.delimiters (around.parameter_types a c.function) s in
-      let P = arguments types texts fs f (parameter_types (Some is.of)) in
+      let P = arguments types texts so_far fs f (parameter_types (Some is.of)) in
       let callee = setting.callees c.function is.of is.there in
-      then_part types texts fs f no_gift tt None s w _ P no_gift stands.opened (is.hands s stands)
-      (acted_part types texts fs f P w.given e.place (called_alone c.function w.given) w.state
-      (λ h. alone_fine types texts fs f c.function w.given is.of callee h (result_later a visible types texts fs f setting c.function is.of is.there ∙ sym (ap own_type is.own) ∙ ap own_type void))
+      then_part types texts so_far fs f no_gift tt None s w _ P no_gift stands.opened (is.hands s stands)
+      (acted_part types texts so_far fs f P w.given e.place (called_alone c.function w.given) w.state
+      (λ h. alone_fine types texts so_far fs f c.function w.given is.of callee h (result_later a visible types texts so_far fs f setting c.function is.of is.there ∙ sym (ap own_type is.own) ∙ ap own_type void))
       (λ n k p. alone_ready f c.function (parameter_types (Some is.of)) w.given n k p)
       (λ n m k p. subst (Keeps f m None k) (sym (alone_after f c.function (parameter_types (Some is.of)) w.given n k p)) (keeps_all f m None k)))
 
@@ -283,11 +290,11 @@ module _ (a : Around) (visible : List ℕ) (types : Types) (texts : ℕ) (fs : L
       ap (λ (x : Ty). cond (is_void x) (e.alone s) (thrown_by (class (Some x)) e behind s)) own_is
       ∙ by_values (λ x. cond (is_void x) (e.alone s) (thrown_by (class (Some x)) e behind s) ≡ (value e behind (own e) None s).state) refl refl refl refl refl t v
 
-  discarded_part : (form : Form) (e : Typed) (behind : Place) (s : State) → e.form ≡ form → is_built_expression e ≡ true → Whole e → is_call form ≡ true → Standing s → Acts s (thrown e.category (uses a (whole_form e)) behind s)
+  discarded_part : (form : Form) (e : Typed) (behind : Place) (s : State) → e.form ≡ form → is_reached_expression texts so_far e ≡ true → Whole e → is_call form ≡ true → Standing s → Acts s (thrown e.category (uses a (whole_form e)) behind s)
   discarded_part (call g given d) e behind s same b h calls stands = kind is.kind
     where
-      is : IsCall a visible types texts fs f setting (record { function = g; arguments = given; delimiters = d }) e.ty e.category
-      is = (expression a visible types texts fs f setting e.form e b h).calls (record { function = g; arguments = given; delimiters = d }) (ap form_call same)
+      is : IsCall a visible types texts so_far fs f setting (record { function = g; arguments = given; delimiters = d }) e.ty e.category
+      is = (expression a visible types texts so_far fs f setting e.form e b h).calls (record { function = g; arguments = given; delimiters = d }) (ap form_call same)
 
       alone_is : (uses a (whole_form e)).alone s ≡ (giving.arguments a (all_uses a given) d (around.parameter_types a g) s >> λ given s. emit e.place (called_alone g given) s)
       alone_is = ap (λ (f : Form). (uses a (typed e.place e.ty e.category f)).alone s) same
@@ -306,27 +313,27 @@ module _ (a : Around) (visible : List ℕ) (types : Types) (texts : ℕ) (fs : L
 
   -- ---- any of these
 
-  done_part : (it : SimpleForm) (behind : Place) (s : State) → is_built_simple it ≡ true → IsSimple a.program a.function.locals a.function.result visible it → Standing s → Acts s (done a it behind s)
+  done_part : (it : SimpleForm) (behind : Place) (s : State) → is_reached_simple texts so_far it ≡ true → IsSimple a.program a.function.locals a.function.result visible it → Standing s → Acts s (done a it behind s)
   done_part (assign target equals (one e)) behind s b h stands =
-      let parts = and_parts (is_built_expression target) (is_built_expression e) b in assigned_part target e equals behind s parts.0 parts.1 h stands
-  done_part (assign target equals (several list)) behind s b h stands = absurd (false≢true (and_parts (is_built_expression target) false b).1)
+      let parts = and_parts (is_reached_expression texts so_far target) (is_reached_expression texts so_far e) b in assigned_part target e equals behind s parts.0 parts.1 h stands
+  done_part (assign target equals (several list)) behind s b h stands = absurd (false≢true (and_parts (is_reached_expression texts so_far target) false b).1)
   done_part (compound target o place e) behind s b h stands =
-      let parts = and_parts (is_built_expression target) (is_built_expression e) b in
+      let parts = and_parts (is_reached_expression texts so_far target) (is_reached_expression texts so_far e) b in
       let is = whole target parts.0 h.1.1 in
-      let plain = own_plain target.ty (operand_kind a.program.types target is.kind) in
-      let n = compounded_numbers o (own_type target.ty) e.ty plain.text (subst (λ (t : Ty). fits_at_all (compounded o t e.ty) ≡ true) (own_same target.ty) h.0) in
-      subst (λ (b : Bool). Acts s (cond b (appended a target place e s) (combined a target o place e behind (promoted (own_type target.ty) (own_type e.ty)) s))) (sym plain.text)
-      (combined_part target e o place behind (promoted (own_type target.ty) (own_type e.ty)) s is (whole e parts.1 h.2) (free_place a.program.types target is.kind h.1.0) (own_counts target.ty n.0) n.1
+      let plain = own_no_text so_far a.program.types target is.kind.kind in
+      let n = compounded_numbers o (own_type target.ty) e.ty plain (subst (λ (t : Ty). fits_at_all (compounded o t e.ty) ≡ true) (own_same target.ty) h.0) in
+      subst (λ (b : Bool). Acts s (cond b (appended a target place e s) (combined a target o place e behind (promoted (own_type target.ty) (own_type e.ty)) s))) (sym plain)
+      (combined_part target e o place behind (promoted (own_type target.ty) (own_type e.ty)) s is (whole e parts.1 h.2) (free_place so_far a.program.types target is.kind h.1.0) (own_counts target.ty n.0) n.1
       (promoted_value (own_type target.ty) (own_type e.ty)) (promoted_is (own_type target.ty) (own_type e.ty)) stands)
   done_part (step target o place) behind s b h stands =
       let is = whole target b h.1.1 in
-      let plain = own_plain target.ty (operand_kind a.program.types target is.kind) in
-      let n = step_value (own_type target.ty) plain.iterator (subst (λ (t : Ty). can_step t ≡ true) (own_same target.ty) h.0) in
-      subst (λ (b : Bool). Acts s (cond b (advanced (uses a (whole_form target)) o place s) (stepped a target o place (promoted (own_type target.ty) (own_type target.ty)) s))) (sym plain.iterator)
-      (stepped_part target o place (promoted (own_type target.ty) (own_type target.ty)) s is (free_place a.program.types target is.kind h.1.0) (own_counts target.ty n)
+      let plain = own_no_iterator so_far a.program.types target is.kind.kind in
+      let n = step_value (own_type target.ty) plain (subst (λ (t : Ty). can_step t ≡ true) (own_same target.ty) h.0) in
+      subst (λ (b : Bool). Acts s (cond b (advanced (uses a (whole_form target)) o place s) (stepped a target o place (promoted (own_type target.ty) (own_type target.ty)) s))) (sym plain)
+      (stepped_part target o place (promoted (own_type target.ty) (own_type target.ty)) s is (free_place so_far a.program.types target is.kind h.1.0) (own_counts target.ty n)
       (promoted_value (own_type target.ty) (own_type target.ty)) (promoted_is (own_type target.ty) (own_type target.ty)) stands)
-  done_part (discarded e) behind s b h stands = let parts = and_parts (is_call e.form) (is_built_expression e) b in discarded_part e.form e behind s refl parts.1 h parts.0 stands
+  done_part (discarded e) behind s b h stands = let parts = and_parts (is_call e.form) (is_reached_expression texts so_far e) b in discarded_part e.form e behind s refl parts.1 h parts.0 stands
 
   -- .. makes no temporaries
-  pub simple_part : (it : SimpleForm) (behind : Place) (s : State) → is_built_simple it ≡ true → IsSimple a.program a.function.locals a.function.result visible it → Standing s → Acts s (simple a it behind s)
+  pub simple_part : (it : SimpleForm) (behind : Place) (s : State) → is_reached_simple texts so_far it ≡ true → IsSimple a.program a.function.locals a.function.result visible it → Standing s → Acts s (simple a it behind s)
   simple_part it behind s b h stands = let part = done_part it behind s b h stands in subst (Acts s) (sym (same_pending s (done a it behind s) behind part.grown.pending)) part

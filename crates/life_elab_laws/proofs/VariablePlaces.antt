@@ -1,13 +1,13 @@
 -- Where the visible variables of a function lie while it is written.
-use Rattle.std.proofs.Common.{◌≡◌, ◌<◌, ℕ, Bool, true, false, ◌||◌, List, [], ◌∷◌, Contains, length, slice_get, Option, Some, None, refl, sym, ap, ◌∙◌, subst, unwrap_or, arith}
+use Rattle.std.proofs.Common.{◌≡◌, ◌<◌, inl, inr, ℕ, Bool, true, false, List, [], ◌∷◌, Contains, length, slice_get, Option, Some, refl, sym, ap, ◌∙◌, subst, unwrap_or, arith}
 use Rattle.std.proofs.lemmas.Bool.{false≢true}
 use Rattle.std.proofs.lemmas.Option.{slice_get_within}
-use Rattle.life_types.specs.TypeTests.{is_raw, is_value}
+use Rattle.life_types.specs.TypeTests.{is_value}
 use Rattle.life_types.specs.Types.{Types, class, class_at}
 use Rattle.life_types.specs.declared.ty.Ty.{Ty}
 use Rattle.life_types.specs.declared.ty.Ty.TheVariants as ty
 use Rattle.life_types.specs.declared.ty.TyId.{TyId}
-use Rattle.life_built.specs.Built.{is_built_variable, is_pointing}
+use Rattle.life_elab_laws.specs.Reached.{is_reached_variable}
 use Rattle.life_typed.specs.BaseTypes.{type_at}
 use Rattle.life_typed.specs.TypedForm.{Form, Typed}
 use Rattle.life_typed.specs.declared.typed_expr.ExprType.TheVariants.{Of}
@@ -25,30 +25,33 @@ use Rattle.life_writer.specs.Variables.{kind, place_of, place_of_kind, variable,
 use Rattle.life_writer.specs.Writing.{State}
 use Rattle.life_elab_laws.proofs.Fronts.{IsFront, front_then}
 use Rattle.life_elab_laws.proofs.Growing.{Grows, bare}
+use Rattle.life_elab_laws.proofs.Locations.{is_location}
 use Rattle.life_elab_laws.proofs.Making.{Alive, IsOpen, IsPlace, IsPointer}
+use Rattle.life_elab_laws.proofs.Reaching.{IsReachedType, variable_found}
 use Rattle.life_elab_laws.proofs.Values.{by_values}
 
 -- ---- what a variable is
 
--- a value, or a pointer or reference to one
-pub data IsVariableType (types : Types) (id : TyId) : Type 0 where
-  a_value : (t : Ty) → slice_get types.types id.0 ≡ Some t → is_value t ≡ true → IsVariableType types id
-  a_raw : (target : TyId) (constant : Bool) → slice_get types.types id.0 ≡ Some (ty.Raw target constant) → IsVariableType types id
-  a_reference : (target : TyId) (constant : Bool) → slice_get types.types id.0 ≡ Some (ty.Reference target constant) → is_value (type_at types target) ≡ true → IsVariableType types id
+-- a value, or a pointer or reference to one, or a view
+pub data IsVariableType (so_far : Bool) (types : Types) (id : TyId) : Type 0 where
+  a_value : (t : Ty) → slice_get types.types id.0 ≡ Some t → is_value t ≡ true → IsVariableType so_far types id
+  a_raw : (target : TyId) (constant : Bool) → slice_get types.types id.0 ≡ Some (ty.Raw target constant) → is_value (type_at types target) ≡ true → IsVariableType so_far types id
+  a_reference : (target : TyId) (constant : Bool) → slice_get types.types id.0 ≡ Some (ty.Reference target constant) → is_value (type_at types target) ≡ true → IsVariableType so_far types id
+  a_view : so_far ≡ false → slice_get types.types id.0 ≡ Some ty.View → IsVariableType so_far types id
 
-pub variable_type : (types : Types) (id : TyId) → is_built_variable types id ≡ true → IsVariableType types id
-variable_type types id b = go (slice_get types.types id.0) refl b
+pub variable_type : (so_far : Bool) (types : Types) (id : TyId) → is_reached_variable so_far types id ≡ true → IsVariableType so_far types id
+variable_type so_far types id b = let found = variable_found so_far types id b in go found.0 found.1 found.2
   where
-    go : (o : Option Ty) → slice_get types.types id.0 ≡ o → (is_value (unwrap_or o ty.Void) || is_pointing types (unwrap_or o ty.Void)) ≡ true → IsVariableType types id
-    go None at b = absurd (false≢true b)
-    go (Some ty.Bool) at b = a_value ty.Bool at refl
-    go (Some ty.Char) at b = a_value ty.Char at refl
-    go (Some ty.Int) at b = a_value ty.Int at refl
-    go (Some ty.Long) at b = a_value ty.Long at refl
-    go (Some ty.Size) at b = a_value ty.Size at refl
-    go (Some (ty.Raw target constant)) at b = a_raw target constant at
-    go (Some (ty.Reference target constant)) at b = a_reference target constant at b
-    go (Some _) at b = absurd (false≢true b)
+    go : (t : Ty) → slice_get types.types id.0 ≡ Some t → IsReachedType so_far types t → IsVariableType so_far types id
+    go t at (inr v) = a_view v.0 (at ∙ ap Some v.1)
+    go ty.Bool at (inl b) = a_value ty.Bool at refl
+    go ty.Char at (inl b) = a_value ty.Char at refl
+    go ty.Int at (inl b) = a_value ty.Int at refl
+    go ty.Long at (inl b) = a_value ty.Long at refl
+    go ty.Size at (inl b) = a_value ty.Size at refl
+    go (ty.Raw target constant) at (inl b) = a_raw target constant at b
+    go (ty.Reference target constant) at (inl b) = a_reference target constant at b
+    go _ at (inl b) = absurd (false≢true b)
 
 -- ---- where it lies
 
@@ -120,23 +123,28 @@ module _ (a : Around) (s : State) (x : ℕ) (v : TypedLocal) (h : IsVariableAt a
   pub pointer_there : (f : Function) (k : List Known) → Alive f s k → IsPointer (whole (variable s x)) (length s.locals) k
   pointer_there f k alive = record { local = variable s x; is = refl; below = below; held = alive.living (variable s x) h.lives }
 
--- an expression of a raw pointer type that names a variable names one of that type
-pub named_raw : (types : Types) (e : Typed) (v : TypedLocal) (form : Form) → is_built_variable types v.ty ≡ true → e ≡ variable_of (type_at types v.ty) types v.ty v.constant e.place form
-    → (t : Ty) → e.ty ≡ Of t → is_raw t ≡ true → (target : TyId) × (constant : Bool) × (type_at types v.ty ≡ ty.Raw target constant)
-named_raw types e v form built is t of raw = go (type_at types v.ty) refl built is
+-- an expression of the type of a raw pointer or a view that names a variable names one of that type
+pub named_pointer : (so_far : Bool) (types : Types) (e : Typed) (v : TypedLocal) (form : Form) → is_reached_variable so_far types v.ty ≡ true → e ≡ variable_of (type_at types v.ty) types v.ty v.constant e.place form
+    → (t : Ty) → e.ty ≡ Of t → is_location t ≡ true → slice_get types.types v.ty.0 ≡ Some t
+named_pointer so_far types e v form reached is t of loc = go (variable_type so_far types v.ty reached)
   where
     same : {u w : Ty} → Of u ≡ Of w → u ≡ w
     same e = cc
 
-    not_raw : (u : Ty) → is_value u ≡ true → e.ty ≡ Of u → ⊥
-    not_raw u v at = false≢true (sym (by_values (λ t. is_raw t ≡ false) refl refl refl refl refl u v) ∙ subst (λ (w : Ty). is_raw w ≡ true) (same (sym of ∙ at)) raw)
+    found : (u : Ty) → slice_get types.types v.ty.0 ≡ Some u → e ≡ variable_of u types v.ty v.constant e.place form
+    found u at = is ∙ ap (λ (o : Option Ty). variable_of (unwrap_or o ty.Void) types v.ty v.constant e.place form) at
 
-    go : (u : Ty) → type_at types v.ty ≡ u → (is_value u || is_pointing types u) ≡ true → e ≡ variable_of u types v.ty v.constant e.place form → (target : TyId) × (constant : Bool) × (type_at types v.ty ≡ ty.Raw target constant)
-    go (ty.Raw target constant) at b is = (target, constant, at)
-    go (ty.Reference target constant) at b is = absurd (not_raw (type_at types target) b (ap (λ (x : Typed). x.ty) is))
-    go ty.Bool at b is = absurd (not_raw ty.Bool refl (ap (λ (x : Typed). x.ty) is ∙ ap Of at))
-    go ty.Char at b is = absurd (not_raw ty.Char refl (ap (λ (x : Typed). x.ty) is ∙ ap Of at))
-    go ty.Int at b is = absurd (not_raw ty.Int refl (ap (λ (x : Typed). x.ty) is ∙ ap Of at))
-    go ty.Long at b is = absurd (not_raw ty.Long refl (ap (λ (x : Typed). x.ty) is ∙ ap Of at))
-    go ty.Size at b is = absurd (not_raw ty.Size refl (ap (λ (x : Typed). x.ty) is ∙ ap Of at))
-    go _ at b is = absurd (false≢true b)
+    typed : (u : Ty) → slice_get types.types v.ty.0 ≡ Some u → type_at types v.ty ≡ u
+    typed u at = ap (λ (o : Option Ty). unwrap_or o ty.Void) at
+
+    not_value : (u : Ty) → is_value u ≡ true → e.ty ≡ Of u → ⊥
+    not_value u v at = false≢true (sym (by_values (λ t. is_location t ≡ false) refl refl refl refl refl u v) ∙ subst (λ (w : Ty). is_location w ≡ true) (same (sym of ∙ at)) loc)
+
+    plain : (u : Ty) → is_value u ≡ true → e ≡ variable_of u types v.ty v.constant e.place form → e.ty ≡ Of (type_at types v.ty)
+    plain u w is = by_values (λ u. e ≡ variable_of u types v.ty v.constant e.place form → e.ty ≡ Of (type_at types v.ty)) (λ is. ap (λ (x : Typed). x.ty) is) (λ is. ap (λ (x : Typed). x.ty) is) (λ is. ap (λ (x : Typed). x.ty) is) (λ is. ap (λ (x : Typed). x.ty) is) (λ is. ap (λ (x : Typed). x.ty) is) u w is
+
+    go : IsVariableType so_far types v.ty → slice_get types.types v.ty.0 ≡ Some t
+    go (a_value u at w) = absurd (not_value u w (plain u w (found u at) ∙ ap Of (typed u at)))
+    go (a_raw target constant at w) = at ∙ ap Some (sym (same (sym of ∙ ap (λ (x : Typed). x.ty) (found (ty.Raw target constant) at) ∙ ap Of (typed (ty.Raw target constant) at))))
+    go (a_reference target constant at w) = absurd (not_value (type_at types target) w (ap (λ (x : Typed). x.ty) (found (ty.Reference target constant) at)))
+    go (a_view so at) = at ∙ ap Some (sym (same (sym of ∙ ap (λ (x : Typed). x.ty) (found ty.View at) ∙ ap Of (typed ty.View at))))

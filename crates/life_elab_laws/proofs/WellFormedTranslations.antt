@@ -1,12 +1,13 @@
--- The core program of a well typed program that is built is well formed, is served so far, and leaves alone what is given over.
-use Rattle.std.proofs.Common.{◌≡◌, ◌⊎◌, inl, inr, ℕ, true, List, [], length, nat_le, slice_get, Option, Some, refl, sym, ap, ◌∙◌, subst}
+-- The core program of a well typed program that the law reaches is well formed, is served where it is one that is served so far, and leaves alone what is given over.
+use Rattle.std.proofs.Common.{◌≡◌, ◌⊎◌, inl, inr, ℕ, Bool, true, false, List, [], length, nat_le, slice_get, Option, Some, refl, sym, ap, ◌∙◌, subst, Bool}
 use Rattle.std.specs.List.{list_all}
-use Rattle.std.proofs.lemmas.Bool.{and_from, and_parts}
+use Rattle.std.proofs.lemmas.Bool.{and_from}
 use Rattle.life_types.specs.Trees.{IsOrdered}
 use Rattle.life_types.specs.Types.{HasEachOnce, Types, class}
 use Rattle.life_types.specs.declared.ty.Ty.{Ty}
 use Rattle.life_types.specs.declared.ty.TyId.{TyId}
-use Rattle.life_built.specs.Built.{are_built_functions, has_built_types, has_no_structs, is_built, is_built_variable}
+use Rattle.life_built.specs.Built.{has_no_structs}
+use Rattle.life_elab_laws.specs.Reached.{are_reached_functions, is_reached_variable}
 use Rattle.life_typed.specs.Programs.{FunctionForm, ProgramForm}
 use Rattle.life_core.specs.Function.{Function}
 use Rattle.life_core.specs.Served.{is_served, is_served_local, is_served_program, is_served_spot}
@@ -18,27 +19,28 @@ use Rattle.life_proper.specs.WellFormed.{is_well_formed_tree}
 use Rattle.life_proper.specs.WellFormedPrograms.{IsWellFormedProgram, are_well_formed_locals, is_name, is_result_of, is_well_formed_function, names_parameters}
 use Rattle.life_well_typed.specs.Functions.{IsWellTyped}
 use Rattle.life_well_typed.specs.Names.{HasNames}
-use Rattle.life_well_typed.specs.Results.{HasResults, HaveMembers}
+use Rattle.life_well_typed.specs.Results.{HasResults}
 use Rattle.life_writer.specs.Variables.{kind}
 use Rattle.life_elab.specs.ProgramForms.{translated, written}
 use Rattle.life_elab.specs.Programs.{around, texts_of}
 use Rattle.life_elab_laws.proofs.ExpressionKinds.{variable_built}
-use Rattle.life_elab_laws.proofs.FormedLocals.{variable_fits, variable_found}
+use Rattle.life_elab_laws.proofs.FormedLocals.{variable_fits}
 use Rattle.life_elab_laws.proofs.Fronts.{IsFront}
+use Rattle.life_elab_laws.proofs.Reaching.{variable_found}
 use Rattle.life_elab_laws.proofs.ServedLocals.{all_pass, local_served, register_served, variable_served}
 use Rattle.life_elab_laws.proofs.FlatLocals.{IsLocalType, flat_locals, variable_typed}
 use Rattle.life_elab_laws.proofs.GivenNothing.{gives_nothing, keeps_all}
-use Rattle.life_elab_laws.proofs.ProgramNames.{no_members, no_structs_there, own_names}
-use Rattle.life_elab_laws.proofs.Programs.{IsWritten, each_written, front, functions_built, grows, of_program, one_body, one_head, passed_by_all, whole, whole_order}
+use Rattle.life_elab_laws.proofs.ProgramNames.{no_members, own_names}
+use Rattle.life_elab_laws.proofs.Programs.{IsWritten, each_written, front, grows, of_program, one_body, one_head, passed_by_all, whole, whole_order}
 use Rattle.life_elab_laws.proofs.Shaped.{variable_later}
 use Rattle.life_elab_laws.proofs.WrittenLocals.{IsIntermediate, IsOwn, fits_later}
 
-module _ (p : ProgramForm) (typed : IsWellTyped p) (built : are_built_functions p.types p.functions ≡ true) (results : HasResults p) where
+module _ (so_far : Bool) (p : ProgramForm) (typed : IsWellTyped p) (built : are_reached_functions (length (texts_of p)) so_far p.types p.functions ≡ true) (results : HasResults p) where
   abbrev functions : List Function
-  functions = (whole p typed built results).functions
+  functions = (whole so_far p typed built results).functions
 
   abbrev types : Types
-  types = (whole p typed built results).types
+  types = (whole so_far p typed built results).types
 
   abbrev names : ℕ
   names = length p.names
@@ -51,40 +53,40 @@ module _ (p : ProgramForm) (typed : IsWellTyped p) (built : are_built_functions 
   module _ (n : ℕ) (f : FunctionForm) (at : slice_get p.functions n ≡ Some f) (core : Function) (w : IsWritten p types f core) where
     -- each local is a value, a pointer or reference to one, or a view
     local_type : (x : ℕ) (l : Local) → slice_get core.locals x ≡ Some l → IsLocalType types l
-    local_type x l there = go ((grows p typed built results n f at w.before w.table).own x l (subst (λ (c : Function). slice_get c.locals x ≡ Some l) w.is there))
+    local_type x l there = go ((grows so_far p typed built results n f at w.before w.table).own x l (subst (λ (c : Function). slice_get c.locals x ≡ Some l) w.is there))
       where
         go : IsIntermediate p.types (written (around p f) w.before).types l ⊎ IsOwn (around p f) l → IsLocalType types l
-        go (inl is) = record { ty = is.ty; typed = w.later l.ty.0 is.ty is.typed; fits = fits_later p.types types (front p typed built results n f at core w) is.ty is.fits }
+        go (inl is) = record { ty = is.ty; typed = w.later l.ty.0 is.ty is.typed; fits = fits_later p.types types (front so_far p typed built results n f at core w) is.ty is.fits }
         go (inr is) =
             variable_typed types l
-            (variable_later p.types types (front p typed built results n f at core w) l.ty
-            (subst (λ (id : TyId). is_built_variable p.types id ≡ true) (sym is.of.typed) (variable_built p.types f.locals is.number is.variable (of_program p typed built results n f at).built.variables is.there)))
+            (variable_later p.types types (front so_far p typed built results n f at core w) false l.ty
+            (subst (λ (id : TyId). is_reached_variable false p.types id ≡ true) (sym is.of.typed) (variable_built false p.types f.locals is.number is.variable (of_program so_far p typed built results n f at).built.any is.there)))
 
     served_local : (x : ℕ) (l : Local) → slice_get core.locals x ≡ Some l → is_served_local types l ≡ true
-    served_local x l there = go ((grows p typed built results n f at w.before w.table).own x l (subst (λ (c : Function). slice_get c.locals x ≡ Some l) w.is there))
+    served_local x l there = go ((grows so_far p typed built results n f at w.before w.table).own x l (subst (λ (c : Function). slice_get c.locals x ≡ Some l) w.is there))
       where
         front_is : IsFront p.types.types types.types
-        front_is = front p typed built results n f at core w
+        front_is = front so_far p typed built results n f at core w
 
         go : IsIntermediate p.types (written (around p f) w.before).types l ⊎ IsOwn (around p f) l → is_served_local types l ≡ true
         go (inl is) = let fits = fits_later p.types types front_is is.ty is.fits in local_served types l Register is.ty is.kind (w.later l.ty.0 is.ty is.typed) fits (register_served types is.ty fits)
         go (inr is) =
-            let found = variable_found p.types is.variable.ty (variable_built p.types f.locals is.number is.variable (of_program p typed built results n f at).built.variables is.there) in
+            let found = variable_found so_far p.types is.variable.ty (variable_built so_far p.types f.locals is.number is.variable (of_program so_far p typed built results n f at).built.variables is.there) in
             local_served types l (kind (class (Some found.0))) found.0 (is.of.kind ∙ ap (λ (o : Option Ty). kind (class o)) found.1)
             (ap (λ (id : TyId). slice_get types.types id.0) is.of.typed ∙ front_is is.variable.ty.0 found.0 found.1)
-            (fits_later p.types types front_is found.0 (variable_fits p.types found.0 found.2)) (variable_served p.types found.0 found.2)
+            (fits_later p.types types front_is found.0 (variable_fits p.types so_far found.0 found.2)) (variable_served p.types so_far found.0 found.2)
 
-    one_served : is_served types core ≡ true
-    one_served =
+    one_served : so_far ≡ true → is_served types core ≡ true
+    one_served so =
         and_from (list_all (is_served_local types) core.locals) (list_all (is_served_spot types core) (spots core.body)) (all_pass (is_served_local types) core.locals served_local)
-        (one_body p typed built results n f at core w).stated.served
+        ((one_body so_far p typed built results n f at core w).stated.served so)
 
     body_formed : is_well_formed_tree types texts functions core core.body ≡ true
-    body_formed = (one_body p typed built results n f at core w).stated.formed
+    body_formed = (one_body so_far p typed built results n f at core w).stated.formed
 
     one_formed : HasNames p → is_well_formed_function types names texts functions core ≡ true
     one_formed named =
-        let head = one_head p typed built results n f at core w named in
+        let head = one_head so_far p typed built results n f at core w named in
         and_from (is_name names core.name) _ head.name
         (and_from (nat_le core.parameters (length core.locals)) _ head.count
         (and_from (names_parameters core.parameters core.promise) _ head.promise
@@ -96,32 +98,21 @@ module _ (p : ProgramForm) (typed : IsWellTyped p) (built : are_built_functions 
 
   -- ---- all of them
 
-  program_keeps : keeps_all_given (translated p) ≡ true
-  program_keeps = passed_by_all p typed built results (all_keep_given types) (list_all (all_keep_given types)) refl (λ core cores. refl) one_keeps
+  pub program_keeps : keeps_all_given (translated p) ≡ true
+  program_keeps = passed_by_all so_far p typed built results (all_keep_given types) (list_all (all_keep_given types)) refl (λ core cores. refl) one_keeps
 
-  program_serves : is_served_program (translated p) ≡ true
-  program_serves = passed_by_all p typed built results (is_served types) (list_all (is_served types)) refl (λ core cores. refl) one_served
+  pub program_serves : so_far ≡ true → is_served_program (translated p) ≡ true
+  program_serves so = passed_by_all so_far p typed built results (is_served types) (list_all (is_served types)) refl (λ core cores. refl) (λ n f at core w. one_served n f at core w so)
 
-  program_formed : HasNames p → IsOrdered p.types → HasEachOnce p.types → p.types.structs ≡ [] → has_no_structs p.structs ≡ true → IsWellFormedProgram (translated p)
+  pub program_formed : HasNames p → IsOrdered p.types → HasEachOnce p.types → p.types.structs ≡ [] → has_no_structs p.structs ≡ true → IsWellFormedProgram (translated p)
   program_formed named ordered once structs none =
-      let order = whole_order p typed built results in
+      let order = whole_order so_far p typed built results in
       record {
         table = order.ordered ordered;
         once = order.once once;
         members = no_members names types.structs p.structs (order.structs ∙ structs) none;
-        own_names = own_names p types p.functions functions (each_written p typed built results) ∙ named.own;
+        own_names = own_names p types p.functions functions (each_written so_far p typed built results) ∙ named.own;
         functions =
-            passed_by_all p typed built results (is_well_formed_function types names texts functions) (list_all (is_well_formed_function types names texts functions)) refl (λ core cores. refl)
+            passed_by_all so_far p typed built results (is_well_formed_function types names texts functions) (list_all (is_well_formed_function types names texts functions)) refl (λ core cores. refl)
             (λ n f at core w. one_formed n f at core w named);
       }
-
-pub program_well_formed : (p : ProgramForm) → IsWellTyped p → HasResults p → HasNames p → IsOrdered p.types → HasEachOnce p.types → HaveMembers p.structs p.types.structs → is_built p ≡ true → IsWellFormedProgram (translated p)
-program_well_formed p typed results named ordered once have b =
-    let none = (and_parts (has_no_structs p.structs) (are_built_functions p.types p.functions) (and_parts (has_built_types p.types) _ b).1).0 in
-    program_formed p typed (functions_built p b) results named ordered once (no_structs_there p.structs p.types.structs none have) none
-
-pub program_served : (p : ProgramForm) → IsWellTyped p → HasResults p → is_built p ≡ true → is_served_program (translated p) ≡ true
-program_served p typed results b = program_serves p typed (functions_built p b) results
-
-pub program_keeps_given : (p : ProgramForm) → IsWellTyped p → HasResults p → is_built p ≡ true → keeps_all_given (translated p) ≡ true
-program_keeps_given p typed results b = program_keeps p typed (functions_built p b) results

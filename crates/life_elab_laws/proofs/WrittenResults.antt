@@ -1,12 +1,12 @@
--- The core program of a well typed program that is built writes its results: on every way to a return of a function that gives a value back the result was
+-- The core program of a well typed program that the law reaches writes its results: on every way to a return of a function that gives a value back the result was
 -- written, but for the int of main.
-use Rattle.std.proofs.Common.{◌≡◌, ℕ, Bool, true, false, ◌||◌, List, slice_get, Some, None, refl, sym, ap, ◌∙◌, subst}
+use Rattle.std.proofs.Common.{◌≡◌, ℕ, Bool, true, false, ◌||◌, List, length, slice_get, Some, None, refl, sym, ap, ◌∙◌, subst}
 use Rattle.std.proofs.lemmas.Bool.{false≢true}
 use Rattle.life_types.specs.TypeTests.{is_value, is_void}
 use Rattle.life_types.specs.declared.ty.NameId.{NameId}
 use Rattle.life_types.specs.declared.ty.Ty.{Ty}
 use Rattle.life_types.specs.declared.ty.Ty.TheVariants as ty
-use Rattle.life_built.specs.Built.{are_built_functions, is_built}
+use Rattle.life_elab_laws.specs.Reached.{are_reached_functions}
 use Rattle.life_typed.specs.BaseTypes.{type_at}
 use Rattle.life_typed.specs.Ends.{ends}
 use Rattle.life_typed.specs.Programs.{FunctionForm, ProgramForm, is_main}
@@ -18,10 +18,10 @@ use Rattle.life_well_typed.specs.Functions.{IsWellTyped}
 use Rattle.life_well_typed.specs.Mains.{HasIntMain, HaveIntMains}
 use Rattle.life_well_typed.specs.Results.{HasResults}
 use Rattle.life_elab.specs.ProgramForms.{translated}
-use Rattle.life_elab.specs.Programs.{around}
+use Rattle.life_elab.specs.Programs.{around, texts_of}
 use Rattle.life_elab_laws.proofs.Fronts.{each_at}
 use Rattle.life_elab_laws.proofs.GivingBack.{GivesValue}
-use Rattle.life_elab_laws.proofs.Programs.{IsWritten, functions_built, of_all, of_program, one_body, whole, written_result}
+use Rattle.life_elab_laws.proofs.Programs.{IsWritten, of_all, of_program, one_body, whole, written_result}
 use Rattle.life_elab_laws.proofs.TypedKinds.{none_some}
 use Rattle.life_elab_laws.proofs.Values.{by_results, by_values}
 
@@ -45,25 +45,24 @@ int_at p = each_at (λ (f : FunctionForm). is_main p.names f.name ≡ true → t
 
 -- ---- each function
 
-module _ (p : ProgramForm) (typed : IsWellTyped p) (built : are_built_functions p.types p.functions ≡ true) (results : HasResults p) (mains : HasIntMain p) where
-  module _ (n : ℕ) (f : FunctionForm) (at : slice_get p.functions n ≡ Some f) (core : Function) (w : IsWritten p (whole p typed built results).types f core) where
-    gives : writes_result p.names (whole p typed built results).types core ≡ true → GivesValue (around p f)
+module _ (so_far : Bool) (p : ProgramForm) (typed : IsWellTyped p) (built : are_reached_functions (length (texts_of p)) so_far p.types p.functions ≡ true) (results : HasResults p) (mains : HasIntMain p) where
+  module _ (n : ℕ) (f : FunctionForm) (at : slice_get p.functions n ≡ Some f) (core : Function) (w : IsWritten p (whole so_far p typed built results).types f core) where
+    gives : writes_result p.names (whole so_far p typed built results).types core ≡ true → GivesValue (around p f)
     gives must =
-        let of = of_program p typed built results n f at in
+        let of = of_program so_far p typed built results n f at in
         needs (is_main p.names f.name) (type_at p.types f.result) (ends f.body) of.built.result (int_at p p.functions n f mains at) of.typed.ending
         (ap (λ (x : NameId). is_written_by (is_main p.names x) (Some (type_at p.types f.result))) (sym (ap (λ (c : Function). c.name) w.is))
-        ∙ ap (is_written_by (is_main p.names core.name)) (sym (written_result p typed built results n f at core w))
+        ∙ ap (is_written_by (is_main p.names core.name)) (sym (written_result so_far p typed built results n f at core w))
         ∙ must)
 
-    one_result : HasResultWritten p.names (whole p typed built results).types core
+    one_result : HasResultWritten p.names (whole so_far p typed built results).types core
     one_result must = λ q bits l way here is.
         let g = gives must in
-        let body = one_body p typed built results n f at core w in
-        results_found (whole p typed built results).types core body.checked core.parameters (body.returns g) q bits l way here is
+        let body = one_body so_far p typed built results n f at core w in
+        results_found (whole so_far p typed built results).types core body.checked core.parameters (body.returns g) q bits l way here is
 
-pub program_writes_results : (p : ProgramForm) → IsWellTyped p → HasResults p → HasIntMain p → is_built p ≡ true → WritesResults (translated p)
-program_writes_results p typed results mains b =
-    let built = functions_built p b in
-    let names = p.names in
-    let types = (whole p typed built results).types in
-    of_all p typed built results (HasResultWritten names types) (HaveResultsWritten names types) tt (λ core cores one others. (one, others)) (one_result p typed built results mains)
+  pub program_writes_results : WritesResults (translated p)
+  program_writes_results =
+      let names = p.names in
+      let types = (whole so_far p typed built results).types in
+      of_all so_far p typed built results (HasResultWritten names types) (HaveResultsWritten names types) tt (λ core cores one others. (one, others)) one_result

@@ -1,7 +1,10 @@
 //! What translations are: the core program of a well typed program that is built is proper, and has short
-//! places.
+//! places. What is said of more programs stands beside it, up to what isn't proved of every program yet.
 #![tactic(auto)]
 
 mod laws;
 
-pub use laws::{translations_are_proper, translations_have_short_places};
+pub use laws::{
+    reached_translations_have_short_places, translations_are_proper,
+    translations_have_proper_parts, translations_have_short_places,
+};

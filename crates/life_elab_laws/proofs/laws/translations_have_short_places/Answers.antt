@@ -1,4 +1,4 @@
-use Rattle.life_elab_laws.proofs.Programs.{translation_short}
+use Rattle.life_elab_laws.proofs.ProperTranslations.{translation_short}
 use Rattle.life_elab_laws.proofs.laws.translations_have_short_places.Goals as goal
 
 pub returns : goal.returns

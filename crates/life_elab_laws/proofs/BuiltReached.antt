@@ -1,0 +1,143 @@
+-- What is built is reached, where the program is one that is served so far.
+use Rattle.std.proofs.Common.{◌≡◌, ℕ, Bool, true, ◌&&◌, List, [], ◌∷◌, length, take, slice_get, Option, Some, None, refl}
+use Rattle.std.proofs.lemmas.Bool.{and_from, and_parts, false≢true, or_left}
+use Rattle.life_types.specs.Types.{Types}
+use Rattle.life_types.specs.declared.ty.Ty.{Ty}
+use Rattle.life_types.specs.declared.ty.TyId.{TyId}
+use Rattle.life_built.specs.Built.{are_built_functions, are_built_items, are_built_variables, are_values, is_built_declaration, is_built_declared, is_built_expression, is_built_form, is_built_function, is_built_if_any, is_built_initial, is_built_item, is_built_result, is_built_simple, is_built_start, is_built_statement, is_built_step, is_built_value, is_built_variable, is_call, is_default, needs_no_temporary}
+use Rattle.life_typed.specs.BaseTypes.{type_at}
+use Rattle.life_typed.specs.Programs.{FunctionForm}
+use Rattle.life_typed.specs.TypedForm.{Form, Typed, number, character, boolean, text, null, local, call, construct, paren, move, make_unique, text_of, input, member, dereference, index, method, negate, not as negation, address_of, binary, typed, nothing, ◌⨟◌, whole}
+use Rattle.life_typed.specs.TypedStatement.{StmtForm, DeclarationForm, ForStartForm, InitialForm, ItemForm, SimpleForm, one, several, assign, compound, step, discarded, declared_first, done_first, printed, line_end, block, empty, sentence, branching, while_loop, for_loop, range_loop, loop_break, loop_continue, returned, print, assertion, branch, declaration, no_more, chain}
+use Rattle.life_typed.specs.declared.typed_program.TypedLocal.{TypedLocal}
+use Rattle.life_elab_laws.specs.Reached.{are_reached_functions, are_reached_items, are_reached_variables, is_reached_declaration, is_reached_declared, is_reached_expression, is_reached_form, is_reached_function, is_reached_if_any, is_reached_initial, is_reached_item, is_reached_simple, is_reached_start, is_reached_statement, is_reached_step, is_reached_value, is_reached_variable}
+
+-- two tests that both hold
+both : (a b c d : Bool) → (a ≡ true → c ≡ true) → (b ≡ true → d ≡ true) → (a && b) ≡ true → (c && d) ≡ true
+both a b c d first second h = let parts = and_parts a b h in and_from c d (first parts.0) (second parts.1)
+
+module _ (texts : ℕ) where
+  pub form_as : (form : Form) → is_built_form form ≡ true → is_reached_form texts true form ≡ true
+  form_as (number n) h = refl
+  form_as (character c) h = refl
+  form_as (boolean b) h = refl
+  form_as (text n) h = absurd (false≢true h)
+  form_as null h = refl
+  form_as (local x) h = refl
+  form_as (call f arguments delimiters) h = form_as arguments h
+  form_as (construct structure elements delimiters) h = absurd (false≢true h)
+  form_as (paren inner closing) h = form_as inner h
+  form_as (move x) h = absurd (false≢true h)
+  form_as (make_unique id argument closing) h = absurd (false≢true h)
+  form_as (text_of inner closing) h = absurd (false≢true h)
+  form_as input h = refl
+  form_as (member base which) h = absurd (false≢true h)
+  form_as (dereference e) h = form_as e h
+  form_as (index base position closing) h = absurd (false≢true h)
+  form_as (method base which given delimiters) h = absurd (false≢true h)
+  form_as (negate e) h = form_as e h
+  form_as (negation e) h = form_as e h
+  form_as (address_of e) h = form_as e h
+  form_as (binary operator left right) h = both (is_built_form left) (is_built_form right) (is_reached_form texts true left) (is_reached_form texts true right) (form_as left) (form_as right) h
+  form_as (typed place t category form) h = form_as form h
+  form_as nothing h = refl
+  form_as (e ⨟ es) h = both (is_built_form e) (is_built_form es) (is_reached_form texts true e) (is_reached_form texts true es) (form_as e) (form_as es) h
+
+  expression_as : (e : Typed) → is_built_expression e ≡ true → is_reached_expression texts true e ≡ true
+  expression_as e h = form_as (whole e) h
+
+  if_any_as : (e : Option Typed) → is_built_if_any e ≡ true → is_reached_if_any texts true e ≡ true
+  if_any_as None h = refl
+  if_any_as (Some e) h = expression_as e h
+
+  initial_as : (t : Ty) (i : Option InitialForm) → is_built_initial t i ≡ true → is_reached_initial texts true t i ≡ true
+  initial_as t None h = refl
+  initial_as t (Some (one e)) h = both (is_built_expression e) (needs_no_temporary t e) (is_reached_expression texts true e) (needs_no_temporary t e) (expression_as e) (λ h. h) h
+  initial_as t (Some (several list)) h = h
+
+  declared_as : (types : Types) (v : Option TypedLocal) (i : Option InitialForm) → is_built_declared types v i ≡ true → is_reached_declared texts true types v i ≡ true
+  declared_as types None i h = h
+  declared_as types (Some v) i h = initial_as (type_at types v.ty) i h
+
+  value_as : (i : InitialForm) → is_built_value i ≡ true → is_reached_value texts true i ≡ true
+  value_as (one e) h = expression_as e h
+  value_as (several list) h = h
+
+  simple_as : (it : SimpleForm) → is_built_simple it ≡ true → is_reached_simple texts true it ≡ true
+  simple_as (assign target equals initial) h = both (is_built_expression target) (is_built_value initial) (is_reached_expression texts true target) (is_reached_value texts true initial) (expression_as target) (value_as initial) h
+  simple_as (compound target operator place e) h = both (is_built_expression target) (is_built_expression e) (is_reached_expression texts true target) (is_reached_expression texts true e) (expression_as target) (expression_as e) h
+  simple_as (step target operator place) h = expression_as target h
+  simple_as (discarded e) h = both (is_call e.form) (is_built_expression e) (is_call e.form) (is_reached_expression texts true e) (λ h. h) (expression_as e) h
+
+  step_as : (it : Option SimpleForm) → is_built_step it ≡ true → is_reached_step texts true it ≡ true
+  step_as None h = refl
+  step_as (Some it) h = simple_as it h
+
+  item_as : (i : ItemForm) → is_built_item i ≡ true → is_reached_item texts true i ≡ true
+  item_as (printed e) h = expression_as e h
+  item_as (line_end place) h = refl
+
+  items_as : (is : List ItemForm) → are_built_items is ≡ true → are_reached_items texts true is ≡ true
+  items_as [] h = refl
+  items_as (i ∷ is) h = both (is_built_item i) (are_built_items is) (is_reached_item texts true i) (are_reached_items texts true is) (item_as i) (items_as is) h
+
+  module _ (types : Types) (locals : List TypedLocal) where
+    declaration_as : (d : DeclarationForm) → is_built_declaration types locals d ≡ true → is_reached_declaration texts true types locals d ≡ true
+    declaration_as d h = declared_as types (slice_get locals d.local) d.value h
+
+    start_as : (s : Option ForStartForm) → is_built_start types locals s ≡ true → is_reached_start texts true types locals s ≡ true
+    start_as None h = refl
+    start_as (Some (declared_first d)) h = declaration_as d h
+    start_as (Some (done_first it)) h = simple_as it h
+
+    pub statement_as : (s : StmtForm) → is_built_statement types locals s ≡ true → is_reached_statement texts true types locals s ≡ true
+    statement_as (block items closing) h = statement_as items h
+    statement_as (empty place) h = refl
+    statement_as (sentence it semicolon) h = simple_as it h
+    statement_as (branching branches last) h =
+        both (is_built_statement types locals branches) (is_built_statement types locals last) (is_reached_statement texts true types locals branches) (is_reached_statement texts true types locals last) (statement_as branches) (statement_as last) h
+    statement_as (while_loop keyword decides closing body) h =
+        both (is_built_expression decides) (is_built_statement types locals body) (is_reached_expression texts true decides) (is_reached_statement texts true types locals body) (expression_as decides) (statement_as body) h
+    statement_as (for_loop keyword start first decides second stepping closing body) h =
+        let one = and_parts (is_built_start types locals start) _ h in
+        let two = and_parts (is_built_if_any decides) _ one.1 in
+        let three = and_parts (is_built_step stepping) (is_built_statement types locals body) two.1 in
+        and_from (is_reached_start texts true types locals start) _ (start_as start one.0)
+        (and_from (is_reached_if_any texts true decides) _ (if_any_as decides two.0)
+        (and_from (is_reached_step texts true stepping) (is_reached_statement texts true types locals body) (step_as stepping three.0) (statement_as body three.1)))
+    statement_as (range_loop keyword x name colon range closing body) h = h
+    statement_as (loop_break keyword semicolon) h = refl
+    statement_as (loop_continue keyword semicolon) h = refl
+    statement_as (returned keyword value semicolon) h = if_any_as value h
+    statement_as (print items semicolon) h = items_as items h
+    statement_as (assertion keyword decides closing semicolon) h = expression_as decides h
+    statement_as (branch keyword decides closing body) h =
+        both (is_built_expression decides) (is_built_statement types locals body) (is_reached_expression texts true decides) (is_reached_statement texts true types locals body) (expression_as decides) (statement_as body) h
+    statement_as (declaration d semicolon) h = declaration_as d h
+    statement_as no_more h = refl
+    statement_as (chain first others) h =
+        both (is_built_statement types locals first) (is_built_statement types locals others) (is_reached_statement texts true types locals first) (is_reached_statement texts true types locals others) (statement_as first) (statement_as others) h
+
+-- ---- functions
+
+variable_as : (types : Types) (id : TyId) → is_built_variable types id ≡ true → is_reached_variable true types id ≡ true
+variable_as types id h = or_left (is_built_variable types id) _ h
+
+variables_as : (types : Types) (vs : List TypedLocal) → are_built_variables types vs ≡ true → are_reached_variables true types vs ≡ true
+variables_as types [] h = refl
+variables_as types (v ∷ vs) h = both (is_built_variable types v.ty) (are_built_variables types vs) (is_reached_variable true types v.ty) (are_reached_variables true types vs) (variable_as types v.ty) (variables_as types vs) h
+
+function_as : (texts : ℕ) (types : Types) (f : FunctionForm) → is_built_function types f ≡ true → is_reached_function texts true types f ≡ true
+function_as texts types f h =
+    let one = and_parts (is_built_result types f.result) _ h in
+    let two = and_parts (are_values types (take (length f.parameters) f.locals)) _ one.1 in
+    let three = and_parts (are_built_variables types f.locals) _ two.1 in
+    let four = and_parts (is_default f.promise) (is_built_statement types f.locals f.body) three.1 in
+    and_from (is_built_result types f.result) _ one.0
+    (and_from (are_values types (take (length f.parameters) f.locals)) _ two.0
+    (and_from (are_reached_variables true types f.locals) _ (variables_as types f.locals three.0)
+    (and_from (is_default f.promise) _ four.0 (statement_as texts types f.locals f.body four.1))))
+
+pub functions_as : (texts : ℕ) (types : Types) (fs : List FunctionForm) → are_built_functions types fs ≡ true → are_reached_functions texts true types fs ≡ true
+functions_as texts types [] h = refl
+functions_as texts types (f ∷ fs) h = both (is_built_function types f) (are_built_functions types fs) (is_reached_function texts true types f) (are_reached_functions texts true types fs) (function_as texts types f) (functions_as texts types fs) h

@@ -1,0 +1,2 @@
+pub mod ProperParts
+pub mod Reached
