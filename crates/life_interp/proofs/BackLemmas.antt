@@ -10,7 +10,8 @@ use Rattle.life_store.specs.Meaning.{Back}
 use Rattle.life_interp.specs.Cells.{one_seen, state_of, world_of}
 use Rattle.life_interp.specs.Frames.{function_at, stack_seen}
 use Rattle.life_interp.specs.Steps.{TellsEnd}
-use Rattle.life_interp.specs.Walk.{Go, back, moved}
+use Rattle.life_interp.specs.PointsSoFar.{back}
+use Rattle.life_interp.specs.Walk.{Go, moved}
 use Rattle.life_interp.specs.Walking.{halt_of, here, returns, Halts}
 use Rattle.life_interp.specs.declared.ending.Ending.{Ending}
 use Rattle.life_interp.specs.declared.ending.Ending.TheVariants as ending

@@ -19,7 +19,8 @@ use Rattle.life_interp.specs.Cells.{cells_seen, state_of, world_of}
 use Rattle.life_interp.specs.Frames.{function_at, stack_seen, waiting_seen}
 use Rattle.life_interp.specs.Steps.{TellsNone}
 use Rattle.life_interp.specs.Walk as walk
-use Rattle.life_interp.specs.Walk.{Go, called_in, entered_in}
+use Rattle.life_interp.specs.PointsSoFar.{called_in, entered_in}
+use Rattle.life_interp.specs.Walk.{Go}
 use Rattle.life_interp.specs.Walking.{acts, halt_of, here, Halts, Moves}
 use Rattle.life_interp.specs.declared.ending.Ending.{Ending}
 use Rattle.life_interp.specs.declared.ending.Ending.TheVariants as ending
@@ -34,7 +35,7 @@ stack_length fs ws = length-reverse (map (waiting_seen fs) ws) ∙ length-map ws
 
 module _ (s : Setting) (p : Program) (frames : Frames) (c : Content) (ins : List ℤ) (target : Option Location) (g : FnId) (xs : List Argument) (place : Place) (to : Option ℕ) where
   abbrev pub waits : walk.Waiting
-  waits = record { function = function_at p.functions frames.function; cells = cells_seen frames.cells.items; place = place; to = to; target = target }
+  waits = record { function = function_at p.functions frames.function; cells = cells_seen frames.cells.items; place = place; to = to; target = target; arguments = xs }
 
   abbrev stack : List walk.Waiting
   stack = stack_seen p.functions frames.waiting.items
@@ -80,7 +81,7 @@ module _ (s : Setting) (p : Program) (frames : Frames) (c : Content) (ins : List
           → enter (function_at p.functions g.0).body 1 no_exits ≡ Some 1
           → OnOk result (new.function ≡ g.0) → OnOk result (new.point ≡ Some 1) → OnOk result (new.cells.items ≡ cells)
           → OnOk result ((fs : List Function) → stack_seen fs new.waiting.items
-          ≡ record { function = function_at fs frames.function; cells = cells_seen frames.cells.items; place = place; to = to; target = target } ∷ stack_seen fs frames.waiting.items)
+          ≡ record { function = function_at fs frames.function; cells = cells_seen frames.cells.items; place = place; to = to; target = target; arguments = xs } ∷ stack_seen fs frames.waiting.items)
           → IfErr result (λ h. h ≡ halt.NoMemory) → Moves (acts s p frames c ins (Call target g xs) place to) p.functions c new d ins result
       enters d cells new (Err h) goes first number point same stacked memory = subst (Halts (acts s p frames c ins (Call target g xs) place to) c ins) (sym memory) tt
       enters d cells new (Ok a) goes first number point same stacked memory = λ go n output.

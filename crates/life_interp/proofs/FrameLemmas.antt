@@ -20,7 +20,8 @@ use Rattle.life_interp.specs.Fits.{CellFits, CellsFit, IsFit}
 use Rattle.life_interp.specs.Frames.{all_cells, function_at, stack_seen, waiting_cells, waiting_seen, AreThere}
 use Rattle.life_interp.specs.Steps.{TellsEnd}
 use Rattle.life_interp.specs.Walk as walk
-use Rattle.life_interp.specs.Walk.{Go, entered_in, let_in}
+use Rattle.life_interp.specs.PointsSoFar.{entered_in}
+use Rattle.life_interp.specs.Walk.{Go, let_in}
 use Rattle.life_interp.specs.Walking.{barred_of, Halts}
 use Rattle.life_interp.specs.declared.ending.Ending.{Ending}
 use Rattle.life_interp.specs.declared.ending.Ending.TheVariants as ending

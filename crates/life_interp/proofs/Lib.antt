@@ -13,8 +13,10 @@ pub mod NumberLemmas
 pub mod Numbers
 pub mod PlaceLemmas
 pub mod PointLemmas
+pub mod Quiet
 pub mod RunLemmas
 pub mod SameCalls
+pub mod SamePoints
 pub mod SameSteps
 pub mod Single
 pub mod SingleSteps

@@ -23,7 +23,8 @@ use Rattle.life_interp.specs.Cells.{state_of, world_of}
 use Rattle.life_interp.specs.Fits.{most_births, Grows}
 use Rattle.life_interp.specs.Frames.{function_at, point_at, stack_seen}
 use Rattle.life_interp.specs.Runs.{links_seen}
-use Rattle.life_interp.specs.Walk.{Go, at_node, at_point, moved}
+use Rattle.life_interp.specs.PointsSoFar.{at_node, at_point}
+use Rattle.life_interp.specs.Walk.{Go, moved}
 use Rattle.life_interp.specs.Walking.{acts, from, halt_of, here, passes, Doing, IsOwn, Moves, PointEnds, PointLeads, StepEnds, Sunk, Takes}
 use Rattle.life_interp.specs.declared.ending.Ending.{Ending}
 use Rattle.life_interp.specs.declared.ending.Ending.TheVariants as ending

@@ -21,8 +21,7 @@ use Rattle.life_store.specs.State.{State, World}
 use Rattle.life_store.specs.declared.run.FaultKind.{FaultKind}
 use Rattle.life_store.specs.declared.run.TrapKind.{TrapKind}
 use Rattle.life_store.specs.declared.run.TrapKind.TheVariants as trap
-use Rattle.life_store.proofs.CallsReturn.{calls_good}
-use Rattle.life_store.proofs.NeverLost.{first_housed, first_suited, never_lost}
+use Rattle.life_store.proofs.NeverLost.{first_suited, never_lost}
 use Rattle.life_interp.specs.Cells.{state_of, world_of}
 use Rattle.life_interp.specs.Frames.{function_at, stack_seen, AllBegin}
 use Rattle.life_interp.specs.Runs.{barred_as, IsBarred, RunEnds, TakesFront}
@@ -38,12 +37,10 @@ use Rattle.life_interp.specs.declared.frames.Frames.{Frames}
 use Rattle.life_interp.specs.declared.frames.Waiting.{Waiting}
 use Rattle.life_interp.specs.declared.outcome.Outcome.TheVariants as outcome
 use Rattle.life_interp.proofs.CodeLists.{function_there}
-use Rattle.life_interp.proofs.FirstWords.{AreFirst}
-use Rattle.life_interp.proofs.Numbers.{no_numbers}
-use Rattle.life_interp.proofs.SameCalls.{entry_same, parameters_same}
+use Rattle.life_interp.proofs.SameCalls.{parameters_same}
 use Rattle.life_interp.proofs.SoundEntry.{first_sound}
 use Rattle.life_interp.proofs.SoundSteps.{with_ports}
-use Rattle.life_interp.proofs.Walks.{calls_come, ends_alone, enters_standing, EndsAs}
+use Rattle.life_interp.proofs.Walks.{calls_come, ends_alone, AreStatements, EndsAs}
 
 -- ---- the beginning
 
@@ -60,11 +57,8 @@ enters_first entries.Continue h = absurd (not_some h)
 pub all_begin : (p : Program) → IsProperProgram p → AllBegin p.functions
 all_begin p proper n g there = enters_first (entry_of g.body) (proper_functions p proper n g there).ready.begins
 
--- the entry's arguments are numbers
-arguments_first : (types : Types) (f : Function) (x n : ℕ) (input : List ℤ) → AreFirst (entry_arguments types f x n input)
-arguments_first types f x zero input = tt
-arguments_first types f x (suc n) [] = tt
-arguments_first types f x (suc n) (z ∷ zs) = (tt, arguments_first types f (x + 1) n zs)
+all_statements : (p : Program) → IsProperProgram p → AreStatements p.functions
+all_statements p proper n f there = (proper_functions p proper n f there).ready.statement
 
 -- what holds of the entry
 pub if_there : (fs : List Function) (i : ℕ) (f : Function) (P : Function → Type 0) → slice_get fs i ≡ Some f → P f → IfSome (slice_get fs i) P
@@ -168,12 +162,9 @@ module _ (given : Given) (p : Program) (entry : ℕ) (f : Function) (input : Lis
       go zero eq l = absurd (omega (arith, l))
       go (suc d) eq l =
           let s = setting_of given p in
-          let all = proper_functions p proper in
-          let texts = length p.texts in
-          let one = all entry f there in
+          let all = all_statements p proper in
           let same = ap (run_from f.place first) (called_is d eq ∙ ap (λ x. begun x first (body d)) is) in
-          let stands = enters_standing s p f [] arguments first one.ready (first_suited p f input admitted) (first_housed p.types f f.parameters input) (arguments_first p.types f 0 f.parameters input) (no_numbers p.types).single st is in
-          let ends = ends_alone s p [] f (calls s p d) (calls_come s p texts all d [] (omega (arith, eq))) arguments texts all one (calls_good s p texts all d) (λ u left. entry_same p.types f u left.leaving.sorted admitted.values) refl n st stands in
+          let ends = ends_alone s p [] f (calls s p d) (calls_come s p all d [] (omega (arith, eq))) (all entry f there) refl n st in
           let walked = same_end f.place first (body d st) _ ends (found_as _ same) in
           same
           ∙ ap (run_from f.place first) (sym walked)

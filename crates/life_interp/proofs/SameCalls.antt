@@ -1,20 +1,18 @@
 -- What a call that is ready hands over and gives back, the machine does as the meaning says.
-use Rattle.std.proofs.Common.{◌≡◌, inl, inr, append-nil, ℕ, zero, suc, ◌+◌, ◌<◌, ◌≤◌, List, [], ◌∷◌, ◌++◌, map, take, Option, Some, None, false, cond, refl, sym, ap, subst, ◌∙◌, arith}
-use Rattle.std.proofs.lemmas.Option.{none-some, same_Some}
+use Rattle.std.proofs.Common.{◌≡◌, inl, inr, append-nil, ℕ, ◌+◌, List, [], ◌∷◌, ◌++◌, Option, Some, None, refl, sym, ap, subst, ◌∙◌}
 use Rattle.std.specs.Prelude.{slice_get}
-use Rattle.life_types.specs.Types.{Types, class, is_slot_type, is_slot_at}
+use Rattle.life_types.specs.Types.{Types}
 use Rattle.life_types.specs.declared.ty.Ty.{Ty}
 use Rattle.life_types.specs.declared.ty.Ty.TheVariants as variant
 use Rattle.life_core.specs.Function.{Function}
 use Rattle.life_core.specs.Operands.{Argument, Location, Value, PointerOf}
-use Rattle.life_core.specs.Holdings.{Holding, Blank, AnObject, ANumber, APointer, AView, held_by, held_if, parameter_sorts, result_if, result_sort, sort_of, sort_of_local}
+use Rattle.life_core.specs.Holdings.{Holding, Blank, AnObject, ANumber, APointer, AView, result_if, result_sort, sort_of}
 use Rattle.life_core.specs.Ready.{Ready}
 use Rattle.life_core.specs.declared.program.Local.{Local}
-use Rattle.life_core.specs.declared.program.LocalKind.{LocalKind}
 use Rattle.life_proper.proofs.Sorted.{AreArgumentsSorted, IsArgumentSorted, IsResultSorted, IsTargetSorted}
 use Rattle.life_store.specs.Calls as whole
 use Rattle.life_store.specs.Doing.{Setting, cell, on_next}
-use Rattle.life_store.specs.Meaning.{AreObjects, with_world}
+use Rattle.life_store.specs.Meaning.{with_world}
 use Rattle.life_store.specs.State.{Cell, Empty, Named, Number, Points, World, State, ready_of}
 use Rattle.life_store.proofs.CellLemmas.{pointer_cell, view_cell}
 use Rattle.life_store.proofs.Giving.{Suits, GivesBack}
@@ -142,36 +140,7 @@ module _ (types : Types) (f : Function) (st : State) (sorted : IsSorted types f 
   pub result_same : IsResultSorted types f (ready_of st) f.parameters (result_sort types f) → IsResult (result_sort types f) (whole.results types f st) (so_far.results types f st)
   result_same ready = back_same (slice_get types.types f.result.0) f.parameters (whole.slots_back types f 0 f.parameters st) (result_sort types f) ready
 
--- ---- a function whose parameters are values gives back no slot
-
-object_clash : APointer ≡ AnObject → ⊥
-object_clash e = cc
-
-module _ (types : Types) where
-  no_slot_type : (t : Option Ty) (kind : LocalKind) → held_if (class t) kind t ≡ AnObject → is_slot_type types t ≡ false
-  no_slot_type (Some (variant.Reference target constant)) kind is = absurd (object_clash is)
-  no_slot_type _ kind is = refl
-
-  no_slot : (l : Local) → held_by types (Some l) ≡ AnObject → is_slot_at types l.ty ≡ false
-  no_slot l is = no_slot_type (slice_get types.types l.ty.0) l.kind is
-
-  object_at : (n : ℕ) (ls : List Local) (i : ℕ) (l : Local) → AreObjects (map (sort_of_local types) (take n ls)) → i < n → slice_get ls i ≡ Some l → held_by types (Some l) ≡ AnObject
-  object_at zero ls i l objects lt e = absurd (omega (arith, lt))
-  object_at (suc n) [] i l objects lt e = absurd (none-some l e)
-  object_at (suc n) (m ∷ ms) zero l objects lt e = subst (λ (k : Local). held_by types (Some k) ≡ AnObject) (same_Some m l e) objects.0
-  object_at (suc n) (m ∷ ms) (suc i) l objects lt e = object_at n ms i l objects.1 (omega (arith, lt)) e
-
-  module _ (f : Function) (st : State) (objects : AreObjects (parameter_sorts types f)) where
-    slot_none : (x : ℕ) → x < f.parameters → whole.slot_back types (slice_get f.locals x) (cell st x) ≡ []
-    slot_none x lt = go (slice_get f.locals x) refl
-      where
-        go : (o : Option Local) → slice_get f.locals x ≡ o → whole.slot_back types o (cell st x) ≡ []
-        go None e = refl
-        go (Some l) e = ap (λ b. cond b (whole.slot_cell (cell st x) ∷ []) []) (no_slot l (object_at f.parameters f.locals x l objects lt e))
-
-    slots_none : (x n : ℕ) → x + n ≤ f.parameters → whole.slots_back types f x n st ≡ []
-    slots_none x zero le = refl
-    slots_none x (suc n) le = ap (λ vs. vs ++ whole.slots_back types f (x + 1) n st) (slot_none x (omega (arith, le))) ∙ slots_none (x + 1) n (omega (arith, le))
+-- ---- where no slot comes back
 
 -- a local of no sort gives nothing back
 blank_named : AnObject ≡ Blank → ⊥
@@ -200,9 +169,9 @@ module _ (types : Types) (f : Function) (st : State) (sorted : IsSorted types f 
   alone_back ty APointer v h = refl
   alone_back ty AView v h = refl
 
-  pub entry_same : AreObjects (parameter_sorts types f) → whole.results types f st ≡ so_far.results types f st
-  entry_same objects =
-      ap (λ vs. whole.given_back (slice_get types.types f.result.0) (result_sort types f) (cell st f.parameters) ++ vs) (slots_none types f st objects 0 f.parameters (omega arith))
+  pub alone_same : whole.slots_back types f 0 f.parameters st ≡ [] → whole.results types f st ≡ so_far.results types f st
+  alone_same none =
+      ap (λ vs. whole.given_back (slice_get types.types f.result.0) (result_sort types f) (cell st f.parameters) ++ vs) none
       ∙ append-nil (whole.given_back (slice_get types.types f.result.0) (result_sort types f) (cell st f.parameters))
       ∙ alone_back (slice_get types.types f.result.0) (result_sort types f) (cell st f.parameters)
       (other_none (slice_get types.types f.result.0) (sort_of types f f.parameters) (cell st f.parameters) (cell_none f.parameters))

@@ -94,12 +94,12 @@ module _ (p : Program) (ws : List Waiting) (f : Function) (q : ℕ) (st : State)
     -- the function that is called begins
     module _ (s : Setting) (values : List Cell) (handed_are : all_handed p.types f st xs ≡ Some values) (st' : State) (begins : parameters_given s p.types gf 0 values (frame gf st.world) ≡ Next st') where
       abbrev waits : Waiting
-      waits = record { function = f; cells = st.cells; place = l.spot.place; to = first_way l.leads; target = target }
+      waits = record { function = f; cells = st.cells; place = l.spot.place; to = first_way l.leads; target = target; arguments = xs }
 
       abbrev exits : Exits
       exits = with_next (first_way l.leads) no_exits
 
-      next : IsNext p.types gf (in_waiting (record { function = f; cells = st.cells; place = l.spot.place; to = first_way l.leads; target = target } ∷ ws)) st.world.content (entry_ready gf) st'
+      next : IsNext p.types gf (in_waiting (record { function = f; cells = st.cells; place = l.spot.place; to = first_way l.leads; target = target; arguments = xs } ∷ ws)) st.world.content (entry_ready gf) st'
       next =
           let names = length p.names in
           let texts = length p.texts in
@@ -127,7 +127,7 @@ module _ (p : Program) (ws : List Waiting) (f : Function) (q : ℕ) (st : State)
           (less_in_hand p.types (λ k. times (named_in st.cells) k + rest k) (λ k. times (named_in values) k + in_waiting (waits ∷ ws) k) st.world.content (λ k. let a = hand k in omega (arith, a)) sound.sound.stands.store)
           (subst (AreHandedTo p.types st.world.content (types_held p.types gf)) same h.suit))
 
-      pub call_sound : AreSound p (record { function = f; cells = st.cells; place = l.spot.place; to = first_way l.leads; target = target } ∷ ws) gf (enter gf.body 1 no_exits) st'
+      pub call_sound : AreSound p (record { function = f; cells = st.cells; place = l.spot.place; to = first_way l.leads; target = target; arguments = xs } ∷ ws) gf (enter gf.body 1 no_exits) st'
       call_sound =
           let given : HandsAll p.types f st (parameter_sorts p.types gf) xs = handing.hands_all p.types f sound.outer st sound.stands.sorted sound.stands.housed (parameter_sorts p.types gf) xs sorted_call.0 in
           let same : given.values ≡ values = same_Some given.values values (sym given.are ∙ handed_are) in
@@ -148,7 +148,6 @@ module _ (p : Program) (ws : List Waiting) (f : Function) (q : ℕ) (st : State)
                 there = sound.there;
                 point = q;
                 number = g;
-                arguments = xs;
                 here = action_here f q l here (Call target g xs) is;
                 called = called;
                 before = st;
@@ -176,14 +175,14 @@ module _ (p : Program) (v : Waiting) (vs : List Waiting) (f : Function) (q : ℕ
       subst (IsNodeSorted p.types f p.functions (ready_of st)) is
       (point_sorted p.types (length p.texts) p.functions f (functions p sound.proper) (functions p sound.proper sound.own f sound.there) q (ready_of st) l sound.stands.reached here)
 
-  caller_sorted : IsNodeSorted p.types v.function p.functions (ready_of sound.waiting.0.before) (Action (Call v.target sound.waiting.0.number sound.waiting.0.arguments))
+  caller_sorted : IsNodeSorted p.types v.function p.functions (ready_of sound.waiting.0.before) (Action (Call v.target sound.waiting.0.number v.arguments))
   caller_sorted = point_sorted p.types (length p.texts) p.functions v.function (functions p sound.proper) (functions p sound.proper caller.own v.function caller.there) caller.point (ready_of caller.before) _ caller.stood.reached caller.here
 
-  pub waiting_call : IsCallSorted p.types v.function (ready_of sound.waiting.0.before) (Some f) v.target sound.waiting.0.arguments
-  waiting_call = subst (λ (o : Option Function). IsCallSorted p.types v.function (ready_of caller.before) o v.target caller.arguments) caller.called caller_sorted
+  pub waiting_call : IsCallSorted p.types v.function (ready_of sound.waiting.0.before) (Some f) v.target v.arguments
+  waiting_call = subst (λ (o : Option Function). IsCallSorted p.types v.function (ready_of caller.before) o v.target v.arguments) caller.called caller_sorted
 
-  lent_is : lent p.types v.function sound.waiting.0.arguments sound.waiting.0.before ≡ sound.waiting.0.before
-  lent_is = lent_ready p.types v.function (ready_of caller.before) (parameter_sorts p.types f) caller.arguments caller.before waiting_call.0
+  lent_is : lent p.types v.function v.arguments sound.waiting.0.before ≡ sound.waiting.0.before
+  lent_is = lent_ready p.types v.function (ready_of caller.before) (parameter_sorts p.types f) v.arguments caller.before waiting_call.0
 
   pub waiting_cells : v.cells ≡ sound.waiting.0.before.cells
   waiting_cells = caller.left ∙ ap (λ (u : State). u.cells) lent_is
@@ -192,8 +191,8 @@ module _ (p : Program) (v : Waiting) (vs : List Waiting) (f : Function) (q : ℕ
   result_given = back_gives p.types f sound.outer st sound.stands.sorted sound.stands.housed f.parameters (slice_get p.types.types f.result.0) (slots_back p.types f 0 f.parameters st) (result_sort p.types f) left_sorted
 
   module _ (s : Setting) where
-    gives : GivesOn p.types v.function (in_waiting vs) st.world.content (bits_past p.types v.function (Action (Call v.target sound.waiting.0.number sound.waiting.0.arguments)) (ready_of sound.waiting.0.before))
-        (taken_back s p.types v.function v.target sound.waiting.0.arguments (results p.types f st) (record { world = st.world; cells = v.cells }))
+    gives : GivesOn p.types v.function (in_waiting vs) st.world.content (bits_past p.types v.function (Action (Call v.target sound.waiting.0.number v.arguments)) (ready_of sound.waiting.0.before))
+        (taken_back s p.types v.function v.target v.arguments (results p.types f st) (record { world = st.world; cells = v.cells }))
     gives =
         let names = length p.names in
         let texts = length p.texts in
@@ -205,10 +204,10 @@ module _ (p : Program) (v : Waiting) (vs : List Waiting) (f : Function) (q : ℕ
         let rest = in_waiting vs in
         let content = caller.before.world.content in
         let none = calls_good s p table sound.proper.well_formed.once some names texts all 0 in
-        let formed : is_call p.types texts p.functions v.function (Some f) v.target caller.arguments ≡ true =
-        subst (λ (o : Option Function). is_call p.types texts p.functions v.function o v.target caller.arguments ≡ true) caller.called (one.points caller.point _ caller.here) in
-        let parts = and_parts (are_arguments_for p.types texts p.functions v.function (types_taken f) caller.arguments) _ formed in
-        let into = (and_parts (have_own_slots p.types texts p.functions v.function caller.arguments) (goes_to p.types texts p.functions v.function (ty_of p.types f.result) v.target) parts.1).1 in
+        let formed : is_call p.types texts p.functions v.function (Some f) v.target v.arguments ≡ true =
+        subst (λ (o : Option Function). is_call p.types texts p.functions v.function o v.target v.arguments ≡ true) caller.called (one.points caller.point _ caller.here) in
+        let parts = and_parts (are_arguments_for p.types texts p.functions v.function (types_taken f) v.arguments) _ formed in
+        let into = (and_parts (have_own_slots p.types texts p.functions v.function v.arguments) (goes_to p.types texts p.functions v.function (ty_of p.types f.result) v.target) parts.1).1 in
         let inv : IsSoundAt p.types v.function rest content caller.point caller.before = record { reached = caller.stood.reached; sound = caller.sound; waits = keeps_self p.types (λ n. rest n ≡ 0) content } in
         let left : IsLeft p.types f (in_waiting (v ∷ vs)) content st = record {
           ready = subst (IsNodeReady p.types f (ready_of st)) is (two.ready.ready q (ready_of st) l sound.stands.reached here);
@@ -217,26 +216,26 @@ module _ (p : Program) (v : Waiting) (vs : List Waiting) (f : Function) (q : ℕ
           waits = caller.keeps;
         } in
         let back : GoodCalled p.types f (in_waiting (v ∷ vs)) content (Back 0 st.world (results p.types f st)) = left_gives p.types table sound.proper.well_formed.once some names texts p.functions all s (calls s p 0) none f two (in_waiting (v ∷ vs)) content 0 st left in
-        subst (λ (cells : List Cell). GivesOn p.types v.function rest st.world.content (bits_past p.types v.function (Action (Call v.target caller.number caller.arguments)) (ready_of caller.before)) (taken_back s p.types v.function v.target caller.arguments (results p.types f st) (record { world = st.world; cells = cells }))) (sym caller.left)
-        (taken_gives p.types table sound.proper.well_formed.once some names texts p.functions v.function one.formed one.points one.ready rest content s (calls s p 0) none (λ k k' at. (all k k' at).free) one.given caller.point v.place v.target caller.number caller.arguments (with_next v.to no_exits) caller.here 0 caller.before inv f caller.called parts.0 into st.world (results p.types f st)
+        subst (λ (cells : List Cell). GivesOn p.types v.function rest st.world.content (bits_past p.types v.function (Action (Call v.target caller.number v.arguments)) (ready_of caller.before)) (taken_back s p.types v.function v.target v.arguments (results p.types f st) (record { world = st.world; cells = cells }))) (sym caller.left)
+        (taken_gives p.types table sound.proper.well_formed.once some names texts p.functions v.function one.formed one.points one.ready rest content s (calls s p 0) none (λ k k' at. (all k k' at).free) one.given caller.point v.place v.target caller.number v.arguments (with_next v.to no_exits) caller.here 0 caller.before inv f caller.called parts.0 into st.world (results p.types f st)
         (subst (λ (cells : List Cell). GoodCalled p.types f (λ k. times (named_in cells) k + rest k) content (Back 0 st.world (results p.types f st))) caller.left back))
 
-    settles : Settles p.types v.function sound.waiting.0.outer (target_behind v.target (ready_of sound.waiting.0.before)) (taken_back s p.types v.function v.target sound.waiting.0.arguments (results p.types f st) (record { world = st.world; cells = v.cells }))
+    settles : Settles p.types v.function sound.waiting.0.outer (target_behind v.target (ready_of sound.waiting.0.before)) (taken_back s p.types v.function v.target v.arguments (results p.types f st) (record { world = st.world; cells = v.cells }))
     settles =
         let outside = housed_front st.world.content (caller.outer ++ v.cells) caller.handed (subst (Housed st.world.content) sound.waiting.1 (housed_front st.world.content sound.outer st.cells sound.stands.housed)) in
         let housed = subst (λ (cells : List Cell). Housed st.world.content (caller.outer ++ cells)) waiting_cells outside in
-        let taken = taken_ready s p.types v.function (parameter_sorts p.types f) v.target caller.arguments (results p.types f st) caller.before st.world waiting_call.0 in
-        subst (λ (cells : List Cell). Settles p.types v.function caller.outer (target_behind v.target (ready_of caller.before)) (taken_back s p.types v.function v.target caller.arguments (results p.types f st) (record { world = st.world; cells = cells }))) (sym caller.left)
+        let taken = taken_ready s p.types v.function (parameter_sorts p.types f) v.target v.arguments (results p.types f st) caller.before st.world waiting_call.0 in
+        subst (λ (cells : List Cell). Settles p.types v.function caller.outer (target_behind v.target (ready_of caller.before)) (taken_back s p.types v.function v.target v.arguments (results p.types f st) (record { world = st.world; cells = cells }))) (sym caller.left)
         (subst (Settles p.types v.function caller.outer (target_behind v.target (ready_of caller.before))) (sym taken)
         (target_settles caller.outer s p.types v.function (with_world st.world caller.before) caller.stood.sorted housed (result_sort p.types f) v.target (results p.types f st) waiting_call.1 result_given))
 
-    pub back_sound : (st' : State) → taken_back s p.types v.function v.target sound.waiting.0.arguments (results p.types f st) (record { world = st.world; cells = v.cells }) ≡ Next st' → AreSound p vs v.function v.to st'
+    pub back_sound : (st' : State) → taken_back s p.types v.function v.target v.arguments (results p.types f st) (record { world = st.world; cells = v.cells }) ≡ Next st' → AreSound p vs v.function v.to st'
     back_sound st' e =
         let one = goes_well p sound.proper caller.own v.function caller.there in
-        let bits = bits_past p.types v.function (Action (Call v.target caller.number caller.arguments)) (ready_of caller.before) in
+        let bits = bits_past p.types v.function (Action (Call v.target caller.number v.arguments)) (ready_of caller.before) in
         let next : IsNext p.types v.function (in_waiting vs) st.world.content bits st' = subst (GivesOn p.types v.function (in_waiting vs) st.world.content bits) e gives in
         let settled = subst (Settles p.types v.function caller.outer (target_behind v.target (ready_of caller.before))) e settles in
-        let at = leads p.types v.function one.ready (in_waiting vs) st.world.content caller.point v.place (Call v.target caller.number caller.arguments) v.to (ready_of caller.before) caller.here caller.stood.reached st' next.bits next.sound next.waits in
+        let at = leads p.types v.function one.ready (in_waiting vs) st.world.content caller.point v.place (Call v.target caller.number v.arguments) v.to (ready_of caller.before) caller.here caller.stood.reached st' next.bits next.sound next.waits in
         record {
           proper = sound.proper;
           own = caller.own;

@@ -7,12 +7,11 @@ use Rattle.std.specs.declared.vec.Vec.{Vec}
 use Rattle.life_types.specs.declared.place.Place.{Place}
 use Rattle.life_core.specs.declared.program.FnId.{FnId}
 use Rattle.life_core.specs.Function.{Function, Program}
-use Rattle.life_core.specs.Holdings.{parameter_sorts, result_sort}
+use Rattle.life_core.specs.Holdings.{parameter_sorts}
 use Rattle.life_core.specs.Linked.{Lead, Linked, code_of, enter, goes, no_exits, numbered, spot_at}
 use Rattle.life_core.specs.Operands.{Argument, Location, location_of}
 use Rattle.life_core.specs.Step.{Step, Call, Test}
 use Rattle.life_core.specs.Tree.{Node, Action, Question, Return}
-use Rattle.life_store.specs.Calls as whole
 use Rattle.life_store.specs.Content.{Content}
 use Rattle.life_store.specs.Doing.{Setting, Next}
 use Rattle.life_store.specs.Meaning.{frame}
@@ -31,28 +30,16 @@ use Rattle.life_interp.specs.Walking.{IsOwn, IsSoundWalk, StandsHere}
 use Rattle.life_interp.specs.declared.frames.Frames.{Frames}
 use Rattle.life_interp.specs.declared.frames.Waiting.{Waiting}
 use Rattle.life_interp.specs.declared.value.Cell.{Cell}
-use Rattle.life_interp.specs.declared.value.Cell.TheVariants as held
-use Rattle.life_interp.specs.declared.value.Pointer.TheVariants as leads
 use Rattle.life_interp.proofs.CodeLists.{there_at}
-use Rattle.life_interp.proofs.FirstWords.{AreFirst}
+use Rattle.life_interp.proofs.FirstWords.{seen_first}
 use Rattle.life_interp.proofs.FrameLemmas.{stack_push}
 use Rattle.life_interp.proofs.Leads.{action_here, return_here}
-use Rattle.life_interp.proofs.SameCalls.{handed_same, parameters_same, result_same, taken_same}
+use Rattle.life_interp.proofs.SameCalls.{handed_same, parameters_same}
 use Rattle.life_interp.proofs.SameSteps.{does_same}
-use Rattle.life_interp.proofs.SoundCalls.{back_sound, call_sound, left_sorted, result_given, sorted_call, waiting_call, waiting_cells}
+use Rattle.life_interp.proofs.SamePoints.{taken_is}
+use Rattle.life_interp.proofs.SoundCalls.{back_sound, call_sound, sorted_call}
 use Rattle.life_interp.proofs.SoundPrograms.{own_plain}
 use Rattle.life_interp.proofs.SoundSteps.{asked, step_sound, test_sound, with_ports}
-
--- each pointer of the machine's cells points to a first word
-seen_first : (cells : List Cell) → AreFirst (cells_seen cells)
-seen_first [] = tt
-seen_first (held.Empty ∷ cells) = (tt, seen_first cells)
-seen_first (held.Object object ∷ cells) = (tt, seen_first cells)
-seen_first (held.Number z ∷ cells) = (tt, seen_first cells)
-seen_first (held.Points leads.Null ∷ cells) = (tt, seen_first cells)
-seen_first (held.Points leads.Wild ∷ cells) = (tt, seen_first cells)
-seen_first (held.Points (leads.To index object moment) ∷ cells) = (refl, seen_first cells)
-seen_first (held.Points (leads.Static characters) ∷ cells) = (tt, seen_first cells)
 
 -- ---- what stands at the point leads on as its kind does
 
@@ -123,7 +110,7 @@ module _ (p : Program) (frames : Frames) (c : Content) (sound : IsSoundWalk p fr
       → so_far.all_handed (state_of c frames.cells.items [] []) xs ≡ Some values → (s : Setting) (d : Content) (cells : List Cell)
       → so_far.parameters_given s p.types (function_at p.functions g.0) 0 values (frame (function_at p.functions g.0) (world_of c [] [])) ≡ Next (state_of d cells [] []) → (new : Frames) (result : Result A E)
       → OnOk result (new.function ≡ g.0) → OnOk result (new.point ≡ Some 1) → OnOk result (new.cells.items ≡ cells)
-      → OnOk result ((fs : List Function) → stack_seen fs new.waiting.items ≡ record { function = function_at fs frames.function; cells = cells_seen frames.cells.items; place = place; to = to; target = target } ∷ stack_seen fs frames.waiting.items)
+      → OnOk result ((fs : List Function) → stack_seen fs new.waiting.items ≡ record { function = function_at fs frames.function; cells = cells_seen frames.cells.items; place = place; to = to; target = target; arguments = xs } ∷ stack_seen fs frames.waiting.items)
       → OnOk result (IsSoundWalk p new d)
   called_sound place target g xs to stands lt begin values are s d cells begins new (Err e) function_is point_is cells_are stacked = tt
   called_sound place target g xs to stands lt begin values are s d cells begins new (Ok a) function_is point_is cells_are stacked =
@@ -145,7 +132,7 @@ module _ (p : Program) (frames : Frames) (c : Content) (sound : IsSoundWalk p fr
       (subst (λ (vs : List Cell). AreSound p (walks ∷ stack) gf (enter gf.body 1 no_exits) (state_of d vs [] [])) (sym cells_are) went)))
     where
       walks : walk.Waiting
-      walks = record { function = function; cells = cells_seen frames.cells.items; place = place; to = to; target = target }
+      walks = record { function = function; cells = cells_seen frames.cells.items; place = place; to = to; target = target; arguments = xs }
 
   -- the frame that waited for a function that is left
   pub returned_sound : (place : Place) → StandsHere p frames place Return [] → (ws : List Waiting) (w : Waiting) → frames.waiting.items ≡ ws ++ w ∷ [] → (given : Option Cell)
@@ -160,14 +147,7 @@ module _ (p : Program) (frames : Frames) (c : Content) (sound : IsSoundWalk p fr
       let st = at [] in
       let pushed = ap (stack_seen p.functions) stacked ∙ stack_push p.functions ws w in
       let known = subst (λ (us : List walk.Waiting). AreSound p us function (Some h.point) st) pushed (h.known []) in
-      let caller = known.waiting.0 in
-      let asks = waiting_call p v vs function h.point st known l h.here refl in
-      let sort = result_sort p.types function in
-      let result = result_same p.types function st known.stands.sorted (left_sorted p v vs function h.point st known l h.here refl) in
-      let given_back = result_given p v vs function h.point st known l h.here refl in
       let same =
-      ap (λ (us : List state.Cell). whole.taken_back s p.types v.function v.target caller.arguments (whole.results p.types function st) (record { world = st.world; cells = us })) caller.left
-      ∙ taken_same s p.types v.function sort (parameter_sorts p.types function) v.target caller.arguments (whole.results p.types function st) (so_far.results p.types function st) caller.before st.world asks.0 asks.1 given_back result
-      ∙ ap (λ (us : List state.Cell). so_far.target_given s p.types v.function v.target (so_far.results p.types function st) (record { world = st.world; cells = us })) (sym (waiting_cells p v vs function h.point st known l h.here refl))
+      taken_is p v vs function h.point st known l h.here refl s
       ∙ ap (λ (rs : List state.Cell). so_far.target_given s p.types v.function v.target rs (record { world = st.world; cells = v.cells })) (sym gives) in
       back_sound p v vs function h.point st known l h.here refl s (state_of d cells [] []) (same ∙ takes)

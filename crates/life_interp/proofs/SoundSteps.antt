@@ -64,7 +64,6 @@ waiting_on p g (v ∷ vs) outer c d keeps h = (
     there = h.0.there;
     point = h.0.point;
     number = h.0.number;
-    arguments = h.0.arguments;
     here = h.0.here;
     called = h.0.called;
     before = h.0.before;

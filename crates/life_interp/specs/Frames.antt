@@ -2,7 +2,7 @@
 use Rattle.std.specs.Prelude.{◌≡◌, ◌<◌, ℕ, zero, suc, List, [], ◌∷◌, ◌++◌, length, map, option_and_then, option_map, Option, Some, reverse, slice_get}
 use Rattle.life_core.specs.Function.{Function, Default}
 use Rattle.life_core.specs.Linked.{Linked, code_of, enter, no_exits, numbered}
-use Rattle.life_core.specs.Operands.{location_of}
+use Rattle.life_core.specs.Operands.{argument_of, location_of}
 use Rattle.life_core.specs.Tree.{Skip}
 use Rattle.life_interp.specs.Cells.{cells_seen}
 use Rattle.life_interp.specs.Walk as walk
@@ -34,6 +34,7 @@ waiting_seen fs w = record {
   place = w.place;
   to = w.to;
   target = option_map location_of w.target.now;
+  arguments = map argument_of w.arguments.now;
 }
 
 -- the newest first

@@ -4,6 +4,7 @@ pub mod Fits
 pub mod Layouts
 pub mod Steps
 pub mod Walk
+pub mod PointsSoFar
 pub mod Sound
 pub mod Frames
 pub mod Walking

@@ -2,7 +2,6 @@
 use Rattle.std.specs.Prelude.{◌≡◌, ℕ, ◌+◌, List, [], ◌∷◌, ◌++◌, Option, Some, slice_get}
 use Rattle.life_core.specs.Function.{Function, Program}
 use Rattle.life_core.specs.Linked.{code_of, goes, numbered, spot_at}
-use Rattle.life_core.specs.Operands.{Argument}
 use Rattle.life_core.specs.Step.{Call}
 use Rattle.life_core.specs.Tree.{Action}
 use Rattle.life_core.specs.declared.program.FnId.{FnId}
@@ -30,12 +29,11 @@ pub record WaitsFor (p : Program) (g : Function) (behind : List Waiting) (v : Wa
   pub there : slice_get p.functions own ≡ Some v.function
   pub point : ℕ
   pub number : FnId
-  pub arguments : List Argument
-  pub here : numbered (code_of v.function) point ≡ Some (record { spot = spot_at v.place (Action (Call v.target number arguments)); leads = goes v.to })
+  pub here : numbered (code_of v.function) point ≡ Some (record { spot = spot_at v.place (Action (Call v.target number v.arguments)); leads = goes v.to })
   pub called : slice_get p.functions number.0 ≡ Some g
   pub before : State
   pub sound : IsSound p.types v.function (in_waiting behind) before
-  pub left : v.cells ≡ (lent p.types v.function arguments before).cells
+  pub left : v.cells ≡ (lent p.types v.function v.arguments before).cells
   pub keeps : KeepsWaiting p.types (λ k. times (named_in v.cells) k + in_waiting behind k) before.world.content now
   -- what is known of the kinds that are served so far: the cells of the frames behind it, and what it handed over
   pub outer : List Cell

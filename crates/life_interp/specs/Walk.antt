@@ -3,12 +3,12 @@ use Rattle.std.specs.Prelude.{ℕ, zero, suc, cond, nat_lt, List, [], ◌∷◌,
 use Rattle.life_types.specs.declared.place.Place.{Place}
 use Rattle.life_core.specs.Function.{Function, Program}
 use Rattle.life_core.specs.Linked.{Lead, Linked, code_of, enter, no_exits, numbered}
-use Rattle.life_core.specs.Operands.{Location}
+use Rattle.life_core.specs.Operands.{Argument, Location}
 use Rattle.life_core.specs.Step.{Step, Call}
 use Rattle.life_core.specs.Tree.{Node, Action, Question, Return, Stop}
-use Rattle.life_store.specs.Doing.{Setting, Effect, Next, Traps, Faults, Strays}
-use Rattle.life_interp.specs.SoFar.{test_at, all_handed, parameters_given, results, target_given, does}
-use Rattle.life_store.specs.Meaning.{Trapped, Faulted, Stray, Exhausted, Verdict, Holds, Fails, Cut, Called, Back, Quit, frame}
+use Rattle.life_store.specs.Calls.{all_handed, lent, parameters_given, results, taken_back}
+use Rattle.life_store.specs.Doing.{Setting, Effect, Next, Traps, Faults, Strays, does}
+use Rattle.life_store.specs.Meaning.{Trapped, Faulted, Stray, Exhausted, Verdict, Holds, Fails, Cut, Called, Back, Quit, frame, test_at}
 use Rattle.life_store.specs.State.{Cell, World, State}
 use Rattle.life_store.specs.declared.run.TrapKind.TheVariants as trap
 
@@ -22,13 +22,14 @@ abbrev pub second_way : List Lead → Option ℕ
 second_way [] = None
 second_way (l ∷ ls) = first_way ls
 
--- a frame that waits for a call that stands at a place: where it goes on, and what is given the result
+-- a frame that waits for a call that stands at a place: where it goes on, what is given the result, and what was handed over
 pub record Waiting : Type 0 where
   pub function : Function
   pub cells : List Cell
   pub place : Place
   pub to : Option ℕ
   pub target : Option Location
+  pub arguments : List Argument
 
 -- how it goes on, with frames that wait, in a function, from a point that control comes to, if to one
 abbrev pub Go : Type 0
@@ -54,30 +55,30 @@ let_in go place before (Faults kind) = Quit Stray before
 let_in go place before Strays = Quit Stray before
 
 module _ (s : Setting) (p : Program) where
-  -- a function is called, and the frame at hand waits for it
-  abbrev pub entered_in : Go → List Waiting → Place → World → Option Function → List Cell → Called
-  entered_in go ws place w None xs = Quit Stray w
-  entered_in go ws place w (Some g) xs = let_in (go ws g (enter g.body 1 no_exits)) place w (parameters_given s p.types g 0 xs (frame g w))
+  -- a function is called in a world, and the frame at hand waits for it
+  abbrev pub entered_in : Go → List Waiting → Place → (before world : World) → Option Function → List Cell → Called
+  entered_in go ws place before w None xs = Quit Stray before
+  entered_in go ws place before w (Some g) xs = let_in (go ws g (enter g.body 1 no_exits)) place before (parameters_given s p.types g 0 xs (frame g w))
 
-  abbrev pub called_in : Go → List Waiting → Waiting → World → Option Function → Option (List Cell) → Called
-  called_in go ws v w callee None = Quit Stray w
-  called_in go ws v w callee (Some xs) =
-      cond (nat_lt (length (v ∷ ws)) s.given.depth) (entered_in go (v ∷ ws) v.place w callee xs) (Quit (Trapped trap.Depth v.place) w)
+  abbrev pub called_in : Go → List Waiting → Waiting → (before world : World) → Option Function → Option (List Cell) → Called
+  called_in go ws v before w callee None = Quit Stray before
+  called_in go ws v before w callee (Some xs) =
+      cond (nat_lt (length (v ∷ ws)) s.given.depth) (entered_in go (v ∷ ws) v.place before w callee xs) (Quit (Trapped trap.Depth v.place) before)
 
-  -- the frame that waits goes on, and its target is given the result
+  -- the frame that waits goes on, and has what comes back
   abbrev pub back : Go → List Waiting → ℕ → World → List Cell → Called
   back go [] n w values = Back n w values
   back go (v ∷ ws) n w values =
-      moved (go ws v.function v.to) v.place w (target_given s p.types v.function v.target values (record { world = w; cells = v.cells }))
+      moved (go ws v.function v.to) v.place w (taken_back s p.types v.function v.target v.arguments values (record { world = w; cells = v.cells }))
 
   abbrev pub at_action : Go → List Waiting → Function → Step → Place → Option ℕ → State → Called
   at_action go ws f (Call target g xs) place to st =
-      called_in go ws (record { function = f; cells = st.cells; place = place; to = to; target = target }) st.world (slice_get p.functions g.0) (all_handed st xs)
+      called_in go ws (record { function = f; cells = (lent p.types f xs st).cells; place = place; to = to; target = target; arguments = xs }) st.world (lent p.types f xs st).world (slice_get p.functions g.0) (all_handed p.types f st xs)
   at_action go ws f i place to st = moved (go ws f to) place st.world (does s p.types f i st)
 
   abbrev pub at_node : Go → List Waiting → Function → Node → Place → List Lead → ℕ → State → Called
   at_node go ws f (Action i) place leads n st = at_action go ws f i place (first_way leads) st
-  at_node go ws f (Question t) place leads n st = chosen (go ws f) (first_way leads) (second_way leads) (test_at t n st)
+  at_node go ws f (Question t) place leads n st = chosen (go ws f) (first_way leads) (second_way leads) (test_at p.types f t n st)
   at_node go ws f Return place leads n st = back go ws n st.world (results p.types f st)
   at_node go ws f Stop place leads n st = Quit (Trapped trap.Assert place) st.world
 

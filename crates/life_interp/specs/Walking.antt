@@ -21,7 +21,8 @@ use Rattle.life_interp.specs.Frames.{function_at, point_at, stack_seen}
 use Rattle.life_interp.specs.Sound.{AreSound}
 use Rattle.life_interp.specs.Steps.{TellsEnd}
 use Rattle.life_interp.specs.Walk as walk
-use Rattle.life_interp.specs.Walk.{Go, at_action, at_point, back, chosen, entered_in, first_way, second_way}
+use Rattle.life_interp.specs.PointsSoFar.{at_action, at_point, back, entered_in}
+use Rattle.life_interp.specs.Walk.{Go, chosen, first_way, second_way}
 use Rattle.life_interp.specs.declared.ending.Ending.{Ending}
 use Rattle.life_interp.specs.declared.ending.Ending.TheVariants as ending
 use Rattle.life_interp.specs.declared.ending.Halt.{Halt}
@@ -193,6 +194,10 @@ module _ (s : Setting) (p : Program) (frames : Frames) (c : Content) (ins : List
 
   abbrev pub passes : Doing
   passes go n output = at_point s p go stack function (point_at p.functions frames) n (here output)
+
+  -- .. as the meaning has it
+  abbrev pub means : Doing
+  means go n output = walk.at_point s p go stack function (point_at p.functions frames) n (here output)
 
   abbrev pub acts : Step → Place → Option ℕ → Doing
   acts i place to go n output = at_action s p go stack function i place to (here output)

@@ -38,7 +38,7 @@ pub(crate) fn call<'p, S: Store>(
     to: Option<u32>,
     target: &'p Option<Location>,
     function: FnId,
-    arguments: &[Argument],
+    arguments: &'p [Argument],
     store: &mut S,
     frames: &mut Frames<'p>,
 ) -> Result<(), Halt>
@@ -66,7 +66,7 @@ pub(crate) fn call<'p, S: Store>(
             }
             match entered(alloc, program, place, function, &values, store) {
                 Err(halt) => Err(halt),
-                Ok(cells) => wait(frames, place, to, target, function, cells),
+                Ok(cells) => wait(frames, place, to, target, arguments, function, cells),
             }
         }
     }
@@ -163,6 +163,7 @@ fn wait<'p>(
     place: Place,
     to: Option<u32>,
     target: &'p Option<Location>,
+    arguments: &'p [Argument],
     function: FnId,
     cells: Vec<Cell>,
 ) -> Result<(), Halt>
@@ -170,7 +171,7 @@ fn wait<'p>(
     ensures point { OnOk result (frames.new.point ≡ Some 1) }
     ensures cells { OnOk result (frames.new.cells.items ≡ cells.items) }
     ensures stack { OnOk result ((fs : List Function) → stack_seen fs frames.new.waiting.items
-        ≡ record { function = function_at fs frames.old.function; cells = cells_seen frames.old.cells.items; place = place; to = to; target = option_map location_of target.now }
+        ≡ record { function = function_at fs frames.old.function; cells = cells_seen frames.old.cells.items; place = place; to = to; target = option_map location_of target.now; arguments = map argument_of arguments.now }
         ∷ stack_seen fs frames.old.waiting.items) }
     ensures held { OnOk result (waiting_cells frames.new.waiting.items ≡ waiting_cells frames.old.waiting.items ++ frames.old.cells.items) }
     ensures there { OnOk result ((fs : List Function) → AreFrames fs frames.old → AreThere fs frames.new.waiting.items) }
@@ -182,6 +183,7 @@ fn wait<'p>(
         place,
         to,
         target,
+        arguments,
     };
     frames.function = function.0;
     frames.point = Some(1);

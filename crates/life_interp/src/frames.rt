@@ -1,6 +1,6 @@
 // The frames of calls.
 use crate::value::Cell;
-use life_core::Location;
+use life_core::{Argument, Location};
 use life_types::Place;
 
 /// A frame that waits for a call that stands at a place.
@@ -14,6 +14,8 @@ pub(crate) struct Waiting<'p> {
     pub(crate) to: Option<u32>,
     /// What is given the result.
     pub(crate) target: &'p Option<Location>,
+    /// What was handed over.
+    pub(crate) arguments: &'p [Argument],
 }
 
 /// The frame at hand, and those that wait, the newest last.

@@ -5,7 +5,7 @@ use Rattle.life_core.specs.Function.{Function, function_of, program_of}
 use Rattle.life_store.specs.Meaning.{frame}
 use Rattle.life_interp.specs.Cells.{cells_seen, world_of}
 use Rattle.life_interp.specs.SoFar.{parameters_given}
-use Rattle.life_interp.specs.Walk.{entered_in}
+use Rattle.life_interp.specs.PointsSoFar.{entered_in}
 use Rattle.life_interp.specs.Walking.{Halts}
 use Rattle.life_interp.specs.Fits.{meant}
 use Rattle.life_interp.proofs.CodeLists.{function_there}

@@ -1,12 +1,18 @@
-use Rattle.std.proofs.Common.{◌≡◌, ◌-◌, ◌<◌, [], ◌++◌, drop, ap, refl, subst, sym, ◌∙◌, arith}
+use Rattle.std.proofs.Common.{◌≡◌, ℕ, Result, Err, ◌-◌, ◌<◌, [], ◌++◌, drop, ap, refl, subst, sym, ◌∙◌, arith}
 use Rattle.life_core.specs.Function.{program_of}
 use Rattle.life_interp.specs.Cells.{world_of}
 use Rattle.life_interp.specs.Fits.{meant, most_births}
 use Rattle.life_interp.specs.Walk.{walk}
-use Rattle.life_interp.specs.Walking.{from}
+use Rattle.life_interp.specs.Walking.{from, means, passes}
+use Rattle.life_interp.specs.declared.ending.Halt.{Halt}
+use Rattle.life_interp.proofs.PointLemmas.{leads_as}
+use Rattle.life_interp.proofs.SamePoints.{passes_same}
 use Rattle.life_interp.proofs.WalkLemmas.{untouched}
 use Rattle.life_interp.proofs.WholeWalks.{a_step, ends_there, takes_on}
 use Rattle.life_interp.proofs.walk.walk.Goals as goal
+
+abbrev failed : Halt → Result ℕ Halt
+failed h = Err h
 
 pub loop-left-init : goal.loop-left-init
 loop-left-init g c = record {
@@ -45,7 +51,12 @@ returns-in-Err g c = λ s set depth.
     (from p.functions c.args.frames.now (meant p.types (content c.args.store.now) (rows c.args.store.now)) (drop c.args.taken.now c.args.input.now) (walk s p c.args.steps) c.args.steps [])
     at.left c.in-Err.halt
     (taken c.args.out.now) (taken at.out) (taken c.pass.new.out) (faults c.args.out.now) (faults at.out) (faults c.pass.new.out)
-    went.0 c.loop-left-test.true went.1 went.2 (c.in-Err.ensures.step s (record { cells = set.cells ∙ sym at.invariant.limit; texts = set.texts }) depth)
+    went.0 c.loop-left-test.true went.1 went.2
+    (leads_as (means s p at.frames (meant p.types (content at.store) (rows at.store)) (drop at.taken c.args.input.now)) (passes s p at.frames (meant p.types (content at.store) (rows at.store)) (drop at.taken c.args.input.now)) p.functions
+    (meant p.types (content at.store) (rows at.store)) (drop at.taken c.args.input.now) at.frames (meant p.types (content at.store) (rows at.store)) (drop at.taken c.args.input.now)
+    (record { old = taken at.out; new = taken c.pass.new.out; faults = faults at.out; later = faults c.pass.new.out }) (failed c.in-Err.halt)
+    (passes_same s p at.frames (meant p.types (content at.store) (rows at.store)) at.invariant.sound at.invariant.fits.store.numbers.single (drop at.taken c.args.input.now))
+    (c.in-Err.ensures.step s (record { cells = set.cells ∙ sym at.invariant.limit; texts = set.texts }) depth))
 
 pub loop-left-preserved : goal.loop-left-preserved
 loop-left-preserved g c =
@@ -68,6 +79,7 @@ loop-left-preserved g c =
             takes_on (taken c.args.out.now) (taken at.out) (taken c.pass.new.out) (faults c.args.out.now) (faults at.out) (faults c.pass.new.out) went.0 did.0 went.1 did.1,
             went.2
                 ∙ a_step s p at.frames (meant p.types (g.S.Store.content at.store) (g.S.Store.rows at.store)) (drop at.taken c.args.input.now) at.left went.0 c.loop-left-test.true
+                ∙ passes_same s p at.frames (meant p.types (g.S.Store.content at.store) (g.S.Store.rows at.store)) h.sound h.fits.store.numbers.single (drop at.taken c.args.input.now) (walk s p (at.left - 1)) (at.left - 1) went.0
                 ∙ did.2 (walk s p (at.left - 1)) (at.left - 1) went.0,
           );
     }
