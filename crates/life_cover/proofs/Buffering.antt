@@ -10,6 +10,7 @@ use Rattle.life_store.specs.Held.{filled, filled_if, filled_slots, owned_in, res
 use Rattle.life_store.specs.Owners.{ended, ended_owned, ended_slots}
 use Rattle.life_store.specs.Parts.{Parts, Single, Raw, Iterates, Views, Text, Vector, Unique, Member, NoMember, parts_at, width}
 use Rattle.life_store.proofs.CellLemmas.{cell_cases, none_some, set_cases, some_same, unset_cases}
+use Rattle.life_store.proofs.MapLemmas.{one_or_apart}
 use Rattle.life_forest.proofs.Coming.{IfGot}
 use Rattle.life_cover.specs.Buffered.{AreBuffered, HasBuffers}
 use Rattle.life_cover.proofs.OwnersStay.{read_word}
@@ -30,7 +31,7 @@ each_more P t ss h rest (suc i) s e = rest i s e
 each_tail : (P : List ℕ → Type 0) (t : Slot) (ss : List Slot) → Each P (t ∷ ss) → Each P ss
 each_tail P t ss h i s e = h (suc i) s e
 
-each_take : (P : List ℕ → Type 0) (n : ℕ) (ss : List Slot) → Each P ss → Each P (take n ss)
+pub each_take : (P : List ℕ → Type 0) (n : ℕ) (ss : List Slot) → Each P ss → Each P (take n ss)
 each_take P zero ss h = each_none P
 each_take P (suc n) [] h = each_none P
 each_take P (suc n) (t ∷ ss) h = each_more P t (take n ss) (h 0 t refl) (each_take P n ss (each_tail P t ss h))
@@ -40,15 +41,15 @@ each_drop P zero ss h = h
 each_drop P (suc n) [] h = h
 each_drop P (suc n) (t ∷ ss) h = each_drop P n ss (each_tail P t ss h)
 
-each_append : (P : List ℕ → Type 0) (ss rr : List Slot) → Each P ss → Each P rr → Each P (ss ++ rr)
+pub each_append : (P : List ℕ → Type 0) (ss rr : List Slot) → Each P ss → Each P rr → Each P (ss ++ rr)
 each_append P [] rr h k = k
 each_append P (t ∷ ss) rr h k = each_more P t (ss ++ rr) (h 0 t refl) (each_append P ss rr (each_tail P t ss h) k)
 
-each_stamped : (P : List ℕ → Type 0) (m : ℕ) (ss : List Slot) → Each P ss → Each P (map (stamped m) ss)
+pub each_stamped : (P : List ℕ → Type 0) (m : ℕ) (ss : List Slot) → Each P ss → Each P (map (stamped m) ss)
 each_stamped P m [] h = each_none P
 each_stamped P m (t ∷ ss) h = each_more P (stamped m t) (map (stamped m) ss) (h 0 t refl) (each_stamped P m ss (each_tail P t ss h))
 
-none_left : (n m : ℕ) → n ≤ m → n - m ≡ 0
+pub none_left : (n m : ℕ) → n ≤ m → n - m ≡ 0
 none_left n m le = omega (arith, le)
 
 -- no more slots than there were
@@ -107,6 +108,10 @@ module _ (types : Types) where
         at_n : n ≡ m → o ≡ q → (out n ⊎ Have o) → HasBuffers (parts_at types q.ty) s.words
         at_n same_n same (inl gone) = absurd (free (subst out same_n gone))
         at_n same_n same (inr have) = subst (λ (x : Object). (j : ℕ) (t : Slot) → slice_get x.slots j ≡ Some t → HasBuffers (parts_at types x.ty) t.words) same have i s slot
+
+    -- an object isn't left out where it has them
+    pub have_in : (n : ℕ) (c : Content) → ((o : Object) → at c.objects n ≡ Some o → Have o) → AreBut (λ k. out k ⊎ (k ≡ n)) c → AreBut out c
+    have_in n c have h k i o t free there slot = one_or_apart k n (λ same. have o (ap (at c.objects) (sym same) ∙ there) i t slot) (λ ne. h k i o t (λ gone. ⊎_elim free ne gone) there slot)
 
     pub birth_but : (ty : TyId) (w capacity : ℕ) (c : Content) → AreBut out c → AreBut out (with_birth ty w capacity c)
     birth_but ty w capacity c h = set_but c.births (newborn ty w capacity c.clock) c (with_birth ty w capacity c) (inr (each_none (HasBuffers (parts_at types ty)))) refl h

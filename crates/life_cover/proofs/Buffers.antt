@@ -14,7 +14,7 @@ use Rattle.life_store.specs.Kinds.{is_value, kind_in}
 use Rattle.life_store.specs.Parts.{Parts, Text, Vector, parts_at, width, width_at}
 use Rattle.life_store.specs.Places.{Spot, spot_words}
 use Rattle.life_store.proofs.CellLemmas.{none_some, some_same}
-use Rattle.life_forest.specs.Forest.{Beneath, Touches}
+use Rattle.life_forest.specs.Forest.{Beneath, Foot, Touches}
 use Rattle.life_forest.specs.Kinds.{kinds_of, owned_type, rank_of}
 use Rattle.life_forest.specs.Owned.{times}
 use Rattle.life_forest.specs.Typed.{IsStore}
@@ -79,7 +79,7 @@ module _ (types : Types) (ordered : IsOrdered types) (hand : ℕ → ℕ) (c : C
     width_is : width_at types item ≡ 1
     width_is = ap width is_vector
 
-    low : Beneath (kinds_of types) c (foot_of types region) b
+    pub low : Beneath (kinds_of types) c (foot_of types region) b
     low = buffer_low (Vector ty element) is_vector b (ap listed owned)
 
     pub buffer : (x : Object) × (at c.objects b ≡ Some x)
@@ -100,7 +100,7 @@ module _ (types : Types) (ordered : IsOrdered types) (hand : ℕ → ℕ) (c : C
         object_known types ordered hand c store element (known_from types ordered hand c store (rank_of types ty) element made.2) b buffer.0 buffer.1
         (ap (parts_at types) buffer_type ∙ made.1)
 
-    own : OwnsBuffer (kinds_of types) ty element spot b c o buffer.0
+    pub own : OwnsBuffer (kinds_of types) ty element spot b c o buffer.0
     own = record {
       lies = lies (Vector ty element) is_vector b (ap listed owned);
       owned = owned;
@@ -119,9 +119,10 @@ module _ (types : Types) (ordered : IsOrdered types) (hand : ℕ → ℕ) (c : C
     pub clear_touches : Touches (kinds_of types) (foot_of types region) c (cleared element b c)
     clear_touches = cleared_touches (kinds_of types) hand c element b buffer.0 store.forest buffer.1 elements (foot_of types region) low
 
-    pub erase_touches : (index : ℕ) → index < size_of c b → Touches (kinds_of types) (foot_of types region) c (erased element b index c)
-    erase_touches index small =
-        erased_touches (kinds_of types) hand c element b buffer.0 store.forest buffer.1 elements index (let e = ap (λ (x : Option Object). length (slots_if x)) buffer.1 in omega (arith, e, small)) (foot_of types region) low
+    -- whatever its buffer lies beneath
+    pub erase_touches : (index : ℕ) → index < size_of c b → (t : Foot) → Beneath (kinds_of types) c t b → Touches (kinds_of types) t c (erased element b index c)
+    erase_touches index small t beneath =
+        erased_touches (kinds_of types) hand c element b buffer.0 store.forest buffer.1 elements index (let e = ap (λ (x : Option Object). length (slots_if x)) buffer.1 in omega (arith, e, small)) t beneath
 
     pub reserve_touches : (s : Setting) (capacity : ℕ) → IfGot (reserved s ty element spot b capacity c) (Touches (kinds_of types) (foot_of types region) c)
     reserve_touches s capacity = reserved_touches (kinds_of types) ty element spot b hand c o buffer.0 store.forest own s capacity (foot_of types region) (foot_covers types n i w item (Vector ty element) is_vector)

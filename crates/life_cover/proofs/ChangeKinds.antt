@@ -22,6 +22,7 @@ use Rattle.life_rules.proofs.Giving.{at_head}
 use Rattle.life_store.specs.Doing.{changed, does, on_given, pushes}
 use Rattle.life_store.specs.Effects.{Effect, Setting, cell, word_of_number}
 use Rattle.life_store.specs.Parts.{Single, Text, Vector, characters_type, operand_parts, parts_at}
+use Rattle.life_store.specs.Places.{Spot}
 use Rattle.life_store.specs.State.{Cell, Empty, Named, Number, Points, State}
 use Rattle.life_store.specs.Views.{seen_words, used}
 use Rattle.life_forest.proofs.OneNumber.{type_there}
@@ -170,3 +171,8 @@ module _ (types : Types) (f : Function) (rest : ℕ → ℕ) (S : Fact → Type 
         by_cell r h None e = no_value r x None e tt
         by_cell r h (Some Empty) e = no_value r x (Some Empty) e tt
         by_cell r h (Some (Points p)) e = no_value r x (Some (Points p)) e tt
+
+    -- what is neither a number nor an object isn't added
+    pub not_pushed : (x : ℕ) (v : Option Cell) → cell st x ≡ v → IsRight sigs types n f place (Changes o (PushBack x)) S S' → ((spot : Spot) → OnRight (pushes s types f (operand_parts types f o) spot x v st) (FrameCovered types f S'))
+        → OnRight (does s types f (Changes o (PushBack x)) st) (FrameCovered types f S')
+    not_pushed x v e right none = owner_reached (PushBack x) right solid_vector (λ r. no_value r x v e (none (record { object = r.region.object; index = r.index; word = r.region.word })))

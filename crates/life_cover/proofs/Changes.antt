@@ -1,24 +1,12 @@
 -- A change of an owner in a place, by its name or through a pointer: the facts that the rules leave cover all other pointers.
-use Rattle.std.proofs.Common.{◌≡◌, ℕ, Bool, true, false, List, [], length, Some, refl}
+use Rattle.std.proofs.Common.{◌≡◌, ℕ, Bool, true, false, List, length, Some}
 use Rattle.life_types.specs.Trees.{IsOrdered}
 use Rattle.life_types.specs.Types.{Types}
-use Rattle.life_types.specs.declared.place.Place.{Place}
 use Rattle.life_types.specs.declared.ty.TyId.{TyId}
-use Rattle.life_core.specs.Function.{Function}
-use Rattle.life_core.specs.Operands.{Location}
-use Rattle.life_core.specs.Operands as named
-use Rattle.life_core.specs.Step.{Change, Changes}
-use Rattle.life_pset.specs.Elements.{changed, owner_changed}
 use Rattle.life_pset.specs.Places.{members_place, under}
 use Rattle.life_pset.specs.declared.element.AbsPlace.{AbsPlace}
-use Rattle.life_pset.specs.declared.element.Element.TheVariants as element
 use Rattle.life_pset.specs.declared.element.Fact.{Fact}
 use Rattle.life_pset.specs.declared.element.Root.{Root}
-use Rattle.life_contract.specs.Located.{located}
-use Rattle.life_contract.specs.Signatures.{Signature}
-use Rattle.life_rules.specs.Carrying.{writes}
-use Rattle.life_rules.specs.Matching.{fact_at}
-use Rattle.life_rules.proofs.Giving.{at_head}
 use Rattle.life_store.specs.Content.{Content}
 use Rattle.life_store.specs.Parts.{type_within}
 use Rattle.life_store.specs.State.{Pointer, Target}
@@ -26,12 +14,11 @@ use Rattle.life_forest.specs.Forest.{Touches}
 use Rattle.life_forest.specs.Kinds.{kinds_of}
 use Rattle.life_forest.specs.Typed.{IsStore}
 use Rattle.life_cover.specs.Covers.{IsCovered, Look, PointsTo}
-use Rattle.life_cover.specs.Kills.{Closed, Guards, LeftBy}
+use Rattle.life_cover.specs.Kills.{Guards, LeftBy}
 use Rattle.life_cover.specs.Regions.{IsAt, Region, foot_of}
 use Rattle.life_cover.specs.Roots.{AreRooted}
 use Rattle.life_cover.proofs.Guarding.{under_place}
 use Rattle.life_cover.proofs.Killing.{cover_on}
-use Rattle.life_cover.proofs.Left.{left_by_name, left_through}
 use Rattle.life_cover.proofs.Stepping.{AllSmall, HasRoom, members_at}
 
 module _ (types : Types) (ordered : IsOrdered types) (hand : ℕ → ℕ) (c d : Content) (store : IsStore types hand c) (Stands : Root → Region → Type 0) (may_change owning : Root → Bool) (rooted : AreRooted types c Stands owning) where
@@ -44,22 +31,6 @@ module _ (types : Types) (ordered : IsOrdered types) (hand : ℕ → ℕ) (c d :
       → (l : AbsPlace) (look : Look) (v : Pointer) → written l ≡ false → IsCovered types c Stands may_change S l look v → IsCovered types d Stands may_change S' l look v
   place_cover killed k may at_k touch written S S' left =
       cover_on types ordered hand c d store (foot_of types k) touch Stands Stands may_change (λ r a s. rooted.fits r a s) (under killed) written S S' left (place_guards S killed k may at_k) (λ place r names free s. s)
-
-  module _ (sigs : List Signature) (f : Function) (place : Place) (change : Change) (S S' : Fact → Type 0) where
-    -- .. a change by a name
-    pub change_named : (l : Location) (k : Region) → Closed sigs types f place (Changes (named.Name l) change) S S' → owning (located l).root ≡ true → IsAt types c Stands (located l) k → Touches (kinds_of types) (foot_of types k) c d
-        → (q : AbsPlace) (look : Look) (v : Pointer) → writes (Changes (named.Name l) change) q ≡ false → IsCovered types c Stands may_change S q look v → IsCovered types d Stands may_change S' q look v
-    change_named l k closed may at_k touch =
-        place_cover (located l) k may at_k touch (writes (Changes (named.Name l) change)) S S'
-        (left_by_name sigs types f place (Changes (named.Name l) change) S S' closed Stands (record { owner = located l; cause = changed place l.local }) refl (λ e. refl) (at_head (element.Invalid (changed place l.local)) []))
-
-    -- .. and through a pointer, whose value some fact covers
-    pub change_through : (p : Location) (members : List ℕ) (a : AbsPlace) (k : Region) → Closed sigs types f place (Changes (named.Through p members) change) S S' → S (fact_at (located p) (element.At a)) → owning (members_place a members).root ≡ true
-        → IsAt types c Stands (members_place a members) k → Touches (kinds_of types) (foot_of types k) c d
-        → (q : AbsPlace) (look : Look) (v : Pointer) → writes (Changes (named.Through p members) change) q ≡ false → IsCovered types c Stands may_change S q look v → IsCovered types d Stands may_change S' q look v
-    change_through p members a k closed target may at_k touch =
-        place_cover (members_place a members) k may at_k touch (writes (Changes (named.Through p members) change)) S S'
-        (left_through sigs types f place (Changes (named.Through p members) change) S S' closed Stands p members a target (λ x y. refl) (λ e. refl) (at_head (element.Invalid (owner_changed place)) []))
 
 -- where a pointer points to a place, its member lies in the member's place
 pub member_pointed : (types : Types) (c : Content) (Stands : Root → Region → Type 0) (may_change : Root → Bool) (look : Look) (a : AbsPlace) (t : Target) (item : TyId) (members : List ℕ) → (h : PointsTo types c Stands may_change look a t)

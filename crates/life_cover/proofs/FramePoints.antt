@@ -38,7 +38,7 @@ use Rattle.life_cover.proofs.Pointers.{OnRight}
 use Rattle.life_cover.proofs.WholeSteps.{step_right}
 
 -- there is no call among the instructions that are spoken of
-one_frame : (types : Types) (f : Function) (i : Step) → IsSpoken types f i → IsOneFrame i
+pub one_frame : (types : Types) (f : Function) (i : Step) → IsSpoken types f i → IsOneFrame i
 one_frame types f (Live x form) spoken = tt
 one_frame types f (End xs) spoken = tt
 one_frame types f (Eval r o) spoken = tt

@@ -1,7 +1,7 @@
 -- An instruction of a frame without structs and inputs at which nothing is wrong makes no fault, and the facts behind it cover all pointers of
 -- the frame: of values, pointers, vectors, strings, iterators, spans and views, by their types alone.
 use Rattle.std.proofs.Common.{◌≡◌, ◌≢◌, ℕ, Bool, true, false, ◌&&◌, not, List, Some, refl, sym, ap, subst, ◌∙◌}
-use Rattle.std.specs.Prelude.{pos, if◌then◌else◌}
+use Rattle.std.specs.Prelude.{pos}
 use Rattle.std.proofs.lemmas.Bool.{and_parts, false≢true}
 use Rattle.life_types.specs.Pointees.{ty_of}
 use Rattle.life_types.specs.TypeTests.{is_constant, is_iterator, is_pointer, is_value, is_view, is_void}
@@ -14,19 +14,19 @@ use Rattle.life_core.specs.declared.operand.RangeEnd.{RangeEnd}
 use Rattle.life_core.specs.declared.operand.Which.{Which}
 use Rattle.life_core.specs.declared.operand.Which.TheVariants as which
 use Rattle.life_core.specs.Function.{Function}
-use Rattle.life_core.specs.Operands.{Base, Characters, Location, Operand, Source, whole}
+use Rattle.life_core.specs.Operands.{Base, Location, Source, whole}
 use Rattle.life_core.specs.Operands as named
 use Rattle.life_core.specs.Proper.{AreReady}
 use Rattle.life_core.specs.Ready.{IsThere}
-use Rattle.life_core.specs.Step.{Advance, Aim, Append, Call, Change, Changes, Clear, Copy, Cursor, Cut, End, Erase, Eval, Live, Load, Make, Move, PopBack, Port, Ports, PushBack, Repoint, Reserve, Same, Save, Set, Size, Step, Takes, Writes, WritesView}
+use Rattle.life_core.specs.Step.{Advance, Aim, Call, Changes, Copy, Cursor, Cut, End, Eval, Live, Load, Make, Move, Port, Ports, Repoint, Same, Save, Size, Step, Takes, Writes, WritesView}
 use Rattle.life_core.specs.Step as step
 use Rattle.life_core.specs.Touched.{touched_by}
 use Rattle.life_pset.specs.Shapes.{has_buffer}
 use Rattle.life_pset.specs.declared.element.Fact.{Fact}
 use Rattle.life_contract.specs.Signatures.{Signature}
 use Rattle.life_proper.specs.OperandTypes.{aims_at, are_alike, are_compared, is_range, keeps_const, owned_element, same, seen_element, spans, takes, walks}
-use Rattle.life_proper.specs.Placed.{element_of, is_const_base, is_const_place, is_given, is_number, is_number_of, register_at, type_at, type_in, type_of, type_of_element}
-use Rattle.life_proper.specs.WellFormed.{are_characters, is_change_of, is_port, is_source_of, is_well_formed_step}
+use Rattle.life_proper.specs.Placed.{element_of, is_const_base, is_const_place, is_number, is_number_of, register_at, type_at, type_in, type_of, type_of_element}
+use Rattle.life_proper.specs.WellFormed.{is_change_of, is_port, is_source_of, is_well_formed_step}
 use Rattle.life_proper.proofs.HeldSorts.{same_is}
 use Rattle.life_store.specs.Doing.{does}
 use Rattle.life_store.specs.Edits.{buffer_of, size_of}
@@ -43,23 +43,19 @@ use Rattle.life_forest.proofs.TypedSteps.{IsSlotFree, value_solid}
 use Rattle.life_cover.specs.Frames.{FrameCovered, NoInput, any_root, look_at}
 use Rattle.life_cover.specs.Regions.{owned_in_type}
 use Rattle.life_cover.proofs.AimKinds.{advances_kind, cuts_kind, empty_kind, null_kind, owner_cursor_kind, owner_item_kind, place_kind, repoint_kind, seen_cursor_kind, seen_item_kind, text_kind, whole_aim_kind}
-use Rattle.life_cover.proofs.ChangeKinds.{IsGiven, text_append, text_clear, text_push, text_set, vector_clear, vector_pop, vector_push, vector_reserve}
+use Rattle.life_cover.proofs.ChangeSteps.{change_step}
 use Rattle.life_cover.proofs.CopyKinds.{IsCopyable, copy_kind}
 use Rattle.life_cover.proofs.EndKinds.{end_kind}
-use Rattle.life_cover.proofs.KnownFrames.{IsKnownFrame, IsRight, reach_at, used_right, whole_location}
+use Rattle.life_cover.proofs.KnownFrames.{at_pointer, IsKnownFrame, IsRight, reach_at, used_right, whole_location}
 use Rattle.life_cover.proofs.LiveKinds.{live_kind}
-use Rattle.life_cover.proofs.Looks.{HasItem, aims_single, const_kept, element_item, element_ranged, seen_at, spans_range, walks_single, whole_item}
+use Rattle.life_cover.proofs.Looks.{view_range, HasItem, aims_single, const_kept, element_item, element_ranged, seen_at, spans_range, walks_single, whole_item}
 use Rattle.life_cover.proofs.NumberKinds.{IsPort, eval_kind, load_kind, port_kind, register_covered, same_kind, seen_size_kind}
 use Rattle.life_cover.proofs.Opening.{opened}
 use Rattle.life_cover.proofs.Pointers.{OnRight}
 use Rattle.life_cover.proofs.Reaching.{by_reach, spot_is}
 use Rattle.life_cover.proofs.SaveKinds.{save_kind}
 
--- what a well-formed range, iterator or view is
-view_range : (t : Ty) → is_view t ≡ true → is_range t ≡ true
-view_range ty.View e = refl
-view_range _ e = absurd (false≢true e)
-
+-- what a well-formed iterator is
 iterator_single : (t : Ty) → is_iterator t ≡ true → is_range t ≡ false
 iterator_single (ty.Iterator target constant) e = refl
 iterator_single _ e = absurd (false≢true e)
@@ -91,13 +87,7 @@ pub not_false : (b : Bool) → not b ≡ true → b ≡ false
 not_false true e = absurd (false≢true e)
 not_false false e = refl
 
--- ---- the kinds of instructions that are spoken of: no object is moved or gives its value over, and nothing is erased
-
--- to a vector of objects no object is added
-abbrev pub IsSpokenChange : Types → Ty → Change → Type 0
-IsSpokenChange types t (Erase at into) = ⊥
-IsSpokenChange types (ty.Vector element) (PushBack x) = is_value (ty_of types element) ≡ true
-IsSpokenChange types t c = Unit {0}
+-- ---- the kinds of instructions that are spoken of: no object is moved
 
 abbrev pub IsSpokenSource : Source → Type 0
 IsSpokenSource (named.Get u) = ⊥
@@ -115,7 +105,6 @@ IsSpoken types f (Make u made) = ⊥
 IsSpoken types f (Call target g xs) = ⊥
 IsSpoken types f (Aim p s) = IsSpokenSource s
 IsSpoken types f (step.Element p b w) = IsElement w
-IsSpoken types f (Changes o c) = IsSpokenChange types (type_of types f o) c
 IsSpoken types f _ = Unit {0}
 
 module _ (types : Types) (f : Function) (rest : ℕ → ℕ) (S : Fact → Type 0) (st : State) (k : IsKnownFrame types f rest S st) (sigs : List Signature) (n : ℕ) (place : Place) (S' : Fact → Type 0) (texts : ℕ) (fs : List Function) (s : Setting) where
@@ -126,8 +115,8 @@ module _ (types : Types) (f : Function) (rest : ℕ → ℕ) (S : Fact → Type 
   Covers i = OnRight (does s types f i st) (FrameCovered types f S')
 
   -- a location of a pointer is a local
-  pub at_pointer : (p : Location) → is_pointer (type_in types f p) ≡ true → (P : Location → Type 0) → ((x : ℕ) → P (whole x)) → P p
-  at_pointer p pointer P each = subst P (whole_location types k.plain f p (pointer_solid (type_in types f p) pointer)) (each p.local)
+  to_pointer : (p : Location) → is_pointer (type_in types f p) ≡ true → (P : Location → Type 0) → ((x : ℕ) → P (whole x)) → P p
+  to_pointer = at_pointer types f rest S st k
 
   held_pointer : (q : ℕ) → is_pointer (type_at types f q) ≡ true → IsThere (ready_of st) q → (v : Pointer) × (cell st q ≡ Some (Points v))
   held_pointer q pointer there = pointer_cell types f st k.poised q pointer there
@@ -195,7 +184,7 @@ module _ (types : Types) (f : Function) (rest : ℕ → ℕ) (S : Fact → Type 
   element_step p (named.Pointer l) w is right aims const ready =
       let seen = aims_seen types k.ordered k.once (type_at types f p) (type_of_element types f (named.Pointer l) w) aims in
       let is_element = element_type (named.Pointer l) w (ty_of types seen.target) is seen.is in
-      at_pointer l (range_points (type_in types f l) (element_ranged types (type_in types f l) seen.target is_element))
+      to_pointer l (range_points (type_in types f l) (element_ranged types (type_in types f l) seen.target is_element))
       (λ q. Right (step.Element (whole p) (named.Pointer q) w) → same (ty_of types seen.target) (seen_element types (type_in types f q)) ≡ true → keeps_const (is_constant (type_at types f p)) (is_constant (type_in types f q)) ≡ true → IsThere (ready_of st) q.local → Covers (step.Element (whole p) (named.Pointer q) w))
       (λ q now here const there.
       seen_item_kind types f rest S st k sigs n place S' p seen.pointer q (held_pointer q (range_points (type_at types f q) (element_ranged types (type_at types f q) seen.target here)) there) seen.target seen.seen here
@@ -210,7 +199,7 @@ module _ (types : Types) (f : Function) (rest : ℕ → ℕ) (S : Fact → Type 
       (item_for p (type_of types f o) seen.target seen.pointer seen.seen (element_item types k.ordered k.once (type_of types f o) seen.target seen.is)) s end right (walks_single types (type_at types f p) (element_of types f (named.Owner o)) walk)
   cursor_step p (named.Pointer l) end right walk const ready =
       let seen = walks_seen types k.ordered k.once (type_at types f p) (element_of types f (named.Pointer l)) walk in
-      at_pointer l (range_points (type_in types f l) (element_ranged types (type_in types f l) seen.target seen.is))
+      to_pointer l (range_points (type_in types f l) (element_ranged types (type_in types f l) seen.target seen.is))
       (λ q. Right (Cursor (whole p) (named.Pointer q) end) → same (ty_of types seen.target) (seen_element types (type_in types f q)) ≡ true → keeps_const (is_constant (type_at types f p)) (is_constant (type_in types f q)) ≡ true → IsThere (ready_of st) q.local → Covers (Cursor (whole p) (named.Pointer q) end))
       (λ q now here const there.
       seen_cursor_kind types f rest S st k sigs n place S' p seen.pointer q (held_pointer q (range_points (type_at types f q) (element_ranged types (type_at types f q) seen.target here)) there) seen.target seen.seen here
@@ -238,39 +227,9 @@ module _ (types : Types) (f : Function) (rest : ℕ → ℕ) (S : Fact → Type 
       by_type (ty.Vector item) is h = with_item (ty.Vector item) item is refl refl refl
       by_type _ is h = absurd (false≢true (sym h))
   size_step r (named.Pointer l) right number some =
-      at_pointer l (range_points (type_in types f l) (seen_range types (type_in types f l) some))
+      to_pointer l (range_points (type_in types f l) (seen_range types (type_in types f l) some))
       (λ q. Right (Size r (named.Pointer q)) → is_void (seen_element types (type_in types f q)) ≡ false → Covers (Size r (named.Pointer q)))
       (λ q now here. seen_size_kind types f rest S st k sigs n place S' s r q now number (seen_range types (type_at types f q) here)) right some
-
-  -- ---- changes
-
-  module _ (o : Operand) where
-    given_whole : (given : Characters) → are_characters types texts fs f given ≡ true → IsGiven types f rest S st k sigs n place S' s o given
-    given_whole (named.Single r) e = tt
-    given_whole (named.View l) e =
-        let is = whole_location types k.plain f l (pointer_solid (type_in types f l) (range_points (type_in types f l) (view_range (type_in types f l) e))) in
-        (is, subst (λ (q : Location). is_range (type_in types f q) ≡ true) (sym is) (view_range (type_in types f l) e))
-
-    text_step : (c : Change) → type_of types f o ≡ ty.Text → Right (Changes o c) → is_change_of types texts fs f ty.Text c ≡ true → Covers (Changes o c)
-    text_step (PushBack r) is right e = text_push types f rest S st k sigs n place S' s o is r (number_any types f ty.Char r e) right
-    text_step Clear is right e = text_clear types f rest S st k sigs n place S' s o is right
-    text_step (Set given) is right e = text_set types f rest S st k sigs n place S' s o is given (given_whole given e) right
-    text_step (Append given) is right e = text_append types f rest S st k sigs n place S' s o is given (given_whole given e) right
-    text_step _ is right e = absurd (false≢true e)
-
-    vector_step : (element : TyId) (c : Change) → type_of types f o ≡ ty.Vector element → IsSpokenChange types (ty.Vector element) c → Right (Changes o c) → is_change_of types texts fs f (ty.Vector element) c ≡ true → Covers (Changes o c)
-    vector_step element (PushBack x) is value right e =
-        vector_push types f rest S st k sigs n place S' s o element is x (subst (λ b. (if b then is_number_of types f (ty_of types element) x else is_given types f (ty_of types element) x) ≡ true) value e) value right
-    vector_step element PopBack is spoken right e = vector_pop types f rest S st k sigs n place S' s o element is right
-    vector_step element Clear is spoken right e = vector_clear types f rest S st k sigs n place S' s o element is right
-    vector_step element (Reserve r) is spoken right e = vector_reserve types f rest S st k sigs n place S' s o element is r right
-    vector_step element (Erase at into) is spoken right e = absurd spoken
-    vector_step element _ is spoken right e = absurd (false≢true e)
-
-    change_step : (c : Change) (t : Ty) → type_of types f o ≡ t → IsSpokenChange types t c → Right (Changes o c) → is_change_of types texts fs f t c ≡ true → Covers (Changes o c)
-    change_step c ty.Text is spoken right e = text_step c is right e
-    change_step c (ty.Vector element) is spoken right e = vector_step element c is spoken right e
-    change_step c _ is spoken right e = absurd (false≢true e)
 
   -- ---- what goes out
 
@@ -301,38 +260,38 @@ module _ (types : Types) (f : Function) (rest : ℕ → ℕ) (S : Fact → Type 
       (not_false (is_pointer (type_of types f to)) pointer) spoken
   step_covered (Move to y) spoken right e free ready = absurd spoken
   step_covered (Aim p sr) spoken right e free ready =
-      at_pointer p (source_points (type_in types f p) sr spoken e) (λ q. Right (Aim q sr) → is_source_of types texts fs f (type_in types f q) sr ≡ true → Covers (Aim q sr)) (λ q now here. aim_step q sr spoken now here) right e
+      to_pointer p (source_points (type_in types f p) sr spoken e) (λ q. Right (Aim q sr) → is_source_of types texts fs f (type_in types f q) sr ≡ true → Covers (Aim q sr)) (λ q now here. aim_step q sr spoken now here) right e
   step_covered (Repoint p q) spoken right e free ready =
       let alike = alike_points types (type_in types f p) (type_in types f q) (and_parts (are_alike types (type_in types f p) (type_in types f q)) _ e).0 in
-      at_pointer p alike.0 (λ a. Right (Repoint a q) → takes types (type_in types f a) (type_in types f q) ≡ true → Covers (Repoint a q))
+      to_pointer p alike.0 (λ a. Right (Repoint a q) → takes types (type_in types f a) (type_in types f q) ≡ true → Covers (Repoint a q))
       (λ a now here.
-      at_pointer q alike.1 (λ b. Right (Repoint (whole a) b) → takes types (type_at types f a) (type_in types f b) ≡ true → IsThere (ready_of st) b.local → Covers (Repoint (whole a) b))
+      to_pointer q alike.1 (λ b. Right (Repoint (whole a) b) → takes types (type_at types f a) (type_in types f b) ≡ true → IsThere (ready_of st) b.local → Covers (Repoint (whole a) b))
       (λ b next takes_b there. let points = alike_points types (type_at types f a) (type_at types f b) (and_parts (are_alike types (type_at types f a) (type_at types f b)) _ takes_b).0 in
       repoint_kind types f rest S st k sigs n place S' a points.0 b (held_pointer b points.1 there) s next takes_b) now here ready.uses.0) right e
   step_covered (step.Element p b w) spoken right e free ready =
       let both = and_parts (aims_at types (type_in types f p) (type_of_element types f b w)) (keeps_const (is_constant (type_in types f p)) (is_const_base types f b)) e in
-      at_pointer p (aims_seen types k.ordered k.once (type_in types f p) (type_of_element types f b w) both.0).pointer
+      to_pointer p (aims_seen types k.ordered k.once (type_in types f p) (type_of_element types f b w) both.0).pointer
       (λ q. Right (step.Element q b w) → aims_at types (type_in types f q) (type_of_element types f b w) ≡ true → keeps_const (is_constant (type_in types f q)) (is_const_base types f b) ≡ true → AreReady (ready_of st) (touched_by f (step.Element q b w)) → Covers (step.Element q b w))
       (λ q now aims const there. element_step q b w spoken now aims const there) right both.0 both.1 ready
   step_covered (Cursor p b end) spoken right e free ready =
       let both = and_parts (walks types (type_in types f p) (element_of types f b)) (keeps_const (is_constant (type_in types f p)) (is_const_base types f b)) e in
-      at_pointer p (walks_seen types k.ordered k.once (type_in types f p) (element_of types f b) both.0).pointer
+      to_pointer p (walks_seen types k.ordered k.once (type_in types f p) (element_of types f b) both.0).pointer
       (λ q. Right (Cursor q b end) → walks types (type_in types f q) (element_of types f b) ≡ true → keeps_const (is_constant (type_in types f q)) (is_const_base types f b) ≡ true → AreReady (ready_of st) (touched_by f (Cursor q b end)) → Covers (Cursor q b end))
       (λ q now walk const there. cursor_step q b end now walk const there) right both.0 both.1 ready
   step_covered (Advance p q r way) spoken right e free ready =
       let outer = and_parts (is_iterator (type_in types f p)) _ e in
       let taken = (and_parts (takes types (type_in types f p) (type_in types f q)) (is_number types f r) outer.1).0 in
-      at_pointer p (iterator_points (type_in types f p) outer.0) (λ a. Right (Advance a q r way) → is_iterator (type_in types f a) ≡ true → takes types (type_in types f a) (type_in types f q) ≡ true → Covers (Advance a q r way))
+      to_pointer p (iterator_points (type_in types f p) outer.0) (λ a. Right (Advance a q r way) → is_iterator (type_in types f a) ≡ true → takes types (type_in types f a) (type_in types f q) ≡ true → Covers (Advance a q r way))
       (λ a now iterates here. let points = alike_points types (type_at types f a) (type_in types f q) (and_parts (are_alike types (type_at types f a) (type_in types f q)) _ here).0 in
-      at_pointer q points.1 (λ b. Right (Advance (whole a) b r way) → takes types (type_at types f a) (type_in types f b) ≡ true → IsThere (ready_of st) b.local → Covers (Advance (whole a) b r way))
+      to_pointer q points.1 (λ b. Right (Advance (whole a) b r way) → takes types (type_at types f a) (type_in types f b) ≡ true → IsThere (ready_of st) b.local → Covers (Advance (whole a) b r way))
       (λ b next takes_b there. let both = alike_points types (type_at types f a) (type_at types f b) (and_parts (are_alike types (type_at types f a) (type_at types f b)) _ takes_b).0 in
       advances_kind types f rest S st k sigs n place S' a both.0 b (held_pointer b both.1 there) s r way next takes_b (iterator_single (type_at types f a) iterates)) now here ready.uses.0) right outer.0 taken
   step_covered (Cut p q r count) spoken right e free ready =
       let outer = and_parts (is_range (type_in types f p)) _ e in
       let taken = (and_parts (takes types (type_in types f p) (type_in types f q)) _ outer.1).0 in
-      at_pointer p (range_points (type_in types f p) outer.0) (λ a. Right (Cut a q r count) → is_range (type_in types f a) ≡ true → takes types (type_in types f a) (type_in types f q) ≡ true → Covers (Cut a q r count))
+      to_pointer p (range_points (type_in types f p) outer.0) (λ a. Right (Cut a q r count) → is_range (type_in types f a) ≡ true → takes types (type_in types f a) (type_in types f q) ≡ true → Covers (Cut a q r count))
       (λ a now ranges here. let points = alike_points types (type_at types f a) (type_in types f q) (and_parts (are_alike types (type_at types f a) (type_in types f q)) _ here).0 in
-      at_pointer q points.1 (λ b. Right (Cut (whole a) b r count) → takes types (type_at types f a) (type_in types f b) ≡ true → IsThere (ready_of st) b.local → Covers (Cut (whole a) b r count))
+      to_pointer q points.1 (λ b. Right (Cut (whole a) b r count) → takes types (type_at types f a) (type_in types f b) ≡ true → IsThere (ready_of st) b.local → Covers (Cut (whole a) b r count))
       (λ b next takes_b there. let both = alike_points types (type_at types f a) (type_at types f b) (and_parts (are_alike types (type_at types f a) (type_at types f b)) _ takes_b).0 in
       cuts_kind types f rest S st k sigs n place S' a both.0 b (held_pointer b both.1 there) s r count next takes_b ranges) now here ready.uses.0) right outer.0 taken
   step_covered (Size r b) spoken right e free ready =
@@ -341,10 +300,10 @@ module _ (types : Types) (f : Function) (rest : ℕ → ℕ) (S : Fact → Type 
   step_covered (Same r a b equal) spoken right e free ready =
       let both = and_parts (is_number_of types f ty.Bool r) (are_compared types (type_in types f a) (type_in types f b)) e in
       let points = compared_points types (type_in types f a) (type_in types f b) both.1 in
-      at_pointer a points.0 (λ x. Right (Same r x b equal) → are_compared types (type_in types f x) (type_in types f b) ≡ true → Covers (Same r x b equal))
-      (λ x now here. at_pointer b points.1 (λ y. Right (Same r (whole x) y equal) → are_compared types (type_at types f x) (type_in types f y) ≡ true → Covers (Same r (whole x) y equal))
+      to_pointer a points.0 (λ x. Right (Same r x b equal) → are_compared types (type_in types f x) (type_in types f b) ≡ true → Covers (Same r x b equal))
+      (λ x now here. to_pointer b points.1 (λ y. Right (Same r (whole x) y equal) → are_compared types (type_at types f x) (type_in types f y) ≡ true → Covers (Same r (whole x) y equal))
       (λ y next alike. same_kind types f rest S st k sigs n place S' s r x y equal next (number_any types f ty.Bool r both.0) alike) now here) right both.1
-  step_covered (Changes o c) spoken right e free ready = change_step o c (type_of types f o) refl spoken right (and_parts (is_change_of types texts fs f (type_of types f o) c) (not (is_const_place types f o)) e).0
+  step_covered (Changes o c) spoken right e free ready = change_step types f rest S st k sigs n place S' texts fs s o c (type_of types f o) refl right (and_parts (is_change_of types texts fs f (type_of types f o) c) (not (is_const_place types f o)) e).0
   step_covered (Make u m) spoken right e free ready = absurd spoken
   step_covered (Call target g xs) spoken right e free ready = absurd spoken
   step_covered (Ports p) spoken right e free ready = port_kind types f rest S st k sigs n place S' s p right (port_whole p e)

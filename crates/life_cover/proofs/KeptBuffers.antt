@@ -6,44 +6,43 @@ use Rattle.life_types.specs.Types.{Types}
 use Rattle.life_types.specs.declared.ty.Ty.TheVariants as ty
 use Rattle.life_types.specs.declared.ty.TyId.{TyId}
 use Rattle.life_core.specs.Function.{Function}
-use Rattle.life_core.specs.Operands.{Characters, Operand}
+use Rattle.life_core.specs.Operands.{Characters, Location, Operand, whole}
 use Rattle.life_core.specs.Operands as named
 use Rattle.life_core.specs.Step.{Append, Change, Changes, Clear, Erase, PopBack, PushBack, Reserve, Set}
 use Rattle.life_pset.specs.declared.element.Fact.{Fact}
 use Rattle.life_proper.specs.Placed.{type_of}
 use Rattle.life_store.specs.Births.{end_cell, end_locals, end_object}
 use Rattle.life_store.specs.Cells.{at}
-use Rattle.life_store.specs.Content.{Slot, Object, Content, without, word_in}
-use Rattle.life_store.specs.Doing.{changed, does, edits, erases, on_given, pushes}
-use Rattle.life_store.specs.Edits.{Edit, Add, Clear as ClearAll, Pop, Push, Put, Reserve as Room, buffer_of, characters_of, edited, owned_at, pushed, reserved, rewritten, size_of}
+use Rattle.life_store.specs.Content.{Slot, Object, Content, without}
+use Rattle.life_store.specs.Doing.{changed, does, edits, erases, on_given, pointer_to, pushes}
+use Rattle.life_store.specs.Edits.{Edit, Add, Clear as ClearAll, Pop, Push, Put, Reserve as Room, buffer_of, characters_of, edited, erased, owned_at, pushed, reserved, rewritten, size_of}
 use Rattle.life_store.specs.Effects.{Attempt, GotFault, GotLost, Effect, Next, Traps, Faults, Strays, Setting, cell, got_or, on_got, on_next, put_content, word_of_number}
-use Rattle.life_store.specs.Held.{owned_in, slots_at, slots_if, words_if}
-use Rattle.life_store.specs.Iterators.{iterator}
+use Rattle.life_store.specs.Held.{slots_at, words_if}
+use Rattle.life_store.specs.Iterators.{erasable, iterator}
 use Rattle.life_store.specs.Owners.{ended}
-use Rattle.life_store.specs.Parts.{Parts, Single, Raw, Iterates, Views, Text, Vector, Unique, Member, NoMember, characters_type, local_parts, operand_parts, parts_at, parts_if, width}
-use Rattle.life_store.specs.Places.{Spot, location_cell, on_found, on_spot, operand_word}
-use Rattle.life_store.specs.State.{Cell, Empty, Named, Number, Points, State}
+use Rattle.life_store.specs.Parts.{Parts, Single, Text, Vector, characters_type, local_parts, operand_parts, parts_at, parts_if, width}
+use Rattle.life_store.specs.Places.{Spot, location_cell, on_found, on_spot, operand_word, pointed}
+use Rattle.life_store.specs.State.{Cell, Empty, Named, Number, Pointer, Points, State}
 use Rattle.life_store.specs.Views.{seen_words, used}
 use Rattle.life_store.specs.declared.run.FaultKind.TheVariants as fault
 use Rattle.life_store.proofs.CellLemmas.{none_some, some_same}
 use Rattle.life_forest.specs.Frames.{OnNext}
-use Rattle.life_forest.specs.Values.{AllWide, listed}
+use Rattle.life_forest.specs.Values.{AllWide}
 use Rattle.life_forest.proofs.Coming.{IfGot}
+use Rattle.life_forest.proofs.FrameChanges.{erasable_below}
 use Rattle.life_forest.proofs.Frames.{on_got_next}
-use Rattle.life_forest.proofs.Members.{within_self}
 use Rattle.life_forest.proofs.SeenTypes.{character_parts, parts_typed}
 use Rattle.life_forest.proofs.StandingChanges.{on_got_each, on_number_next}
-use Rattle.life_cover.specs.Buffered.{AreBuffered, HasBuffers}
+use Rattle.life_cover.specs.Buffered.{AreBuffered}
 use Rattle.life_cover.specs.Frames.{NoInput, any_root}
 use Rattle.life_cover.proofs.Buffering.{AllSome, IsBufferOwner, IsOwnerAt, all_in, cleared_buffered, ended_but, none_out, popped_buffered, without_but}
-use Rattle.life_cover.proofs.Buffers.{buffer, buffer_lives, buffer_type}
-use Rattle.life_cover.proofs.Copies.{slot_within, whole_parts}
-use Rattle.life_cover.proofs.KnownFrames.{IsKnownFrame, hand_of, store_of}
+use Rattle.life_cover.proofs.Copies.{whole_parts}
+use Rattle.life_cover.proofs.HeldElements.{all_free, elements_shut, held, held_type, vector_operand, vector_parts}
+use Rattle.life_cover.proofs.KnownFrames.{IsKnownFrame}
 use Rattle.life_cover.proofs.Opening.{IsAllOf, IsOpened, region_all, text_opened, vector_opened}
-use Rattle.life_cover.proofs.OwnersStay.{owned_is}
 use Rattle.life_cover.proofs.Reaching.{IsReached, Reach, reached, fixed, outside, astray, spot_is}
-use Rattle.life_cover.proofs.Rebuffering.{AreFree, IsFree, pushed_buffered, reserved_buffered, rewritten_buffered}
-use Rattle.life_cover.proofs.SaveKinds.{region_within}
+use Rattle.life_cover.proofs.Rebuffering.{AreFree, rewritten_buffered}
+use Rattle.life_cover.proofs.Regrown.{pushed_buffered, reserved_buffered}
 
 -- each vector and each string of the state has its buffer
 abbrev pub IsBuffered : Types → State → Type 0
@@ -130,7 +129,7 @@ module _ (types : Types) (f : Function) (rest : ℕ → ℕ) (S : Fact → Type 
       on_got_each (buffer_of st.world.content (record { object = r.region.object; index = r.index; word = r.region.word })) (λ b. on_got (edited s p (record { object = r.region.object; index = r.index; word = r.region.word }) b edit st.world.content) (λ d. Next (put_content d st))) (IsBuffered types)
       (λ b. subst (λ (x : Attempt Content). OnNext (on_got x (λ d. Next (put_content d st))) (IsBuffered types)) (sym (lost b)) tt)
 
-  by_change : (p : Parts) → operand_parts types f o ≡ p → (change : Change) → OnNext (changed s types f p (record { object = r.region.object; index = r.index; word = r.region.word }) change st) (IsBuffered types) → OnNext (does s types f (Changes o change) st) (IsBuffered types)
+  pub by_change : (p : Parts) → operand_parts types f o ≡ p → (change : Change) → OnNext (changed s types f p (record { object = r.region.object; index = r.index; word = r.region.word }) change st) (IsBuffered types) → OnNext (does s types f (Changes o change) st) (IsBuffered types)
   by_change p is change h =
       subst (λ e. OnNext e (IsBuffered types)) (sym (spot_is types f st NoInput any_root S o r (λ sp. changed s types f (operand_parts types f o) sp change st)))
       (subst (λ q. OnNext (changed s types f q (record { object = r.region.object; index = r.index; word = r.region.word }) change st) (IsBuffered types)) (sym is) h)
@@ -189,56 +188,32 @@ module _ (types : Types) (f : Function) (rest : ℕ → ℕ) (S : Fact → Type 
   -- ---- a vector
 
   module _ (element : TyId) (is_vector : type_of types f o ≡ ty.Vector element) where
-    vector_at : IsOpened types f rest S st k o r (ty.Vector element) element
+    abbrev vector_at : IsOpened types f rest S st k o r (ty.Vector element) element
     vector_at = vector_opened types f rest S st k o r element is_vector
 
-    pub vector_parts : parts_at types r.region.ty ≡ Vector element (parts_at types element)
-    vector_parts = parts_typed types k.ordered r.region.ty (ty.Vector element) vector_at.there
+    abbrev parts_are : parts_at types r.region.ty ≡ Vector element (parts_at types element)
+    parts_are = vector_parts types f rest S st k o r element is_vector
 
-    pub vector_operand : operand_parts types f o ≡ Vector element (parts_at types element)
-    vector_operand = ap (parts_if types) vector_at.typed ∙ vector_parts
+    abbrev elements : (x : Object) × (at st.world.content.objects (vector_opened types f rest S st k o r element is_vector).buffer ≡ Some x)
+    elements = held types f rest S st k o r element is_vector
 
-    held : (x : Object) × (at st.world.content.objects vector_at.buffer ≡ Some x)
-    held =
-        buffer types k.ordered (hand_of rest st) st.world.content (store_of types f rest S st k) r.region.object r.index r.region.word r.region.ty r.holder r.there (region_within types f rest S st k o r) r.small element (parts_at types element) vector_parts vector_at.buffer vector_at.owned
+    abbrev elements_type : (held types f rest S st k o r element is_vector).0.ty ≡ element
+    elements_type = held_type types f rest S st k o r element is_vector
 
-    held_type : held.0.ty ≡ element
-    unfolding held
-    held_type =
-        buffer_type types k.ordered (hand_of rest st) st.world.content (store_of types f rest S st k) r.region.object r.index r.region.word r.region.ty r.holder r.there (region_within types f rest S st k o r) r.small element (parts_at types element) vector_parts vector_at.buffer vector_at.owned
-
-    -- what its elements have lives
-    free_of : (p : Parts) → parts_at types held.0.ty ≡ p → (j : ℕ) (t : Slot) → slice_get held.0.slots j ≡ Some t → IsFree types p (λ m. ⊥ ⊎ (m ≡ st.world.content.births)) t.words
-    free_of (Text id) typed j t slot = λ m e out. ⊎_elim (λ none. none) (λ new.
-        let l = buffer_lives types k.ordered (hand_of rest st) st.world.content (store_of types f rest S st k) vector_at.buffer j 0 held.0.ty held.0 held.1 (within_self types held.0.ty) (slot_within held.0.slots j t slot) (Text id) typed m
-        (ap listed (owned_is st.world.content vector_at.buffer j 0 held.0 held.1 ∙ ap (λ (x : Option Slot). owned_in (word_in x 0)) slot ∙ e)) in
-        let born = k.stands.store.forest.births m l.0 l.1 in absurd (omega (arith, born, new))) out
-    free_of Single typed j t slot = tt
-    free_of Raw typed j t slot = tt
-    free_of Iterates typed j t slot = tt
-    free_of Views typed j t slot = tt
-    free_of (Vector id item) typed j t slot = tt
-    free_of (Unique id target) typed j t slot = tt
-    free_of (Member first others) typed j t slot = tt
-    free_of NoMember typed j t slot = tt
-
-    all_free : AreFree types (parts_at types element) (λ m. ⊥ ⊎ (m ≡ st.world.content.births)) (slots_at st.world.content vector_at.buffer)
-    all_free j t slot =
-        let here : slice_get held.0.slots j ≡ Some t = sym (ap (λ (x : Option Object). slice_get (slots_if x) j) held.1) ∙ slot in (
-          subst (λ (id : TyId). HasBuffers (parts_at types id) t.words) held_type (k.buffered vector_at.buffer j held.0 t held.1 here),
-          free_of (parts_at types element) (ap (parts_at types) held_type) j t here,
-        )
+    -- what its elements have was born
+    old_ones : AreFree types (parts_at types element) (λ m. ⊥ ⊎ (m ≡ st.world.content.births)) (slots_at st.world.content vector_at.buffer)
+    old_ones = all_free types f rest S st k o r element is_vector (λ m. ⊥ ⊎ (m ≡ st.world.content.births)) (λ m q there low out. ⊎_elim (λ none. none) (λ new. let born = k.stands.store.forest.births m q there in absurd (omega (arith, born, new))) out)
 
     vector_reserved : (count : ℕ) → IfGot (reserved s element (parts_at types element) (record { object = r.region.object; index = r.index; word = r.region.word }) vector_at.buffer count st.world.content) (AreBuffered types)
     vector_reserved count =
         at_start (λ spot. IfGot (reserved s element (parts_at types element) spot vector_at.buffer count st.world.content) (AreBuffered types))
-        (reserved_buffered types s element (parts_at types element) (whole_parts types k.plain element) refl r.region.object r.index vector_at.buffer count st.world.content all_free holder_born
-        (is_owner (Vector element (parts_at types element)) vector_parts refl (λ ws m e. (m, e))) k.buffered)
+        (reserved_buffered types s element (parts_at types element) (whole_parts types k.plain element) refl r.region.object r.index vector_at.buffer count st.world.content old_ones holder_born
+        (is_owner (Vector element (parts_at types element)) parts_are refl (λ ws m e. (m, e))) k.buffered)
 
     module _ (single : parts_at types element ≡ Single) where
       -- it has another object than itself
       apart : vector_at.buffer ≢ r.region.object
-      apart e = unlike (sym single ∙ ap (parts_at types) (sym held_type) ∙ ap (λ (x : Object). parts_at types x.ty) (some_same (sym held.1 ∙ ap (at st.world.content.objects) e ∙ r.there)) ∙ holder_parts (Vector element (parts_at types element)) vector_parts)
+      apart e = unlike (sym single ∙ ap (parts_at types) (sym elements_type) ∙ ap (λ (x : Object). parts_at types x.ty) (some_same (sym elements.1 ∙ ap (at st.world.content.objects) e ∙ r.there)) ∙ holder_parts (Vector element (parts_at types element)) parts_are)
         where
           unlike : Single ≡ Vector element (parts_at types element) → ⊥
           unlike h = cc
@@ -247,14 +222,27 @@ module _ (types : Types) (f : Function) (rest : ℕ → ℕ) (S : Fact → Type 
       vector_pushed z =
           edit_next vector_at.buffer vector_at.owned (Vector element Single) (Push (λ c. (word_of_number z ∷ [], c)))
           (at_start (λ spot. IfGot (pushed s element Single spot vector_at.buffer (λ c. (word_of_number z ∷ [], c)) st.world.content) (AreBuffered types))
-          (pushed_buffered types s element single vector_at.buffer st.world.content k.buffered (λ x there. ap (λ (y : Object). y.ty) (some_same (sym there ∙ held.1)) ∙ held_type) (λ j t e. (tt, tt)) r.region.object r.index (word_of_number z ∷ []) holder_born apart
-          (is_owner (Vector element (parts_at types element)) vector_parts refl (λ ws m e. (m, e)))))
+          (pushed_buffered types s element single vector_at.buffer st.world.content k.buffered (λ x there. ap (λ (y : Object). y.ty) (some_same (sym there ∙ elements.1)) ∙ elements_type) (λ j t e. (tt, tt)) r.region.object r.index (word_of_number z ∷ []) holder_born apart
+          (is_owner (Vector element (parts_at types element)) parts_are refl (λ ws m e. (m, e)))))
 
-    -- nothing is erased, and to a vector of objects none is added
+    -- what is given the position of an erased element is a local, and to a vector of objects none is added
     abbrev pub IsKept : Change → Type 0
-    IsKept (Erase from into) = ⊥
+    IsKept (Erase from into) = whole into.local ≡ into
     IsKept (PushBack x) = (parts_at types element ≡ Single) × ((m : ℕ) → cell st x ≡ Some (Named m) → ⊥)
     IsKept _ = Unit {0}
+
+    vector_erased : (v : Pointer) (into : Location) → whole into.local ≡ into → OnNext (erases types f (Vector element (parts_at types element)) (record { object = r.region.object; index = r.index; word = r.region.word }) v into st) (IsBuffered types)
+    vector_erased v into is =
+        subst (λ (l : Location). OnNext (erases types f (Vector element (parts_at types element)) (record { object = r.region.object; index = r.index; word = r.region.word }) v l st) (IsBuffered types)) is
+        (subst (λ w. OnNext (on_got (got_or w (GotFault fault.Moved)) at_buffer) (IsBuffered types)) (sym vector_at.owned)
+        (on_got_next (erasable st.world.content vector_at.buffer v) (λ i. at_element vector_at.buffer i) (λ i. i < size_of st.world.content vector_at.buffer) (IsBuffered types) (erasable_below st.world.content vector_at.buffer v)
+        (λ i small. (elements_shut types f rest S st k o r element is_vector i small).buffers)))
+      where
+        at_element : (b i : ℕ) → Effect
+        at_element b i = pointed types f (whole into.local) (pointer_to (erased (parts_at types element) b i st.world.content) b i 0) (put_content (erased (parts_at types element) b i st.world.content) st)
+
+        at_buffer : ℕ → Effect
+        at_buffer b = on_got (erasable st.world.content b v) (λ i. at_element b i)
 
     vector_changed : (change : Change) → IsKept change → OnNext (changed s types f (Vector element (parts_at types element)) (record { object = r.region.object; index = r.index; word = r.region.word }) change st) (IsBuffered types)
     vector_changed (PushBack x) kept =
@@ -264,11 +252,11 @@ module _ (types : Types) (f : Function) (rest : ℕ → ℕ) (S : Fact → Type 
     vector_changed (Reserve n) kept =
         on_number_next (cell st n) (λ z. edits s (Vector element (parts_at types element)) (record { object = r.region.object; index = r.index; word = r.region.word }) (Room (cast_unsigned w64 z)) st) (IsBuffered types)
         (λ z. edit_next vector_at.buffer vector_at.owned (Vector element (parts_at types element)) (Room (cast_unsigned w64 z)) (vector_reserved (cast_unsigned w64 z)))
-    vector_changed (Erase from into) kept = absurd kept
+    vector_changed (Erase from into) kept = on_got_each (iterator st.world.content (location_cell types f from st)) (λ v. erases types f (Vector element (parts_at types element)) (record { object = r.region.object; index = r.index; word = r.region.word }) v into st) (IsBuffered types) (λ v. vector_erased v into kept)
     vector_changed (Set given) kept =
         given_next given (λ ws. edits s (Vector element (parts_at types element)) (record { object = r.region.object; index = r.index; word = r.region.word }) (Put ws) st) (IsBuffered types) (λ ws. no_edit (Vector element (parts_at types element)) (Put ws) (λ b. refl))
     vector_changed (Append given) kept =
         given_next given (λ ws. edits s (Vector element (parts_at types element)) (record { object = r.region.object; index = r.index; word = r.region.word }) (Add ws) st) (IsBuffered types) (λ ws. no_edit (Vector element (parts_at types element)) (Add ws) (λ b. refl))
 
     pub vector_buffered : (change : Change) → IsKept change → OnNext (does s types f (Changes o change) st) (IsBuffered types)
-    vector_buffered change kept = by_change (Vector element (parts_at types element)) vector_operand change (vector_changed change kept)
+    vector_buffered change kept = by_change (Vector element (parts_at types element)) (vector_operand types f rest S st k o r element is_vector) change (vector_changed change kept)

@@ -3,6 +3,7 @@ use Rattle.std.proofs.Common.{◌≡◌, inr, ℕ, suc, ◌+◌, ◌*◌, Bool, 
 use Rattle.std.specs.Prelude.{ℤ, cond, nat_lt, slice_get}
 use Rattle.std.proofs.lemmas.Bool.{false≢true}
 use Rattle.life_types.specs.TypeTests.{is_pointer, is_value, is_void}
+use Rattle.life_types.specs.Trees.{IsOrdered}
 use Rattle.life_types.specs.Types.{Types, class}
 use Rattle.life_types.specs.declared.ty.Ty.{Ty}
 use Rattle.life_types.specs.declared.ty.Ty.TheVariants as ty
@@ -43,11 +44,12 @@ use Rattle.life_cover.specs.Frames.{NoInput, any_root}
 use Rattle.life_cover.proofs.Buffering.{IsBufferOwner, all_in, birth_but, none_out, set_but, single_have}
 use Rattle.life_cover.proofs.Copies.{IsWhole, whole_parts}
 use Rattle.life_cover.proofs.CopyKinds.{IsCopyable}
-use Rattle.life_cover.proofs.KeptBuffers.{IsBuffered, at_start, by_next, holder_born, holder_parts, is_owner, text_operand, text_parts, vector_operand, vector_parts}
+use Rattle.life_cover.proofs.HeldElements.{vector_operand, vector_parts}
+use Rattle.life_cover.proofs.KeptBuffers.{IsBuffered, at_start, by_next, holder_born, holder_parts, is_owner, text_operand, text_parts}
 use Rattle.life_cover.proofs.KnownFrames.{IsKnownFrame}
 use Rattle.life_cover.proofs.Reaching.{IsReached, Reach, reached, fixed, outside, astray, spot_is}
-use Rattle.life_cover.proofs.Rebuffering.{wrote_single}
 use Rattle.life_cover.proofs.Recopying.{IsCopied, IsOwningRow, born_buffered, copied_but, replaced_buffered}
+use Rattle.life_cover.proofs.Regrown.{wrote_single}
 use Rattle.life_cover.proofs.SaveKinds.{value_there}
 
 module _ (types : Types) (f : Function) (rest : ℕ → ℕ) (S : Fact → Type 0) (st : State) (k : IsKnownFrame types f rest S st) (o : Operand) (s : Setting) where
@@ -107,8 +109,8 @@ module _ (types : Types) (f : Function) (rest : ℕ → ℕ) (S : Fact → Type 
     written ty.Text is solid pointer can =
         by_parts (Text (characters_type types)) (text_operand types f rest S st k o r s is) (owner_written (Text (characters_type types)) (text_parts types f rest S st k o r s is) refl (λ ws m e. (m, e)) (λ ws row. row))
     written (ty.Vector element) is solid pointer can =
-        by_parts (Vector element (parts_at types element)) (vector_operand types f rest S st k o r s element is)
-        (owner_written (Vector element (parts_at types element)) (vector_parts types f rest S st k o r s element is) refl (λ ws m e. (m, e)) (λ ws row. row))
+        by_parts (Vector element (parts_at types element)) (vector_operand types f rest S st k o r element is)
+        (owner_written (Vector element (parts_at types element)) (vector_parts types f rest S st k o r element is) refl (λ ws m e. (m, e)) (λ ws row. row))
     written (ty.Unique target) is solid pointer can = absurd can
     written (ty.Struct number) is solid pointer can = absurd can
     written ty.Void is solid pointer can = absurd (false≢true (sym solid))
@@ -142,6 +144,28 @@ pointer_object e = cc
 
 view_object : AView ≡ AnObject → ⊥
 view_object e = cc
+
+-- an object of its own is a value's
+object_single : (types : Types) (o : Option Ty) (kind : LocalKind) → held_if (class o) kind o ≡ AnObject → parts_of types (parts_at types) o ≡ Single
+object_single types None kind e = refl
+object_single types (Some ty.Void) kind e = refl
+object_single types (Some ty.Bool) kind e = refl
+object_single types (Some ty.Char) kind e = refl
+object_single types (Some ty.Int) kind e = refl
+object_single types (Some ty.Long) kind e = refl
+object_single types (Some ty.Size) kind e = refl
+object_single types (Some ty.Text) kind e = absurd (blank_object e)
+object_single types (Some ty.View) kind e = absurd (view_object e)
+object_single types (Some (ty.Vector element)) kind e = absurd (blank_object e)
+object_single types (Some (ty.Unique target)) kind e = absurd (blank_object e)
+object_single types (Some (ty.Struct number)) kind e = absurd (blank_object e)
+object_single types (Some (ty.Raw target constant)) kind e = absurd (pointer_object e)
+object_single types (Some (ty.Reference target constant)) kind e = absurd (pointer_object e)
+object_single types (Some (ty.Iterator target constant)) kind e = absurd (blank_object e)
+object_single types (Some (ty.Span target constant)) kind e = absurd (blank_object e)
+
+pub object_parts : (types : Types) (ordered : IsOrdered types) (f : Function) (x : ℕ) (l : Local) → slice_get f.locals x ≡ Some l → sort_of types f x ≡ AnObject → parts_at types l.ty ≡ Single
+object_parts types ordered f x l there object = parts_made types ordered l.ty ∙ object_single types (slice_get types.types l.ty.0) l.kind (sym (ap (held_by types) there) ∙ object)
 
 module _ (types : Types) (f : Function) (rest : ℕ → ℕ) (S : Fact → Type 0) (st : State) (k : IsKnownFrame types f rest S st) (s : Setting) (x : ℕ) (form : Form) where
   owner_born : (ty : TyId) → OnNext (born_owner s ty (parts_at types ty) form x st) (IsBuffered types)
@@ -177,25 +201,6 @@ module _ (types : Types) (f : Function) (rest : ℕ → ℕ) (S : Fact → Type 
   as_held APointer ty single = k.buffered
   as_held AView ty single = k.buffered
 
-  -- an object of its own is a value's
-  object_single : (o : Option Ty) (kind : LocalKind) → held_if (class o) kind o ≡ AnObject → parts_of types (parts_at types) o ≡ Single
-  object_single None kind e = refl
-  object_single (Some ty.Void) kind e = refl
-  object_single (Some ty.Bool) kind e = refl
-  object_single (Some ty.Char) kind e = refl
-  object_single (Some ty.Int) kind e = refl
-  object_single (Some ty.Long) kind e = refl
-  object_single (Some ty.Size) kind e = refl
-  object_single (Some ty.Text) kind e = absurd (blank_object e)
-  object_single (Some ty.View) kind e = absurd (view_object e)
-  object_single (Some (ty.Vector element)) kind e = absurd (blank_object e)
-  object_single (Some (ty.Unique target)) kind e = absurd (blank_object e)
-  object_single (Some (ty.Struct number)) kind e = absurd (blank_object e)
-  object_single (Some (ty.Raw target constant)) kind e = absurd (pointer_object e)
-  object_single (Some (ty.Reference target constant)) kind e = absurd (pointer_object e)
-  object_single (Some (ty.Iterator target constant)) kind e = absurd (blank_object e)
-  object_single (Some (ty.Span target constant)) kind e = absurd (blank_object e)
-
   over_cell : (v : Option Cell) (h : Holding) (ty : TyId) → (h ≡ AnObject → parts_at types ty ≡ Single) → OnNext (live_over s types v h ty form x st) (IsBuffered types)
   over_cell None h ty single = tt
   over_cell (Some Empty) h ty single = as_held h ty single
@@ -210,4 +215,4 @@ module _ (types : Types) (f : Function) (rest : ℕ → ℕ) (S : Fact → Type 
       by_local None e = subst (λ (o : Option Local). OnNext (live_local s types f o form x st) (IsBuffered types)) (sym e) tt
       by_local (Some l) e =
           subst (λ (o : Option Local). OnNext (live_local s types f o form x st) (IsBuffered types)) (sym e)
-          (over_cell (cell st x) (sort_of types f x) l.ty (λ h. parts_made types k.ordered l.ty ∙ object_single (slice_get types.types l.ty.0) l.kind (sym (ap (held_by types) e) ∙ h)))
+          (over_cell (cell st x) (sort_of types f x) l.ty (object_parts types k.ordered f x l e))

@@ -1,6 +1,6 @@
 -- What is known of a frame of a function without structs and inputs before an instruction, and of the instruction; and what its operands are.
 use Rattle.std.proofs.Common.{◌≡◌, ℕ, ◌+◌, Bool, true, false, List, [], ◌∷◌, ◌++◌, Option, Some, None, refl, sym, ap, subst, ◌∙◌}
-use Rattle.std.specs.Prelude.{Contains, cond, not, slice_get, unwrap_or}
+use Rattle.std.specs.Prelude.{ℤ, Contains, cond, not, slice_get, unwrap_or}
 use Rattle.std.specs.List.{flat_map}
 use Rattle.std.proofs.lemmas.Bool.{and_parts, false≢true}
 use Rattle.std.proofs.lemmas.List.Elements.{Contains-append_left}
@@ -17,7 +17,7 @@ use Rattle.life_core.specs.Operands.{Location, Operand, whole}
 use Rattle.life_core.specs.Operands as named
 use Rattle.life_core.specs.Step.{Step}
 use Rattle.life_pset.specs.Elements.{AreShort, elements_of}
-use Rattle.life_pset.specs.Shapes.{location_type, member_of, member_type, members_type, operand_type, target_type, ty_if}
+use Rattle.life_pset.specs.Shapes.{location_type, member_of, members_type, operand_type, target_type, ty_if}
 use Rattle.life_pset.specs.Shapes as shapes
 use Rattle.life_pset.specs.declared.element.Element.{Element}
 use Rattle.life_pset.specs.declared.element.Element.TheVariants as element
@@ -25,6 +25,7 @@ use Rattle.life_pset.specs.declared.element.Fact.{Fact}
 use Rattle.life_pset.proofs.Numbers.{place_laws}
 use Rattle.life_contract.specs.Located.{located}
 use Rattle.life_contract.specs.Signatures.{Signature}
+use Rattle.life_proper.specs.GivenOver.{given_step}
 use Rattle.life_proper.specs.OperandTypes.{is_range}
 use Rattle.life_proper.specs.Placed.{is_number, is_place, object_at, register_at, type_at, type_in, type_of}
 use Rattle.life_rules.specs.Arguing.{argument_diags}
@@ -39,7 +40,7 @@ use Rattle.life_rules.specs.declared.diag.Why.TheVariants as why
 use Rattle.life_rules.proofs.Giving.{at_head, flat_map_into}
 use Rattle.life_store.specs.Effects.{cell}
 use Rattle.life_store.specs.Parts.{local_type}
-use Rattle.life_store.specs.State.{Named, State}
+use Rattle.life_store.specs.State.{Named, Number, State}
 use Rattle.life_forest.specs.FrameTypes.{Stands}
 use Rattle.life_forest.specs.Frames.{named_in}
 use Rattle.life_forest.specs.Owned.{times}
@@ -53,7 +54,7 @@ use Rattle.life_forest.proofs.Slots.{register_only}
 use Rattle.life_forest.proofs.TypedSteps.{if_there}
 use Rattle.life_cover.specs.Buffered.{AreBuffered}
 use Rattle.life_cover.specs.Frames.{FrameCovered, NoInput, RootStands, any_root}
-use Rattle.life_cover.specs.Kills.{Closed}
+use Rattle.life_cover.specs.Kills.{Closed, IsUnnamed}
 use Rattle.life_cover.specs.Roots.{AreRooted}
 use Rattle.life_cover.proofs.Locals.{locals_rooted}
 use Rattle.life_cover.proofs.PointerKinds.{IsClean}
@@ -72,9 +73,10 @@ pub record IsKnownFrame (types : Types) (f : Function) (rest : ℕ → ℕ) (S :
   pub covered : FrameCovered types f S st
   pub buffered : AreBuffered types st.world.content
 
--- nothing is wrong at the instruction, and the facts behind it are what the rules give
+-- nothing is wrong at the instruction, no fact points into an object that it gives over, and the facts behind it are what the rules give
 pub record IsRight (sigs : List Signature) (types : Types) (n : ℕ) (f : Function) (place : Place) (i : Step) (S S' : Fact → Type 0) : Type 0 where
   pub clean : IsClean sigs types n f place i S
+  pub given : (x : ℕ) → object_at types f x ≡ true → Contains (given_step i) x → IsUnnamed S x
   pub closed : Closed sigs types f place i S S'
 
 -- ---- nothing is wrong with what it uses
@@ -154,6 +156,12 @@ module _ (types : Types) (f : Function) (rest : ℕ → ℕ) (S : Fact → Type 
   pub object_named : (x m : ℕ) → slice_get st.cells x ≡ Some (Named m) → object_at types f x ≡ true
   object_named x m e = names_sort (object_at types f x) (is_pointer (type_at types f x)) (k.poised.sorted x (Named m) e)
 
+  pub object_uncounted : (x : ℕ) (z : ℤ) → object_at types f x ≡ true → slice_get st.cells x ≡ Some (Number z) → ⊥
+  object_uncounted x z object e = unlike (sym (k.poised.sorted x (Number z) e) ∙ ap (λ b. sort_if b (is_pointer (type_at types f x))) object)
+    where
+      unlike : Counts ≡ Names → ⊥
+      unlike h = cc
+
   pub pointer_free : (p : ℕ) → is_pointer (type_at types f p) ≡ true → (m : ℕ) → cell st p ≡ Some (Named m) → ⊥
   pointer_free p is m e = false≢true (sym (pointer_no_object types f k.poised.kinds p is) ∙ object_named p m e)
 
@@ -181,6 +189,10 @@ module _ (types : Types) (f : Function) (rest : ℕ → ℕ) (S : Fact → Type 
   not_false : (b : Bool) → not b ≡ true → b ≡ false
   not_false true e = absurd (false≢true e)
   not_false false e = refl
+
+  -- a location of a pointer is a local
+  pub at_pointer : (p : Location) → is_pointer (type_in types f p) ≡ true → (P : Location → Type 0) → ((x : ℕ) → P (whole x)) → P p
+  at_pointer p pointer P each = subst P (whole_location types k.plain f p (pointer_solid (type_in types f p) pointer)) (each p.local)
 
   pub reach_at : (o : Operand) → is_void (type_of types f o) ≡ false → ((p : Location) → Contains (used_in o) p → IsUsable S p) → Reach types f st NoInput any_root S o
   reach_at (named.Name l) solid usable =

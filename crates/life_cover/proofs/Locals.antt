@@ -60,15 +60,17 @@ beneath_owned types c a n (part m _ own) = (m, own_all (kinds_of types) c ((foot
 beneath_owned types c a n (under m _ low own) = (m, own)
 
 module _ (types : Types) (f : Function) (rest : ℕ → ℕ) (st : State) (store : HasStore types rest st) (frame : IsFrame types f st.world.content st.cells) where
-  named_free : (x n : ℕ) (a : Region) → slice_get st.cells x ≡ Some (Named n) → Beneath (kinds_of types) st.world.content (foot_of types a) n → ⊥
-  named_free x n a named low =
-      let own = beneath_owned types st.world.content a n low in
+  -- what a local names is owned by none
+  pub named_unowned : (x n m : ℕ) → slice_get st.cells x ≡ Some (Named n) → 0 < owns_at (kinds_of types) st.world.content every m n → ⊥
+  named_unowned x n m named own =
       let hand = in_hand st.cells x n named in
       let held = store.forest.held n in
-      let least = owned_at_held (kinds_of types) st.world.content own.0 n in
-      let more = own.1 in
+      let least = owned_at_held (kinds_of types) st.world.content m n in
       let one = alive_le (kinds_of types) st.world.content n in
-      omega (arith, hand, held, least, more, one)
+      omega (arith, hand, held, least, own, one)
+
+  pub named_free : (x n : ℕ) (a : Region) → slice_get st.cells x ≡ Some (Named n) → Beneath (kinds_of types) st.world.content (foot_of types a) n → ⊥
+  named_free x n a named low = let own = beneath_owned types st.world.content a n low in named_unowned x n own.0 named own.1
 
   pub locals_rooted : AreRooted types st.world.content (RootStands types f NoInput st.cells) (λ r. true)
   locals_rooted = record { fits = fits; one = one; apart = apart }

@@ -5,7 +5,7 @@ use Rattle.std.proofs.lemmas.Bool.{and_parts, false≢true}
 use Rattle.std.specs.Prelude.{slice_get}
 use Rattle.life_types.specs.Pointees.{ty_of}
 use Rattle.life_types.specs.Trees.{IsOrdered}
-use Rattle.life_types.specs.TypeTests.{is_constant, is_pointer, is_void}
+use Rattle.life_types.specs.TypeTests.{is_constant, is_pointer, is_view, is_void}
 use Rattle.life_types.specs.Types.{HasEachOnce, Types}
 use Rattle.life_types.specs.declared.ty.Ty.{Ty}
 use Rattle.life_types.specs.declared.ty.Ty.TheVariants as ty
@@ -17,7 +17,7 @@ use Rattle.life_proper.specs.Placed.{type_at}
 use Rattle.life_proper.proofs.HeldSorts.{same_is, same_void}
 use Rattle.life_store.specs.Parts.{Single, characters_type, local_type, parts_at, parts_of}
 use Rattle.life_forest.specs.FrameTypes.{seen_in, seen_type}
-use Rattle.life_forest.proofs.OneNumber.{one_number, type_there, typed_at}
+use Rattle.life_forest.proofs.OneNumber.{also_solid, number_of_type, one_number, type_there, typed_at}
 use Rattle.life_forest.proofs.SeenTypes.{alike_seen, parts_typed, pointer_solid, value_parts}
 use Rattle.life_forest.proofs.Shaped.{IsShaped}
 use Rattle.life_cover.specs.Covers.{IsSeenAs, Reseen}
@@ -60,6 +60,10 @@ pub element_ranged : (types : Types) (t : Ty) (target : TyId) → same (ty_of ty
 element_ranged types ty.View target e = refl
 element_ranged types (ty.Span of constant) target e = refl
 element_ranged types _ target e = absurd (same_void (ty_of types target) e)
+
+pub view_range : (t : Ty) → is_view t ≡ true → is_range t ≡ true
+view_range ty.View e = refl
+view_range _ e = absurd (false≢true e)
 
 -- views are both ranges, and iterators both aren't
 pub compared_ranged : (types : Types) (t u : Ty) → are_compared types t u ≡ true → is_range u ≡ is_range t
@@ -137,3 +141,9 @@ module _ (types : Types) (ordered : IsOrdered types) (once : HasEachOnce types) 
           to = alike.to;
           from = alike.from;
         }
+
+    -- what is given over has the type of an element
+    pub given_type : (x : ℕ) (id : TyId) → same (ty_of types id) (type_at types f x) ≡ true → local_type types f x ≡ Some id
+    given_type x id e =
+        let of = typed_at types (local_type types f x) (type_at types f x) (sym (ap (ty_if types) (shaped x))) (also_solid (ty_of types id) (type_at types f x) e) in
+        of.is ∙ ap Some (sym (number_of_type types once id of.number (type_at types f x) e of.there))

@@ -12,13 +12,16 @@ use Rattle.life_core.specs.Function.{Function}
 use Rattle.life_core.specs.Operands.{Operand}
 use Rattle.life_core.specs.Operands as named
 use Rattle.life_core.specs.Step.{Append, Change, Changes, Clear, PopBack, PushBack, Reserve, Set}
-use Rattle.life_pset.specs.Elements.{local_place}
-use Rattle.life_pset.specs.Places.{path}
+use Rattle.life_pset.specs.Elements.{changed as owner_named, local_place, owner_changed}
+use Rattle.life_pset.specs.Places.{path, under}
 use Rattle.life_pset.specs.declared.element.AbsPlace.{AbsPlace}
+use Rattle.life_pset.specs.declared.element.Element.TheVariants as element
 use Rattle.life_pset.specs.declared.element.Fact.{Fact}
 use Rattle.life_pset.specs.declared.element.Root.{Root}
+use Rattle.life_contract.specs.Located.{located}
 use Rattle.life_contract.specs.Signatures.{Signature}
 use Rattle.life_rules.specs.Carrying.{writes}
+use Rattle.life_rules.proofs.Giving.{at_head}
 use Rattle.life_store.specs.Content.{Content, live_words_of, with_birth}
 use Rattle.life_store.specs.Doing.{changed, does, edits, on_given, pushes}
 use Rattle.life_store.specs.Edits.{Edit, Add, Clear as ClearAll, Pop, Push, Put, Reserve as Room, capacity_of, characters_of, edited, grown, owned_at, popped, pushed, regrown, reserved, rewritten, size_of, with_room}
@@ -37,12 +40,13 @@ use Rattle.life_forest.specs.Within.{LiesWithin}
 use Rattle.life_forest.proofs.Coming.{IfGot}
 use Rattle.life_cover.specs.Covers.{IsCovered, Look}
 use Rattle.life_cover.specs.Frames.{LocalsCovered, RootStands, look_at}
-use Rattle.life_cover.specs.Kills.{Closed}
-use Rattle.life_cover.specs.Regions.{IsAt, Region, foot_of}
+use Rattle.life_cover.specs.Kills.{Closed, LeftBy}
+use Rattle.life_cover.specs.Regions.{Region, foot_of}
 use Rattle.life_cover.specs.Roots.{AreRooted}
 use Rattle.life_cover.proofs.Buffers.{clear_touches, pop_touches, push_touches, reserve_touches, rewrite_touches}
-use Rattle.life_cover.proofs.Changes.{change_named, change_through}
+use Rattle.life_cover.proofs.Changes.{place_cover}
 use Rattle.life_cover.proofs.Inside.{lies_true}
+use Rattle.life_cover.proofs.Left.{left_by_name, left_through}
 use Rattle.life_cover.proofs.Pointers.{IfRight, OnRight, right_then}
 use Rattle.life_cover.proofs.Reaching.{IsReached, spot_is}
 use Rattle.life_cover.proofs.Using.{Faultless}
@@ -101,17 +105,24 @@ right_more GotLost P Q h more = tt
 lt_true : (a b : ℕ) → a < b → nat_lt a b ≡ true
 lt_true a b h = grind (arith, nat_tests)
 
--- a change of what an operand is leaves all other pointers covered
+-- what the rules leave of the facts where an operand is changed
+pub operand_left : (types : Types) (f : Function) (st : State) (Input : Root → Region → Type 0) (may_change : Root → Bool) (sigs : List Signature) (place : Place) (change : Change) (S S' : Fact → Type 0) (o : Operand) (r : IsReached types f st Input may_change S o)
+    → Closed sigs types f place (Changes o change) S S' → (Stands : Root → Region → Type 0) → LeftBy Stands (under r.place) (writes (Changes o change)) S S'
+operand_left types f st Input may_change sigs place change S S' (named.Name l) r closed Stands =
+    subst (λ (a : AbsPlace). LeftBy Stands (under a) (writes (Changes (named.Name l) change)) S S') (sym r.by)
+    (left_by_name sigs types f place (Changes (named.Name l) change) S S' closed Stands (record { owner = located l; cause = owner_named place l.local }) refl (λ e. refl) (at_head (element.Invalid (owner_named place l.local)) []))
+operand_left types f st Input may_change sigs place change S S' (named.Through p members) r closed Stands =
+    subst (λ (a : AbsPlace). LeftBy Stands (under a) (writes (Changes (named.Through p members) change)) S S') (sym r.by.2)
+    (left_through sigs types f place (Changes (named.Through p members) change) S S' closed Stands p members r.by.0 r.by.1 (λ x y. refl) (λ e. refl) (at_head (element.Invalid (owner_changed place)) []))
+
+-- so a change of what an operand is leaves all other pointers covered
 pub operand_changed : (types : Types) (ordered : IsOrdered types) (f : Function) (hand : ℕ → ℕ) (st : State) (store : IsStore types hand st.world.content) (Input : Root → Region → Type 0) (may_change owning : Root → Bool)
     (rooted : AreRooted types st.world.content (RootStands types f Input st.cells) owning) (sigs : List Signature) (place : Place) (change : Change) (S S' : Fact → Type 0) (o : Operand) (r : IsReached types f st Input may_change S o) → owning r.place.root ≡ true
     → Closed sigs types f place (Changes o change) S S' → (d : Content) → Touches (kinds_of types) (foot_of types r.region) st.world.content d → (q : AbsPlace) (look : Look) (v : Pointer) → writes (Changes o change) q ≡ false
     → IsCovered types st.world.content (RootStands types f Input st.cells) may_change S q look v → IsCovered types d (RootStands types f Input st.cells) may_change S' q look v
-operand_changed types ordered f hand st store Input may_change owning rooted sigs place change S S' (named.Name l) r own closed d touch =
-    change_named types ordered hand st.world.content d store (RootStands types f Input st.cells) may_change owning rooted sigs f place change S S' l r.region closed (subst (λ (a : AbsPlace). owning a.root ≡ true) r.by own)
-    (subst (λ (a : AbsPlace). IsAt types st.world.content (RootStands types f Input st.cells) a r.region) r.by r.lies) touch
-operand_changed types ordered f hand st store Input may_change owning rooted sigs place change S S' (named.Through p members) r own closed d touch =
-    change_through types ordered hand st.world.content d store (RootStands types f Input st.cells) may_change owning rooted sigs f place change S S' p members r.by.0 r.region closed r.by.1
-    (subst (λ (a : AbsPlace). owning a.root ≡ true) r.by.2 own) (subst (λ (a : AbsPlace). IsAt types st.world.content (RootStands types f Input st.cells) a r.region) r.by.2 r.lies) touch
+operand_changed types ordered f hand st store Input may_change owning rooted sigs place change S S' o r own closed d touch =
+    place_cover types ordered hand st.world.content d store (RootStands types f Input st.cells) may_change owning rooted r.place r.region own r.lies touch (writes (Changes o change)) S S'
+    (operand_left types f st Input may_change sigs place change S S' o r closed (RootStands types f Input st.cells))
 
 module _ (types : Types) (ordered : IsOrdered types) (f : Function) (hand : ℕ → ℕ) (st : State) (store : IsStore types hand st.world.content) (Input : Root → Region → Type 0) (may_change owning : Root → Bool)
     (rooted : AreRooted types st.world.content (RootStands types f Input st.cells) owning) (sigs : List Signature) (place : Place) (S S' : Fact → Type 0) (old : LocalsCovered types f Input may_change S st)

@@ -86,22 +86,32 @@ covered_more types c Stands Stands' may_change more S l look v = go v
     go Wild h = record { known = h.known; holds = h.holds; covers = told h.known Wild h.covers }
     go (To t) h = record { known = h.known; holds = h.holds; covers = told h.known (To t) h.covers }
 
+-- roots stand where a cell that names nothing is written
+pub roots_stay : (types : Types) (f : Function) (Input : Root → Region → Type 0) (st : State) (p : ℕ) (new : Cell) → ((n : ℕ) → cell st p ≡ Some (Named n) → ⊥) → (r : Root) (a : Region) → RootStands types f Input st.cells r a → RootStands types f Input (slice_set st.cells p new) r a
+roots_stay types f Input st p new no_object (root.Local x) a s = one_or_apart p x
+    (λ e. absurd (no_object a.object (ap (slice_get st.cells) e ∙ s.0)))
+    (λ ne. (set_other st.cells p x new ne ∙ s.0, s.1, s.2))
+roots_stay types f Input st p new no_object (root.Input q member) a s = s
+
+-- a cell that names nothing is written: what it is given is covered, and so are all other pointers
+pub put_over : (types : Types) (f : Function) (st : State) (Input : Root → Region → Type 0) (may_change : Root → Bool) (S : Fact → Type 0) (p : ℕ) (new : Cell) → ((n : ℕ) → cell st p ≡ Some (Named n) → ⊥)
+    → ((v : Pointer) → new ≡ Points v → IsCovered types st.world.content (RootStands types f Input st.cells) may_change S (local_place p) (look_at types f p) v)
+    → ((x : ℕ) (v : Pointer) → p ≢ x → slice_get st.cells x ≡ Some (Points v) → IsCovered types st.world.content (RootStands types f Input st.cells) may_change S (local_place x) (look_at types f x) v)
+    → LocalsCovered types f Input may_change S (put_cell p new st)
+put_over types f st Input may_change S p new no_object covers others x v e =
+    covered_more types st.world.content (RootStands types f Input st.cells) (RootStands types f Input (slice_set st.cells p new)) may_change (roots_stay types f Input st p new no_object) S (local_place x) (look_at types f x) v
+    (⊎_elim
+    (λ h. subst (λ y. IsCovered types st.world.content (RootStands types f Input st.cells) may_change S (local_place y) (look_at types f y) v) h.0 (covers v h.1))
+    (λ h. others x v h.0 h.1)
+    (cell_cases st.cells p x new (Points v) e))
+
 module _ (types : Types) (ordered : IsOrdered types) (f : Function) (hand : ℕ → ℕ) (st : State) (store : IsStore types hand st.world.content) (Input : Root → Region → Type 0) (may_change : Root → Bool)
     (fits : (r : Root) (a : Region) → RootStands types f Input st.cells r a → IsTrue types st.world.content a) (sigs : List Signature) (place : Place) (i : Step) (S S' : Fact → Type 0) (closed : Closed sigs types f place i S S')
     (gone : (e : Element) → is_gone types f place i e ≡ false) (p : ℕ) (new : Cell) (writes_p : (x : ℕ) → p ≢ x → writes i (local_place x) ≡ false) (no_object : (n : ℕ) → cell st p ≡ Some (Named n) → ⊥) where
-  roots_stay : (r : Root) (a : Region) → RootStands types f Input st.cells r a → RootStands types f Input (slice_set st.cells p new) r a
-  roots_stay (root.Local x) a s = one_or_apart p x
-      (λ e. absurd (no_object a.object (ap (slice_get st.cells) e ∙ s.0)))
-      (λ ne. (set_other st.cells p x new ne ∙ s.0, s.1, s.2))
-  roots_stay (root.Input q member) a s = s
-
   -- so where what it is given is a pointer that is covered, or no pointer at all
   pub put_covered : ((v : Pointer) → new ≡ Points v → IsCovered types st.world.content (RootStands types f Input st.cells) may_change S' (local_place p) (look_at types f p) v) → LocalsCovered types f Input may_change S st
       → LocalsCovered types f Input may_change S' (put_cell p new st)
-  put_covered covers old x v e =
-      ⊎_elim
-      (λ h. subst (λ y. IsCovered types st.world.content (RootStands types f Input (slice_set st.cells p new)) may_change S' (local_place y) (look_at types f y) v) h.0
-      (covered_more types st.world.content (RootStands types f Input st.cells) (RootStands types f Input (slice_set st.cells p new)) may_change roots_stay S' (local_place p) (look_at types f p) v (covers v h.1)))
-      (λ h. unkilled_cover types ordered hand st.world.content st.world.content store (touches_self (kinds_of types) no_foot st.world.content) (RootStands types f Input st.cells) (RootStands types f Input (slice_set st.cells p new)) may_change fits
-      sigs f place i S S' closed gone (λ a r names free s. roots_stay a.root r s) (local_place x) (look_at types f x) v (writes_p x h.0) (old x v h.1))
-      (cell_cases st.cells p x new (Points v) e)
+  put_covered covers old =
+      put_over types f st Input may_change S' p new no_object covers
+      (λ x v ne e. unkilled_cover types ordered hand st.world.content st.world.content store (touches_self (kinds_of types) no_foot st.world.content) (RootStands types f Input st.cells) (RootStands types f Input st.cells) may_change fits
+      sigs f place i S S' closed gone (λ a r names free s. s) (local_place x) (look_at types f x) v (writes_p x ne) (old x v e))

@@ -1,25 +1,22 @@
--- Each vector and each string has its buffer behind a change that makes another buffer: growth, a string that is written anew, and a copy.
-use Rattle.std.proofs.Common.{◌≡◌, ◌≢◌, ⊎_elim, ℕ, zero, suc, ◌+◌, ◌*◌, ◌≤◌, ◌<◌, Bool, true, false, List, [], ◌∷◌, length, map, Option, Some, None, refl, sym, ap, subst, ◌∙◌, arith, ◌⊎◌, inl, inr}
-use Rattle.std.specs.Prelude.{cond, nat_lt, slice_get, slice_index}
+-- Each vector and each string has its buffer where a string is written anew; what stays as it was behind a change that makes another buffer, and what values have that are taken into it.
+use Rattle.std.proofs.Common.{◌≡◌, ⊎_elim, ℕ, zero, suc, ◌+◌, ◌*◌, ◌≤◌, ◌<◌, List, [], ◌∷◌, length, map, Option, Some, None, refl, sym, ap, subst, ◌∙◌, arith, ◌⊎◌, inl, inr}
+use Rattle.std.specs.Prelude.{nat_lt, slice_get, slice_index}
 use Rattle.life_types.specs.Types.{Types}
 use Rattle.life_types.specs.declared.ty.TyId.{TyId}
 use Rattle.life_store.specs.Cells.{at, set, at-set_other, at-set_same, at-unset_other}
 use Rattle.life_store.specs.Content.{Slot, Object, Content, live_words_of, newborn, resized, with_birth, with_object, with_rename, with_resize, without}
-use Rattle.life_store.specs.Edits.{capacity_of, filled_by, grown, one_word, owns, pushed, put_last, regrown, reserved, rewritten, size_of, with_room}
-use Rattle.life_store.specs.Effects.{Got, Setting, then_get}
-use Rattle.life_store.specs.Held.{filled, filled_if, filled_slots, owned_in, resized_at, resized_if, slots_at, with_words, wrote, wrote_if}
+use Rattle.life_store.specs.Edits.{one_word, owns, rewritten}
+use Rattle.life_store.specs.Effects.{Got, Setting}
+use Rattle.life_store.specs.Held.{filled, filled_if, filled_slots, owned_in, resized_at, resized_if}
 use Rattle.life_store.specs.Owners.{Words, birth, renamed, renamed_if, sized_birth, taken, taken_slots}
-use Rattle.life_store.specs.Parts.{Parts, Single, Raw, Iterates, Views, Text, Vector, Unique, Member, NoMember, parts_at, width}
+use Rattle.life_store.specs.Parts.{Parts, Single, Raw, Iterates, Views, Text, Vector, Unique, Member, NoMember, parts_at}
 use Rattle.life_store.specs.declared.run.TrapKind.TheVariants as trap
-use Rattle.life_store.proofs.CellLemmas.{none_some, set_cases, some_same, unset_cases}
-use Rattle.life_store.proofs.MapLemmas.{one_or_apart}
+use Rattle.life_store.proofs.CellLemmas.{none_some, some_same, unset_cases}
 use Rattle.life_forest.specs.Values.{AllWide}
-use Rattle.life_forest.proofs.Above.{with_words_type}
 use Rattle.life_forest.proofs.Coming.{IfGot, got_then, if_room}
-use Rattle.life_forest.proofs.Stores.{if_such}
 use Rattle.life_forest.proofs.Widths.{count-blank, wide-resized}
 use Rattle.life_cover.specs.Buffered.{AreBuffered, HasBuffers}
-use Rattle.life_cover.proofs.Buffering.{AreBut, IsOwnerAt, all_in, birth_but, filled_but, none_out, owns_but, rename_but, resized_but, set_but, single_have, without_but, without_leaves}
+use Rattle.life_cover.proofs.Buffering.{AreBut, IsOwnerAt, all_in, birth_but, have_in, none_out, owns_but, rename_but, resized_but, set_but, single_have, without_but}
 use Rattle.life_cover.proofs.Copies.{IsWhole}
 
 -- ---- what was there and is there is as it was
@@ -37,7 +34,7 @@ older_then c d e one two = record {
   same = λ k o lt there. one.same k o lt (two.same k o (let a = one.births in omega (arith, a, lt)) there);
 }
 
-older_set : (c d e : Content) (n : ℕ) (o : Object) → c.births ≤ n → d.births ≤ e.births → e.objects ≡ set d.objects n o → IsOlder c d → IsOlder c e
+pub older_set : (c d e : Content) (n : ℕ) (o : Object) → c.births ≤ n → d.births ≤ e.births → e.objects ≡ set d.objects n o → IsOlder c d → IsOlder c e
 older_set c d e n o new births is older = record {
   births = let a = older.births in omega (arith, a, births);
   same = λ k q lt there. older.same k q lt (sym (at-set_other d.objects n k o (λ same. absurd (omega (arith, same, lt, new)))) ∙ ap (λ objects. at objects k) (sym is) ∙ there);
@@ -46,14 +43,14 @@ older_set c d e n o new births is older = record {
 older_birth : (c : Content) (ty : TyId) (w capacity : ℕ) → IsOlder c (with_birth ty w capacity c)
 older_birth c ty w capacity = older_set c c (with_birth ty w capacity c) c.births (newborn ty w capacity c.clock) (omega arith) (omega arith) refl (older_self c)
 
-older_resized : (c d : Content) (n size since : ℕ) → c.births ≤ n → IsOlder c d → IsOlder c (resized_at n size since d)
+pub older_resized : (c d : Content) (n size since : ℕ) → c.births ≤ n → IsOlder c d → IsOlder c (resized_at n size since d)
 older_resized c d n size since new older = go (at d.objects n)
   where
     go : (o : Option Object) → IsOlder c (resized_if o n size since d)
     go None = older
     go (Some o) = older_set c d (with_resize n size since o d) n (resized (d.clock + 1) size since o) new (omega arith) refl older
 
-older_filled : (c d : Content) (n : ℕ) (rows : List (List ℕ)) → c.births ≤ n → IsOlder c d → IsOlder c (filled n rows d)
+pub older_filled : (c d : Content) (n : ℕ) (rows : List (List ℕ)) → c.births ≤ n → IsOlder c d → IsOlder c (filled n rows d)
 older_filled c d n rows new older = go (at d.objects n)
   where
     go : (o : Option Object) → IsOlder c (filled_if o n rows d)
@@ -110,8 +107,7 @@ module _ (types : Types) where
 
   -- an object of single values isn't left out
   pub single_in : (out : ℕ → Type 0) (n : ℕ) (c : Content) → ((o : Object) → at c.objects n ≡ Some o → parts_at types o.ty ≡ Single) → AreBut types (λ k. out k ⊎ (k ≡ n)) c → AreBut types out c
-  single_in out n c single h k i o t free there slot =
-      one_or_apart k n (λ same. single_have types o (single o (ap (at c.objects) (sym same) ∙ there)) i t slot) (λ ne. h k i o t (λ gone. ⊎_elim free ne gone) there slot)
+  single_in out n c single = have_in types out n c (λ o there. single_have types o (single o there))
 
   -- ---- a string is written anew
 
@@ -141,7 +137,7 @@ module _ (types : Types) where
 
   -- ---- values are taken into another buffer
 
-  record IsTaken (p : Parts) (out : ℕ → Type 0) (f : ℕ) (d : Content) (v : Words) : Type 0 where
+  pub record IsTaken (p : Parts) (out : ℕ → Type 0) (f : ℕ) (d : Content) (v : Words) : Type 0 where
     pub has : HasBuffers p v.0
     pub buffers : AreBut types out v.1
     pub same : at v.1.objects f ≡ at d.objects f
@@ -153,7 +149,7 @@ module _ (types : Types) where
   IsFree (Text ty) out ws = (m : ℕ) → owned_in (slice_index ws 0) ≡ Some m → out m → ⊥
   IsFree _ out ws = Unit {0}
 
-  taken_but : (p : Parts) → IsWhole p → (out : ℕ → Type 0) (f : ℕ) → out f → (ws : List ℕ) → HasBuffers p ws → IsFree p out ws → (d : Content) → f < d.births → AreBut types out d → IsTaken p out f d (taken p ws d)
+  pub taken_but : (p : Parts) → IsWhole p → (out : ℕ → Type 0) (f : ℕ) → out f → (ws : List ℕ) → HasBuffers p ws → IsFree p out ws → (d : Content) → f < d.births → AreBut types out d → IsTaken p out f d (taken p ws d)
   taken_but (Text ty) is out f gone ws has free d born h = subst (λ (x : Option ℕ). IsTaken (Text ty) out f d (renamed x d)) (sym has.1) (go (at d.objects has.0) refl)
     where
       go : (o : Option Object) → at d.objects has.0 ≡ o → IsTaken (Text ty) out f d (renamed_if o has.0 d)
@@ -174,7 +170,7 @@ module _ (types : Types) where
   taken_but (Unique ty target) is out f gone ws has free d born h = record { has = has; buffers = h; same = refl; born = born; older = older_self d }
   taken_but NoMember is out f gone ws has free d born h = record { has = has; buffers = h; same = refl; born = born; older = older_self d }
 
-  record AreTaken (p : Parts) (out : ℕ → Type 0) (f : ℕ) (count : ℕ) (d : Content) (vs : List (List ℕ) × Content) : Type 0 where
+  pub record AreTaken (p : Parts) (out : ℕ → Type 0) (f : ℕ) (count : ℕ) (d : Content) (vs : List (List ℕ) × Content) : Type 0 where
     pub has : (i : ℕ) (ws : List ℕ) → slice_get vs.0 i ≡ Some ws → HasBuffers p ws
     pub count_is : length vs.0 ≡ count
     pub buffers : AreBut types out vs.1
@@ -185,7 +181,7 @@ module _ (types : Types) where
   abbrev pub AreFree : Parts → (ℕ → Type 0) → List Slot → Type 0
   AreFree p out ss = (i : ℕ) (t : Slot) → slice_get ss i ≡ Some t → HasBuffers p t.words × IsFree p out t.words
 
-  slots_taken : (p : Parts) → IsWhole p → (out : ℕ → Type 0) (f : ℕ) → out f → (ss : List Slot) → AreFree p out ss → (d : Content) → f < d.births → AreBut types out d → AreTaken p out f (length ss) d (taken_slots p ss d)
+  pub slots_taken : (p : Parts) → IsWhole p → (out : ℕ → Type 0) (f : ℕ) → out f → (ss : List Slot) → AreFree p out ss → (d : Content) → f < d.births → AreBut types out d → AreTaken p out f (length ss) d (taken_slots p ss d)
   slots_taken p is out f gone [] free d born h = record { has = λ i ws e. absurd (none_some e); count_is = refl; buffers = h; same = refl; older = older_self d }
   slots_taken p is out f gone (t ∷ ss) free d born h =
       let one = taken_but p is out f gone t.words (free 0 t refl).0 (free 0 t refl).1 d born h in
@@ -200,134 +196,3 @@ module _ (types : Types) where
       first : (v : List ℕ) (vs : List (List ℕ)) (i : ℕ) (ws : List ℕ) → slice_get (v ∷ vs) i ≡ Some ws → HasBuffers p v → ((j : ℕ) (us : List ℕ) → slice_get vs j ≡ Some us → HasBuffers p us) → HasBuffers p ws
       first v vs zero ws e h k = subst (HasBuffers p) (some_same e) h
       first v vs (suc i) ws e h k = k i ws e
-
-  -- ---- growth
-
-  -- the new buffer, and what is left
-  pub record IsGrown (ty : TyId) (c : Content) (f : ℕ × Content) : Type 0 where
-    pub number : f.0 ≡ c.births
-    pub type : (o : Object) → at f.1.objects f.0 ≡ Some o → o.ty ≡ ty
-    pub buffers : AreBut types (λ k. ⊥) f.1
-    pub older : IsOlder c f.1
-
-  module _ (s : Setting) (ty : TyId) (element : Parts) (is : IsWhole element) (typed : parts_at types ty ≡ element) (b capacity size : ℕ) (c : Content) (old : AreFree element (λ k. ⊥ ⊎ (k ≡ c.births)) (slots_at c b)) (h : AreBuffered types c) where
-    pub regrown_buffered : (size ≤ length (slots_at c b)) ⊎ (element ≡ Single) → IfGot (regrown s ty element b capacity size c) (IsGrown ty c)
-    regrown_buffered fits =
-        got_then (birth s ty (width element) capacity c) (λ f. Got (f.0, without b (filled_by f.0 (taken_slots element (slots_at c b) (resized_at f.0 size 0 f.1))))) (λ f. f ≡ (c.births, with_birth ty (width element) capacity c)) (IsGrown ty c)
-        (if_room (nat_lt s.given.cells (live_words_of c + (2 + width element * capacity))) trap.Cells (c.births, with_birth ty (width element) capacity c) (λ f. f ≡ (c.births, with_birth ty (width element) capacity c)) refl)
-        (λ f e. subst (λ (g : ℕ × Content). IsGrown ty c (g.0, without b (filled_by g.0 (taken_slots element (slots_at c b) (resized_at g.0 size 0 g.1))))) (sym e) result)
-      where
-        begun : Content
-        begun = resized_at c.births size 0 (with_birth ty (width element) capacity c)
-
-        sized : IsSized c ty (width element) size (c.births, resized_at c.births size 0 (with_birth ty (width element) capacity c))
-        sized = sized_is c ty (width element) capacity size
-
-        vs : List (List ℕ) × Content
-        vs = taken_slots element (slots_at c b) (resized_at c.births size 0 (with_birth ty (width element) capacity c))
-
-        took : AreTaken element (λ k. ⊥ ⊎ (k ≡ c.births)) c.births (length (slots_at c b)) (resized_at c.births size 0 (with_birth ty (width element) capacity c)) (taken_slots element (slots_at c b) (resized_at c.births size 0 (with_birth ty (width element) capacity c)))
-        took =
-            slots_taken element is (λ k. ⊥ ⊎ (k ≡ c.births)) c.births (inr refl) (slots_at c b) old (resized_at c.births size 0 (with_birth ty (width element) capacity c)) (let n = sized.births in omega (arith, n))
-            (resized_but types (λ k. ⊥ ⊎ (k ≡ c.births)) c.births size 0 (with_birth ty (width element) capacity c) (inr refl) (birth_but types (λ k. ⊥ ⊎ (k ≡ c.births)) ty (width element) capacity c (λ k i o t free there slot. h k i o t there slot)))
-
-        new_there : at (taken_slots element (slots_at c b) (resized_at c.births size 0 (with_birth ty (width element) capacity c))).1.objects c.births ≡ Some sized.object
-        new_there = took.same ∙ sized.there
-
-        new_is : (o : Object) → at (taken_slots element (slots_at c b) (resized_at c.births size 0 (with_birth ty (width element) capacity c))).1.objects c.births ≡ Some o → sized.object ≡ o
-        new_is o there = some_same (sym new_there ∙ there)
-
-        new_type : (o : Object) → at (filled c.births vs.0 vs.1).objects c.births ≡ Some o → o.ty ≡ ty
-        new_type o there =
-            ap (λ (x : Object). x.ty) (some_same (sym there ∙ ap (λ (x : Option Object). at (filled_if x c.births vs.0 vs.1).objects c.births) new_there ∙ at-set_same vs.1.objects c.births c.births (record (sized.object) { slots = filled_slots sized.object.slots vs.0 }) refl))
-            ∙ sized.type
-
-        filled_buffers : (size ≤ length (slots_at c b)) ⊎ (element ≡ Single) → AreBut types (λ k. ⊥) (filled c.births vs.0 vs.1)
-        filled_buffers (inl le) =
-            filled_but types (λ k. ⊥) c.births vs.0 vs.1 (λ o there. let n = ap (λ (x : Object). length x.slots) (new_is o there) in let m = sized.count in let r = took.count_is in omega (arith, n, m, r, le))
-            (λ o there i ws e. subst (λ (q : Parts). HasBuffers q ws) (sym (ap (λ (x : Object). parts_at types x.ty) (sym (new_is o there)) ∙ ap (parts_at types) sized.type ∙ typed)) (took.has i ws e)) took.buffers
-        filled_buffers (inr single) = single_in (λ k. ⊥) c.births (filled c.births vs.0 vs.1) (λ o there. ap (parts_at types) (new_type o there) ∙ typed ∙ single) (go (at vs.1.objects c.births))
-          where
-            go : (o : Option Object) → AreBut types (λ k. ⊥ ⊎ (k ≡ c.births)) (filled_if o c.births vs.0 vs.1)
-            go None = took.buffers
-            go (Some o) = set_but types (λ k. ⊥ ⊎ (k ≡ c.births)) c.births (record o { slots = filled_slots o.slots vs.0 }) vs.1 (with_object c.births (record o { slots = filled_slots o.slots vs.0 }) vs.1) (inl (inr refl)) refl took.buffers
-
-        result : IsGrown ty c (c.births, without b (filled c.births vs.0 vs.1))
-        result = record {
-          number = refl;
-          type = λ o there. new_type o (without_leaves types b (filled c.births vs.0 vs.1) c.births o there);
-          buffers = without_but types (λ k. ⊥) b (filled c.births vs.0 vs.1) (filled_buffers fits);
-          older = older_without c (filled c.births vs.0 vs.1) b (older_filled c vs.1 c.births vs.0 (omega arith) (older_then c begun vs.1 sized.older took.older));
-        }
-
-  -- room is made
-  pub reserved_buffered : (s : Setting) (ty : TyId) (element : Parts) → IsWhole element → parts_at types ty ≡ element → (n i b count : ℕ) (c : Content) → AreFree element (λ k. ⊥ ⊎ (k ≡ c.births)) (slots_at c b) → n < c.births → IsOwnerAt types c n → AreBuffered types c
-      → IfGot (reserved s ty element (record { object = n; index = i; word = 0 }) b count c) (AreBuffered types)
-  reserved_buffered s ty element is typed n i b count c old born owner h = go (nat_lt (capacity_of c b) count)
-    where
-      go : (more : Bool) → IfGot (cond more (then_get (regrown s ty element b count (size_of c b) c) (λ f. Got (owns (record { object = n; index = i; word = 0 }) f.0 f.1))) (Got c)) (AreBuffered types)
-      go false = h
-      go true =
-          got_then (regrown s ty element b count (size_of c b) c) (λ f. Got (owns (record { object = n; index = i; word = 0 }) f.0 f.1)) (IsGrown ty c) (AreBuffered types)
-          (regrown_buffered s ty element is typed b count (size_of c b) c old h (inl (omega arith)))
-          (λ f g. all_in types (owns (record { object = n; index = i; word = 0 }) f.0 f.1) (owns_but types (λ j. ⊥) n i f.0 f.1 (λ o there. owner o (g.older.same n o born there)) g.buffers))
-
-  -- ---- a number is added
-
-  wrote_type : (n i w : ℕ) (ws : List ℕ) (d : Content) (k : ℕ) (o : Object) → at (wrote n i w ws d).objects k ≡ Some o → (x : Object) × (at d.objects k ≡ Some x) × (x.ty ≡ o.ty)
-  wrote_type n i w ws d k o = go (at d.objects n) refl
-    where
-      go : (x : Option Object) → at d.objects n ≡ x → at (wrote_if x n i w ws d).objects k ≡ Some o → (y : Object) × (at d.objects k ≡ Some y) × (y.ty ≡ o.ty)
-      go None e there = (o, there, refl)
-      go (Some x) e there =
-          ⊎_elim (λ same. (x, ap (at d.objects) (sym same.0) ∙ e, sym (with_words_type i w ws x) ∙ ap (λ (y : Object). y.ty) (some_same (sym same.1 ∙ there)))) (λ other. (o, sym other.1 ∙ there, refl))
-          (set_cases d.objects n k (with_words i w ws x))
-
-  pub wrote_single : (f i w : ℕ) (ws : List ℕ) (d : Content) → ((o : Object) → at d.objects f ≡ Some o → parts_at types o.ty ≡ Single) → AreBut types (λ k. ⊥) d → AreBut types (λ k. ⊥) (wrote f i w ws d)
-  wrote_single f i w ws d single h =
-      single_in (λ k. ⊥) f (wrote f i w ws d) (λ o there. let x = wrote_type f i w ws d f o there in ap (parts_at types) (sym x.2) ∙ single x.0 x.1) (go (at d.objects f))
-    where
-      go : (x : Option Object) → AreBut types (λ k. ⊥ ⊎ (k ≡ f)) (wrote_if x f i w ws d)
-      go None k j o t free there slot = h k j o t (λ e. e) there slot
-      go (Some x) k j o t free there slot =
-          set_but types (λ m. ⊥ ⊎ (m ≡ f)) f (with_words i w ws x) d (with_object f (with_words i w ws x) d) (inl (inr refl)) refl (λ m n q u out here at_u. h m n q u (λ e. e) here at_u) k j o t free there slot
-
-  module _ (s : Setting) (ty : TyId) (single : parts_at types ty ≡ Single) (b : ℕ) (c : Content) (h : AreBuffered types c) where
-    record IsRoom (f : ℕ × Content) : Type 0 where
-      pub type : (o : Object) → at f.1.objects f.0 ≡ Some o → o.ty ≡ ty
-      pub buffers : AreBut types (λ k. ⊥) f.1
-      -- all but b is as it was
-      pub same : (k : ℕ) (o : Object) → k < c.births → b ≢ k → at f.1.objects k ≡ Some o → at c.objects k ≡ Some o
-
-    pub pushed_buffered : (type : (o : Object) → at c.objects b ≡ Some o → o.ty ≡ ty) (old : AreFree Single (λ k. ⊥ ⊎ (k ≡ c.births)) (slots_at c b)) (n i : ℕ) (ws : List ℕ) → n < c.births → b ≢ n → IsOwnerAt types c n
-        → IfGot (pushed s ty Single (record { object = n; index = i; word = 0 }) b (λ d. (ws, d)) c) (AreBuffered types)
-    pushed_buffered type old n i ws born apart owner =
-        got_then (with_room s ty Single b c) (λ f. Got (put_last (record { object = n; index = i; word = 0 }) f.0 (size_of c b) (ws, f.1))) IsRoom (AreBuffered types) room
-        (λ f r.
-        all_in types (put_last (record { object = n; index = i; word = 0 }) f.0 (size_of c b) (ws, f.1))
-        (wrote_single f.0 (size_of c b) 0 ws (owns (record { object = n; index = i; word = 0 }) f.0 f.1)
-        (λ o there. let x = wrote_type n i 0 (suc f.0 ∷ []) f.1 f.0 o there in ap (parts_at types) (sym x.2 ∙ r.type x.0 x.1) ∙ single)
-        (owns_but types (λ k. ⊥) n i f.0 f.1 (λ o there. owner o (r.same n o born apart there)) r.buffers)))
-      where
-        same_room : IsRoom (b, resized_at b (size_of c b + 1) (size_of c b) c)
-        same_room = go (at c.objects b) refl
-          where
-            go : (x : Option Object) → at c.objects b ≡ x → IsRoom (b, resized_if x b (size_of c b + 1) (size_of c b) c)
-            go None e = record { type = type; buffers = none_out types c h; same = λ k o lt ne there. there }
-            go (Some x) e = record {
-              type = λ o there. ap (λ (y : Object). y.ty) (some_same (sym there ∙ at-set_same c.objects b b (resized (c.clock + 1) (size_of c b + 1) (size_of c b) x) refl)) ∙ type x e;
-              buffers =
-                  set_but types (λ k. ⊥) b (resized (c.clock + 1) (size_of c b + 1) (size_of c b) x) c (with_resize b (size_of c b + 1) (size_of c b) x c)
-                  (inr (single_have types (resized (c.clock + 1) (size_of c b + 1) (size_of c b) x) (ap (parts_at types) (type x e) ∙ single))) refl (none_out types c h);
-              same = λ k o lt ne there. sym (at-set_other c.objects b k (resized (c.clock + 1) (size_of c b + 1) (size_of c b) x) ne) ∙ there;
-            }
-
-        room : IfGot (with_room s ty Single b c) IsRoom
-        room = go (nat_lt (size_of c b) (capacity_of c b))
-          where
-            go : (full : Bool) → IfGot (cond full (Got (b, resized_at b (size_of c b + 1) (size_of c b) c)) (regrown s ty Single b (grown s.given.growth (size_of c b) (capacity_of c b)) (size_of c b + 1) c)) IsRoom
-            go true = same_room
-            go false =
-                if_such (regrown s ty Single b (grown s.given.growth (size_of c b) (capacity_of c b)) (size_of c b + 1) c) (IsGrown ty c) IsRoom
-                (regrown_buffered s ty Single tt single b (grown s.given.growth (size_of c b) (capacity_of c b)) (size_of c b + 1) c old h (inr refl))
-                (λ f g. record { type = g.type; buffers = g.buffers; same = λ k o lt ne there. g.older.same k o lt there })

@@ -1,6 +1,6 @@
 -- An instruction of a frame without structs and inputs, at which nothing is wrong, makes no fault; and what is known of the frame before it is
 -- known behind it: the facts cover all pointers, and each vector and each string has its buffer.
-use Rattle.std.proofs.Common.{◌≡◌, ℕ, true, false, ◌&&◌, not, Some, List, refl, ap, subst}
+use Rattle.std.proofs.Common.{◌≡◌, ℕ, Bool, true, false, ◌&&◌, not, Option, Some, None, List, refl, sym, ap, subst}
 use Rattle.std.specs.Prelude.{if◌then◌else◌}
 use Rattle.std.proofs.lemmas.Bool.{and_parts, false≢true}
 use Rattle.std.proofs.lemmas.List.Elements.{Contains-append_left}
@@ -20,28 +20,32 @@ use Rattle.life_core.specs.Touched.{touched_by}
 use Rattle.life_pset.specs.declared.element.Fact.{Fact}
 use Rattle.life_contract.specs.Signatures.{Signature}
 use Rattle.life_proper.specs.OperandTypes.{aims_at, are_alike, is_range, keeps_const, same, walks}
-use Rattle.life_proper.specs.Placed.{element_of, is_const_base, is_const_place, is_given, is_number_of, register_at, type_at, type_in, type_of, type_of_element}
+use Rattle.life_proper.specs.Placed.{element_of, is_const_base, is_const_place, is_given, is_number_of, object_at, register_at, result_at, slot_at, type_at, type_in, type_of, type_of_element}
 use Rattle.life_proper.specs.WellFormed.{is_change_of, is_well_formed_step}
 use Rattle.life_rules.specs.Diagnosing.{used_in}
-use Rattle.life_store.specs.Doing.{changed, does}
+use Rattle.life_store.specs.Doing.{changed, does, pushes}
 use Rattle.life_store.specs.Effects.{Effect, Next, Traps, Faults, Strays, Setting, cell}
-use Rattle.life_store.specs.Parts.{operand_parts}
-use Rattle.life_store.specs.State.{Named, State, ready_of}
+use Rattle.life_store.specs.Parts.{Vector, local_type, operand_parts, parts_at}
+use Rattle.life_store.specs.Places.{Spot}
+use Rattle.life_store.specs.State.{Cell, Empty, Named, Number, Points, State, ready_of}
 use Rattle.life_forest.specs.FrameTypes.{Stands}
 use Rattle.life_forest.specs.Frames.{OnNext}
 use Rattle.life_forest.specs.Settled.{IsPoised}
 use Rattle.life_forest.proofs.OneNumber.{same_solid, type_there}
 use Rattle.life_forest.proofs.ReadyCells.{number_any}
-use Rattle.life_forest.proofs.SeenTypes.{aims_seen, iterator_points, range_points, value_parts, walks_seen}
+use Rattle.life_forest.proofs.SeenTypes.{aims_seen, iterator_points, pointer_solid, range_points, value_parts, walks_seen}
 use Rattle.life_forest.proofs.StandingNumbers.{evaluated_gives, loaded_gives, ports_give, sames_give, sizes_give}
 use Rattle.life_forest.proofs.TypedSteps.{IsSlotFree, value_solid}
 use Rattle.life_cover.specs.Frames.{FrameCovered, NoInput, any_root}
-use Rattle.life_cover.proofs.FrameSteps.{IsSpoken, IsSpokenChange, alike_points, at_pointer, not_false, source_points, step_covered}
-use Rattle.life_cover.proofs.KeptBuffers.{IsBuffered, IsKept, by_next, ends_buffered, text_buffered, vector_buffered}
+use Rattle.life_cover.proofs.FrameSteps.{IsSpoken, alike_points, not_false, source_points, step_covered}
+use Rattle.life_cover.proofs.HeldElements.{vector_operand}
+use Rattle.life_cover.proofs.KeptBuffers.{IsBuffered, IsKept, by_change, by_next, ends_buffered, text_buffered, vector_buffered}
 use Rattle.life_cover.proofs.KeptCopies.{copy_buffered, live_buffered, save_buffered}
-use Rattle.life_cover.proofs.KnownFrames.{IsKnownFrame, IsRight, number_free, reach_at, used_right}
+use Rattle.life_cover.proofs.KnownFrames.{at_pointer, IsKnownFrame, IsRight, number_free, object_uncounted, reach_at, used_right, whole_location}
 use Rattle.life_cover.proofs.Leaving.{advances_leave, aims_leave, cursors_leave, cuts_leave, elements_leave, repoints_leave}
+use Rattle.life_cover.proofs.Looks.{given_type}
 use Rattle.life_cover.proofs.Pointers.{OnRight}
+use Rattle.life_cover.proofs.PushedObjects.{object_pushed}
 use Rattle.life_cover.proofs.Reaching.{IsReached, Reach}
 
 both_right : (e : Effect) (P Q : State → Type 0) → OnRight e P → OnNext e Q → OnRight e (λ st. P st × Q st)
@@ -63,13 +67,20 @@ module _ (types : Types) (f : Function) (rest : ℕ → ℕ) (S : Fact → Type 
     reach_owner : is_void (type_of types f o) ≡ false → Reach types f st NoInput any_root S o
     reach_owner solid = reach_at types f rest S st k o solid (λ q h. used_right sigs types n f place (Changes o c) S right.clean q h)
 
-    kept_change : (element : TyId) (d : Change) → IsSpokenChange types (ty.Vector element) d → is_change_of types texts fs f (ty.Vector element) d ≡ true → (r : IsReached types f st NoInput any_root S o) (is : type_of types f o ≡ ty.Vector element)
+    -- no object is pushed
+    abbrev IsPlain : TyId → Change → Type 0
+    IsPlain element (PushBack x) = is_value (ty_of types element) ≡ true
+    IsPlain element d = Unit {0}
+
+    kept_change : (element : TyId) (d : Change) → IsPlain element d → is_change_of types texts fs f (ty.Vector element) d ≡ true → (r : IsReached types f st NoInput any_root S o) (is : type_of types f o ≡ ty.Vector element)
         → IsKept types f rest S st k o r s element is d
     kept_change element (PushBack x) value e r is = (
       value_parts types k.ordered element (ty_of types element) (type_there types element (ty_of types element) refl (value_solid (ty_of types element) value)) value,
       λ m there. number_free types f rest S st k x (number_any types f (ty_of types element) x (subst (λ b. (if b then is_number_of types f (ty_of types element) x else is_given types f (ty_of types element) x) ≡ true) value e)) m there,
     )
-    kept_change element (Erase at into) spoken e r is = absurd spoken
+    kept_change element (Erase at into) spoken e r is =
+        let walk = (and_parts (walks types (type_in types f at) (ty_of types element)) (walks types (type_in types f into) (ty_of types element)) e).1 in
+        whole_location types k.plain f into (pointer_solid (type_in types f into) (walks_seen types k.ordered k.once (type_in types f into) (ty_of types element) walk).pointer)
     kept_change element PopBack spoken e r is = tt
     kept_change element Clear spoken e r is = tt
     kept_change element (Reserve q) spoken e r is = tt
@@ -79,19 +90,61 @@ module _ (types : Types) (f : Function) (rest : ℕ → ℕ) (S : Fact → Type 
     pushed_free : (x : ℕ) → is_change_of types texts fs f ty.Text (PushBack x) ≡ true → (m : ℕ) → cell st x ≡ Some (Named m) → ⊥
     pushed_free x e m there = number_free types f rest S st k x (number_any types f ty.Char x e) m there
 
-    change_buffered : (t : Ty) → type_of types f o ≡ t → IsSpokenChange types t c → is_change_of types texts fs f t c ≡ true → Buffered (Changes o c)
-    change_buffered ty.Text is spoken e =
-        by_next types f S st o (reach_owner (ap is_void is)) (λ spot. changed s types f (operand_parts types f o) spot c st) (IsBuffered types)
-        (λ r. text_buffered types f rest S st k o r s is c (λ x push. pushed_free x (subst (λ (d : Change). is_change_of types texts fs f ty.Text d ≡ true) push e)))
-    change_buffered (ty.Vector element) is spoken e =
-        by_next types f S st o (reach_owner (ap is_void is)) (λ spot. changed s types f (operand_parts types f o) spot c st) (IsBuffered types)
-        (λ r. vector_buffered types f rest S st k o r s element is c (kept_change element c spoken e r is))
-    change_buffered _ is spoken e = absurd (false≢true e)
+    -- what a change does with the owner, where it is reached
+    by_owner : is_void (type_of types f o) ≡ false → (IsReached types f st NoInput any_root S o → Buffered (Changes o c)) → Buffered (Changes o c)
+    by_owner solid each = by_next types f S st o (reach_owner solid) (λ spot. changed s types f (operand_parts types f o) spot c st) (IsBuffered types) each
+
+    plain_buffered : (element : TyId) → type_of types f o ≡ ty.Vector element → (d : Change) → c ≡ d → IsPlain element d → is_change_of types texts fs f (ty.Vector element) d ≡ true → Buffered (Changes o c)
+    plain_buffered element is d one plain e =
+        by_owner (ap is_void is) (λ r. subst (λ (x : Change). Buffered (Changes o x)) (sym one) (vector_buffered types f rest S st k o r s element is d (kept_change element d plain e r is)))
+
+    object_buffered : (element : TyId) → type_of types f o ≡ ty.Vector element → (x : ℕ) → c ≡ PushBack x → is_given types f (ty_of types element) x ≡ true → Buffered (Changes o c)
+    object_buffered element is x one e =
+        by_owner (ap is_void is) (λ r. subst (λ (d : Change). Buffered (Changes o d)) (sym one) (by_cell r (cell st x) refl))
+      where
+        outer : (object_at types f x ≡ true) × ((not (result_at types f x) && (not (slot_at types f x) && same (ty_of types element) (type_at types f x))) ≡ true)
+        outer = and_parts (object_at types f x) _ e
+
+        typed : local_type types f x ≡ Some element
+        typed = given_type types k.ordered k.once f k.shaped x element (and_parts (not (slot_at types f x)) _ (and_parts (not (result_at types f x)) _ outer.1).1).1
+
+        nothing : (r : IsReached types f st NoInput any_root S o) (v : Option Cell) → cell st x ≡ v → ((spot : Spot) → OnNext (pushes s types f (Vector element (parts_at types element)) spot x v st) (IsBuffered types)) → Buffered (Changes o (PushBack x))
+        nothing r v there none =
+            by_change types f rest S st k o r s (Vector element (parts_at types element)) (vector_operand types f rest S st k o r element is) (PushBack x)
+            (subst (λ (w : Option Cell). OnNext (pushes s types f (Vector element (parts_at types element)) (record { object = r.region.object; index = r.index; word = r.region.word }) x w st) (IsBuffered types)) (sym there)
+            (none (record { object = r.region.object; index = r.index; word = r.region.word })))
+
+        by_cell : (r : IsReached types f st NoInput any_root S o) (v : Option Cell) → cell st x ≡ v → Buffered (Changes o (PushBack x))
+        by_cell r (Some (Named m)) there = object_pushed types f rest S st k s o element is x m there typed r
+        by_cell r (Some (Number z)) there = absurd (object_uncounted types f rest S st k x z outer.0 there)
+        by_cell r None there = nothing r None there (λ spot. tt)
+        by_cell r (Some Empty) there = nothing r (Some Empty) there (λ spot. tt)
+        by_cell r (Some (Points p)) there = nothing r (Some (Points p)) there (λ spot. tt)
+
+    push_buffered : (element : TyId) → type_of types f o ≡ ty.Vector element → (x : ℕ) → c ≡ PushBack x → (value : Bool) → is_value (ty_of types element) ≡ value
+        → (if value then is_number_of types f (ty_of types element) x else is_given types f (ty_of types element) x) ≡ true → Buffered (Changes o c)
+    push_buffered element is x one true value e = plain_buffered element is (PushBack x) one value (subst (λ b. (if b then is_number_of types f (ty_of types element) x else is_given types f (ty_of types element) x) ≡ true) (sym value) e)
+    push_buffered element is x one false value e = object_buffered element is x one e
+
+    in_vector : (element : TyId) → type_of types f o ≡ ty.Vector element → (d : Change) → c ≡ d → is_change_of types texts fs f (ty.Vector element) d ≡ true → Buffered (Changes o c)
+    in_vector element is (PushBack x) one e = push_buffered element is x one (is_value (ty_of types element)) refl e
+    in_vector element is PopBack one e = plain_buffered element is PopBack one tt e
+    in_vector element is Clear one e = plain_buffered element is Clear one tt e
+    in_vector element is (Reserve q) one e = plain_buffered element is (Reserve q) one tt e
+    in_vector element is (Erase at into) one e = plain_buffered element is (Erase at into) one tt e
+    in_vector element is (Set given) one e = absurd (false≢true e)
+    in_vector element is (Append given) one e = absurd (false≢true e)
+
+    change_buffered : (t : Ty) → type_of types f o ≡ t → is_change_of types texts fs f t c ≡ true → Buffered (Changes o c)
+    change_buffered ty.Text is e =
+        by_owner (ap is_void is) (λ r. text_buffered types f rest S st k o r s is c (λ x push. pushed_free x (subst (λ (d : Change). is_change_of types texts fs f ty.Text d ≡ true) push e)))
+    change_buffered (ty.Vector element) is e = in_vector element is c refl e
+    change_buffered _ is e = absurd (false≢true e)
 
   -- ---- a pointer that is a local is given a value
 
   to_pointer : (p : Location) → is_pointer (type_in types f p) ≡ true → (P : Location → Type 0) → ((x : ℕ) → P (whole x)) → P p
-  to_pointer p pointer P each = at_pointer types f rest S st k sigs n place S' texts fs s p pointer P each
+  to_pointer = at_pointer types f rest S st k
 
   -- ---- each instruction
 
@@ -126,7 +179,7 @@ module _ (types : Types) (f : Function) (rest : ℕ → ℕ) (S : Fact → Type 
       to_pointer p (range_points (type_in types f p) (and_parts (is_range (type_in types f p)) _ e).0) (λ a. Buffered (Cut a q r count)) (λ x. cuts_leave types f st (IsBuffered types) x (λ v. k.buffered) q r count)
   step_buffered (Size r b) spoken right e = sizes_give types f st (IsBuffered types) (λ q z. k.buffered) r b
   step_buffered (Same r a b equal) spoken right e = sames_give types f st (IsBuffered types) (λ q z. k.buffered) s r a b equal
-  step_buffered (Changes o c) spoken right e = change_buffered o c right (type_of types f o) refl spoken (and_parts (is_change_of types texts fs f (type_of types f o) c) (not (is_const_place types f o)) e).0
+  step_buffered (Changes o c) spoken right e = change_buffered o c right (type_of types f o) refl (and_parts (is_change_of types texts fs f (type_of types f o) c) (not (is_const_place types f o)) e).0
   step_buffered (Make u m) spoken right e = absurd spoken
   step_buffered (Call target g xs) spoken right e = absurd spoken
   step_buffered (Ports p) spoken right e = ports_give types f st (IsBuffered types) (λ text. k.buffered) (λ q z zs. k.buffered) s p

@@ -1,5 +1,5 @@
 -- What a step kills: the places under which it changes something, and the facts that are left.
-use Rattle.std.specs.Prelude.{◌≡◌, Bool, true, false, List, Contains}
+use Rattle.std.specs.Prelude.{◌≡◌, ℕ, Bool, true, false, List, Contains}
 use Rattle.life_types.specs.Types.{Types}
 use Rattle.life_types.specs.declared.place.Place.{Place}
 use Rattle.life_core.specs.Function.{Function}
@@ -12,6 +12,7 @@ use Rattle.life_pset.specs.declared.element.Element.{Element}
 use Rattle.life_pset.specs.declared.element.Element.TheVariants as element
 use Rattle.life_pset.specs.declared.element.Fact.{Fact}
 use Rattle.life_pset.specs.declared.element.Root.{Root}
+use Rattle.life_pset.specs.declared.element.Root.TheVariants as root
 use Rattle.life_contract.specs.Signatures.{Signature}
 use Rattle.life_rules.specs.Carrying.{from_none, from_one, from_two}
 use Rattle.life_rules.specs.Matching.{fact_at}
@@ -34,6 +35,10 @@ pub record LeftBy (Stands : Root → Region → Type 0) (killed written : AbsPla
 -- some fact points to the place
 abbrev pub Names : (Fact → Type 0) → AbsPlace → Type 0
 Names S place = (l : AbsPlace) × S (fact_at l (element.At place))
+
+-- no fact points into the local, or to what it owns
+abbrev pub IsUnnamed : (Fact → Type 0) → ℕ → Type 0
+IsUnnamed S x = (a : AbsPlace) → Names S a → a.root ≡ root.Local x → ⊥
 
 -- what is touched of what facts point to lies at places that are killed
 abbrev pub Guards : Types → Content → (Stands : Root → Region → Type 0) → (S : Fact → Type 0) → (killed : AbsPlace → Bool) → Foot → Type 0

@@ -10,13 +10,14 @@ use Rattle.life_pset.specs.Elements.{local_place}
 use Rattle.life_pset.specs.declared.element.Element.{Element}
 use Rattle.life_pset.specs.declared.element.Element.TheVariants as element
 use Rattle.life_pset.specs.declared.element.Fact.{Fact}
-use Rattle.life_rules.specs.Carrying.{fact_at, is_location, is_null, is_held, stops_at}
+use Rattle.life_rules.specs.Carrying.{fact_at, is_location, is_null, is_held}
 use Rattle.life_proper.proofs.Sorted.{IsTestSorted}
 use Rattle.life_store.specs.Content.{Content}
 use Rattle.life_store.specs.Meaning.{Verdict, Holds, Fails, Cut, by_number, by_pointer, number_test, pointer_test, tested, whole_tested, test_at}
 use Rattle.life_store.specs.State.{Characters, Target, Pointer, Null, Wild, To, Static, Points, State, ready_of}
 use Rattle.life_store.proofs.CellLemmas.{some_same, number_cell, pointer_cell}
 use Rattle.life_store.proofs.Sorts.{IsSorted}
+pub use Rattle.life_cover.proofs.Edges.{Passes}
 use Rattle.life_sound.proofs.Covering.{Covers, Known}
 use Rattle.life_sound.proofs.Places.{other_location}
 
@@ -25,10 +26,6 @@ abbrev pub IsKnownBy : (held failed : Fact → Type 0) → Verdict → Type 0
 IsKnownBy H F (Holds n st) = Known H st
 IsKnownBy H F (Fails n st) = Known F st
 IsKnownBy H F (Cut stop w) = ⊥
-
--- S' has the facts of S that the branch doesn't stop
-abbrev pub Passes : Test → Bool → (S S' : Fact → Type 0) → Type 0
-Passes t branch S S' = (a : Fact) → S a → stops_at t (Some branch) a ≡ false → S' a
 
 known_on : (S S' : Fact → Type 0) (st : State) → ((p : ℕ) (v : Pointer) (e : Element) → slice_get st.cells p ≡ Some (Points v) → Covers st.world.content st.cells e v → S (fact_at (local_place p) e) → S' (fact_at (local_place p) e)) → Known S st → Known S' st
 known_on S S' st on k = record {

@@ -13,14 +13,13 @@ use Rattle.life_types.specs.declared.ty.Class.TheVariants.{Value, Pointer, Owner
 use Rattle.life_types.specs.declared.ty.Ty.{Ty}
 use Rattle.life_types.specs.declared.ty.Ty.TheVariants as variant
 use Rattle.life_core.specs.Function.{Function}
-use Rattle.life_core.specs.Linked.{Linked, code_of, numbered}
 use Rattle.life_core.specs.Holdings.{Blank, AnObject, ANumber, APointer, AView, pointer_held, held_if, held_by, sort_of}
 use Rattle.life_core.specs.Step.{Step}
 use Rattle.life_core.specs.declared.program.Local.{Local}
 use Rattle.life_core.specs.declared.program.LocalKind.{LocalKind}
 use Rattle.life_core.specs.declared.program.LocalKind.TheVariants.{Object, Register, Range}
 use Rattle.life_core.specs.Operands.{Location}
-use Rattle.life_pset.specs.Elements.{local_place, local_locations, locations_from, locations_of, object_places, objects_from, places_in, places_from, inputs_of, input_places, caused_at, caused_elements, elements_of}
+use Rattle.life_pset.specs.Elements.{local_place, local_locations, locations_from, locations_of, object_places, objects_from, places_in, places_from, inputs_of, input_places, caused_elements, elements_of}
 use Rattle.life_pset.specs.Places.{member_place, owned_place}
 use Rattle.life_pset.specs.Shapes.{shape}
 use Rattle.life_pset.specs.Table.{IsOf, table_of}
@@ -28,7 +27,6 @@ use Rattle.life_pset.specs.declared.element.AbsPlace.{AbsPlace}
 use Rattle.life_pset.specs.declared.element.Element.{Element}
 use Rattle.life_pset.specs.declared.element.Element.TheVariants as element
 use Rattle.life_pset.specs.declared.element.Fact.{Fact}
-use Rattle.life_pset.proofs.Numbering.{numbered_contains}
 use Rattle.life_pset.proofs.Numbers.{is_of_iff}
 use Rattle.life_contract.specs.Signatures.{Signature}
 use Rattle.life_rules.specs.Carrying.{fact_at, given_if, unless, drops, kills, killed_facts, makes}
@@ -178,11 +176,6 @@ object_element types f x sort =
 pub caused_element : (types : Types) (f : Function) (e : Element) → Contains (caused_elements f) e → Contains (elements_of types f) e
 caused_element types f e h =
     listed types f e (Contains-append_right (map element.At (objects_from types f.parameters 0 f.locals)) _ e (Contains-append_right (map element.At (flat_map (input_places types) (inputs_of types f))) (caused_elements f) e h))
-
--- the elements with causes of a point are the function's
-pub point_causes : (f : Function) (b : ℕ) (l : Linked) (e : Element) → numbered (code_of f) b ≡ Some l → Contains (caused_at f l) e → Contains (caused_elements f) e
-point_causes f zero l e at h = absurd (none_some at)
-point_causes f (suc n) l e at h = flat_map_into (caused_at f) (code_of f) l e (numbered_contains (code_of f) n l at) h
 
 pub fact_of : (types : Types) (f : Function) (l : AbsPlace) (e : Element) → Contains (locations_of types f) l → Contains (elements_of types f) e → IsOf (table_of types f) (fact_at l e)
 fact_of types f l e a b = (is_of_iff types f (fact_at l e)).1 (a, b)

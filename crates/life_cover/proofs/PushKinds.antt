@@ -1,0 +1,226 @@
+-- An object is pushed to a vector, by the vector's name or through a pointer, and gives its value over: there is no fault, and as no fact points
+-- into what is given over, the facts behind it cover all pointers of the frame.
+use Rattle.std.proofs.Common.{◌≡◌, ◌≢◌, inl, inr, ⊎_elim, ℕ, ◌+◌, ◌<◌, true, false, List, [], ◌∷◌, length, Option, Some, refl, sym, ap, subst, ◌∙◌, arith, ◌⊎◌}
+use Rattle.std.specs.Prelude.{slice_get, slice_set}
+use Rattle.std.proofs.lemmas.Bool.{false≢true}
+use Rattle.life_types.specs.Trees.{IsOrdered}
+use Rattle.life_types.specs.TypeTests.{is_void}
+use Rattle.life_types.specs.Types.{Types}
+use Rattle.life_types.specs.declared.place.Place.{Place}
+use Rattle.life_types.specs.declared.ty.Ty.TheVariants as ty
+use Rattle.life_types.specs.declared.ty.TyId.{TyId}
+use Rattle.life_core.specs.Function.{Function}
+use Rattle.life_core.specs.Operands.{Operand}
+use Rattle.life_core.specs.Step.{Changes, PushBack}
+use Rattle.life_pset.specs.Elements.{local_place}
+use Rattle.life_pset.specs.Places.{path, under}
+use Rattle.life_pset.specs.declared.element.AbsPlace.{AbsPlace}
+use Rattle.life_pset.specs.declared.element.Fact.{Fact}
+use Rattle.life_pset.specs.declared.element.Root.{Root}
+use Rattle.life_pset.specs.declared.element.Root.TheVariants as root
+use Rattle.life_contract.specs.Signatures.{Signature}
+use Rattle.life_proper.specs.Placed.{type_of}
+use Rattle.life_rules.specs.Carrying.{writes}
+use Rattle.life_store.specs.Cells.{at}
+use Rattle.life_store.specs.Content.{Slot, Object, Content}
+use Rattle.life_store.specs.Doing.{changed, does, edits, pushes}
+use Rattle.life_store.specs.Edits.{Push, edited, owned_at, pushed}
+use Rattle.life_store.specs.Effects.{Attempt, Got, GotTrap, GotFault, GotLost, Effect, Next, Setting, cell, got_or, on_got, on_next, put_cell, put_content}
+use Rattle.life_store.specs.Owners.{consumed}
+use Rattle.life_store.specs.Parts.{Parts, Vector, local_type, operand_parts, parts_at, parts_if, width, width_at}
+use Rattle.life_store.specs.State.{Cell, Empty, Named, Points, State}
+use Rattle.life_store.specs.declared.run.FaultKind.TheVariants as fault
+use Rattle.life_store.proofs.CellLemmas.{cell_cases, some_same}
+use Rattle.life_store.proofs.MapLemmas.{one_or_apart}
+use Rattle.life_forest.specs.Forest.{Beneath, Foot, Touches, all_of, part, under as further, whole}
+use Rattle.life_forest.specs.FrameTypes.{IsVariable}
+use Rattle.life_forest.specs.Frames.{named_in}
+use Rattle.life_forest.specs.Kinds.{kinds_of, owned_type, rank_of}
+use Rattle.life_forest.specs.Owned.{every, owns_at, times}
+use Rattle.life_forest.specs.Typed.{IsStore}
+use Rattle.life_forest.specs.Values.{AllWide}
+use Rattle.life_forest.specs.Within.{LiesWithin}
+use Rattle.life_store.specs.Kinds.{kind_in}
+use Rattle.life_forest.proofs.Above.{above_apart, above_unowned, owner_above}
+use Rattle.life_forest.proofs.Adding.{pushed_object_touches}
+use Rattle.life_forest.proofs.Apart as feet
+use Rattle.life_forest.proofs.Below.{is_positive, no_part, positive_is}
+use Rattle.life_forest.proofs.Coming.{IfGot}
+use Rattle.life_forest.proofs.Counting.{one_same, one_there}
+use Rattle.life_forest.proofs.Feet.{and_all}
+use Rattle.life_forest.proofs.Frames.{less_in_hand, named_put}
+use Rattle.life_forest.proofs.Steps.{alive_le}
+use Rattle.life_cover.specs.Frames.{FrameCovered, NoInput, RootStands, any_root, look_at}
+use Rattle.life_cover.specs.Kills.{Guards, IsUnnamed, Names}
+use Rattle.life_cover.specs.Regions.{IsAt, Region, foot_of}
+use Rattle.life_cover.proofs.Buffers.{buffer, foot_covers, own}
+use Rattle.life_cover.proofs.Guarding.{under_place}
+use Rattle.life_cover.proofs.HeldElements.{vector_operand, vector_parts}
+use Rattle.life_cover.proofs.Inside.{Inside, lies_inside, region_within as within_region}
+use Rattle.life_cover.proofs.Killing.{cover_on}
+use Rattle.life_cover.proofs.KnownFrames.{IsKnownFrame, IsRight, hand_of, reach_at, rooted_of, store_of, used_right}
+use Rattle.life_cover.proofs.Locals.{named_free, named_unowned, two_named}
+use Rattle.life_cover.proofs.Opening.{IsOpened, vector_opened}
+use Rattle.life_cover.proofs.OwnerKinds.{operand_left, pushed_faultless, right_got, right_more}
+use Rattle.life_cover.proofs.Pointers.{IfRight, OnRight}
+use Rattle.life_cover.proofs.Putting.{set_other}
+use Rattle.life_cover.proofs.Reaching.{IsReached, by_reach, spot_is}
+use Rattle.life_cover.proofs.SaveKinds.{region_within}
+
+-- ---- what is touched
+
+-- what the vector has, and what gives its value over
+abbrev pub pushed_foot : Types → Region → ℕ → Foot
+pushed_foot types r m = and_all (foot_of types r) (m ∷ [])
+
+module _ (types : Types) (ordered : IsOrdered types) (hand : ℕ → ℕ) (c : Content) (m : ℕ) (store : IsStore types (λ k. times (m ∷ []) k + hand k) c) (n i w : ℕ) (vector : TyId) (o : Object) (there : at c.objects n ≡ Some o) (within : LiesWithin types o.ty w vector)
+    (lt : i < length o.slots) (item : TyId) (is_vector : parts_at types vector ≡ Vector item (parts_at types item)) (b : ℕ) (owned : owned_at c (record { object = n; index = i; word = w }) ≡ Some b) (om : Object) (sl : Slot) (m_there : at c.objects m ≡ Some om)
+    (one_slot : om.slots ≡ sl ∷ []) (m_type : om.ty ≡ item) where
+  whole_hand : ℕ → ℕ
+  whole_hand k = times (m ∷ []) k + hand k
+
+  lower : rank_of types om.ty < rank_of types o.ty
+  lower =
+      subst (λ id. rank_of types id < rank_of types o.ty) (sym m_type)
+      (owner_above types ordered (λ k. times (m ∷ []) k + hand k) c store n w vector o there within item (let e = ap width is_vector in omega (arith, e)) (ap (λ (p : Parts). kind_in p 0) is_vector) (ap (λ (p : Parts). owned_type p 0) is_vector))
+
+  wide : length sl.words ≡ width (parts_at types item)
+  wide = let fit = store.fit m om m_there in (subst (AllWide om.width) one_slot fit.slots).0 ∙ fit.width ∙ ap (width_at types) m_type
+
+  pub object_touches : (s : Setting)
+      → IfGot (pushed s item (parts_at types item) (record { object = n; index = i; word = w }) b (consumed (parts_at types item) m) c) (Touches (kinds_of types) (pushed_foot types (record { object = n; word = w; ty = vector }) m) c)
+  object_touches s =
+      pushed_object_touches (kinds_of types) item (parts_at types item) (record { object = n; index = i; word = w }) b hand c o
+      (buffer types ordered (λ k. times (m ∷ []) k + hand k) c store n i w vector o there within lt item (parts_at types item) is_vector b owned).0 m om sl store.forest
+      (own types ordered (λ k. times (m ∷ []) k + hand k) c store n i w vector o there within lt item (parts_at types item) is_vector b owned) m_there one_slot m_type wide
+      (above_apart types ordered (λ k. times (m ∷ []) k + hand k) c store n w vector o there within m om m_there lower)
+      (above_unowned types ordered (λ k. times (m ∷ []) k + hand k) c store n w vector o there within m om m_there lower) s
+      (pushed_foot types (record { object = n; word = w; ty = vector }) m) (foot_covers types n i w vector (Vector item (parts_at types item)) is_vector)
+      (whole m (is_positive (times (m ∷ []) m) (let e = one_same m m refl in omega (arith, e))))
+
+-- what is beneath both is beneath one
+split : (types : Types) (c : Content) (r : Region) (m n : ℕ) → Beneath (kinds_of types) c (pushed_foot types r m) n → Beneath (kinds_of types) c (foot_of types r) n ⊎ Beneath (kinds_of types) c (all_of (m ∷ [])) n
+split types c r m n (whole _ e) = inr (whole n e)
+split types c r m n (part q _ own) = inl (part q n own)
+split types c r m n (further q _ low own) = ⊎_elim (λ l. inl (further q n l own)) (λ l. inr (further q n l own)) (split types c r m q low)
+
+-- what is beneath an object is it, or owned
+itself_or_owned : (types : Types) (c : Content) (m n : ℕ) → Beneath (kinds_of types) c (all_of (m ∷ [])) n → (m ≡ n) ⊎ ((q : ℕ) × (0 < owns_at (kinds_of types) c every q n))
+itself_or_owned types c m n (whole _ e) = inl (one_there m n (let p = positive_is (times (m ∷ []) n) e in omega (arith, p)))
+itself_or_owned types c m n (part q _ own) = let z = no_part (kinds_of types) (at c.objects q) n in absurd (omega (arith, z, own))
+itself_or_owned types c m n (further q _ low own) = inr (q, own)
+
+-- ---- in a frame
+
+module _ (types : Types) (f : Function) (rest : ℕ → ℕ) (S : Fact → Type 0) (st : State) (k : IsKnownFrame types f rest S st) (x m : ℕ) (named : cell st x ≡ Some (Named m)) (unnamed : IsUnnamed S x) where
+  -- so another local's object isn't beneath what is given over
+  other_free : (y n : ℕ) → x ≢ y → slice_get st.cells y ≡ Some (Named n) → Beneath (kinds_of types) st.world.content (all_of (m ∷ [])) n → ⊥
+  other_free y n ne e low = ⊎_elim same (λ owned. named_unowned types f rest st k.stands.store k.stands.frame y n owned.0 e owned.1) (itself_or_owned types st.world.content m n low)
+    where
+      same : m ≡ n → ⊥
+      same is =
+          let two = two_named st.cells x y n ne (subst (λ j. slice_get st.cells x ≡ Some (Named j)) is named) e in
+          let held = k.stands.store.forest.held n in
+          let one = alive_le (kinds_of types) st.world.content n in
+          omega (arith, two, held, one)
+
+  -- nor is anything of it
+  region_free : (y : ℕ) (a b : Region) → x ≢ y → slice_get st.cells y ≡ Some (Named a.object) → Inside types k.ordered (hand_of rest st) st.world.content (store_of types f rest S st k) a b → Beneath (kinds_of types) st.world.content (all_of (m ∷ [])) b.object → ⊥
+  region_free y a b ne e (inl s) low = other_free y a.object ne e (subst (Beneath (kinds_of types) st.world.content (all_of (m ∷ []))) s.object low)
+  region_free y a b ne e (inr inner) low = feet.apart (kinds_of types) (hand_of rest st) st.world.content (store_of types f rest S st k).forest (all_of (m ∷ [])) (foot_of types a) feet_apart b.object low inner
+    where
+      feet_apart : feet.Apart (kinds_of types) st.world.content (all_of (m ∷ [])) (foot_of types a)
+      feet_apart = record {
+        wholes = λ n h beneath.
+            named_free types f rest st k.stands.store k.stands.frame x n a (subst (λ j. slice_get st.cells x ≡ Some (Named j)) (one_there m n (let p = positive_is (times (m ∷ []) n) h in omega (arith, p))) named) beneath;
+        others = λ n h beneath. false≢true h;
+        parts = λ q w h g. false≢true h;
+        holder = λ q w h beneath. false≢true h;
+        other_holder = λ q w h beneath. other_free y a.object ne e (subst (Beneath (kinds_of types) st.world.content (all_of (m ∷ []))) (within_region types a q w h).object beneath);
+      }
+
+  -- a fact's place is elsewhere
+  elsewhere : (a : AbsPlace) (r : Region) → Names S a → IsAt types st.world.content (RootStands types f NoInput st.cells) a r → Beneath (kinds_of types) st.world.content (all_of (m ∷ [])) r.object → ⊥
+  elsewhere a r names at_r low = go a.root refl at_r.stands
+    where
+      inside : Inside types k.ordered (hand_of rest st) st.world.content (store_of types f rest S st k) at_r.start r
+      inside = lies_inside types k.ordered (hand_of rest st) st.world.content (store_of types f rest S st k) (path a) at_r.start r ((rooted_of types f rest S st k).fits a.root at_r.start at_r.stands) at_r.lies
+
+      go : (ro : Root) → a.root ≡ ro → RootStands types f NoInput st.cells ro at_r.start → ⊥
+      go (root.Input q member) e stands = stands
+      go (root.Local y) e stands = one_or_apart x y (λ same. unnamed a names (e ∙ ap (λ z. root.Local z) (sym same))) (λ ne. region_free y at_r.start r ne stands.0 inside low)
+
+  roots_left : (a : AbsPlace) (r : Region) → Names S a → RootStands types f NoInput st.cells a.root r → RootStands types f NoInput (slice_set st.cells x Empty) a.root r
+  roots_left a r names stands = go a.root refl stands
+    where
+      go : (ro : Root) → a.root ≡ ro → RootStands types f NoInput st.cells ro r → RootStands types f NoInput (slice_set st.cells x Empty) ro r
+      go (root.Input q member) e h = h
+      go (root.Local y) e h = one_or_apart x y (λ same. absurd (unnamed a names (e ∙ ap (λ z. root.Local z) (sym same)))) (λ ne. (set_other st.cells x y Empty ne ∙ h.0, h.1, h.2))
+
+  module _ (sigs : List Signature) (number : ℕ) (place : Place) (S' : Fact → Type 0) (s : Setting) (o : Operand) (item : TyId) (is_vector : type_of types f o ≡ ty.Vector item) (typed : local_type types f x ≡ Some item) (right : IsRight sigs types number f place (Changes o (PushBack x)) S S') where
+    variable : IsVariable st.world.content (local_type types f x) m
+    variable = k.stands.frame.objects x m named
+
+    m_type : variable.object.ty ≡ item
+    m_type = some_same (sym variable.type ∙ typed)
+
+    module _ (r : IsReached types f st NoInput any_root S o) where
+      abbrev h : IsOpened types f rest S st k o r (ty.Vector item) item
+      h = vector_opened types f rest S st k o r item is_vector
+
+      -- what is left is covered
+      left_covered : (d : Content) → Touches (kinds_of types) (pushed_foot types r.region m) st.world.content d → FrameCovered types f S' (put_cell x Empty (put_content d st))
+      left_covered d touch z v e =
+          ⊎_elim (λ same. absurd (empty same.1))
+          (λ other. cover_on types k.ordered (hand_of rest st) st.world.content d (store_of types f rest S st k) (pushed_foot types r.region m) touch (RootStands types f NoInput st.cells) (RootStands types f NoInput (slice_set st.cells x Empty)) any_root (rooted_of types f rest S st k).fits
+          (under r.place) (writes (Changes o (PushBack x))) S S' (operand_left types f st NoInput any_root sigs place (PushBack x) S S' o r right.closed (RootStands types f NoInput st.cells)) guards (λ a b names free stands. roots_left a b names stands)
+          (local_place z) (look_at types f z) v refl (k.covered z v other.1))
+          (cell_cases st.cells x z Empty (Points v) e)
+        where
+          empty : Empty ≡ Points v → ⊥
+          empty e = cc
+
+          guards : Guards types st.world.content (RootStands types f NoInput st.cells) S (under r.place) (pushed_foot types r.region m)
+          guards a b names at_b low =
+              ⊎_elim (λ inner. under_place types k.ordered (hand_of rest st) st.world.content (store_of types f rest S st k) (RootStands types f NoInput st.cells) any_root (rooted_of types f rest S st k) r.place a r.region b refl r.lies at_b inner)
+              (λ given. absurd (elsewhere a b names at_b given)) (split types st.world.content r.region m b.object low)
+
+      -- the store, where what is given over is in the hand by itself
+      in_two : IsStore types (λ j. times (m ∷ []) j + (times (named_in (slice_set st.cells x Empty)) j + rest j)) st.world.content
+      in_two =
+          less_in_hand types (hand_of rest st) (λ j. times (m ∷ []) j + (times (named_in (slice_set st.cells x Empty)) j + rest j)) st.world.content
+          (λ j. let e = named_put st.cells x (Named m) Empty j named in omega (arith, e)) (store_of types f rest S st k)
+
+      touched : IfGot (pushed s item (parts_at types item) (record { object = r.region.object; index = r.index; word = r.region.word }) h.buffer (consumed (parts_at types item) m) st.world.content) (Touches (kinds_of types) (pushed_foot types r.region m) st.world.content)
+      touched =
+          object_touches types k.ordered (λ j. times (named_in (slice_set st.cells x Empty)) j + rest j) st.world.content m in_two r.region.object r.index r.region.word r.region.ty r.holder r.there (region_within types f rest S st k o r) r.small
+          item (vector_parts types f rest S st k o r item is_vector) h.buffer h.owned variable.object variable.slot variable.there variable.one m_type s
+
+      -- the edit, and then the cell is empty
+      after_edit : (a : Attempt Content) → IfRight a (λ d. FrameCovered types f S' (put_cell x Empty (put_content d st))) → OnRight (on_next (on_got a (λ d. Next (put_content d st))) (λ after. Next (put_cell x Empty after))) (FrameCovered types f S')
+      after_edit (Got d) e = e
+      after_edit (GotTrap kind) e = tt
+      after_edit (GotFault kind) e = e
+      after_edit GotLost e = tt
+
+      object_pushed : OnRight (pushes s types f (operand_parts types f o) (record { object = r.region.object; index = r.index; word = r.region.word }) x (Some (Named m)) st) (FrameCovered types f S')
+      object_pushed =
+          subst (λ (p : Parts). OnRight (pushes s types f p (record { object = r.region.object; index = r.index; word = r.region.word }) x (Some (Named m)) st) (FrameCovered types f S')) (sym (vector_operand types f rest S st k o r item is_vector))
+          (subst (λ (p : Parts). OnRight (on_next (edits s (Vector item (parts_at types item)) (record { object = r.region.object; index = r.index; word = r.region.word }) (Push (consumed p m)) st) (λ after. Next (put_cell x Empty after))) (FrameCovered types f S')) (sym (ap (parts_if types) typed))
+          (subst (λ w. OnRight (on_next (on_got (got_or w (GotFault fault.Moved)) go) (λ after. Next (put_cell x Empty after))) (FrameCovered types f S')) (sym h.owned)
+          (after_edit (pushed s item (parts_at types item) (record { object = r.region.object; index = r.index; word = r.region.word }) h.buffer (consumed (parts_at types item) m) st.world.content)
+          (right_more (pushed s item (parts_at types item) (record { object = r.region.object; index = r.index; word = r.region.word }) h.buffer (consumed (parts_at types item) m) st.world.content) (Touches (kinds_of types) (pushed_foot types r.region m) st.world.content)
+          (λ d. FrameCovered types f S' (put_cell x Empty (put_content d st)))
+          (right_got (pushed s item (parts_at types item) (record { object = r.region.object; index = r.index; word = r.region.word }) h.buffer (consumed (parts_at types item) m) st.world.content) (Touches (kinds_of types) (pushed_foot types r.region m) st.world.content) touched
+          (pushed_faultless s item (parts_at types item) (record { object = r.region.object; index = r.index; word = r.region.word }) h.buffer (consumed (parts_at types item) m) st.world.content))
+          left_covered))))
+        where
+          go : ℕ → Effect
+          go b = on_got (edited s (Vector item (parts_at types item)) (record { object = r.region.object; index = r.index; word = r.region.word }) b (Push (consumed (parts_at types item) m)) st.world.content) (λ d. Next (put_content d st))
+
+    pub vector_object : OnRight (does s types f (Changes o (PushBack x)) st) (FrameCovered types f S')
+    vector_object =
+        by_reach types f st NoInput any_root S o (reach_at types f rest S st k o (ap is_void is_vector) (λ q used. used_right sigs types number f place (Changes o (PushBack x)) S right.clean q used)) (λ spot. changed s types f (operand_parts types f o) spot (PushBack x) st)
+        (FrameCovered types f S')
+        (λ r. subst (λ e. OnRight e (FrameCovered types f S')) (sym (spot_is types f st NoInput any_root S o r (λ spot. changed s types f (operand_parts types f o) spot (PushBack x) st)))
+        (subst (λ (v : Option Cell). OnRight (pushes s types f (operand_parts types f o) (record { object = r.region.object; index = r.index; word = r.region.word }) x v st) (FrameCovered types f S')) (sym named) (object_pushed r)))
