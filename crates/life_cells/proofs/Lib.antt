@@ -1,0 +1,7 @@
+pub mod CellLemmas
+pub mod FitLemmas
+pub mod Iterating
+pub mod LocationLemmas
+pub mod MemberLemmas
+pub mod StepLemmas
+pub mod Stored

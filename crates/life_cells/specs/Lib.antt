@@ -1,0 +1,5 @@
+pub mod Cells
+pub mod Fits
+pub mod Scopes
+pub mod Steps
+pub mod Typed

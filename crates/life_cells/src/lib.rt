@@ -1,0 +1,19 @@
+//! The cells of a frame, and the instructions that make pointers and look at what they point to.
+#![tactic(auto)]
+
+mod cell;
+mod frame;
+mod iterators;
+mod locations;
+mod members;
+mod scope;
+mod stops;
+
+pub use cell::{Cell, holding, pointer_of};
+pub use frame::{cell_at, number_at, object_at, own_pointer, put_at, put_cell};
+pub use iterators::advance;
+pub use locations::{point, pointer_at};
+pub use members::{
+    local_type, location_type, member_word, target_type, type_at, type_within, word_within,
+};
+pub use scope::Scope;
