@@ -21,6 +21,7 @@ pub mod SameSteps
 pub mod Single
 pub mod SingleSteps
 pub mod SoundCalls
+pub mod SoundEnds
 pub mod SoundEntry
 pub mod SoundFrames
 pub mod SoundPlaces
