@@ -54,21 +54,21 @@ module _ (types : Types) (layouts : List Layout) (laid : AreLaid types layouts) 
   m = seen (kinds_of types) c rows
 
   abbrev o : Object
-  o = can.owner
+  o = can.own.owner
 
   abbrev ob : Object
-  ob = can.buffer
+  ob = can.own.buffer
 
   abbrev element : Parts
-  element = parts_at types can.buffer.ty
+  element = parts_at types can.own.buffer.ty
 
   -- ---- what is owned
 
   is_owned : is_owner ((forest_kinds types).word o.ty spot.word) ≡ true
-  is_owned = ap is_owner can.owns
+  is_owned = ap is_owner can.own.owns
 
   is_some : owned_in (word_at o spot.slot spot.word) ≡ Some b.birth
-  is_some = ap owned_in can.owned
+  is_some = ap owned_in can.own.owned
 
   abbrev out : Object
   out = with_word spot.slot spot.word 0 o
@@ -76,26 +76,26 @@ module _ (types : Types) (layouts : List Layout) (laid : AreLaid types layouts) 
   lower : (forest_kinds types).rank ob.ty < (forest_kinds types).rank o.ty
   lower =
       let n = spot.object.birth in
-      let ne = not_itself (forest_kinds types) n spot.slot spot.word can.hand m o can.owner_there can.forest can.owner_long can.slot can.word is_owned b.birth is_some in
-      let t = owned_there (forest_kinds types) n spot.slot spot.word can.hand m o can.owner_there can.forest can.owner_long can.slot can.word is_owned b.birth is_some in
-      let same : t.0 ≡ ob = same_Some t.0 ob (sym t.1 ∙ at-set_other m.objects n b.birth out ne ∙ can.there) in
-      let less = rank_less (forest_kinds types) n spot.slot spot.word can.hand m o can.owner_there can.forest can.owner_long can.slot can.word is_owned b.birth is_some in
+      let ne = not_itself (forest_kinds types) n spot.slot spot.word can.own.hand m o can.own.owner_there can.own.forest can.own.owner_long can.own.slot can.own.word is_owned b.birth is_some in
+      let t = owned_there (forest_kinds types) n spot.slot spot.word can.own.hand m o can.own.owner_there can.own.forest can.own.owner_long can.own.slot can.own.word is_owned b.birth is_some in
+      let same : t.0 ≡ ob = same_Some t.0 ob (sym t.1 ∙ at-set_other m.objects n b.birth out ne ∙ can.own.there) in
+      let less = rank_less (forest_kinds types) n spot.slot spot.word can.own.hand m o can.own.owner_there can.own.forest can.own.owner_long can.own.slot can.own.word is_owned b.birth is_some in
       let rank = ap (λ (x : Object). (forest_kinds types).rank x.ty) same in
       omega (arith, less, rank)
 
   first_kinds : (u : ℕ) → u < 1 → (forest_kinds types).word o.ty (spot.word + u) ≡ first_owns u
-  first_kinds zero lt = let z : spot.word + 0 ≡ spot.word = omega arith in ap ((forest_kinds types).word o.ty) z ∙ can.owns
+  first_kinds zero lt = let z : spot.word + 0 ≡ spot.word = omega arith in ap ((forest_kinds types).word o.ty) z ∙ can.own.owns
   first_kinds (suc u) lt = absurd (omega (arith, lt))
 
   lies : LiesAt (forest_kinds types) m (place spot) (Vector ob.ty element) o
-  lies = record { there = can.owner_there; words = (wide_word o.width o.slots spot.slot spot.word can.owner_long can.slot can.word, tt); kinds = first_kinds }
+  lies = record { there = can.own.owner_there; words = (wide_word o.width o.slots spot.slot spot.word can.own.owner_long can.own.slot can.own.word, tt); kinds = first_kinds }
 
   pub own_buffer : OwnsBuffer (forest_kinds types) ob.ty element (place spot) b.birth m o ob
   own_buffer = record {
     lies = lies;
-    owned = ap (λ xs. owned_in (slice_index xs 0)) (spot_words_are (forest_kinds types) m (place spot) (Vector ob.ty element) o lies) ∙ ap owned_in (word_of_is o.slots spot.slot spot.word ∙ can.owned);
-    there = can.there;
-    is = can.known;
+    owned = ap (λ xs. owned_in (slice_index xs 0)) (spot_words_are (forest_kinds types) m (place spot) (Vector ob.ty element) o lies) ∙ ap owned_in (word_of_is o.slots spot.slot spot.word ∙ can.own.owned);
+    there = can.own.there;
+    is = can.own.known;
     same = refl;
     lower = lower;
     laid = λ u. refl;
@@ -113,7 +113,7 @@ module _ (types : Types) (layouts : List Layout) (laid : AreLaid types layouts) 
   meant s x = then_owned (place spot) (regrown s x.ty (parts_at types x.ty) b.birth capacity size m)
 
   now : IsSeenAs (kinds_of types) c rows b ob
-  now = seen_as (kinds_of types) c rows b ob can.housed can.placed can.there
+  now = seen_as (kinds_of types) c rows b ob can.own.housed can.own.placed can.own.there
 
   pub not_dead : (dead : Dead) → asked_of (object_of c rows b) shape_of ≡ Err dead → ⊥
   not_dead dead e = clash (sym (ap (λ (y : Option Object). asked_of y shape_of) now.found) ∙ e)
@@ -138,7 +138,7 @@ module _ (types : Types) (layouts : List Layout) (laid : AreLaid types layouts) 
     at_least h =
         let a : 1 ≤ now.object.width = subst (λ x. IfSome x (λ y. 1 ≤ y.width)) now.found h in
         let e : now.object.width ≡ ob.width = ap (λ (x : Object). x.width) now.same in
-        let f = can.known.words in
+        let f = can.own.known.words in
         let g = width_is in
         omega (arith, a, e, f, g)
 
@@ -146,7 +146,7 @@ module _ (types : Types) (layouts : List Layout) (laid : AreLaid types layouts) 
     pub birth_fails : (limit : ℕ) (fault : BirthFault) → (fault ≡ birth_fault.Cells → limit < live_words_of c + (2 + w * capacity)) → (d : Content) (new : Rows) (s : Setting) (x : Object) → s.given.cells ≡ limit
         → at (seen (kinds_of types) c rows).objects b.birth ≡ Some x → IsBuffer (kinds_of types) (then_owned (place spot) (regrown s x.ty (parts_at types x.ty) b.birth capacity size (seen (kinds_of types) c rows))) (Err fault) d new
     birth_fails limit birth_fault.Cells full d new s x cells at_b =
-        ap (meant s) (same_Some x ob (sym at_b ∙ can.there))
+        ap (meant s) (same_Some x ob (sym at_b ∙ can.own.there))
         ∙ ap (λ y. then_get (then_get y carried) given)
         (birth_full (kinds_of types) s c rows ob.ty (width element) capacity limit cells (subst (λ n. limit < live_words_of c + (2 + n * capacity)) width_is (full refl)))
     birth_fails limit birth_fault.NoMemory full d new s x cells at_b = tt
@@ -160,58 +160,58 @@ module _ (types : Types) (layouts : List Layout) (laid : AreLaid types layouts) 
       us = owner_words (flat 0 element)
 
       abbrev born : Content
-      born = sized kind ob.ty element (place spot) b.birth can.hand m o ob can.forest own_buffer capacity size can.enough us
+      born = sized kind ob.ty element (place spot) b.birth can.own.hand m o ob can.own.forest own_buffer capacity size can.enough us
 
       abbrev then_over : Content
-      then_over = over kind ob.ty element (place spot) b.birth can.hand m o ob can.forest own_buffer capacity size can.enough us
+      then_over = over kind ob.ty element (place spot) b.birth can.own.hand m o ob can.own.forest own_buffer capacity size can.enough us
 
       born_is : seen (kinds_of types) d new ≡ born
       born_is = shows.is ∙ (λ j. resized_at c.births size 0 (with_birth (sym ty_is j) (width_is j) capacity m))
 
       holder_d : at (seen (kinds_of types) d new).objects spot.object.birth ≡ Some o
-      holder_d = ap (λ (x : Content). at x.objects spot.object.birth) born_is ∙ holder_there kind ob.ty element (place spot) b.birth can.hand m o ob can.forest own_buffer capacity size can.enough us
+      holder_d = ap (λ (x : Content). at x.objects spot.object.birth) born_is ∙ holder_there kind ob.ty element (place spot) b.birth can.own.hand m o ob can.own.forest own_buffer capacity size can.enough us
 
       owner_born : spot.object.birth < c.births
-      owner_born = can.forest.births spot.object.birth o can.owner_there
+      owner_born = can.own.forest.births spot.object.birth o can.own.owner_there
 
       buffer_born : b.birth < c.births
-      buffer_born = can.forest.births b.birth ob can.there
+      buffer_born = can.own.forest.births b.birth ob can.own.there
 
       owner_d : IsSeenAs (kinds_of types) d new spot.object o
       owner_d =
           seen_as (kinds_of types) d new spot.object o shows.housed
-          (still_placed (kinds_of types) c d rows new shows.housed later spot.object.birth spot.object.row o owner_born can.spot_placed holder_d) holder_d
+          (still_placed (kinds_of types) c d rows new shows.housed later spot.object.birth spot.object.row o owner_born can.own.spot_placed holder_d) holder_d
 
       pub word_there : IfSome (object_of d new spot.object) (HasWord spot.slot spot.word)
       word_there =
           let p : length (object_seen (kinds_of types) (names_of d new) owner_d.object).slots ≡ length o.slots = ap (λ (x : Object). length x.slots) owner_d.same in
           let q = count_seen (kinds_of types) (names_of d new) owner_d.object in
           let e : owner_d.object.width ≡ o.width = ap (λ (x : Object). x.width) owner_d.same in
-          let i = can.slot in
-          let k = can.word in
+          let i = can.own.slot in
+          let k = can.own.word in
           subst (λ x. IfSome x (HasWord spot.slot spot.word)) (sym owner_d.found) (record { has_slot = omega (arith, p, q, i); has_word = omega (arith, e, k) })
 
       module _ (e : Content) (after : Rows) (owned_shows : (ks : Kinds) (x : Object) → IsOwner ks d new spot.object spot.word x → Shows ks e after (with_owner ks d new spot.object spot.slot spot.word x (option_map number_of (Some f)))) (same : after ≡ new) where
         shows_owned : Shows (kinds_of types) e after (with_object spot.object.birth (with_word spot.slot spot.word (owner_word (Some f.birth)) o) (seen (kinds_of types) d new))
         shows_owned =
             subst (λ (x : Object). Shows (kinds_of types) e after (with_object spot.object.birth (with_word spot.slot spot.word (owner_word (Some f.birth)) x) (seen (kinds_of types) d new))) owner_d.same
-            (owned_shows (kinds_of types) owner_d.object (record { housed = shows.housed; there = owner_d.found; owner = ap (λ (x : Object). kinds_of types x.ty spot.word) owner_d.same ∙ can.owns }))
+            (owned_shows (kinds_of types) owner_d.object (record { housed = shows.housed; there = owner_d.found; owner = ap (λ (x : Object). kinds_of types x.ty spot.word) owner_d.same ∙ can.own.owns }))
 
         over_is : seen (kinds_of types) e after ≡ then_over
         over_is =
             shows_owned.is
             ∙ (λ j. with_object spot.object.birth (with_word spot.slot spot.word (owner_word (Some (number j))) o) (born_is j))
-            ∙ ap (λ (x : Option Object). wrote_if x spot.object.birth spot.slot spot.word (owner_word (Some c.births) ∷ []) born) (sym (holder_there kind ob.ty element (place spot) b.birth can.hand m o ob can.forest own_buffer capacity size can.enough us))
+            ∙ ap (λ (x : Option Object). wrote_if x spot.object.birth spot.slot spot.word (owner_word (Some c.births) ∷ []) born) (sym (holder_there kind ob.ty element (place spot) b.birth can.own.hand m o ob can.own.forest own_buffer capacity size can.enough us))
 
         births_e : e.births ≡ c.births + 1
         births_e =
-            ap (λ (x : Content). x.births) over_is ∙ over_births kind ob.ty element (place spot) b.birth can.hand m o ob can.forest own_buffer capacity size can.enough us
-            ∙ sized_births kind ob.ty element (place spot) b.birth can.hand m o ob can.forest own_buffer capacity size can.enough us
+            ap (λ (x : Content). x.births) over_is ∙ over_births kind ob.ty element (place spot) b.birth can.own.hand m o ob can.own.forest own_buffer capacity size can.enough us
+            ∙ sized_births kind ob.ty element (place spot) b.birth can.own.hand m o ob can.own.forest own_buffer capacity size can.enough us
 
         clock_e : e.clock ≡ c.clock + 1
         clock_e =
-            ap (λ (x : Content). x.clock) over_is ∙ over_clock kind ob.ty element (place spot) b.birth can.hand m o ob can.forest own_buffer capacity size can.enough us
-            ∙ sized_clock kind ob.ty element (place spot) b.birth can.hand m o ob can.forest own_buffer capacity size can.enough us
+            ap (λ (x : Content). x.clock) over_is ∙ over_clock kind ob.ty element (place spot) b.birth can.own.hand m o ob can.own.forest own_buffer capacity size can.enough us
+            ∙ sized_clock kind ob.ty element (place spot) b.birth can.own.hand m o ob can.own.forest own_buffer capacity size can.enough us
 
         later_e : Later c e rows after
         later_e = record {
@@ -220,14 +220,14 @@ module _ (types : Types) (layouts : List Layout) (laid : AreLaid types layouts) 
         }
 
         buffer_e : at (seen (kinds_of types) e after).objects b.birth ≡ Some ob
-        buffer_e = ap (λ (x : Content). at x.objects b.birth) over_is ∙ buffer_there kind ob.ty element (place spot) b.birth can.hand m o ob can.forest own_buffer capacity size can.enough us
+        buffer_e = ap (λ (x : Content). at x.objects b.birth) over_is ∙ buffer_there kind ob.ty element (place spot) b.birth can.own.hand m o ob can.own.forest own_buffer capacity size can.enough us
 
         abbrev target : Object
-        target = (fresh kind ob.ty element (place spot) b.birth can.hand m o ob can.forest own_buffer capacity size can.enough us).object
+        target = (fresh kind ob.ty element (place spot) b.birth can.own.hand m o ob can.own.forest own_buffer capacity size can.enough us).object
 
         target_e : at (seen (kinds_of types) e after).objects f.birth ≡ Some target
         target_e =
-            (λ j. at (over_is j).objects (number j)) ∙ fresh_there kind ob.ty element (place spot) b.birth can.hand m o ob can.forest own_buffer capacity size can.enough us
+            (λ j. at (over_is j).objects (number j)) ∙ fresh_there kind ob.ty element (place spot) b.birth can.own.hand m o ob can.own.forest own_buffer capacity size can.enough us
 
         module _ (leaves : List Leaf) (leaves_of : leaves ≡ leaves_at layouts shape.ty) (owners : List ℕ) (owners_of : owners ≡ owners_at layouts shape.ty) (small : w < 2 ^ 64) where
           leaves_are : leaves ≡ flat 0 element
@@ -244,18 +244,18 @@ module _ (types : Types) (layouts : List Layout) (laid : AreLaid types layouts) 
 
           pub hand_can : (p : Parts) × CanHandOver (kinds_of types) (forest_kinds types) p b f w leaves owners 0 shape.length e after
           hand_can =
-              let is = can.known in
+              let is = can.own.known in
               let words = is.words in
               let wid = width_is in
-              let target_width : target.width ≡ w = fresh_width kind ob.ty element (place spot) b.birth can.hand m o ob can.forest own_buffer capacity size can.enough us ∙ sym width_is in
-              let new_one = fresh kind ob.ty element (place spot) b.birth can.hand m o ob can.forest own_buffer capacity size can.enough us in (
+              let target_width : target.width ≡ w = fresh_width kind ob.ty element (place spot) b.birth can.own.hand m o ob can.own.forest own_buffer capacity size can.enough us ∙ sym width_is in
+              let new_one = fresh kind ob.ty element (place spot) b.birth can.own.hand m o ob can.own.forest own_buffer capacity size can.enough us in (
                 element,
                 record {
                   take = record {
                     housed = shows_owned.housed;
-                    placed = still_placed (kinds_of types) c e rows after shows_owned.housed later_e b.birth b.row ob buffer_born can.placed buffer_e;
-                    hand = λ k. times (b.birth ∷ []) k + can.hand k;
-                    forest = subst (IsForest kind (λ k. times (b.birth ∷ []) k + can.hand k)) (sym over_is) (over_forest kind ob.ty element (place spot) b.birth can.hand m o ob can.forest own_buffer capacity size can.enough us);
+                    placed = still_placed (kinds_of types) c e rows after shows_owned.housed later_e b.birth b.row ob buffer_born can.own.placed buffer_e;
+                    hand = λ k. times (b.birth ∷ []) k + can.own.hand k;
+                    forest = subst (IsForest kind (λ k. times (b.birth ∷ []) k + can.own.hand k)) (sym over_is) (over_forest kind ob.ty element (place spot) b.birth can.own.hand m o ob can.own.forest own_buffer capacity size can.enough us);
                     object = ob;
                     there = buffer_e;
                     wide = subst (λ n. AllWide n ob.slots) (sym words) is.wide;
@@ -267,12 +267,12 @@ module _ (types : Types) (layouts : List Layout) (laid : AreLaid types layouts) 
                         (ap (kinds_of types ob.ty) z ∙ r.owner, omega (arith, z, lt, words));
                     small = λ j l at_j. small_leaf j l (ap (λ ls. slice_get ls j) (sym leaves_are) ∙ at_j);
                   };
-                  held = over_held kind ob.ty element (place spot) b.birth can.hand m o ob can.forest own_buffer capacity size can.enough us;
+                  held = over_held kind ob.ty element (place spot) b.birth can.own.hand m o ob can.own.forest own_buffer capacity size can.enough us;
                   to_placed = ap (λ (z : Rows). at z f.birth) same ∙ placed;
                   target = target;
                   target_there = target_e;
                   target_long = subst (λ n. AllWide n target.slots) (sym (target_width ∙ width_is)) new_one.wide;
-                  apart = λ x. buffer_apart kind ob.ty element (place spot) b.birth can.hand m o ob can.forest own_buffer capacity size can.enough us (x ∙ number);
+                  apart = λ x. buffer_apart kind ob.ty element (place spot) b.birth can.own.hand m o ob can.own.forest own_buffer capacity size can.enough us (x ∙ number);
                   alike = sym new_one.type;
                   source_width = words ∙ sym width_is;
                   target_width = target_width;
@@ -285,8 +285,8 @@ module _ (types : Types) (layouts : List Layout) (laid : AreLaid types layouts) 
                       let z : 0 + u ≡ r.word = (let x = r.is in omega (arith, x)) in
                       let lt = r.within in
                       (ap (kinds_of types ob.ty) z ∙ r.owner, omega (arith, z, lt, wid));
-                  from_free = from_free kind ob.ty element (place spot) b.birth can.hand m o ob can.forest own_buffer capacity size can.enough us;
-                  to_free = ap times_of number ∙ to_free kind ob.ty element (place spot) b.birth can.hand m o ob can.forest own_buffer capacity size can.enough us;
+                  from_free = from_free kind ob.ty element (place spot) b.birth can.own.hand m o ob can.own.forest own_buffer capacity size can.enough us;
+                  to_free = ap times_of number ∙ to_free kind ob.ty element (place spot) b.birth can.own.hand m o ob can.own.forest own_buffer capacity size can.enough us;
                 },
               )
 
@@ -301,15 +301,15 @@ module _ (types : Types) (layouts : List Layout) (laid : AreLaid types layouts) 
           hand_clock lt = let x = clock_e in omega (arith, x, lt)
 
           module _ (g : Content) (last : Rows) (shown : Shows (kinds_of types) g last (handed_over leaves w owners b.birth f.birth 0 shape.length (seen (kinds_of types) e after))) (then : Later e g after last) where
-            left_is : seen (kinds_of types) g last ≡ takes (place spot) c.births (left kind ob.ty element (place spot) b.birth can.hand m o ob can.forest own_buffer capacity size).1
+            left_is : seen (kinds_of types) g last ≡ takes (place spot) c.births (left kind ob.ty element (place spot) b.birth can.own.hand m o ob can.own.forest own_buffer capacity size).1
             left_is =
                 shown.is
                 ∙ (λ j. handed_over (leaves_are j) (width_is j) (owners_are j) b.birth (number j) 0 (sym size_is j) (over_is j))
-                ∙ regrown_meant kind ob.ty element (place spot) b.birth can.hand m o ob can.forest own_buffer capacity size can.enough us
+                ∙ regrown_meant kind ob.ty element (place spot) b.birth can.own.hand m o ob can.own.forest own_buffer capacity size can.enough us
 
             fresh_placed : at last f.birth ≡ Some f.row
             fresh_placed =
-                let x = fresh_then kind ob.ty element (place spot) b.birth can.hand m o ob can.forest own_buffer capacity size can.enough us in
+                let x = fresh_then kind ob.ty element (place spot) b.birth can.own.hand m o ob can.own.forest own_buffer capacity size can.enough us in
                 still_placed (kinds_of types) e g after last shown.housed then f.birth f.row x.0 (let y = births_e in omega (arith, number, y)) (ap (λ (z : Rows). at z f.birth) same ∙ placed)
                 ((λ j. at (left_is j).objects (number j)) ∙ x.1)
 
@@ -317,11 +317,11 @@ module _ (types : Types) (layouts : List Layout) (laid : AreLaid types layouts) 
                 → IsBuffer (kinds_of types) (then_owned (place spot) (regrown s x.ty (parts_at types x.ty) b.birth capacity size (seen (kinds_of types) c rows))) (Ok f) g last
             regrown_comes limit room s x cells at_b = (
               seen (kinds_of types) g last,
-              ap (meant s) (same_Some x ob (sym at_b ∙ can.there))
+              ap (meant s) (same_Some x ob (sym at_b ∙ can.own.there))
                   ∙ ap (λ y. then_get (then_get y carried) given)
                   (birth_room (kinds_of types) s c rows ob.ty (width element) capacity limit cells
                   (λ full. let r = subst (λ n. live_words_of c + (2 + n * capacity) ≤ limit) width_is room in absurd (omega (arith, full, r))))
-                  ∙ ap (λ ss. given (c.births, without b.birth (filled_by c.births (taken_slots element ss (resized_at c.births size 0 (with_birth ob.ty (width element) capacity m)))))) (ap slots_if can.there)
+                  ∙ ap (λ ss. given (c.births, without b.birth (filled_by c.births (taken_slots element ss (resized_at c.births size 0 (with_birth ob.ty (width element) capacity m)))))) (ap slots_if can.own.there)
                   ∙ (λ j. Got (sym number j, sym left_is j)),
               record { housed = shown.housed; is = refl },
               fresh_placed,

@@ -32,6 +32,7 @@ pub mod InRows
 pub mod Joining
 pub mod Kept
 pub mod LeafOwners
+pub mod MakingRoom
 pub mod Meant
 pub mod OneOwner
 pub mod Owners
@@ -53,6 +54,7 @@ pub mod SlotsMoved
 pub mod SlotsShifted
 pub mod SlotsTaken
 pub mod SlotsTaking
+pub mod StillFull
 pub mod TakenLeaves
 pub mod TakenMeant
 pub mod TakenOver

@@ -1,7 +1,7 @@
 -- What a vector has when it has got room for one more element: its buffer, or another one.
 use Rattle.std.proofs.Common.{◌≡◌, ◌≢◌, ℕ, suc, ◌+◌, ◌<◌, ◌≤◌, ◌^◌, [], ◌∷◌, length, Option, Some, Result, sym, ap, subst, ◌∙◌, arith, mul-le-mul_right}
 use Rattle.life_types.specs.declared.ty.TyId.{TyId}
-use Rattle.life_store.specs.Cells.{Cells, at, at-set_other}
+use Rattle.life_store.specs.Cells.{at, at-set_other}
 use Rattle.life_store.specs.Content.{Object, Content, resized, with_object, with_word, without, word_at}
 use Rattle.life_store.specs.Edits.{filled_by, grown, owns as takes, regrown, with_room}
 use Rattle.life_store.specs.Effects.{Setting, Attempt, Got, GotTrap, then_get}

@@ -1,16 +1,17 @@
 -- How a buffer goes over to a fresh one, which is owned in its place.
-use Rattle.std.specs.Prelude.{◌≡◌, ◌<◌, ◌≤◌, ◌+◌, ◌^◌, ℕ, zero, suc, List, Some, length, slice_get}
+use Rattle.std.specs.Prelude.{◌≡◌, ◌<◌, ◌≤◌, ◌+◌, ◌^◌, ℕ, zero, suc, List, Option, Some, None, length, slice_get}
 use Rattle.life_types.specs.Types.{Types}
 use Rattle.life_types.specs.declared.ty.TyId.{TyId}
 use Rattle.life_store.specs.Cells.{at}
 use Rattle.life_store.specs.Content.{Object, Content, word_at, without}
-use Rattle.life_store.specs.Edits.{owns}
+use Rattle.life_store.specs.Edits.{grown, owns}
 use Rattle.life_store.specs.Effects.{Attempt, Got, then_get}
 use Rattle.life_store.specs.Kinds.{Owner}
 use Rattle.life_store.specs.Parts.{parts_at, width, Parts}
 use Rattle.life_store.specs.Places.{Spot as Place}
 use Rattle.life_store.specs.References.{Rows}
 use Rattle.life_store.specs.declared.object.ObjRef.{ObjRef}
+use Rattle.life_store.specs.declared.run.Growth.{Growth}
 use Rattle.life_forest.specs.Forest.{IsForest}
 use Rattle.life_forest.specs.Kinds.{kinds_of as forest_kinds, Kinds as Forest}
 use Rattle.life_forest.specs.Owned.{times}
@@ -75,8 +76,8 @@ pub record CanHandOver (kinds : Kinds) (kind : Forest) (element : Parts) (from t
 abbrev pub then_owned : Place → Attempt (ℕ × Content) → Attempt (ℕ × Content)
 then_owned p meant = then_get meant (λ f. Got (f.0, owns p f.0 f.1))
 
--- an owner has the buffer, whose elements are known; so many slots hold them, and the fresh one has room for these
-pub record CanRegrow (types : Types) (spot : Spot) (b : ObjRef) (capacity size : ℕ) (c : Content) (rows : Rows) : Type 0 where
+-- an owner has the buffer, whose elements are known
+pub record OwnsElements (types : Types) (spot : Spot) (b : ObjRef) (c : Content) (rows : Rows) : Type 0 where
   pub housed : IsHoused (kinds_of types) c rows
   pub spot_placed : at rows spot.object.birth ≡ Some spot.object.row
   pub placed : at rows b.birth ≡ Some b.row
@@ -92,5 +93,19 @@ pub record CanRegrow (types : Types) (spot : Spot) (b : ObjRef) (capacity size :
   pub buffer : Object
   pub there : at (seen (kinds_of types) c rows).objects b.birth ≡ Some buffer
   pub known : IsOf (forest_kinds types) (parts_at types buffer.ty) buffer (Known (forest_kinds types) (seen (kinds_of types) c rows) (parts_at types buffer.ty))
-  pub enough : length buffer.slots ≤ size
+
+-- .. so many slots hold them, and the fresh one has room for these
+pub record CanRegrow (types : Types) (spot : Spot) (b : ObjRef) (capacity size : ℕ) (c : Content) (rows : Rows) : Type 0 where
+  pub own : OwnsElements types spot b c rows
+  pub enough : length own.buffer.slots ≤ size
   pub fits : size ≤ capacity
+
+-- .. and they all lie within its capacity
+pub record CanGrow (types : Types) (spot : Spot) (b : ObjRef) (c : Content) (rows : Rows) : Type 0 where
+  pub own : OwnsElements types spot b c rows
+  pub roomy : length own.buffer.slots ≤ own.buffer.capacity
+
+-- the capacity of a buffer that was full, or none where it has more than 32 bits
+abbrev pub IsGrown : Growth → (size capacity : ℕ) → Option ℕ → Type 0
+IsGrown policy size capacity None = 2 ^ 32 ≤ grown policy size capacity
+IsGrown policy size capacity (Some more) = (more ≡ grown policy size capacity) × (more < 2 ^ 32)

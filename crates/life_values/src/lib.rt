@@ -29,7 +29,7 @@ pub use layout::{Holds, Layout, Leaf};
 pub use layouts::layouts_of;
 pub use replacing::replace;
 pub use rewriting::rewrite;
-pub use room::widen;
+pub use room::{make_room, reserve, widen};
 pub use spot::Spot;
 pub use taking::take_value;
 pub use texts::text;

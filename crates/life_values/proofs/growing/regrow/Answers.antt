@@ -16,7 +16,7 @@ pub born_roomy-requires-clause-fits : goal.born_roomy-requires-clause-fits
 born_roomy-requires-clause-fits g c = c.requires.can.fits
 
 pub born_roomy-requires-clause-births : goal.born_roomy-requires-clause-births
-born_roomy-requires-clause-births g c = let b = c.requires.births c.requires.can.buffer c.requires.can.there in omega (arith, b)
+born_roomy-requires-clause-births g c = let b = c.requires.births c.requires.can.own.buffer c.requires.can.own.there in omega (arith, b)
 
 pub returns-in-Err-born_roomy-clause-regrown : goal.returns-in-Err-born_roomy-clause-regrown
 returns-in-Err-born_roomy-clause-regrown g c s o cells there =
@@ -28,13 +28,13 @@ pub own-requires-clause-has : goal.own-requires-clause-has
 own-requires-clause-has g c =
     word_there c.args.types.now c.args.layouts.now c.requires.layouts c.args.spot c.args.buffer c.args.capacity c.args.size (g.S.Store.content c.args.store.now) (g.S.Store.rows c.args.store.now) c.requires.can
     c.in-Ok.shape (sym c.shape.ensures.shape ∙ c.in-Ok.is) c.width_of-width.result c.width_of-width.ensures
-    c.in-Ok-born_roomy.fresh c.in-Ok-born_roomy.ensures.number (g.S.Store.content c.born_roomy.new.store) (g.S.Store.rows c.born_roomy.new.store) (c.in-Ok-born_roomy.ensures.shows (kinds_of c.args.types.now) c.requires.can.housed) c.in-Ok-born_roomy.ensures.placed c.in-Ok-born_roomy.ensures.later
+    c.in-Ok-born_roomy.fresh c.in-Ok-born_roomy.ensures.number (g.S.Store.content c.born_roomy.new.store) (g.S.Store.rows c.born_roomy.new.store) (c.in-Ok-born_roomy.ensures.shows (kinds_of c.args.types.now) c.requires.can.own.housed) c.in-Ok-born_roomy.ensures.placed c.in-Ok-born_roomy.ensures.later
 
 pub hand_over-requires-clause-can : goal.hand_over-requires-clause-can
 hand_over-requires-clause-can g c =
     hand_can c.args.types.now c.args.layouts.now c.requires.layouts c.args.spot c.args.buffer c.args.capacity c.args.size (g.S.Store.content c.args.store.now) (g.S.Store.rows c.args.store.now) c.requires.can
     c.in-Ok.shape (sym c.shape.ensures.shape ∙ c.in-Ok.is) c.width_of-width.result c.width_of-width.ensures
-    c.in-Ok-born_roomy.fresh c.in-Ok-born_roomy.ensures.number (g.S.Store.content c.born_roomy.new.store) (g.S.Store.rows c.born_roomy.new.store) (c.in-Ok-born_roomy.ensures.shows (kinds_of c.args.types.now) c.requires.can.housed) c.in-Ok-born_roomy.ensures.placed c.in-Ok-born_roomy.ensures.later
+    c.in-Ok-born_roomy.fresh c.in-Ok-born_roomy.ensures.number (g.S.Store.content c.born_roomy.new.store) (g.S.Store.rows c.born_roomy.new.store) (c.in-Ok-born_roomy.ensures.shows (kinds_of c.args.types.now) c.requires.can.own.housed) c.in-Ok-born_roomy.ensures.placed c.in-Ok-born_roomy.ensures.later
     (g.S.Store.content c.own.new.store) (g.S.Store.rows c.own.new.store) c.own.ensures.shows c.own.ensures.rows
     c.leaves_of-leaves.result.now c.leaves_of-leaves.ensures c.owners_of-owners.result.now c.owners_of-owners.ensures c.is_width.ensures
 
@@ -45,16 +45,16 @@ pub hand_over-requires-clause-births : goal.hand_over-requires-clause-births
 hand_over-requires-clause-births g c =
     hand_births c.args.types.now c.args.layouts.now c.requires.layouts c.args.spot c.args.buffer c.args.capacity c.args.size (g.S.Store.content c.args.store.now) (g.S.Store.rows c.args.store.now) c.requires.can
     c.in-Ok.shape (sym c.shape.ensures.shape ∙ c.in-Ok.is) c.width_of-width.result c.width_of-width.ensures
-    c.in-Ok-born_roomy.fresh c.in-Ok-born_roomy.ensures.number (g.S.Store.content c.born_roomy.new.store) (g.S.Store.rows c.born_roomy.new.store) (c.in-Ok-born_roomy.ensures.shows (kinds_of c.args.types.now) c.requires.can.housed) c.in-Ok-born_roomy.ensures.placed c.in-Ok-born_roomy.ensures.later
+    c.in-Ok-born_roomy.fresh c.in-Ok-born_roomy.ensures.number (g.S.Store.content c.born_roomy.new.store) (g.S.Store.rows c.born_roomy.new.store) (c.in-Ok-born_roomy.ensures.shows (kinds_of c.args.types.now) c.requires.can.own.housed) c.in-Ok-born_roomy.ensures.placed c.in-Ok-born_roomy.ensures.later
     (g.S.Store.content c.own.new.store) (g.S.Store.rows c.own.new.store) c.own.ensures.shows c.own.ensures.rows
     c.leaves_of-leaves.result.now c.leaves_of-leaves.ensures c.owners_of-owners.result.now c.owners_of-owners.ensures c.is_width.ensures
-    (c.requires.births c.requires.can.buffer c.requires.can.there)
+    (c.requires.births c.requires.can.own.buffer c.requires.can.own.there)
 
 pub hand_over-requires-clause-clock : goal.hand_over-requires-clause-clock
 hand_over-requires-clause-clock g c =
     hand_clock c.args.types.now c.args.layouts.now c.requires.layouts c.args.spot c.args.buffer c.args.capacity c.args.size (g.S.Store.content c.args.store.now) (g.S.Store.rows c.args.store.now) c.requires.can
     c.in-Ok.shape (sym c.shape.ensures.shape ∙ c.in-Ok.is) c.width_of-width.result c.width_of-width.ensures
-    c.in-Ok-born_roomy.fresh c.in-Ok-born_roomy.ensures.number (g.S.Store.content c.born_roomy.new.store) (g.S.Store.rows c.born_roomy.new.store) (c.in-Ok-born_roomy.ensures.shows (kinds_of c.args.types.now) c.requires.can.housed) c.in-Ok-born_roomy.ensures.placed c.in-Ok-born_roomy.ensures.later
+    c.in-Ok-born_roomy.fresh c.in-Ok-born_roomy.ensures.number (g.S.Store.content c.born_roomy.new.store) (g.S.Store.rows c.born_roomy.new.store) (c.in-Ok-born_roomy.ensures.shows (kinds_of c.args.types.now) c.requires.can.own.housed) c.in-Ok-born_roomy.ensures.placed c.in-Ok-born_roomy.ensures.later
     (g.S.Store.content c.own.new.store) (g.S.Store.rows c.own.new.store) c.own.ensures.shows c.own.ensures.rows
     c.leaves_of-leaves.result.now c.leaves_of-leaves.ensures c.owners_of-owners.result.now c.owners_of-owners.ensures c.is_width.ensures c.requires.clock
 
@@ -62,7 +62,7 @@ pub returns-in-Ok-born_roomy-clause-regrown : goal.returns-in-Ok-born_roomy-clau
 returns-in-Ok-born_roomy-clause-regrown g c s o cells there =
     regrown_comes c.args.types.now c.args.layouts.now c.requires.layouts c.args.spot c.args.buffer c.args.capacity c.args.size (g.S.Store.content c.args.store.now) (g.S.Store.rows c.args.store.now) c.requires.can
     c.in-Ok.shape (sym c.shape.ensures.shape ∙ c.in-Ok.is) c.width_of-width.result c.width_of-width.ensures
-    c.in-Ok-born_roomy.fresh c.in-Ok-born_roomy.ensures.number (g.S.Store.content c.born_roomy.new.store) (g.S.Store.rows c.born_roomy.new.store) (c.in-Ok-born_roomy.ensures.shows (kinds_of c.args.types.now) c.requires.can.housed) c.in-Ok-born_roomy.ensures.placed c.in-Ok-born_roomy.ensures.later
+    c.in-Ok-born_roomy.fresh c.in-Ok-born_roomy.ensures.number (g.S.Store.content c.born_roomy.new.store) (g.S.Store.rows c.born_roomy.new.store) (c.in-Ok-born_roomy.ensures.shows (kinds_of c.args.types.now) c.requires.can.own.housed) c.in-Ok-born_roomy.ensures.placed c.in-Ok-born_roomy.ensures.later
     (g.S.Store.content c.own.new.store) (g.S.Store.rows c.own.new.store) c.own.ensures.shows c.own.ensures.rows
     c.leaves_of-leaves.result.now c.leaves_of-leaves.ensures c.owners_of-owners.result.now c.owners_of-owners.ensures c.is_width.ensures
     (g.S.Store.content c.hand_over.new.store) (g.S.Store.rows c.hand_over.new.store) c.hand_over.ensures.over c.hand_over.ensures.later (g.S.Store.limit c.args.store.now) c.in-Ok-born_roomy.ensures.room s o cells there
@@ -71,7 +71,7 @@ pub returns-in-Ok-born_roomy-clause-later : goal.returns-in-Ok-born_roomy-clause
 returns-in-Ok-born_roomy-clause-later g c =
     regrown_later c.args.types.now c.args.layouts.now c.requires.layouts c.args.spot c.args.buffer c.args.capacity c.args.size (g.S.Store.content c.args.store.now) (g.S.Store.rows c.args.store.now) c.requires.can
     c.in-Ok.shape (sym c.shape.ensures.shape ∙ c.in-Ok.is) c.width_of-width.result c.width_of-width.ensures
-    c.in-Ok-born_roomy.fresh c.in-Ok-born_roomy.ensures.number (g.S.Store.content c.born_roomy.new.store) (g.S.Store.rows c.born_roomy.new.store) (c.in-Ok-born_roomy.ensures.shows (kinds_of c.args.types.now) c.requires.can.housed) c.in-Ok-born_roomy.ensures.placed c.in-Ok-born_roomy.ensures.later
+    c.in-Ok-born_roomy.fresh c.in-Ok-born_roomy.ensures.number (g.S.Store.content c.born_roomy.new.store) (g.S.Store.rows c.born_roomy.new.store) (c.in-Ok-born_roomy.ensures.shows (kinds_of c.args.types.now) c.requires.can.own.housed) c.in-Ok-born_roomy.ensures.placed c.in-Ok-born_roomy.ensures.later
     (g.S.Store.content c.own.new.store) (g.S.Store.rows c.own.new.store) c.own.ensures.shows c.own.ensures.rows
     c.leaves_of-leaves.result.now c.leaves_of-leaves.ensures c.owners_of-owners.result.now c.owners_of-owners.ensures c.is_width.ensures
     (g.S.Store.content c.hand_over.new.store) (g.S.Store.rows c.hand_over.new.store) c.hand_over.ensures.over c.hand_over.ensures.later
