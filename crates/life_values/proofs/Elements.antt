@@ -20,8 +20,12 @@ module _ (kind : Kinds) (element : Parts) (hand : ℕ → ℕ) (c : Content) (fo
   pub elements_own : (k : ℕ) → owns kind every o k ≡ times (owned_slots element o.slots) k
   elements_own k = sym (times-owned_list kind (Some o) k) ∙ ap (λ xs. times xs k) (owned_is kind element o kinds)
 
+  -- what is of no lesser type
+  pub not_above : (k : ℕ) (q : Object) → at c.objects k ≡ Some q → kind.rank o.ty ≤ kind.rank q.ty → times (owned_slots element o.slots) k ≡ 0
+  not_above k q at_k le = none_times (times (owned_slots element o.slots) k) (λ lt. let e = elements_own k in let l = forest.lower b k o q there (omega (arith, e, lt)) at_k in omega (arith, l, le))
+
   pub not_itself : times (owned_slots element o.slots) b ≡ 0
-  not_itself = none_times (times (owned_slots element o.slots) b) (λ lt. let e = elements_own b in let l = forest.lower b b o o there (omega (arith, e, lt)) there in omega (arith, l))
+  not_itself = not_above b o there (omega arith)
 
   -- what is in the hand isn't owned
   pub not_in_hand : (k : ℕ) → 0 < hand k → times (owned_slots element o.slots) k ≡ 0

@@ -1,7 +1,7 @@
 -- A store goes the way of the meaning where a temporary gives its value over to a slot.
 use Rattle.std.proofs.Common.{◌≡◌, ℕ, zero, suc, ◌+◌, ◌*◌, ◌<◌, ◌^◌, List, [], ◌∷◌, ◌++◌, length, Option, Some, Ok, Err, refl, sym, ap, subst, ◌∙◌, arith}
 use Rattle.std.proofs.lemmas.Option.{same_Some}
-use Rattle.std.specs.Prelude.{slice_get, take}
+use Rattle.std.specs.Prelude.{slice_get}
 use Rattle.life_types.specs.Types.{Types}
 use Rattle.life_store.specs.Cells.{at}
 use Rattle.life_store.specs.Content.{Slot, Object, Content}
@@ -55,7 +55,7 @@ pub wide_in : (k : ℕ) (pre : List Slot) (s : Slot) (ss : List Slot) → AllWid
 wide_in k [] s ss wide = wide.0
 wide_in k (p ∷ pre) s ss wide = wide_in k pre s ss wide.1
 
-only_one : (ss : List Slot) → length ss ≡ 1 → (s : Slot) × (ss ≡ s ∷ [])
+pub only_one : (ss : List Slot) → length ss ≡ 1 → (s : Slot) × (ss ≡ s ∷ [])
 only_one [] e = absurd (omega (arith, e))
 only_one (s ∷ []) e = (s, refl)
 only_one (s ∷ t ∷ ss) e = absurd (omega (arith, e))

@@ -39,6 +39,8 @@ pub mod Owners
 pub mod PoppedMeant
 pub mod Popping
 pub mod PushedMeant
+pub mod PushedNumber
+pub mod PushedTaken
 pub mod ReadWords
 pub mod Recopying
 pub mod RegrownMeant
@@ -46,7 +48,9 @@ pub mod Renewed
 pub mod Renewing
 pub mod ReplacedMeant
 pub mod Reserving
+pub mod RoomBirths
 pub mod RoomMade
+pub mod RoomThen
 pub mod SeenAs
 pub mod SlotsCleared
 pub mod SlotsGoing

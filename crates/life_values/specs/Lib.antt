@@ -10,6 +10,7 @@ pub mod Good
 pub mod Layouts
 pub mod Moved
 pub mod Popped
+pub mod Pushed
 pub mod Regrown
 pub mod Replaced
 pub mod Rewritten
