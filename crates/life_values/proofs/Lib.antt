@@ -1,4 +1,5 @@
 pub mod AlikeKinds
+pub mod Attempts
 pub mod Beginning
 pub mod CharactersGiven
 pub mod CharactersMeant
@@ -6,7 +7,12 @@ pub mod CharactersWritten
 pub mod ClearedMeant
 pub mod Clearing
 pub mod ConsumedMeant
+pub mod CopiedAside
 pub mod CopiedGood
+pub mod CopiedKept
+pub mod CopiedMeant
+pub mod CopiedWords
+pub mod CopyableFromTypes
 pub mod CopyingDeep
 pub mod CopyingSlots
 pub mod Deep

@@ -1,6 +1,7 @@
 pub mod Cleared
 pub mod Consumed
 pub mod Copied
+pub mod Copyable
 pub mod Emptied
 pub mod Ended
 pub mod Ending
