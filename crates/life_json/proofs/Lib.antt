@@ -1,0 +1,2 @@
+pub mod ListedJson
+pub mod NoFloats

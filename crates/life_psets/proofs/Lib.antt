@@ -1,0 +1,5 @@
+pub mod Adding
+pub mod InTurn
+pub mod Numbered
+pub mod OneTable
+pub mod Tables

@@ -1,0 +1,2 @@
+pub mod SetTexts
+pub mod Sets
