@@ -15,14 +15,15 @@ use Rattle.life_cli.specs.CheckedFile.{IsLine, fault_line}
 use Rattle.life_cli.specs.Concluding.{AnswersFile, AnswersFinding, AnswersProgram, RanDiagnosed, not_run, verdict}
 use Rattle.life_cli.specs.Ends.{Ends, EndsWell, Port}
 use Rattle.life_cli.specs.FileText.{Absent, FileText, Holds, TooLong, file_text, most_bytes}
-use Rattle.life_cli.specs.Question.{AnswersText, Asks, OfFile, OfJob, Question}
-use Rattle.life_cli.specs.Words.{Check, Command, Job, Run}
+use Rattle.life_cli.specs.Question.{AnswersText, AsksFor, OfFile, OfJob, Question}
+use Rattle.life_cli.specs.Words.{Asked, Check, Command, Job, Psets, Run}
 use Rattle.life_cli.specs.declared.status.Status.{Status}
 use Rattle.life_cli.specs.declared.status.Status.TheVariants.{Done, Input, Steps, Trap}
 
 is_past : (command : Command) (status : Status) → Accepts command status → IsPast status
-is_past Check status is = subst IsPast (sym is) tt
+is_past (Check json) status is = subst IsPast (sym is) tt
 is_past (Run run) status is = is.1
+is_past Psets status is = absurd is
 
 -- an answer with another status is no acceptance
 not_past : {P : Type 0} (command : Command) (a b : Answer) → a ≡ b → (IsPast b.status → ⊥) → Accepts command a.status → P
@@ -35,9 +36,10 @@ clean d ds h = cc
 
 safe_program : (command : Command) (directory : Directory) (p : Program) (ds : List Diag) (a : Answer) → AnswersProgram command directory p ds a → Accepts command a.status → NoFault p
 safe_program command directory p [] a answers accepts = answers.safe refl
-safe_program Check directory p (d ∷ ds) a answers accepts = absurd (clean d ds (subst (λ (x : Answer). x.status ≡ Done) answers.concluded accepts))
+safe_program (Check json) directory p (d ∷ ds) a answers accepts = absurd (clean d ds (subst (λ (x : Answer). x.status ≡ Done) answers.concluded accepts))
 safe_program (Run run) directory p (d ∷ ds) a answers accepts =
     not_past (Run run) a (not_run p (d ∷ ds)) (subst (λ b. RanDiagnosed b run directory p (d ∷ ds) a) accepts.0 answers.concluded) (λ h. h) accepts
+safe_program Psets directory p (d ∷ ds) a answers accepts = absurd accepts
 
 no_line : {P : Type 0} (command : Command) (fault : CheckFault) (a : Answer) → IsLine (fault_line fault) a → Accepts command a.status → P
 no_line command (check.Lex lexical) a is accepts = not_past command a _ is (λ h. h) accepts
@@ -100,5 +102,5 @@ module _ (told : Option Directory) (reads reads' : ℕ) (out out' err err' : Por
       let is = safe_text job asks.directory asks.text found.0 found.1 (subst (Accepts job.command) found.2.status_is accepts) in
       (is.0, (of_told told job.file asks.text is.0 asks.read is.1.0, (is.1.1.program, (is.1.1.of_bytes, is.1.1.safe))))
 
-  pub accepted : (status : Status) (words : Option Job) → Asks words told (λ asked. Ends asked reads reads' out out' err err' status) → (job : Job) → words ≡ Some job → Accepts job.command status → HasSafeProgram told job.file
-  accepted status words asks job is accepts = job_accepted status job (subst (λ w. Asks w told (λ asked. Ends asked reads reads' out out' err err' status)) is asks) accepts
+  pub accepted : (status : Status) (words : Option Job) (asked : Asked) → AsksFor words asked told (λ question. Ends question reads reads' out out' err err' status) → (job : Job) → words ≡ Some job → Accepts job.command status → HasSafeProgram told job.file
+  accepted status words asked asks job is accepts = job_accepted status job (subst (λ w. AsksFor w asked told (λ question. Ends question reads reads' out out' err err' status)) is asks) accepts

@@ -18,7 +18,7 @@ use Rattle.life_cli.specs.Question.{OfFiles, OfRun, run_asked}
 use Rattle.life_cli.specs.Runs.{RanFrom, RanWith}
 use Rattle.life_cli.specs.Status.{IsFaultless}
 use Rattle.life_cli.specs.declared.fetch.Fetched.TheVariants as fetched
-use Rattle.life_cli.specs.declared.job.RunOptions.{RunOptions}
+use Rattle.life_job.specs.declared.job.RunOptions.{RunOptions}
 use Rattle.life_cli.specs.declared.status.Status.{Status}
 use Rattle.life_cli.specs.declared.status.Status.TheVariants.{Input, Limit, NoFile}
 use Rattle.life_cli.specs.declared.stop.Ending.{Ending}

@@ -1,7 +1,6 @@
--- The work where it ends: by the words, by the file, or by what its bytes come to.
+-- The work on a job where it ends: by the file, or by what its bytes come to.
 use Rattle.std.proofs.Common.{◌≡◌, ◌++◌, ℕ, List, Option, None, Some, IfSome, IfOk, Result, Ok, Err, refl, sym, subst}
 use Rattle.std.specs.Prelude.{codes, option_map}
-use Rattle.std.proofs.KnownBytes.{Appends-nil}
 use Rattle.std.proofs.lemmas.Result.{IfOk-weaker}
 use Rattle.life_base.specs.Edges.{Directory}
 use Rattle.life_check.specs.CheckedText.{ComesOnlyTo, ComesTo, Faulty, Listed}
@@ -13,52 +12,30 @@ use Rattle.life_rules.specs.declared.diag.Diag.{Diag}
 use Rattle.life_types.specs.Places.{position_text}
 use Rattle.life_cli.proofs.Files.{files_then, for_any, for_job, for_text, text_read}
 use Rattle.life_cli.proofs.Fronts.{gains_nothing}
-use Rattle.life_cli.proofs.Questions.{the_answer, to_finding}
+use Rattle.life_cli.proofs.Questions.{to_finding}
 use Rattle.life_cli.proofs.Working.{on_as, refusal_on, stopped_on}
-use Rattle.life_cli.specs.Answer.{refusal}
 use Rattle.life_cli.specs.CheckedFile.{IsLine, fault_line, lex_fault_text, limit_text}
-use Rattle.life_cli.specs.Ends.{IsReady, Port, Tells, Works, WorksOn}
+use Rattle.life_cli.specs.Ends.{Port, Tells, Works, WorksOn}
 use Rattle.life_cli.specs.FileText.{Absent, Fetches, FileText, Holds, TooLong, file_text}
 use Rattle.life_cli.specs.IllFormed.{ill_text}
-use Rattle.life_cli.specs.Question.{Asks, IsAnswer, NoJob, OfFile, OfFiles, OfJob, OfProgram, Question, program_asked, text_asked}
+use Rattle.life_cli.specs.Question.{AsksFor, OfFile, OfFiles, OfJob, OfProgram, Question, program_asked, text_asked}
 use Rattle.life_cli.specs.Refusals.{TellsFault}
-use Rattle.life_cli.specs.Status.{IsFaultless, IsOfJob, IsSettled}
-use Rattle.life_cli.specs.Words.{AsksUnchecked, IsUnchecked, Job}
+use Rattle.life_cli.specs.Status.{IsFaultless, IsOfJob}
+use Rattle.life_cli.specs.Words.{Asked, AsksUnchecked, IsUnchecked, Job}
 use Rattle.life_cli.specs.declared.fetch.Fetched.TheVariants as fetched
 use Rattle.life_cli.specs.declared.status.Status.{Status}
 use Rattle.life_cli.specs.declared.status.Status.TheVariants.{Fault, Ill, Limit, NoFile, Syntax, Usage}
 use Rattle.life_cli.specs.declared.stop.Ending.{Ending}
 use Rattle.life_cli.specs.declared.stop.Stop.{Stop}
-use Rattle.life_cli.specs.declared.stop.Stop.TheVariants as stop
 
 -- ---- words
-
-module _ (question : Question) (status : Status) (text : List ℕ) (is : IsAnswer question (refusal status text)) (settled : IsSettled status) (reads : ℕ) (out : Port) where
-  -- a refusal that is the answer
-  refused : (result : Result Ending Stop) → Tells status text result → Works (Some question) reads reads out out result
-  refused (Ok ending) tells = record {
-    settled = subst IsSettled (sym tells.0) settled;
-    read_faults = refl;
-    out_faults = refl;
-    answer = the_answer question (refusal status text) (IsReady out out ending) is
-        (record { status_is = tells.0; on_out = Appends-nil out.taken; on_err = tells.1 });
-  }
-  refused (Err stop.NoMemory) tells = record { read_faults = refl; out_faults = refl; front = gains_nothing (Some question) out.taken }
-  refused (Err stop.ReadFault) tells = absurd tells
-  refused (Err stop.WriteFault) tells = absurd tells
-
--- the words were no job
-pub no_job_works : (job : Option Job) (told : Option Directory) (reads : ℕ) (out : Port) (result : Result Ending Stop) → job ≡ None
-    → Tells Usage (codes "usage: lifecheck COMMAND FILE [OPTIONS]") result → Asks job told (λ asked. Works asked reads reads out out result)
-no_job_works None told reads out result none tells = refused NoJob Usage (codes "usage: lifecheck COMMAND FILE [OPTIONS]") refl tt reads out result tells
-no_job_works (Some job) told reads out result none tells = cc
 
 -- the words were this job
 module _ (told : Option Directory) (reads reads' : ℕ) (out out' : Port) (result : Result Ending Stop) (job : Job) (words : Option Job) (is : Some job ≡ words)
     (on : OfJob job told (λ asked. WorksOn asked (IsUnchecked job.command) reads reads' out out' result)) where
-  pub job_works : Asks words told (λ asked. Works asked reads reads' out out' result)
-  job_works =
-      subst (λ w. Asks w told (λ asked. Works asked reads reads' out out' result)) is
+  pub job_works : (asked : Asked) → AsksFor words asked told (λ question. Works question reads reads' out out' result)
+  job_works asked =
+      subst (λ w. AsksFor w asked told (λ question. Works question reads reads' out out' result)) is
       (record { directory = on.directory; text = on.text; agrees = on.agrees; read = on.read; is = on.is.works })
 
   pub job_is_there : IfOk result (λ (ending : Ending). ending.status ≡ Usage → words ≡ None)

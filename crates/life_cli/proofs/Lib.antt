@@ -4,15 +4,14 @@ pub mod Endings
 pub mod Entries
 pub mod Fetching
 pub mod Files
-pub mod FewSteps
 pub mod Fronts
 pub mod Functions
 pub mod Inputs
 pub mod Leaves
 pub mod Machines
-pub mod Numbers
 pub mod Programs
 pub mod Questions
 pub mod Served
 pub mod Statuses
+pub mod Unasked
 pub mod Working

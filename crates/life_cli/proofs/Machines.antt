@@ -21,7 +21,7 @@ use Rattle.life_cli.specs.Entry.{Absent, Entry, IsEntry, NotValue}
 use Rattle.life_cli.specs.Runs.{IsEnd, Ran, RanFrom, RanUnless, ended_as, entry_text, fault_end, run_with, steps_end, trap_end, value_end, with_output}
 use Rattle.life_cli.specs.Told.{TellsRun}
 use Rattle.life_cli.specs.declared.entry.Entry.TheVariants as found
-use Rattle.life_cli.specs.declared.job.RunOptions.{RunOptions}
+use Rattle.life_job.specs.declared.job.RunOptions.{RunOptions}
 use Rattle.life_cli.specs.declared.status.Status.{Status}
 use Rattle.life_cli.specs.declared.status.Status.TheVariants as status
 use Rattle.life_cli.specs.declared.stop.Ending.{Ending}

@@ -1,5 +1,5 @@
 -- The arms of a command, by what is diagnosed.
-use Rattle.std.proofs.Common.{◌≡◌, ℕ, true, false, List, [], ◌∷◌, map, Option, Some, Result, refl, sym, subst}
+use Rattle.std.proofs.Common.{◌≡◌, ℕ, Bool, true, false, List, [], ◌∷◌, map, Option, Some, Result, refl, sym, subst}
 use Rattle.std.specs.Prelude.{option_map}
 use Rattle.life_base.specs.Edges.{Directory}
 use Rattle.life_core.specs.Function.{Program}
@@ -13,12 +13,13 @@ use Rattle.life_cli.proofs.Served.{text_serves}
 use Rattle.life_cli.proofs.Statuses.{faultless_fits, fits_as, verdict_faultless}
 use Rattle.life_cli.proofs.Working.{are_asked, on_as, serves_on}
 use Rattle.life_cli.specs.Answer.{Answer}
-use Rattle.life_cli.specs.Concluding.{Concludes, RanDiagnosed, RanJob, not_run, reported, verdict}
+use Rattle.life_cli.specs.Concluding.{Concludes, IsTabled, RanDiagnosed, RanJob, not_run, reported, tabled, verdict}
 use Rattle.life_cli.specs.Ends.{Port, Reports, Serves, WorksOn}
 use Rattle.life_cli.specs.InputFile.{input_of}
 use Rattle.life_cli.specs.Question.{OfFiles, OfProgram, OfRun, program_asked, run_asked}
-use Rattle.life_cli.specs.Words.{Check, Command, IsUnchecked, Run, RunJob}
-use Rattle.life_cli.specs.declared.status.Status.TheVariants.{Diagnosed}
+use Rattle.life_job.specs.Job.{RunJob}
+use Rattle.life_cli.specs.Words.{Check, Command, IsUnchecked, Psets, Run}
+use Rattle.life_cli.specs.declared.status.Status.TheVariants.{Diagnosed, Done}
 use Rattle.life_cli.specs.declared.stop.Ending.{Ending}
 use Rattle.life_cli.specs.declared.stop.Stop.{Stop}
 
@@ -35,13 +36,21 @@ some_diagnosed (x ∷ xs) some e = none_of x.diag (map listed_diag xs) e
 
 module _ (p : Program) (held : Option Directory) (reads reads' : ℕ) (out out' : Port) (result : Result Ending Stop) where
   -- a report on out
-  report_on_in : (ds : List Diag) (MayFault : Type 0) → (ds ≡ [] → NoFault p) → reads' ≡ reads → Serves (λ a. a ≡ reported p ds) out out' result
-      → WorksOn (program_asked Check p ds held) MayFault reads reads' out out' result
+  report_on_in : (json : Bool) (ds : List Diag) (MayFault : Type 0) → (ds ≡ [] → NoFault p) → reads' ≡ reads → Serves (λ a. a ≡ reported json p ds) out out' result
+      → WorksOn (program_asked (Check json) p ds held) MayFault reads reads' out out' result
   unfolding program_asked
-  report_on_in ds MayFault safe quiet serves =
-      serves_on (option_map (λ d. OfProgram Check d p ds) held) MayFault (λ a. a ≡ reported p ds)
-      (are_asked held (λ d. OfProgram Check d p ds) (λ a. a ≡ reported p ds) (λ d a is. record { safe = safe; concluded = is }) (λ d a is. is.concluded))
-      (λ a is. fits_as MayFault a (reported p ds) is (faultless_fits MayFault (verdict ds) (verdict_faultless ds))) reads reads' quiet out out' result serves
+  report_on_in json ds MayFault safe quiet serves =
+      serves_on (option_map (λ d. OfProgram (Check json) d p ds) held) MayFault (λ a. a ≡ reported json p ds)
+      (are_asked held (λ d. OfProgram (Check json) d p ds) (λ a. a ≡ reported json p ds) (λ d a is. record { safe = safe; concluded = is }) (λ d a is. is.concluded))
+      (λ a is. fits_as MayFault a (reported json p ds) is (faultless_fits MayFault (verdict ds) (verdict_faultless ds))) reads reads' quiet out out' result serves
+
+  -- the table of sets on out
+  sets_on_in : (ds : List Diag) (MayFault : Type 0) → (ds ≡ [] → NoFault p) → reads' ≡ reads → Serves (IsTabled p) out out' result → WorksOn (program_asked Psets p ds held) MayFault reads reads' out out' result
+  unfolding program_asked
+  sets_on_in ds MayFault safe quiet serves =
+      serves_on (option_map (λ d. OfProgram Psets d p ds) held) MayFault (IsTabled p)
+      (are_asked held (λ d. OfProgram Psets d p ds) (IsTabled p) (λ d a is. record { safe = safe; concluded = is }) (λ d a is. is.concluded))
+      (λ a is. fits_as MayFault a (tabled p is.sets) is.is (faultless_fits MayFault Done tt)) reads reads' quiet out out' result serves
 
   -- a run that answers the command
   run_on : (run : RunJob) (ds : List Diag) → ((d : Directory) (a : Answer) → RanJob run d p a → Concludes (Run run) d p ds a) → ((d : Directory) (a : Answer) → Concludes (Run run) d p ds a → RanJob run d p a)
@@ -90,8 +99,11 @@ module _ (p : Program) (told : Option Directory) (reads reads' : ℕ) (out out' 
   abbrev OnRun : RunJob → Option Directory → Type 0
   OnRun run held = WorksOn (run_asked run.options run.function p run.input held) (NoFault p → ⊥) reads reads' out out' result
 
-  pub report_on : (ds : List Diag) (MayFault : Type 0) → (ds ≡ [] → NoFault p) → reads' ≡ reads → Serves (λ a. a ≡ reported p ds) out out' result → OfFiles told (OnProgram Check ds MayFault)
-  report_on ds MayFault safe quiet serves = for_any told (OnProgram Check ds MayFault) (λ d. report_on_in p (Some d) reads reads' out out' result ds MayFault safe quiet serves)
+  pub report_on : (json : Bool) (ds : List Diag) (MayFault : Type 0) → (ds ≡ [] → NoFault p) → reads' ≡ reads → Serves (λ a. a ≡ reported json p ds) out out' result → OfFiles told (OnProgram (Check json) ds MayFault)
+  report_on json ds MayFault safe quiet serves = for_any told (OnProgram (Check json) ds MayFault) (λ d. report_on_in p (Some d) reads reads' out out' result json ds MayFault safe quiet serves)
+
+  pub sets_on : (ds : List Diag) (MayFault : Type 0) → (ds ≡ [] → NoFault p) → reads' ≡ reads → Serves (IsTabled p) out out' result → OfFiles told (OnProgram Psets ds MayFault)
+  sets_on ds MayFault safe quiet serves = for_any told (OnProgram Psets ds MayFault) (λ d. sets_on_in p (Some d) reads reads' out out' result ds MayFault safe quiet serves)
 
   pub accepted_run : (run : RunJob) → NoFault p → OfFiles told (OnRun run) → OfFiles told (OnProgram (Run run) [] (IsUnchecked (Run run)))
   accepted_run run safe on =

@@ -1,22 +1,24 @@
 -- Answers to a question: there is at most one.
-use Rattle.std.proofs.Common.{◌≡◌, ℕ, ℤ, Bool, true, false, List, [], ◌∷◌, Option, None, Some, Ok, Err, IfSome, sym, ◌∙◌, subst}
+use Rattle.std.proofs.Common.{◌≡◌, ℕ, ℤ, Bool, true, false, List, [], ◌∷◌, Option, None, Some, Ok, Err, IfSome, ap, sym, ◌∙◌, subst}
 use Rattle.std.specs.Prelude.{nat_lt, length}
 use Rattle.std.proofs.lemmas.Option.{IfSome_then}
 use Rattle.life_base.specs.Edges.{Directory}
 use Rattle.life_check.proofs.OneFinding.{one_finding}
 use Rattle.life_check.specs.CheckedText.{ComesTo, Faulty, Finding, Listed}
 use Rattle.life_core.specs.Function.{Function, Program}
+use Rattle.life_psets.proofs.OneTable.{one_table}
 use Rattle.life_rules.specs.declared.diag.Diag.{Diag}
 use Rattle.life_cli.specs.Answer.{Answer}
 use Rattle.life_cli.specs.CheckedFile.{IsLine, fault_line}
-use Rattle.life_cli.specs.Concluding.{AnswersFile, AnswersFinding, Concludes, RanDiagnosed, RanJob}
+use Rattle.life_cli.specs.Concluding.{AnswersFile, AnswersFinding, Concludes, IsTabled, RanDiagnosed, RanJob, tabled}
 use Rattle.life_cli.specs.Entry.{Absent as NoEntry, Begins, Entry, NotValue, entry_of}
 use Rattle.life_cli.specs.FileText.{Absent, FileText, Holds, TooLong}
 use Rattle.life_cli.specs.InputFile.{Numbers, input_of}
 use Rattle.life_cli.specs.Question.{AnswersText, IsAnswer, NoJob, OfFile, OfProgram, OfRun, Question, TheAnswer}
 use Rattle.life_cli.specs.Runs.{IsEnd, RanFrom, RanUnless, RanWith, ended_as, run_with}
-use Rattle.life_cli.specs.Words.{Check, Command, Job, Run, RunJob}
-use Rattle.life_cli.specs.declared.job.RunOptions.{RunOptions}
+use Rattle.life_job.specs.Job.{RunJob}
+use Rattle.life_cli.specs.Words.{Check, Command, Job, Psets, Run}
+use Rattle.life_job.specs.declared.job.RunOptions.{RunOptions}
 use Rattle.life_cli.specs.declared.status.Status.{Status}
 
 -- ---- runs
@@ -41,6 +43,10 @@ same_run options name p (Ok input) a b x y = same_from options name p input (ent
 
 -- ---- programs and files
 
+-- a program has one table
+pub same_table : (p : Program) (a b : Answer) → IsTabled p a → IsTabled p b → a ≡ b
+same_table p a b x y = x.is ∙ ap (tabled p) (one_table p x.sets y.sets x.are y.are) ∙ sym y.is
+
 same_line : (line : Option (Status × List ℕ)) (a b : Answer) → IsLine line a → IsLine line b → a ≡ b
 same_line None a b x y = absurd x
 same_line (Some told) a b x y = x ∙ sym y
@@ -54,9 +60,10 @@ module _ (directory : Directory) where
   same_diagnosed false run p ds a b x y = x ∙ sym y
 
   same_conclusion : (command : Command) (p : Program) (ds : List Diag) (a b : Answer) → Concludes command directory p ds a → Concludes command directory p ds b → a ≡ b
-  same_conclusion Check p ds a b x y = x ∙ sym y
+  same_conclusion (Check json) p ds a b x y = x ∙ sym y
   same_conclusion (Run run) p [] a b x y = same_job run p a b x y
   same_conclusion (Run run) p (d ∷ ds) a b x y = same_diagnosed run.options.unchecked run p (d ∷ ds) a b x y
+  same_conclusion Psets p ds a b x y = same_table p a b x y
 
   same_finding : (command : Command) (f : Finding) (a b : Answer) → AnswersFinding command directory f a → AnswersFinding command directory f b → a ≡ b
   same_finding command (Faulty fault) a b x y = same_line (fault_line fault) a b x y
@@ -78,7 +85,7 @@ module _ (directory : Directory) where
 
 -- a question has at most one answer
 pub same_answer : (question : Question) (a b : Answer) → IsAnswer question a → IsAnswer question b → a ≡ b
-same_answer NoJob a b x y = x ∙ sym y
+same_answer (NoJob told) a b x y = x ∙ sym y
 same_answer (OfFile job directory text) a b x y = same_text directory job text a b x y
 same_answer (OfProgram command directory p ds) a b x y = same_conclusion directory command p ds a b x.concluded y.concluded
 same_answer (OfRun options name p numbers) a b x y = same_run options name p numbers a b x y

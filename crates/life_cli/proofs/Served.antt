@@ -1,11 +1,12 @@
 -- What serves some answers serves others.
-use Rattle.std.proofs.Common.{◌≡◌, ℕ, List, [], Result, Ok, Err, refl, sym, subst, ◌∙◌}
+use Rattle.std.proofs.Common.{◌≡◌, ℕ, Bool, List, [], Result, Ok, Err, refl, sym, subst, ◌∙◌}
 use Rattle.std.proofs.KnownBytes.{Appends-nil}
 use Rattle.life_base.specs.Edges.{AppendsFront}
 use Rattle.life_core.specs.Function.{Program}
 use Rattle.life_rules.specs.declared.diag.Diag.{Diag}
 use Rattle.life_cli.specs.Answer.{Answer, answer_in}
-use Rattle.life_cli.specs.Concluding.{reported}
+use Rattle.life_cli.proofs.Questions.{same_table}
+use Rattle.life_cli.specs.Concluding.{IsTabled, reported}
 use Rattle.life_cli.specs.Ends.{HandsOut, Port, Reports, Serves, ServesFront}
 use Rattle.life_cli.specs.declared.reply.Reply.{Reply}
 use Rattle.life_cli.specs.declared.status.Status.{Status}
@@ -46,5 +47,8 @@ reply_serves P reply out out' (Err stop.NoMemory) is only hands = absurd hands
 reply_serves P reply out out' (Err stop.ReadFault) is only hands = absurd hands
 reply_serves P reply out out' (Err stop.WriteFault) is only hands = record { out_faults = hands.0; front = λ a such. subst (λ (b : Answer). AppendsFront out.taken out'.taken b.out) (sym (only a such)) hands.1 }
 
-pub report_serves : (p : Program) (ds : List Diag) (reply : Reply) (out out' : Port) (result : Result Ending Stop) → answer_in reply ≡ reported p ds → HandsOut reply out out' result → Serves (λ a. a ≡ reported p ds) out out' result
-report_serves p ds reply out out' result same hands = reply_serves (λ a. a ≡ reported p ds) reply out out' result same (λ a is. is ∙ sym same) hands
+pub report_serves : (json : Bool) (p : Program) (ds : List Diag) (reply : Reply) (out out' : Port) (result : Result Ending Stop) → answer_in reply ≡ reported json p ds → HandsOut reply out out' result → Serves (λ a. a ≡ reported json p ds) out out' result
+report_serves json p ds reply out out' result same hands = reply_serves (λ a. a ≡ reported json p ds) reply out out' result same (λ a is. is ∙ sym same) hands
+
+pub table_serves : (p : Program) (reply : Reply) (out out' : Port) (result : Result Ending Stop) → IsTabled p (answer_in reply) → HandsOut reply out out' result → Serves (IsTabled p) out out' result
+table_serves p reply out out' result is hands = reply_serves (IsTabled p) reply out out' result is (λ a such. same_table p a (answer_in reply) such is) hands

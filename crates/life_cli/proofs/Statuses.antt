@@ -14,7 +14,7 @@ use Rattle.life_cli.specs.Entry.{Absent, Begins, Entry, NotValue, entry_at, entr
 use Rattle.life_cli.specs.InputFile.{Numbers, numbers_or}
 use Rattle.life_cli.specs.Runs.{IsEnd, Ran, RanFrom, RanUnless, RanWith, ended_as, fault_end, run_with, setting_of, steps_end, trap_end, value_end, with_output}
 use Rattle.life_cli.specs.Status.{IsFaultless, IsOfJob, IsSettled}
-use Rattle.life_cli.specs.declared.job.RunOptions.{RunOptions}
+use Rattle.life_job.specs.declared.job.RunOptions.{RunOptions}
 use Rattle.life_cli.specs.declared.status.Status.{Status}
 use Rattle.life_cli.specs.declared.status.Status.TheVariants as status
 use Rattle.life_cli.specs.declared.status.Status.TheVariants.{Fault, NoMemory, ReadFault, Usage, WriteFault}

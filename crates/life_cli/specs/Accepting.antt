@@ -1,6 +1,6 @@
 -- When a command accepts its file.
 use Rattle.std.specs.Prelude.{◌≡◌, false}
-use Rattle.life_cli.specs.Words.{Check, Command, Run}
+use Rattle.life_cli.specs.Words.{Check, Command, Psets, Run}
 use Rattle.life_cli.specs.declared.status.Status.{Status}
 use Rattle.life_cli.specs.declared.status.Status.TheVariants.{Done, Input, Steps, Trap}
 
@@ -13,7 +13,8 @@ IsPast Input = Unit {0}
 IsPast _ = ⊥
 
 -- the command, which came to this status, accepted its file: it was checked and is done, or it was to be run unless something was
--- diagnosed, and the run was come to
+-- diagnosed, and the run was come to; a table of sets says nothing of it
 abbrev pub Accepts : Command → Status → Type 0
-Accepts Check status = status ≡ Done
+Accepts (Check json) status = status ≡ Done
 Accepts (Run run) status = (run.options.unchecked ≡ false) × IsPast status
+Accepts Psets status = ⊥

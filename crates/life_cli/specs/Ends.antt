@@ -1,11 +1,13 @@
 -- How a command ends: its status, what out and err have gained, and which counts of faults rose.
-use Rattle.std.specs.Prelude.{◌≡◌, ◌⊎◌, ℕ, List, [], Option, Result, Ok, Err, IfOk, codes}
+use Rattle.std.specs.Prelude.{◌≡◌, ◌⊎◌, ℕ, List, [], Option, None, Some, Result, Ok, Err, IfOk, codes}
 use Rattle.std.specs.Io.KnownBytes.{Appends}
 use Rattle.life_base.specs.Causes.{Rose}
 use Rattle.life_base.specs.Edges.{AppendsFront}
+use Rattle.life_job.specs.Refusals.{Told}
 use Rattle.life_cli.specs.Answer.{Answer, answer_in, line}
 use Rattle.life_cli.specs.Question.{EachAnswer, Question, TheAnswer}
 use Rattle.life_cli.specs.Status.{IsOfJob, IsSettled}
+use Rattle.life_cli.specs.Usage.{no_job}
 use Rattle.life_cli.specs.declared.reply.Reply.{Reply}
 use Rattle.life_cli.specs.declared.status.Status.{Status}
 use Rattle.life_cli.specs.declared.status.Status.TheVariants.{Fault, NoMemory, ReadFault, WriteFault}
@@ -188,3 +190,10 @@ Ends asked reads reads' out out' err err' NoMemory = EndsWithoutMemory asked rea
 Ends asked reads reads' out out' err err' ReadFault = EndsInReadFault reads reads' out out' err err'
 Ends asked reads reads' out out' err err' WriteFault = EndsInWriteFault asked reads reads' out out' err err'
 Ends asked reads reads' out out' err err' status = EndsWell asked reads reads' out out' err err' status
+
+-- ---- words that ask for nothing
+
+-- what is told of them was served, or memory was wanted before anything was written
+abbrev pub RefusesWords : Option Told → Port → Port → Result Ending Stop → Type 0
+RefusesWords (Some told) out out' result = Serves (λ answer. answer ≡ no_job told) out out' result
+RefusesWords None out out' result = (out' ≡ out) × (result ≡ Err stop.NoMemory)

@@ -13,4 +13,5 @@ pub mod Runs
 pub mod Status
 pub mod Stops
 pub mod Told
+pub mod Usage
 pub mod Words

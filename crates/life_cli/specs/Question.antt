@@ -2,20 +2,22 @@
 use Rattle.std.specs.Prelude.{◌≡◌, ◌++◌, ℕ, List, Option, Some, None, IfSome, codes, option_map}
 use Rattle.life_base.specs.Edges.{Directory}
 use Rattle.life_core.specs.Function.{Program}
+use Rattle.life_job.specs.Refusals.{Told}
+use Rattle.life_job.specs.declared.job.RunOptions.{RunOptions}
 use Rattle.life_rules.specs.declared.diag.Diag.{Diag}
 use Rattle.life_cli.specs.Answer.{Answer, refusal}
 use Rattle.life_cli.specs.Concluding.{AnswersFile, AnswersProgram}
 use Rattle.life_cli.specs.FileText.{FileText, Absent, TooLong, Holds, file_text}
 use Rattle.life_cli.specs.InputFile.{Numbers, input_of}
 use Rattle.life_cli.specs.Runs.{RanWith}
-use Rattle.life_cli.specs.Words.{Command, Job}
-use Rattle.life_cli.specs.declared.job.RunOptions.{RunOptions}
-use Rattle.life_cli.specs.declared.status.Status.TheVariants.{Limit, Usage, NoFile}
+use Rattle.life_cli.specs.Usage.{no_job}
+use Rattle.life_cli.specs.Words.{Asked, Command, Job, IsTold, served_of}
+use Rattle.life_cli.specs.declared.status.Status.TheVariants.{Limit, NoFile}
 
--- the words are no job; or a job is to be done with a file, or a command with a program and its diagnostics, where the files are these;
+-- the words ask for nothing that is served, of which this is told; or a job is to be done with a file, or a command with a program and its diagnostics, where the files are these;
 -- or a program is to be run from the entry of a name, with an input
 pub data Question : Type 0 where
-  NoJob : Question
+  NoJob : Told → Question
   OfFile : Job → Directory → FileText → Question
   OfProgram : Command → Directory → Program → List Diag → Question
   OfRun : RunOptions → List ℕ → Program → Numbers → Question
@@ -28,7 +30,7 @@ AnswersText job directory (Holds bytes) answer = AnswersFile job.command directo
 
 -- the answer is one to the question
 abbrev pub IsAnswer : Question → Answer → Type 0
-IsAnswer NoJob answer = answer ≡ refusal Usage (codes "usage: lifecheck COMMAND FILE [OPTIONS]")
+IsAnswer (NoJob told) answer = answer ≡ no_job told
 IsAnswer (OfFile job directory text) answer = AnswersText job directory text answer
 IsAnswer (OfProgram command directory p ds) answer = AnswersProgram command directory p ds answer
 IsAnswer (OfRun options entry p input) answer = RanWith options entry p input answer
@@ -62,10 +64,19 @@ pub record OfJob (job : Job) (told : Option Directory) (P : Option Question → 
   pub read : IfSome told (λ held. text ≡ file_text (held job.file))
   pub is : P (Some (OfFile job directory text))
 
--- .. of what the words ask, which are a job or none
-abbrev pub Asks : Option Job → Option Directory → (Option Question → Type 0) → Type 0
-Asks None told P = P (Some NoJob)
-Asks (Some job) told P = OfJob job told P
+-- .. of words that have no job that is served
+pub record OfNoJob (asked : Asked) (P : Option Question → Type 0) : Type 0 where
+  pub reason : Told
+  pub is_told : IsTold asked reason
+  pub is : P (Some (NoJob reason))
+
+abbrev pub AsksFor : Option Job → Asked → Option Directory → (Option Question → Type 0) → Type 0
+AsksFor None asked told P = OfNoJob asked P
+AsksFor (Some job) asked told P = OfJob job told P
+
+-- .. of what the words ask, which have a job or none
+abbrev pub Asks : Asked → Option Directory → (Option Question → Type 0) → Type 0
+Asks asked told P = AsksFor (served_of asked) asked told P
 
 -- ---- answers
 

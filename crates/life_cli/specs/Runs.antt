@@ -1,6 +1,9 @@
 -- What a run comes to, as an answer.
 use Rattle.std.specs.Prelude.{◌≡◌, ℕ, ℤ, Bool, true, false, nat_lt, List, ◌++◌, length, Option, Some, None, Ok, Err, codes, decimal}
 use Rattle.std.specs.Fmt.{signed_decimal}
+use Rattle.life_job.specs.declared.job.Growth as asked
+use Rattle.life_job.specs.declared.job.Growth.TheVariants as growth
+use Rattle.life_job.specs.declared.job.RunOptions.{RunOptions}
 use Rattle.life_types.specs.Places.{position_text}
 use Rattle.life_types.specs.declared.place.Place.{Place}
 use Rattle.life_core.specs.Function.{Function, Program}
@@ -8,13 +11,14 @@ use Rattle.life_store.specs.Doing.{Given}
 use Rattle.life_store.specs.Meaning as meaning
 use Rattle.life_store.specs.Meaning.{Outcome, run_of}
 use Rattle.life_store.specs.declared.run.FaultKind.{FaultKind}
+use Rattle.life_store.specs.declared.run.Growth.{Growth}
+use Rattle.life_store.specs.declared.run.Growth.TheVariants.{Always, Double}
 use Rattle.life_store.specs.declared.run.FaultKind.TheVariants.{Null, Dangling, Moved}
 use Rattle.life_store.specs.declared.run.TrapKind.{TrapKind}
 use Rattle.life_store.specs.declared.run.TrapKind.TheVariants.{Bounds, Overflow, ZeroDivisor, Assert, InputEnd, Cells, Depth, ForeignIterator}
 use Rattle.life_cli.specs.Answer.{Answer, line, refusal}
 use Rattle.life_cli.specs.Entry.{Entry, Absent, Begins, NotValue, entry_of}
 use Rattle.life_cli.specs.InputFile.{Numbers}
-use Rattle.life_cli.specs.declared.job.RunOptions.{RunOptions}
 use Rattle.life_cli.specs.declared.status.Status.{Status}
 use Rattle.life_cli.specs.declared.status.Status.TheVariants as status
 
@@ -57,8 +61,12 @@ ended_as steps meaning.Lost = None
 abbrev pub with_output : List ℕ → Status × List ℕ → Answer
 with_output output ended = record { status = ended.0; out = output; err = line ended.1 }
 
+abbrev pub growth_of : asked.Growth → Growth
+growth_of growth.Always = Always
+growth_of growth.Double = Double
+
 abbrev pub setting_of : RunOptions → Given
-setting_of options = record { growth = options.growth; cells = options.cells; depth = options.depth }
+setting_of options = record { growth = growth_of options.growth; cells = options.cells; depth = options.depth }
 
 -- a run of the program from the function with this number, with this input
 abbrev pub run_with : RunOptions → Program → ℕ → Function → List ℤ → meaning.Run

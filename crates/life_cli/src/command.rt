@@ -2,6 +2,7 @@
 ghost use Rattle.std.specs.Prelude.{◌≡◌, ℕ, List, None, Some, map, string_bytes, IfSome};
 ghost use Rattle.life_check.specs.CheckedText.{IsProgramOf};
 ghost use Rattle.life_core.specs.Function.{Program};
+ghost use Rattle.life_job.specs.Words.{asked_of};
 ghost use Rattle.life_store.specs.NoFault.{NoFault};
 ghost use Rattle.life_cli.specs.Accepting.{Accepts};
 ghost use Rattle.life_cli.specs.Ends.{Closes, Ends, status_of, text_of};
@@ -31,7 +32,7 @@ pub fn run_command<F: Files, O: Sink, E: Sink>(
         × ((p : Program) × (IsProgramOf bytes p × NoFault p))) }
     // It answers what is asked of the files that are held; where that isn't told, there are some bytes to
     // which this is the answer.
-    ensures ends { Asks (job_of (map string_bytes words.now)) (F.held files.old) (λ asked. Ends asked
+    ensures ends { Asks (asked_of (map string_bytes words.now)) (F.held files.old) (λ asked. Ends asked
         (F.faults files.old) (F.faults files.new)
         (record { taken = O.taken out.old; faults = O.faults out.old })
         (record { taken = O.taken out.new; faults = O.faults out.new })

@@ -6,18 +6,18 @@ ghost use Rattle.life_store.specs.Meaning.{IsAdmitted};
 ghost use Rattle.life_proper.specs.ProperPrograms.{IsProperProgram};
 ghost use Rattle.life_cli.specs.Ends.{Serves, Tells};
 ghost use Rattle.life_cli.specs.Entry.{entry_of};
-ghost use Rattle.life_cli.specs.Runs.{fault_name, trap_name, Ran, RanFrom};
+ghost use Rattle.life_cli.specs.Runs.{fault_name, growth_of, trap_name, Ran, RanFrom};
 ghost use Rattle.life_cli.specs.Told.{TellsRun};
-ghost use Rattle.life_cli.specs.Words.{most_steps};
+ghost use Rattle.life_job.specs.Matched.{most_steps};
 
 use crate::Status;
 use crate::entry::{Entry, find_entry};
-use crate::job::RunOptions;
 use crate::refusal::{refuse_entry, tell};
 use crate::stop::{Ending, Stop};
 use life_base::Sink;
 use life_core::{CoreProgram, FnId};
-use life_interp::{FaultKind, Limits, Machine, Outcome, TrapKind};
+use life_interp::{FaultKind, Growth, Limits, Machine, Outcome, TrapKind};
+use life_job::{Growth as AskedGrowth, RunOptions};
 use life_types::Place;
 use std::alloc::Global;
 
@@ -72,9 +72,20 @@ fn run_from<O: Sink>(
         cells: options.cells,
         depth: options.depth,
     };
+    let growth = growth_of(options.growth);
     let mut machine = Machine::prepare(alloc, program, limits)?;
-    let outcome = machine.run(number, input, options.growth, options.steps, out);
+    let outcome = machine.run(number, input, growth, options.steps, out);
     tell_outcome(alloc, outcome, options.steps)
+}
+
+// The growth that is asked for, as the machine has it.
+fn growth_of(growth: AskedGrowth) -> Growth
+    ensures { result ≡ growth_of growth }
+{
+    match growth {
+        AskedGrowth::Always => Growth::Always,
+        AskedGrowth::Double => Growth::Double,
+    }
 }
 
 // How the run ended.

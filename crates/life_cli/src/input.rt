@@ -9,17 +9,17 @@ ghost use Rattle.life_cli.specs.FileText.{most_bytes};
 ghost use Rattle.life_cli.specs.InputFile.{numbers_or};
 ghost use Rattle.life_cli.specs.Question.{run_asked, OfFiles};
 ghost use Rattle.life_cli.specs.Runs.{RanWith};
-ghost use Rattle.life_cli.specs.Words.{most_steps};
+ghost use Rattle.life_job.specs.Matched.{most_steps};
 
 use crate::Status;
 use crate::execute::execute;
 use crate::fetch::{Fetched, fetch};
-use crate::job::{RunJob, RunOptions};
 use crate::refusal::{refuse_name, refuse_word, tell};
 use crate::stop::{Ending, Stop};
 use life_base::{Files, Sink};
 use life_core::CoreProgram;
 use life_input::{InputFault, read_numbers};
+use life_job::{RunJob, RunOptions};
 use std::alloc::Global;
 
 /// Runs the program as it is asked for: its input is that of the file, or empty.

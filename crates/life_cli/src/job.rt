@@ -1,38 +1,20 @@
-// What the words of a command ask.
-use life_interp::Growth;
+// Which jobs are served.
+ghost use Rattle.std.specs.Prelude.{◌≡◌, IfSome, option_map};
+ghost use Rattle.life_job.specs.Job as words;
+ghost use Rattle.life_job.specs.Matched.{HasFewSteps};
+ghost use Rattle.life_cli.specs.Words as spec;
 
-/// How a program is run.
-#[derive(Clone, Copy, Debug, PartialEq, Eq)]
-pub struct RunOptions {
-    /// Whether it is run although the profile's rules diagnose something.
-    pub unchecked: bool,
-    /// How a vector grows.
-    pub growth: Growth,
-    /// The most steps that it may take, at most 10^9.
-    pub steps: u64,
-    /// The most live words, at most 10^7.
-    pub cells: u32,
-    /// The most frames that may stand at once, from 1 to 10^4.
-    pub depth: u32,
-}
-
-/// A run that is asked for.
-#[derive(Clone, Copy, Debug)]
-pub struct RunJob<'a> {
-    pub options: RunOptions,
-    /// The name of the function with which it begins.
-    pub function: &'a str,
-    /// The name of the file with its input, which is empty without one.
-    pub input: Option<&'a str>,
-}
+use life_job::{Job as AskedJob, RunJob};
 
 /// What is done with the file.
 #[derive(Clone, Copy, Debug)]
 pub enum Command<'a> {
-    /// It is checked, and the report is written.
-    Check,
+    /// It is checked, and the report is written, as text or as JSON.
+    Check { json: bool },
     /// It is checked and run.
     Run(RunJob<'a>),
+    /// What each of its pointers may point to is written, at each point.
+    Psets,
 }
 
 /// A command and the name of its file.
@@ -42,14 +24,25 @@ pub struct Job<'a> {
     pub file: &'a str,
 }
 
-/// The options that were given so far, each at most once.
-#[derive(Clone, Copy, Debug)]
-pub struct Given<'a> {
-    pub unchecked: bool,
-    pub growth: Option<Growth>,
-    pub steps: Option<u64>,
-    pub cells: Option<u32>,
-    pub depth: Option<u32>,
-    pub function: Option<&'a str>,
-    pub input: Option<&'a str>,
+/// The job that is asked for, if it is one that is served.
+pub fn served<'a>(asked: AskedJob<'a>) -> Option<Job<'a>>
+    requires { HasFewSteps (words.job_seen asked) }
+    ensures job { option_map spec.job_seen result ≡ spec.served (words.job_seen asked.entry) }
+    ensures few { IfSome result (λ job. spec.HasFewSteps (spec.command_seen job.command)) }
+{
+    match asked {
+        AskedJob::Check { file, json } => Some(Job {
+            command: Command::Check { json },
+            file,
+        }),
+        AskedJob::Run { file, run } => Some(Job {
+            command: Command::Run(run),
+            file,
+        }),
+        AskedJob::Psets { file } => Some(Job {
+            command: Command::Psets,
+            file,
+        }),
+        AskedJob::Gen { .. } => None,
+    }
 }

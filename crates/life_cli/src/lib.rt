@@ -8,15 +8,14 @@ mod execute;
 mod fetch;
 mod input;
 mod job;
-mod number;
-mod options;
 mod refusal;
 mod reply;
 mod serve;
 mod source_refusal;
 mod status;
 mod stop;
-mod words;
+mod table;
+mod usage;
 mod work;
 
 pub use command::run_command;

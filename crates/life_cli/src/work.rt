@@ -1,46 +1,67 @@
 // The work of a command: it reads the file and serves its bytes.
-ghost use Rattle.std.specs.Prelude.{◌≡◌, ◌≤◌, None, IfOk, length, map, string_bytes};
+ghost use Rattle.std.specs.Prelude.{◌≡◌, ◌≤◌, None, IfOk, Ok, length, map, string_bytes};
+ghost use Rattle.life_job.specs.Job as asked_job;
+ghost use Rattle.life_job.specs.Matched as matched;
+ghost use Rattle.life_job.specs.Words.{asked_of};
 ghost use Rattle.life_cli.specs.Ends.{Works, WorksOn};
 ghost use Rattle.life_cli.specs.FileText.{Holds, most_bytes};
 ghost use Rattle.life_cli.specs.Question.{text_asked, Asks, OfFiles, OfJob};
-ghost use Rattle.life_cli.specs.Words.{command_seen, job_of, job_seen, AsksUnchecked, HasFewSteps, IsUnchecked};
+ghost use Rattle.life_cli.specs.Words.{command_seen, job_of, job_seen, served, AsksUnchecked, HasFewSteps, IsUnchecked};
 ghost use Rattle.life_cli.specs.declared.status.Status.TheVariants.{Fault, Usage};
 
 use crate::Status;
 use crate::counted::checked;
 use crate::fetch::{Fetched, fetch};
-use crate::job::Job;
+use crate::job::{Job, served};
 use crate::refusal::{refuse_name, tell};
 use crate::serve::{serve_accepted, serve_rejected};
 use crate::source_refusal::refuse_text;
 use crate::stop::{Ending, Stop};
-use crate::words::read_words;
+use crate::usage::{refuse_words, tell_usage};
 use life_base::{Files, Sink};
 use life_check::Checked;
+use life_job::{Job as AskedJob, read_words};
 use std::alloc::Global;
 
 /// Does what the words ask for. Nothing is written to err yet.
-#[tactic(auto, using(crate::proofs::FewSteps::has_few_steps, crate::proofs::Leaves::no_job_works))]
 pub fn work<F: Files, O: Sink>(
     alloc: Global,
     words: &[String],
     files: &mut F,
     out: &mut O,
 ) -> Result<Ending, Stop>
-    ensures works { Asks (job_of (map string_bytes words.now)) (F.held files.old) (λ asked. Works asked
+    ensures works { Asks (asked_of (map string_bytes words.now)) (F.held files.old) (λ asked. Works asked
         (F.faults files.old) (F.faults files.new)
         (record { taken = O.taken out.old; faults = O.faults out.old })
         (record { taken = O.taken out.new; faults = O.faults out.new }) result) }
     ensures no_job { IfOk result (λ ending. ending.status ≡ Usage → job_of (map string_bytes words.now) ≡ None) }
     ensures faults_unchecked { IfOk result (λ ending. ending.status ≡ Fault → AsksUnchecked (job_of (map string_bytes words.now))) }
 {
-    match read_words(words) {
+    match read_words(alloc, words) {
+        Ok(asked) => serve_asked(alloc, asked, files, out),
+        Err(refusal) => refuse_words(alloc, refusal, out),
+    }
+}
+
+// Does what is asked for, where it is served.
+#[tactic(auto, using(crate::proofs::Unasked::unserved_works))]
+fn serve_asked<F: Files, O: Sink>(
+    alloc: Global,
+    asked: AskedJob,
+    files: &mut F,
+    out: &mut O,
+) -> Result<Ending, Stop>
+    requires { matched.HasFewSteps (asked_job.job_seen asked) }
+    ensures works { Asks (Ok (asked_job.job_seen asked.entry)) (F.held files.old) (λ question. Works question
+        (F.faults files.old) (F.faults files.new)
+        (record { taken = O.taken out.old; faults = O.faults out.old })
+        (record { taken = O.taken out.new; faults = O.faults out.new }) result) }
+    ensures no_job { IfOk result (λ ending. ending.status ≡ Usage → served (asked_job.job_seen asked.entry) ≡ None) }
+    ensures faults_unchecked { IfOk result (λ ending. ending.status ≡ Fault → AsksUnchecked (served (asked_job.job_seen asked.entry))) }
+{
+    match served(asked) {
         Some(job) => serve_job(alloc, job, files, out),
-        None => tell(
-            alloc,
-            Status::Usage,
-            "usage: lifecheck COMMAND FILE [OPTIONS]",
-        ),
+        None => tell_usage(alloc),
     }
 }
 

@@ -13,5 +13,6 @@ returns-in_err-machine g c =
 pub returns : goal.returns
 returns g c =
     let ran = rw c.in_ok-machine.ensures.program at c.run-outcome.ensures.run in
-    let here = rw c.in_ok-machine.ensures.limits at ran in
+    let limited = rw c.in_ok-machine.ensures.limits at ran in
+    let here = rw c.growth_of-growth.ensures at limited in
     runs_told c.args.options (program_of c.args.program.now) c.args.number.0 c.args.input.now _ _ c.run-outcome.result c.tell_outcome.result here c.tell_outcome.ensures

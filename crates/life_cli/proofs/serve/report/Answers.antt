@@ -5,4 +5,4 @@ use Rattle.life_cli.proofs.Served.{report_serves}
 use Rattle.life_cli.proofs.serve.report.Goals as goal
 
 pub returns : goal.returns
-returns g c = report_serves (program_of c.args.program.now) (map listed_diag c.args.found.now) c.in_ok-reply.reply _ _ c.hand_out.result c.in_ok-reply.ensures c.hand_out.ensures
+returns g c = report_serves c.args.json (program_of c.args.program.now) (map listed_diag c.args.found.now) c.in_ok-reply.reply _ _ c.hand_out.result c.in_ok-reply.ensures c.hand_out.ensures

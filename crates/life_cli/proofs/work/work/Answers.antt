@@ -1,12 +1,22 @@
-use Rattle.life_cli.proofs.Leaves.{job_is_there, job_is_unchecked, job_works}
-use Rattle.life_cli.specs.Words.{job_seen}
+use Rattle.std.proofs.Common.{map, string_bytes}
+use Rattle.life_job.proofs.Parsed.{some_told}
+use Rattle.life_cli.proofs.Unasked.{asked_no_job, asked_unchecked, asked_works, refused_no_job, refused_unrun, refused_works}
 use Rattle.life_cli.proofs.work.work.Goals as goal
 
-pub returns-in-Some-clause-works : goal.returns-in-Some-clause-works
-returns-in-Some-clause-works g c = job_works _ _ _ _ _ c.serve_job.result (job_seen c.in-Some.job) _ c.in-Some.ensures c.serve_job.ensures
+pub returns-in-Ok-clause-works : goal.returns-in-Ok-clause-works
+returns-in-Ok-clause-works g c = asked_works _ _ c.in-Ok.ensures.read c.serve_asked.result _ _ _ _ _ c.serve_asked.ensures.works
 
-pub returns-in-Some-clause-no_job : goal.returns-in-Some-clause-no_job
-returns-in-Some-clause-no_job g c = job_is_there _ _ _ _ _ c.serve_job.result (job_seen c.in-Some.job) _ c.in-Some.ensures c.serve_job.ensures
+pub returns-in-Ok-clause-no_job : goal.returns-in-Ok-clause-no_job
+returns-in-Ok-clause-no_job g c = asked_no_job _ _ c.in-Ok.ensures.read c.serve_asked.result c.serve_asked.ensures.no_job
 
-pub returns-in-Some-clause-faults_unchecked : goal.returns-in-Some-clause-faults_unchecked
-returns-in-Some-clause-faults_unchecked g c = job_is_unchecked _ _ _ _ _ c.serve_job.result (job_seen c.in-Some.job) _ c.in-Some.ensures c.serve_job.ensures
+pub returns-in-Ok-clause-faults_unchecked : goal.returns-in-Ok-clause-faults_unchecked
+returns-in-Ok-clause-faults_unchecked g c = asked_unchecked _ _ c.in-Ok.ensures.read c.serve_asked.result c.serve_asked.ensures.faults_unchecked
+
+pub returns-in-Err-clause-works : goal.returns-in-Err-clause-works
+returns-in-Err-clause-works g c = refused_works _ _ _ _ _ _ c.refuse_words.result (some_told (map string_bytes c.args.words.now)) c.in-Err.ensures.read c.refuse_words.ensures
+
+pub returns-in-Err-clause-no_job : goal.returns-in-Err-clause-no_job
+returns-in-Err-clause-no_job g c = refused_no_job _ _ _ _ c.refuse_words.result c.in-Err.ensures.read c.refuse_words.ensures
+
+pub returns-in-Err-clause-faults_unchecked : goal.returns-in-Err-clause-faults_unchecked
+returns-in-Err-clause-faults_unchecked g c = refused_unrun _ _ _ _ c.refuse_words.result c.refuse_words.ensures
