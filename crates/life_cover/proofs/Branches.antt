@@ -17,7 +17,6 @@ use Rattle.life_pset.specs.declared.element.Fact.{Fact}
 use Rattle.life_contract.specs.Located.{is_location}
 use Rattle.life_proper.specs.Placed.{type_in}
 use Rattle.life_proper.specs.WellFormed.{is_well_formed_test}
-use Rattle.life_rules.specs.Carrying.{stops_at}
 use Rattle.life_rules.specs.Matching.{fact_at, is_held, is_null}
 use Rattle.life_store.specs.Doing.{owned_pointer}
 use Rattle.life_store.specs.Edits.{owned_at}
@@ -26,7 +25,7 @@ use Rattle.life_store.specs.Meaning.{Verdict, Holds, Fails, Cut, by_number, by_p
 use Rattle.life_store.specs.State.{Pointer, Null, Wild, To, Static, Cell, Empty, Named, Number, Points, State}
 use Rattle.life_store.proofs.CellLemmas.{some_same}
 use Rattle.life_store.proofs.MapLemmas.{one_or_apart}
-use Rattle.life_cover.specs.Covers.{Covers, IsCovered, Look}
+use Rattle.life_cover.specs.Covers.{Covers, IsCovered}
 use Rattle.life_cover.specs.Frames.{FrameCovered, NoInput, RootStands, any_root, look_at}
 use Rattle.life_cover.proofs.Edges.{Passes}
 use Rattle.life_cover.proofs.KnownFrames.{whole_location}

@@ -10,12 +10,10 @@ use Rattle.life_types.specs.declared.place.Place.{Place}
 use Rattle.life_types.specs.declared.ty.Ty.{Ty}
 use Rattle.life_types.specs.declared.ty.Ty.TheVariants as ty
 use Rattle.life_types.specs.declared.ty.TyId.{TyId}
-use Rattle.life_core.specs.declared.operand.Which.TheVariants as which
 use Rattle.life_core.specs.Function.{Function}
 use Rattle.life_core.specs.Operands.{Characters, Location, Operand, whole}
 use Rattle.life_core.specs.Operands as named
 use Rattle.life_core.specs.Step.{Append, Change, Changes, Clear, Erase, PopBack, PushBack, Reserve, Set, Step}
-use Rattle.life_core.specs.Step as step
 use Rattle.life_pset.specs.declared.element.Fact.{Fact}
 use Rattle.life_contract.specs.Signatures.{Signature}
 use Rattle.life_proper.specs.OperandTypes.{is_range, same, walks}
@@ -26,7 +24,6 @@ use Rattle.life_store.specs.Doing.{does}
 use Rattle.life_store.specs.Effects.{Setting, cell}
 use Rattle.life_store.specs.Parts.{local_type}
 use Rattle.life_store.specs.State.{Cell, Empty, Named, Number, Points, State}
-use Rattle.life_store.specs.declared.run.FaultKind.TheVariants as fault
 use Rattle.life_forest.proofs.OneNumber.{one_number}
 use Rattle.life_forest.proofs.ReadyCells.{number_any}
 use Rattle.life_forest.proofs.SeenTypes.{pointer_solid, range_points, walks_seen}

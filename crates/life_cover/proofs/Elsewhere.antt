@@ -8,11 +8,7 @@ use Rattle.life_types.specs.Types.{Types}
 use Rattle.life_types.specs.declared.ty.Ty.{Ty}
 use Rattle.life_types.specs.declared.ty.Ty.TheVariants as ty
 use Rattle.life_types.specs.declared.ty.TyId.{TyId}
-use Rattle.life_core.specs.declared.instr.Form.TheVariants as form
-use Rattle.life_core.specs.declared.instr.Made.TheVariants as made
 use Rattle.life_core.specs.declared.program.Local.{Local}
-use Rattle.life_core.specs.Operands as named
-use Rattle.life_core.specs.Step as step
 use Rattle.life_pset.specs.Elements.{Input, input_at, input_if, input_root, inputs_among, local_inputs, local_locations, number_after}
 use Rattle.life_pset.specs.Places.{longer, member_place, members_place, owned_place, owned_step, path, root_place, stepped, too_long}
 use Rattle.life_pset.specs.Shapes.{members_type, shape, ty_if}

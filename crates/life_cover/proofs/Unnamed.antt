@@ -6,21 +6,14 @@ use Rattle.std.proofs.lemmas.Bool.{or_right}
 use Rattle.std.proofs.lemmas.Bool.Decides.{nat_tests}
 use Rattle.life_types.specs.Types.{Types}
 use Rattle.life_types.specs.declared.place.Place.{Place}
-use Rattle.life_types.specs.declared.ty.Ty.TheVariants as ty
-use Rattle.life_core.specs.declared.instr.Form.TheVariants as form
-use Rattle.life_core.specs.declared.instr.Made.TheVariants as made
 use Rattle.life_core.specs.declared.stmt.Edge.{Edge}
 use Rattle.life_core.specs.declared.stmt.Point.{Point}
 use Rattle.life_core.specs.Function.{Function}
 use Rattle.life_core.specs.Linked.{Linked, code_of, numbered, spot_of, spot_of_linked}
-use Rattle.life_core.specs.Operands as named
 use Rattle.life_core.specs.Step.{Step}
-use Rattle.life_core.specs.Step as step
 use Rattle.life_core.specs.Tree.{Action, Node, Question, Return, Spot, Stop, spots}
 use Rattle.life_core.proofs.SpotLemmas.{code_spots}
-use Rattle.life_pset.specs.declared.element.Element.TheVariants as element
 use Rattle.life_pset.specs.declared.element.Fact.{Fact}
-use Rattle.life_pset.specs.declared.element.Root.TheVariants as root
 use Rattle.life_pset.proofs.Numbering.{numbered_contains}
 use Rattle.life_contract.specs.Signatures.{Signature}
 use Rattle.life_proper.specs.GivenOver.{all_keep_given, given_in, given_spot, is_kept, node_keeps_given, spot_keeps_given}
