@@ -4,17 +4,15 @@ use Rattle.life_types.specs.Types.{Types}
 use Rattle.life_store.specs.Cells.{none}
 use Rattle.life_store.specs.Content.{Content, empty_content}
 use Rattle.life_store.specs.References.{Rows}
+use Rattle.life_seen.specs.Housed.{IsHoused}
 use Rattle.life_seen.specs.Kinds.{kinds_of}
 use Rattle.life_seen.proofs.Empty.{shows_empty}
-use Rattle.life_interp.specs.Fits.{meant, HoldsNumbers}
-use Rattle.life_interp.proofs.NumberLemmas.{holds}
-use Rattle.life_interp.proofs.Numbers.{no_numbers}
+use Rattle.life_interp.specs.Fits.{meant}
 
-pub holds_nothing : (types : Types) (c : Content) (rows : Rows) → c ≡ empty_content → rows ≡ none → HoldsNumbers types c rows
-holds_nothing types c rows empty vacant =
-    subst (λ x. HoldsNumbers types x rows) (sym empty)
-    (subst (λ x. HoldsNumbers types empty_content x) (sym vacant)
-    (holds types empty_content none empty_content (shows_empty (kinds_of types)) (no_numbers types)))
+pub housed_nothing : (types : Types) (c : Content) (rows : Rows) → c ≡ empty_content → rows ≡ none → IsHoused (kinds_of types) c rows
+housed_nothing types c rows empty vacant =
+    subst (λ (x : Content). IsHoused (kinds_of types) x rows) (sym empty)
+    (subst (λ (x : Rows). IsHoused (kinds_of types) empty_content x) (sym vacant) (shows_empty (kinds_of types)).housed)
 
 -- .. as the meaning begins
 pub meant_empty : (types : Types) (c : Content) (rows : Rows) → c ≡ empty_content → rows ≡ none → meant types c rows ≡ empty_content

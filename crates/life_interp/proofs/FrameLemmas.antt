@@ -154,7 +154,7 @@ pub wait_fits : {A E : Type 0} (types : Types) (d : Content) (rows : Rows) (old 
     → OnOk result (IsFit types d rows (all_cells new))
 wait_fits types d rows old new cells (Err e) same stacked fit waiting = tt
 wait_fits types d rows old new cells (Ok a) same stacked fit waiting = record {
-  store = fit.store;
+  housed = fit.housed;
   held = fit_both d rows (waiting_cells new.waiting.items) new.cells.items (subst (CellsFit d rows) (sym stacked) waiting) (subst (CellsFit d rows) (sym same) fit.held);
 }
 

@@ -25,11 +25,10 @@ use Rattle.life_seen.specs.Named.{names_of}
 use Rattle.life_seen.specs.Seen.{object_seen, seen}
 use Rattle.life_seen.proofs.LiveWords.{live_words_seen}
 use Rattle.life_interp.specs.Cells.{state_of}
-use Rattle.life_interp.specs.Fits.{most_births, AreNumbers, CanBear, CanStep, CellFits, CellsFit, Gives, Grows, IsNumber}
+use Rattle.life_interp.specs.Fits.{most_births, CanBear, CanStep, CellFits, CellsFit, Gives, Grows}
 use Rattle.life_interp.specs.declared.value.Cell.{Cell}
 use Rattle.life_interp.proofs.FitLemmas.{cell_fits}
 use Rattle.life_interp.proofs.NumberLemmas.{unborn, IsNewValue}
-use Rattle.life_interp.proofs.Numbers.{numbers_born, numbers_written}
 
 -- ---- an object with a value
 
@@ -67,10 +66,6 @@ live_more z ty c none =
     let d : 3 + live_words_of (given_content z ty c) ≡ 3 + live_words_of (record { objects = two; births = c.births; clock = c.clock }) =
     sum-set cost two c.births second third (at-set_same one c.births c.births second refl) in
     omega (arith, a, b, d)
-
-pub numbers_given : (types : Types) (m : Content) (z : ℤ) (ty : TyId) → AreNumbers types m → IsNumber types ty → AreNumbers types (given_content z ty m)
-numbers_given types m z ty h is =
-    numbers_written types (with_value_object ty m) (numbers_born types m h ty is) m.births 0 (word_of_number z) (value_object ty m.clock) (at-set_same (set m.objects m.births (newborn ty 1 1 m.clock)) m.births m.births (value_object ty m.clock) refl)
 
 pub given_gives : (kinds : Kinds) (c e : Content) (rows after : Rows) (z : ℤ) (ty : TyId) (limit : ℕ) → IsHoused kinds c rows → live_words_of c + 3 ≤ limit → seen kinds e after ≡ given_content z ty (seen kinds c rows) → Gives limit c e
 given_gives kinds c e rows after z ty limit h room is =

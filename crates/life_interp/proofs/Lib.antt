@@ -2,7 +2,6 @@ pub mod BackLemmas
 pub mod CallLemmas
 pub mod CodeLists
 pub mod EmptyStore
-pub mod Ends
 pub mod FirstWords
 pub mod FitLemmas
 pub mod FrameLemmas
@@ -10,7 +9,6 @@ pub mod GiveLemmas
 pub mod Leads
 pub mod LocalLemmas
 pub mod NumberLemmas
-pub mod Numbers
 pub mod PlaceLemmas
 pub mod PointLemmas
 pub mod Quiet
@@ -19,7 +17,6 @@ pub mod SameCalls
 pub mod SamePoints
 pub mod SameSteps
 pub mod Single
-pub mod SingleSteps
 pub mod SoundCalls
 pub mod SoundEnds
 pub mod SoundEntry

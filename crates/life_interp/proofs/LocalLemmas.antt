@@ -9,9 +9,10 @@ use Rattle.life_core.specs.declared.instr.Form.{Form}
 use Rattle.life_core.specs.declared.program.Local.{Local}
 use Rattle.life_core.specs.Function.{Function}
 use Rattle.life_core.specs.Holdings.{Holding, held_by, sort_of}
-use Rattle.life_store.specs.Content.{Content, Object, live_words_of, without}
-use Rattle.life_store.specs.Doing.{Setting, born_pointer, Effect, Next, Traps, Strays, put_cell, born_object, end_object, with_value_object, on_next, cell}
-use Rattle.life_interp.specs.SoFar.{live_as, live_over, live_local, end_cell, end_typed}
+use Rattle.life_store.specs.Content.{Content, live_words_of}
+use Rattle.life_store.specs.Doing.{Setting, born_pointer, Effect, Next, Traps, Strays, put_cell, born_object, end_cell, end_object, with_value_object, on_next, cell}
+use Rattle.life_store.specs.Parts.{local_parts}
+use Rattle.life_interp.specs.SoFar.{live_as, live_over, live_local}
 use Rattle.life_store.specs.References.{Rows, object_of}
 use Rattle.life_store.specs.State as state
 use Rattle.life_store.specs.State.{State}
@@ -22,9 +23,9 @@ use Rattle.life_seen.specs.Kinds.{kinds_of}
 use Rattle.life_seen.specs.Named.{names_of}
 use Rattle.life_seen.specs.Seen.{object_seen}
 use Rattle.life_seen.proofs.LiveWords.{live_words_seen}
-use Rattle.life_seen.proofs.References.{found_seen, seen_by_number}
+use Rattle.life_seen.proofs.References.{seen_by_number}
 use Rattle.life_interp.specs.Cells.{cells_seen, pointer_seen, state_of}
-use Rattle.life_interp.specs.Fits.{meant, IsNumber, PointerFits}
+use Rattle.life_interp.specs.Fits.{meant, PointerFits}
 use Rattle.life_interp.specs.Steps.{BirthFails, Leaves, TellsEnd}
 use Rattle.life_interp.specs.declared.ending.Ending.{Ending}
 use Rattle.life_interp.specs.declared.ending.Ending.TheVariants as ending
@@ -89,23 +90,14 @@ leaves_as effect other next (Err b) e h = λ output input. subst (λ x. TellsEnd
 
 -- ---- ends
 
-module _ (types : Types) (c : Content) (rows : Rows) (cells : List Cell) (x : ℕ) (r : ObjRef) (output : List ℕ) (input : List ℤ) (h : IsHoused (kinds_of types) c rows)
-    (there : slice_get (cells_seen cells) x ≡ Some (state.Named r.birth)) where
-  abbrev now : State
-  now = state_of (meant types c rows) cells output input
-
-  pub ended_step : (o : Object) → object_of c rows r ≡ Some o → IsNumber types o.ty
-      → end_cell types (cell now x) x now ≡ Next (put_cell x state.Empty (state_of (without r.birth (meant types c rows)) cells output input))
-  ended_step o lives is =
-      let p = object_seen (kinds_of types) (names_of c rows) o in
-      ap (λ o. end_cell types o x now) there
-      ∙ ap (λ o. end_typed types o r.birth x now) (found_seen (kinds_of types) c rows h r o lives)
-      ∙ ap (λ parts. end_object parts (Some p) r.birth x now) is
-
-  pub ended_strays : IsRef c rows r → object_of c rows r ≡ None → end_cell types (cell now x) x now ≡ Strays
-  ended_strays ref gone =
-      let none = sym (seen_by_number (kinds_of types) c rows h r ref) ∙ ap (option_map (object_seen (kinds_of types) (names_of c rows))) gone in
-      ap (λ o. end_cell types o x now) there ∙ ap (λ o. end_typed types o r.birth x now) none
+-- a local whose object is gone
+pub ended_strays : (types : Types) (f : Function) (c : Content) (rows : Rows) (cells : List Cell) (x : ℕ) (r : ObjRef) (output : List ℕ) (input : List ℤ) → IsHoused (kinds_of types) c rows
+    → slice_get (cells_seen cells) x ≡ Some (state.Named r.birth) → IsRef c rows r → object_of c rows r ≡ None
+    → end_cell (local_parts types f x) (cell (state_of (meant types c rows) cells output input) x) x (state_of (meant types c rows) cells output input) ≡ Strays
+ended_strays types f c rows cells x r output input h there ref gone =
+    let now = state_of (meant types c rows) cells output input in
+    let none = sym (seen_by_number (kinds_of types) c rows h r ref) ∙ ap (option_map (object_seen (kinds_of types) (names_of c rows))) gone in
+    ap (λ o. end_cell (local_parts types f x) o x now) there ∙ ap (λ o. end_object (local_parts types f x) o r.birth x now) none
 
 -- one after the other
 pub on_next_ends : (e : Effect) (b : Ending) (go : State → Effect) → TellsEnd e b → TellsEnd (on_next e go) b

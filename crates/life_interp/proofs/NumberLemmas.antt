@@ -1,46 +1,21 @@
--- A store of objects of one number each: they come to life and are written as the meaning has it.
-use Rattle.std.proofs.Common.{◌≡◌, ℕ, ◌<◌, length, Option, Some, None, refl, sym, ap, subst, ◌∙◌, arith}
+-- An object of one number comes to life as the meaning has it.
+use Rattle.std.proofs.Common.{◌≡◌, ℕ, ◌<◌, length, Option, Some, None, refl, sym, ap, ◌∙◌, arith}
 use Rattle.std.proofs.lemmas.List.{length-map}
 use Rattle.std.proofs.lemmas.Option.{same_Some}
-use Rattle.life_types.specs.Types.{Types}
 use Rattle.life_types.specs.declared.ty.TyId.{TyId}
 use Rattle.life_store.specs.Cells.{at, set, at-set_same}
-use Rattle.life_store.specs.Content.{Object, Content, newborn, with_birth, with_object, with_word}
+use Rattle.life_store.specs.Content.{Object, Content, newborn, with_birth}
 use Rattle.life_store.specs.Doing.{with_value_object}
 use Rattle.life_store.specs.Held.{resized_at, resized_if}
-use Rattle.life_store.specs.Kinds.{kind_in}
 use Rattle.life_store.specs.References.{Rows, HasWord, object_of}
 use Rattle.life_store.specs.declared.object.ObjRef.{ObjRef}
 use Rattle.life_store.proofs.Housing.{value_object}
 use Rattle.life_seen.specs.Housed.{IsHoused, IsRef, Shows}
-use Rattle.life_seen.specs.Kinds.{Kinds, kinds_of}
+use Rattle.life_seen.specs.Kinds.{Kinds}
 use Rattle.life_seen.specs.Named.{names_of}
 use Rattle.life_seen.specs.Seen.{slot_seen, object_seen, seen}
 use Rattle.life_seen.proofs.Contents.{seen_none}
 use Rattle.life_seen.proofs.References.{found_seen, lives_placed, of_found, placed_lives}
-use Rattle.life_words.specs.Numbers.{IsPlain}
-use Rattle.life_interp.specs.Fits.{meant, AreNumbers, HoldsNumbers, IsNumber}
-use Rattle.life_interp.proofs.Numbers.{numbers_written}
-
-pub holds : (types : Types) (c : Content) (rows : Rows) (m : Content) → Shows (kinds_of types) c rows m → AreNumbers types m → HoldsNumbers types c rows
-holds types c rows m shows h = record { housed = shows.housed; numbers = subst (λ x. AreNumbers types x) (sym shows.is) h }
-
--- ---- what is found
-
-module _ (types : Types) (c : Content) (rows : Rows) (h : HoldsNumbers types c rows) where
-  pub number_here : (r : ObjRef) (o : Object) → object_of c rows r ≡ Some o → IsNumber types o.ty
-  number_here r o there = h.numbers.single r.birth (object_seen (kinds_of types) (names_of c rows) o) (found_seen (kinds_of types) c rows h.housed r o there)
-
-  pub plain_here : (r : ObjRef) (o : Object) → object_of c rows r ≡ Some o → (word : ℕ) → IsPlain (kinds_of types) c rows r word o
-  plain_here r o there word = record { housed = h.housed; there = there; plain = ap (λ p. kind_in p word) (number_here r o there) }
-
-  -- a number is written
-  pub holds_written : (d : Content) (new : Rows) (r : ObjRef) (i w : ℕ) (o : Object) → object_of c rows r ≡ Some o
-      → Shows (kinds_of types) d new (with_object r.birth (with_word i 0 w (object_seen (kinds_of types) (names_of c rows) o)) (meant types c rows)) → HoldsNumbers types d new
-  holds_written d new r i w o there shows =
-      holds types d new _ shows (numbers_written types (meant types c rows) h.numbers r.birth i w (object_seen (kinds_of types) (names_of c rows) o) (found_seen (kinds_of types) c rows h.housed r o there))
-
--- ---- what comes to life
 
 -- nothing has the next number
 pub unborn : (kinds : Kinds) (c : Content) (rows : Rows) → IsHoused kinds c rows → at (seen kinds c rows).objects c.births ≡ None

@@ -1,6 +1,6 @@
 -- What is ready the machine does as the meaning says.
-use Rattle.std.proofs.Common.{◌≡◌, ◌⊎◌, ⊎_elim, inl, inr, ℕ, List, [], ◌∷◌, Option, Some, None, refl, sym, ap, subst, ◌∙◌, arith}
-use Rattle.std.specs.Prelude.{slice_get, slice_set}
+use Rattle.std.proofs.Common.{◌≡◌, ◌⊎◌, ⊎_elim, inl, inr, ℕ, List, [], ◌∷◌, Option, Some, None, refl, sym, ap, ◌∙◌, arith}
+use Rattle.std.specs.Prelude.{slice_get}
 use Rattle.life_types.specs.Types.{Types}
 use Rattle.life_types.specs.declared.ty.TyId.{TyId}
 use Rattle.life_core.specs.Function.{Function}
@@ -11,22 +11,20 @@ use Rattle.life_core.specs.Step.{Step, Live, End, Eval, Load, Save, Copy, Move, 
 use Rattle.life_core.specs.declared.instr.Form.{Form}
 use Rattle.life_core.specs.declared.program.Local.{Local}
 use Rattle.life_proper.proofs.Sorted.{IsOperandSorted, IsPortSorted, IsSourceSorted, IsStepSorted, IsTestSorted}
-use Rattle.life_store.specs.Cells.{at}
 use Rattle.life_store.specs.Content.{Object, word_at}
 use Rattle.life_store.specs.Doing as doing
 use Rattle.life_store.specs.Doing.{Setting, Effect, Next, Traps, Faults, Strays, cell, put_cell, member_pointed, operand_word, pointer_word, on_number, on_pointer, on_next, on_place, on_found, number_in_word}
 use Rattle.life_store.specs.Iterators.{at_index}
 use Rattle.life_store.specs.Meaning as meaning
 use Rattle.life_store.specs.Meaning.{pointer_test, tested, whole_tested}
-use Rattle.life_store.specs.Parts.{Parts, local_parts, local_type, parts_at, location_type, target_type, word_within}
+use Rattle.life_store.specs.Parts.{local_type, location_type, target_type, word_within}
 use Rattle.life_store.specs.State.{Characters, Pointer, Null, Wild, To, Static, Cell, Empty, Named, Number, Points, State, ready_of}
-use Rattle.life_store.proofs.CellLemmas.{pointer_cell, set_sorted, view_cell}
+use Rattle.life_store.proofs.CellLemmas.{pointer_cell, view_cell}
 use Rattle.life_store.proofs.Settling.{IsPlain}
-use Rattle.life_store.proofs.Sorts.{IsSorted, named_sort}
-use Rattle.life_store.proofs.WholeLocals.{object_single, whole_cell, whole_pointed}
+use Rattle.life_store.proofs.Sorts.{IsSorted}
+use Rattle.life_store.proofs.WholeLocals.{whole_cell, whole_pointed}
 use Rattle.life_interp.specs.SoFar as so_far
 use Rattle.life_interp.proofs.FirstWords.{AreFirst, get_first}
-use Rattle.life_interp.proofs.SingleSteps.{IsSingle, SingleNext, end_single}
 
 -- ---- one after the other
 
@@ -39,7 +37,7 @@ next_same Strays go go' h = refl
 -- ---- operands
 
 module _ (types : Types) (f : Function) (st : State) (sorted : IsSorted types f st.cells) (first : AreFirst st.cells) where
-  locate_same : (o : Operand) → IsOperandSorted types f (ready_of st) o → doing.locate types f o st ≡ so_far.locate o st
+  pub locate_same : (o : Operand) → IsOperandSorted types f (ready_of st) o → doing.locate types f o st ≡ so_far.locate o st
   locate_same (Name l) ready = refl
   locate_same (Through p members) ready = ap (doing.behind_cell st.world.content) (whole_cell types f p st ready.1.0)
 
@@ -50,7 +48,7 @@ module _ (types : Types) (f : Function) (st : State) (sorted : IsSorted types f 
   pointer_word_first (To t) x e = get_first st.cells x (Points (To t)) first e
   pointer_word_first (Static c) x e = refl
 
-  word_first : (o : Operand) → IsOperandSorted types f (ready_of st) o → operand_word types f o st ≡ 0
+  pub word_first : (o : Operand) → IsOperandSorted types f (ready_of st) o → operand_word types f o st ≡ 0
   word_first (Name l) ready = ap (word_within types (local_type types f l.local)) ready.0
   word_first (Through p members) ready =
       let v = pointer_cell types f st.cells sorted p.local ready.1.1 in
@@ -65,7 +63,7 @@ module _ (types : Types) (f : Function) (st : State) (sorted : IsSorted types f 
       ap (λ w. on_place (doing.locate types f o st) (go w) fixed) (word_first o ready)
       ∙ ap (λ x. on_place x (go 0) fixed) (locate_same o ready)
 
--- ---- births and ends
+-- ---- births
 
 blank_object : Blank ≡ AnObject → ⊥
 blank_object e = cc
@@ -94,53 +92,9 @@ module _ (s : Setting) (types : Types) where
   live_same f None form x st e = refl
   live_same f (Some l) form x st e = over_same (cell st x) (sort_of types f x) l.ty form x st e
 
-strays_on : {st : State} → Strays ≡ Next st → ⊥
-strays_on e = cc
-
-same_cells : {a b : State} → Next a ≡ Next b → a.cells ≡ b.cells
-same_cells e = cc
-
-module _ (types : Types) (f : Function) where
-  -- the object's parts are the local's
-  object_end_same : (parts : Parts) (o : Option Object) (n x : ℕ) (st : State) → ((p : Object) → o ≡ Some p → parts ≡ parts_at types p.ty) → doing.end_object parts o n x st ≡ so_far.end_typed types o n x st
-  object_end_same parts None n x st same = refl
-  object_end_same parts (Some o) n x st same = ap (λ p. doing.end_object p (Some o) n x st) (same o refl)
-
-  end_same : (x : ℕ) (st : State) → IsSorted types f st.cells → IsSingle types st → doing.end_cell (local_parts types f x) (cell st x) x st ≡ so_far.end_cell types (cell st x) x st
-  end_same x st sorted single = go (cell st x) refl
-    where
-      go : (o : Option Cell) → slice_get st.cells x ≡ o → doing.end_cell (local_parts types f x) o x st ≡ so_far.end_cell types o x st
-      go None e = refl
-      go (Some Empty) e = refl
-      go (Some (Number z)) e = refl
-      go (Some (Points p)) e = refl
-      go (Some (Named n)) e =
-          object_end_same (local_parts types f x) (at st.world.content.objects n) n x st
-          (λ o there. object_single types f x (named_sort types f st.cells x n sorted e) ∙ sym (single n o there))
-
-  -- .. and it leaves a blank
-  ended_is : (x : ℕ) (o : Option Cell) (st st' : State) → so_far.end_cell types o x st ≡ Next st' → st'.cells ≡ slice_set st.cells x Empty
-  ended_is x None st st' e = absurd (strays_on e)
-  ended_is x (Some Empty) st st' e = absurd (strays_on e)
-  ended_is x (Some (Number z)) st st' e = absurd (strays_on e)
-  ended_is x (Some (Points p)) st st' e = sym (same_cells e)
-  ended_is x (Some (Named n)) st st' e = go (at st.world.content.objects n) e
-    where
-      go : (o : Option Object) → so_far.end_typed types o n x st ≡ Next st' → st'.cells ≡ slice_set st.cells x Empty
-      go None e = absurd (strays_on e)
-      go (Some o) e = sym (same_cells e)
-
-  ends_same : (xs : List ℕ) (st : State) → IsSorted types f st.cells → IsSingle types st → doing.end_locals types f xs st ≡ so_far.end_locals types xs st
-  ends_same [] st sorted single = refl
-  ends_same (x ∷ xs) st sorted single =
-      ap (λ e. on_next e (doing.end_locals types f xs)) (end_same x st sorted single)
-      ∙ next_same (so_far.end_cell types (cell st x) x st) (doing.end_locals types f xs) (so_far.end_locals types xs)
-      (λ st' e. ends_same xs st' (subst (IsSorted types f) (sym (ended_is x (cell st x) st st' e)) (set_sorted types f st.cells x Empty tt sorted))
-      (subst (SingleNext types) e (end_single types (cell st x) x st single)))
-
 -- ---- the instructions
 
-module _ (s : Setting) (types : Types) (fs : List Function) (f : Function) (st : State) (sorted : IsSorted types f st.cells) (first : AreFirst st.cells) (single : IsSingle types st) where
+module _ (s : Setting) (types : Types) (fs : List Function) (f : Function) (st : State) (sorted : IsSorted types f st.cells) (first : AreFirst st.cells) where
   aim_same : (p : Location) (sort : Holding) (x : Source) → p.members ≡ [] → IsSourceSorted types f (ready_of st) sort x → doing.aimed s types f p x st ≡ so_far.aimed s p.local x st
   aim_same p sort source.Null whole ready = whole_pointed types f p st whole Null
   aim_same p sort (source.Text n) whole ready = whole_pointed types f p st whole (doing.viewed s.texts n)
@@ -170,7 +124,7 @@ module _ (s : Setting) (types : Types) (fs : List Function) (f : Function) (st :
 
   pub does_same : (i : Step) → IsPlain i → IsStepSorted types f fs (ready_of st) i → doing.does s types f i st ≡ so_far.does s types f i st
   does_same (Live x form) plain ready = live_same s types f (slice_get f.locals x) form x st ready.1
-  does_same (End xs) plain ready = ends_same types f xs st sorted single
+  does_same (End xs) plain ready = refl
   does_same (Eval r op) plain ready = refl
   does_same (Load r o) plain ready = place_same types f st sorted first o (λ w n i object. Next (put_cell r (Number (number_in_word (word_at object i w))) st)) _ ready.1
   does_same (Save o r) plain ready = saved_same (cell st r)

@@ -1,5 +1,5 @@
--- Each object that comes to life in a run so far is one number.
-use Rattle.std.proofs.Common.{◌≡◌, ℕ, ◌+◌, Option, Some, None, refl, subst}
+-- A local that holds an object is of a type of numbers.
+use Rattle.std.proofs.Common.{◌≡◌, Option, Some, None, refl}
 use Rattle.std.specs.Prelude.{slice_get}
 use Rattle.life_types.specs.Types.{Types, class, class_at}
 use Rattle.life_types.specs.declared.ty.Class.{Class}
@@ -10,15 +10,8 @@ use Rattle.life_types.specs.declared.ty.TyId.{TyId}
 use Rattle.life_core.specs.Holdings.{AnObject, Blank, held_by, held_if, pointer_held}
 use Rattle.life_core.specs.declared.program.Local.{Local}
 use Rattle.life_core.specs.declared.program.LocalKind.{LocalKind}
-use Rattle.life_store.specs.Cells.{set}
-use Rattle.life_store.specs.Content.{Object, Content, newborn, with_birth, without}
-use Rattle.life_store.specs.Doing.{with_value_object}
 use Rattle.life_store.specs.Parts.{Parts, Single, parts_of, parts_within}
-use Rattle.life_store.proofs.Housing.{value_object}
-use Rattle.life_seen.proofs.MapViews.{set_cases, unset_there}
-use Rattle.life_interp.specs.Fits.{AreSingle, IsNumber}
-
--- ---- a local that holds an object is of a type of numbers
+use Rattle.life_interp.specs.Fits.{IsNumber}
 
 not_pointer : (o : Option Ty) → AnObject ≡ pointer_held o → ⊥
 not_pointer None e = cc
@@ -77,16 +70,3 @@ value_single types part (Some (variant.Struct number)) e = absurd (not_struct e)
 pub object_is_number : (types : Types) (l : Local) → AnObject ≡ held_by types (Some l) → IsNumber types l.ty
 object_is_number types l e =
     value_single types (parts_within l.ty.0 types) (slice_get types.types l.ty.0) (object_value (class_at types l.ty) l.kind (slice_get types.types l.ty.0) e)
-
--- ---- objects are one number each, and stay so
-
-module _ (types : Types) (m : Content) (h : AreSingle types m) where
-  pub single_with : (n births clock : ℕ) (o : Object) → IsNumber types o.ty → AreSingle types (record { objects = set m.objects n o; births = births; clock = clock })
-  single_with n births clock o is = λ k p there. set_cases m.objects n k o p there (λ e same. subst (λ (x : Object). IsNumber types x.ty) same is) (λ ne old. h k p old)
-
-  pub single_without : (n : ℕ) → AreSingle types (without n m)
-  single_without n = λ k p there. h k p (unset_there m.objects n k p there).1
-
-pub single_born : (types : Types) (m : Content) (ty : TyId) → AreSingle types m → IsNumber types ty → AreSingle types (with_value_object ty m)
-single_born types m ty h is =
-    single_with types (with_birth ty 1 1 m) (single_with types m h m.births (m.births + 1) m.clock (newborn ty 1 1 m.clock) is) m.births (m.births + 1) (m.clock + 1) (value_object ty m.clock) is

@@ -8,6 +8,7 @@ use Rattle.life_types.specs.declared.ty.Ty.{Ty}
 use Rattle.life_types.specs.declared.ty.TyId.{TyId}
 use Rattle.life_core.specs.Function.{Function}
 use Rattle.life_store.specs.Births.{end_cell, end_object}
+use Rattle.life_store.specs.Cells.{at}
 use Rattle.life_store.specs.Content.{Object, Content, without}
 use Rattle.life_store.specs.Effects.{Next, cell, put_cell}
 use Rattle.life_store.specs.Held.{slots_if, words_if}
@@ -20,9 +21,9 @@ use Rattle.life_store.specs.declared.object.ObjRef.{ObjRef}
 use Rattle.life_store.proofs.MapLemmas.{one_or_apart}
 use Rattle.life_forest.specs.FrameTypes.{Stands}
 use Rattle.life_forest.specs.Frames.{named_in}
-use Rattle.life_forest.specs.Kinds.{rank_if, rank_of}
+use Rattle.life_forest.specs.Kinds.{Kinds, rank_if, rank_of}
 use Rattle.life_forest.specs.Kinds.{kinds_of as forest_kinds}
-use Rattle.life_forest.specs.Owned.{times}
+use Rattle.life_forest.specs.Owned.{owned_list, times}
 use Rattle.life_forest.specs.Values.{IsOf, Known}
 use Rattle.life_forest.proofs.Counting.{one_apart, one_same}
 use Rattle.life_forest.proofs.Following.{in_hand}
@@ -32,7 +33,7 @@ use Rattle.life_seen.specs.Housed.{IsHoused, Shows}
 use Rattle.life_seen.specs.Kinds.{kinds_of}
 use Rattle.life_seen.specs.Seen.{seen}
 use Rattle.life_seen.proofs.References.{found}
-use Rattle.life_values.specs.Ended.{ended_number}
+use Rattle.life_values.specs.Ended.{ended_each, ended_number}
 use Rattle.life_values.specs.Ending.{CanEnd}
 use Rattle.life_values.proofs.Meant.{one_slot, shows_meant}
 
@@ -84,6 +85,16 @@ deep_enough types depth ty deep = go (slice_get types.types ty.0) refl
     go : (t : Option Ty) → slice_get types.types ty.0 ≡ t → rank_if ty.0 t < depth
     go None e = omega (arith, deep)
     go (Some t) e = let within = slice_get_within types.types ty.0 t e in omega (arith, within, deep)
+
+-- ---- nothing is counted where objects end
+
+each_counts : (end : ℕ → Content → Content) → ((n : ℕ) (c : Content) → ((end n c).births ≡ c.births) × ((end n c).clock ≡ c.clock)) → (ns : List ℕ) (c : Content) → ((ended_each end ns c).births ≡ c.births) × ((ended_each end ns c).clock ≡ c.clock)
+each_counts end h [] c = (refl, refl)
+each_counts end h (n ∷ ns) c = let i = each_counts end h ns (end n c) in let j = h n c in (i.0 ∙ j.0, i.1 ∙ j.1)
+
+pub ended_counts : (kind : Kinds) (depth n : ℕ) (c : Content) → ((ended_number kind depth n c).births ≡ c.births) × ((ended_number kind depth n c).clock ≡ c.clock)
+ended_counts kind zero n c = (refl, refl)
+ended_counts kind (suc depth) n c = each_counts (ended_number kind depth) (λ k d. ended_counts kind depth k d) (owned_list kind (at c.objects n)) (without n c)
 
 -- ---- an object that a local names
 

@@ -20,10 +20,9 @@ use Rattle.life_store.specs.State.{State}
 use Rattle.life_store.proofs.Handing as handing
 use Rattle.life_store.proofs.Handing.{AreSuited, HandsAll}
 use Rattle.life_interp.specs.Cells.{cells_seen, one_seen, state_of, world_of}
-use Rattle.life_interp.specs.Fits.{AreSingle}
 use Rattle.life_interp.specs.Frames.{function_at, point_at, stack_seen, waiting_seen, AllBegin}
 use Rattle.life_interp.specs.SoFar as so_far
-use Rattle.life_interp.specs.Sound.{AreSound}
+use Rattle.life_interp.specs.Sound.{AreSound, IsAt}
 use Rattle.life_interp.specs.Walk as walk
 use Rattle.life_interp.specs.Walk.{first_way, second_way}
 use Rattle.life_interp.specs.Walking.{IsOwn, IsSoundWalk, StandsHere}
@@ -82,14 +81,21 @@ module _ (p : Program) (frames : Frames) (c : Content) (sound : IsSoundWalk p fr
       go None e h = absurd (none-some (record { spot = spot_at place node; leads = ls }) e)
       go (Some q) e h = record { point = q; here = e; known = λ ins. with_ports p stack function (Some q) (at []) [] ins h }
 
+  -- an instruction stands there
+  pub own_at : (place : Place) (i : Step) (to : Option ℕ) → StandsHere p frames place (Action i) (goes to) → (f : Function) → function_at p.functions frames.function ≡ f → IsAt p f i (state_of c frames.cells.items [] [])
+  own_at place i to stands f is =
+      let h = is_here place (Action i) (goes to) stands in
+      subst (λ (g : Function). IsAt p g i (state_of c frames.cells.items [] [])) is
+      (record { behind = stack; point = h.point; linked = record { spot = spot_at place (Action i); leads = goes to }; here = h.here; is = refl; sound = h.known [] })
+
   -- behind an instruction
-  pub own_sound : (place : Place) (i : Step) (to : Option ℕ) → StandsHere p frames place (Action i) (goes to) → IsOwn i → AreSingle p.types c → (f : Function) → function_at p.functions frames.function ≡ f → (s : Setting) (ins rest : List ℤ) (text : List ℕ) (d : Content) (new : List Cell)
+  pub own_sound : (place : Place) (i : Step) (to : Option ℕ) → StandsHere p frames place (Action i) (goes to) → IsOwn i → (f : Function) → function_at p.functions frames.function ≡ f → (s : Setting) (ins rest : List ℤ) (text : List ℕ) (d : Content) (new : List Cell)
       → so_far.does s p.types f i (state_of c frames.cells.items [] ins) ≡ Next (state_of d new text rest) → AreSound p (stack_seen p.functions frames.waiting.items) (function_at p.functions frames.function) to (state_of d new [] [])
-  own_sound place i to stands own single f is s ins rest text d new e =
+  own_sound place i to stands own f is s ins rest text d new e =
       let h = is_here place (Action i) (goes to) stands in
       let l : Linked = record { spot = spot_at place (Action i); leads = goes to } in
       let ready = asked p stack function h.point (at ins) (h.known ins) l h.here in
-      let same = does_same s p.types p.functions function (at ins) (h.known ins).stands.sorted (seen_first frames.cells.items) single i (own_plain i own) ready in
+      let same = does_same s p.types p.functions function (at ins) (h.known ins).stands.sorted (seen_first frames.cells.items) i (own_plain i own) ready in
       let done = same ∙ ap (λ (g : Function). so_far.does s p.types g i (at ins)) is ∙ e in
       with_ports p stack function to (state_of d new text rest) [] [] (step_sound p stack function h.point (at ins) (h.known ins) l h.here i refl own s (state_of d new text rest) done)
 

@@ -11,16 +11,18 @@ use Rattle.life_store.specs.Content.{Content}
 use Rattle.life_store.specs.Doing.{Effect, Next}
 use Rattle.life_store.specs.References.{Rows}
 use Rattle.life_store.specs.State.{State}
+use Rattle.life_seen.specs.Housed.{IsHoused}
+use Rattle.life_seen.specs.Kinds.{kinds_of}
 use Rattle.life_interp.specs.Cells.{state_of}
-use Rattle.life_interp.specs.Fits.{CellsFit, HoldsNumbers, IsFit}
+use Rattle.life_interp.specs.Fits.{CellsFit, IsFit}
 use Rattle.life_interp.specs.Steps.{LeavesBoth}
 use Rattle.life_interp.specs.Walking.{IsQuiet, LeavesInput, Sunk, Takes, Performs, Writes}
 use Rattle.life_interp.specs.declared.ending.Ending.{Ending}
 use Rattle.life_interp.specs.declared.ending.Ending.TheVariants as ending
 use Rattle.life_interp.specs.declared.value.Cell.{Cell}
 
-pub fit_where_ok : {A E : Type 0} (types : Types) (c : Content) (rows : Rows) (cells : List Cell) (result : Result A E) → HoldsNumbers types c rows → OnOk result (CellsFit c rows cells) → OnOk result (IsFit types c rows cells)
-fit_where_ok types c rows cells (Ok a) h held = record { store = h; held = held }
+pub fit_where_ok : {A E : Type 0} (types : Types) (c : Content) (rows : Rows) (cells : List Cell) (result : Result A E) → IsHoused (kinds_of types) c rows → OnOk result (CellsFit c rows cells) → OnOk result (IsFit types c rows cells)
+fit_where_ok types c rows cells (Ok a) h held = record { housed = h; held = held }
 fit_where_ok types c rows cells (Err e) h held = tt
 
 -- a sink that was left alone

@@ -1,13 +1,10 @@
 -- What the machine's store stands for, and that the references that the machine holds fit it.
-use Rattle.std.specs.Prelude.{◌≡◌, ◌⊎◌, ℕ, ◌+◌, ◌*◌, ◌^◌, ◌<◌, ◌≤◌, List, [], ◌∷◌, Some}
+use Rattle.std.specs.Prelude.{◌≡◌, ◌⊎◌, ℕ, ◌+◌, ◌*◌, ◌^◌, ◌<◌, ◌≤◌, List, [], ◌∷◌}
 use Rattle.life_types.specs.Types.{Types}
 use Rattle.life_types.specs.declared.ty.TyId.{TyId}
-use Rattle.life_store.specs.Cells.{at}
-use Rattle.life_store.specs.Content.{Object, Content, live_words_of}
+use Rattle.life_store.specs.Content.{Content, live_words_of}
 use Rattle.life_store.specs.Parts.{Single, parts_at}
 use Rattle.life_store.specs.References.{Rows}
-use Rattle.life_forest.specs.Owned.{alive}
-use Rattle.life_forest.specs.Typed.{IsStore}
 use Rattle.life_seen.specs.Housed.{IsHoused, IsRef}
 use Rattle.life_seen.specs.Kinds.{kinds_of}
 use Rattle.life_seen.specs.Seen.{seen}
@@ -25,20 +22,6 @@ meant types c rows = seen (kinds_of types) c rows
 -- each value of the type is one number
 abbrev pub IsNumber : Types → TyId → Type 0
 IsNumber types ty = parts_at types ty ≡ Single
-
--- .. and each object is one
-abbrev pub AreSingle : Types → Content → Type 0
-AreSingle types m = (n : ℕ) (o : Object) → at m.objects n ≡ Some o → IsNumber types o.ty
-
--- nothing owns something or points: all that lives is in the hand. No program that is built so far has another object
-pub record AreNumbers (types : Types) (m : Content) : Type 0 where
-  pub single : AreSingle types m
-  pub store : IsStore types (alive m) m
-
--- the store stands for such a content
-pub record HoldsNumbers (types : Types) (c : Content) (rows : Rows) : Type 0 where
-  pub housed : IsHoused (kinds_of types) c rows
-  pub numbers : AreNumbers types (meant types c rows)
 
 -- ---- references
 
@@ -58,9 +41,9 @@ abbrev pub CellsFit : Content → Rows → List Cell → Type 0
 CellsFit c rows [] = Unit {0}
 CellsFit c rows (v ∷ vs) = CellFits c rows v × CellsFit c rows vs
 
--- the store and the cells of a frame
+-- the store stands for a content of the meaning, and the cells of a frame refer to what is there
 pub record IsFit (types : Types) (c : Content) (rows : Rows) (cells : List Cell) : Type 0 where
-  pub store : HoldsNumbers types c rows
+  pub housed : IsHoused (kinds_of types) c rows
   pub held : CellsFit c rows cells
 
 -- ---- counts

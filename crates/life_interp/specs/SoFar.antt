@@ -10,12 +10,10 @@ use Rattle.life_core.specs.Operands as source
 use Rattle.life_core.specs.Holdings.{Holding, Blank, AnObject, ANumber, APointer, AView, result_sort, sort_of}
 use Rattle.life_core.specs.Step.{Step, Live, End, Eval, Load, Save, Aim, Repoint, Port, Ports, Writes, WritesView, Takes, Test, NonZero, NotNull}
 use Rattle.life_store.specs.Calls.{number_handed, pointer_handed, with_handed, number_or_zero, pointer_back}
-use Rattle.life_store.specs.Cells.{at}
 use Rattle.life_store.specs.Content.{Object, Content, with_object, with_word, word_at}
-use Rattle.life_store.specs.Doing.{Setting, Effect, Next, Strays, cell, put_cell, put_content, word_of_number, number_in_word, type_of, on_number, on_pointer, on_next, born_object, born_pointer, end_object, viewed, characters_in, empty_view, Found, behind_cell, found_at, named_by, on_character, on_found, on_place, evaluated, with_output, number_text, input_taken}
+use Rattle.life_store.specs.Doing.{Setting, Effect, Next, Strays, cell, put_cell, put_content, word_of_number, number_in_word, type_of, on_number, on_pointer, on_next, born_object, born_pointer, end_locals, viewed, characters_in, empty_view, Found, behind_cell, found_at, named_by, on_character, on_found, on_place, evaluated, with_output, number_text, input_taken}
 use Rattle.life_store.specs.Iterators.{at_index}
 use Rattle.life_store.specs.Meaning.{Verdict, number_test, pointer_test}
-use Rattle.life_store.specs.Parts.{parts_at}
 use Rattle.life_store.specs.State.{Characters, Pointer, Null, To, Static, Cell, Empty, Named, Number, Points, State}
 
 -- ---- places
@@ -25,7 +23,7 @@ abbrev pub locate : Operand → State → Found
 locate (Name l) st = named_by st.world.content (cell st l.local)
 locate (Through p members) st = behind_cell st.world.content (cell st p.local)
 
--- ---- births and ends
+-- ---- births
 
 abbrev pub live_as : Setting → Holding → TyId → Form → ℕ → State → Effect
 live_as s Blank ty form x st = Strays
@@ -45,22 +43,6 @@ live_over s (Some (Points p)) sort ty form x st = Strays
 abbrev pub live_local : Setting → Types → Function → Option Local → Form → ℕ → State → Effect
 live_local s types f None form x st = Strays
 live_local s types f (Some l) form x st = live_over s (cell st x) (sort_of types f x) l.ty form x st
-
--- by the parts of the object's own type, which is that of the local
-abbrev pub end_typed : Types → Option Object → ℕ → ℕ → State → Effect
-end_typed types None n x st = Strays
-end_typed types (Some o) n x st = end_object (parts_at types o.ty) (Some o) n x st
-
-abbrev pub end_cell : Types → Option Cell → ℕ → State → Effect
-end_cell types None x st = Strays
-end_cell types (Some Empty) x st = Strays
-end_cell types (Some (Named n)) x st = end_typed types (at st.world.content.objects n) n x st
-end_cell types (Some (Number z)) x st = Strays
-end_cell types (Some (Points p)) x st = Next (put_cell x Empty st)
-
-abbrev pub end_locals : Types → List ℕ → State → Effect
-end_locals types [] st = Next st
-end_locals types (x ∷ xs) st = on_next (end_cell types (cell st x) x st) (end_locals types xs)
 
 -- ---- the instructions
 
@@ -100,7 +82,7 @@ port s types f (Takes r) st = input_taken r st.world.input st
 
 abbrev pub does : Setting → Types → Function → Step → State → Effect
 does s types f (Live x form) st = live_local s types f (slice_get f.locals x) form x st
-does s types f (End xs) st = end_locals types xs st
+does s types f (End xs) st = end_locals types f xs st
 does s types f (Eval r operation) st = evaluated types f r operation st
 does s types f (Load r o) st = loaded s r o st
 does s types f (Save o r) st = on_number (cell st r) (λ z. on_found (locate o st) (λ n i object. Next (saved z n i object st)))

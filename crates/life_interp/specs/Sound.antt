@@ -1,8 +1,8 @@
 -- What holds at each point of a walk, of the frame at hand and of those that wait.
 use Rattle.std.specs.Prelude.{◌≡◌, ℕ, ◌+◌, List, [], ◌∷◌, ◌++◌, Option, Some, slice_get}
 use Rattle.life_core.specs.Function.{Function, Program}
-use Rattle.life_core.specs.Linked.{code_of, goes, numbered, spot_at}
-use Rattle.life_core.specs.Step.{Call}
+use Rattle.life_core.specs.Linked.{Linked, code_of, goes, numbered, spot_at}
+use Rattle.life_core.specs.Step.{Call, Step}
 use Rattle.life_core.specs.Tree.{Action}
 use Rattle.life_core.specs.declared.program.FnId.{FnId}
 use Rattle.life_proper.specs.ProperPrograms.{IsProperProgram}
@@ -54,3 +54,12 @@ pub record AreSound (p : Program) (ws : List Waiting) (f : Function) (to : Optio
   pub outer : List Cell
   pub stands : InvAt (Standing p.types f outer) to st
   pub waiting : AreWaiting p f ws outer st.world.content
+
+-- .. at which an instruction stands
+pub record IsAt (p : Program) (f : Function) (i : Step) (st : State) : Type 0 where
+  pub behind : List Waiting
+  pub point : ℕ
+  pub linked : Linked
+  pub here : numbered (code_of f) point ≡ Some linked
+  pub is : linked.spot.node ≡ Action i
+  pub sound : AreSound p behind f (Some point) st

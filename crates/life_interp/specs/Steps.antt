@@ -1,5 +1,5 @@
 -- What the machine's functions answer of the steps of the meaning.
-use Rattle.std.specs.Prelude.{◌≡◌, ◌<◌, ◌+◌, ℕ, ℤ, List, Option, Some, None, Result, MatchOption, MatchResult, option_map, slice_get}
+use Rattle.std.specs.Prelude.{◌≡◌, ◌<◌, ◌+◌, ℕ, ℤ, List, [], Option, Some, None, Result, MatchOption, MatchResult, option_map, slice_get}
 use Rattle.std.specs.declared.alloc.Global.{Global}
 use Rattle.std.specs.declared.vec.Vec.{Vec}
 use Rattle.life_types.specs.Types.{Types}
@@ -8,12 +8,14 @@ use Rattle.life_core.specs.Operands.{Operand, Name, Through}
 use Rattle.life_store.specs.Doing.{Setting, Effect, Next, Traps, Faults, Strays, Found, Here, Fixed, Outside, Wrong, Astray, behind_cell, named_by, on_character, on_found, on_number, on_pointer, put_cell, cell, characters_in, input_taken, with_output}
 use Rattle.life_interp.specs.SoFar.{parameters_given, saved, locate, on_view}
 use Rattle.life_store.specs.Content.{Content, Object, live_words_of}
+use Rattle.life_store.specs.Kinds.{Plain}
 use Rattle.life_store.specs.Meaning.{frame}
 use Rattle.life_store.specs.References.{Rows, HasWord, object_of}
 use Rattle.life_store.specs.State as state
 use Rattle.life_store.specs.State.{State}
 use Rattle.life_store.specs.declared.run.TrapKind.TheVariants as trap
 use Rattle.life_interp.specs.Cells.{cell_seen, cells_seen, characters_seen, state_of, world_of}
+use Rattle.life_forest.specs.FrameTypes.{Stands}
 use Rattle.life_seen.specs.Housed.{IsRef}
 use Rattle.life_seen.specs.Kinds.{kinds_of}
 use Rattle.life_seen.specs.Named.{names_of}
@@ -62,6 +64,20 @@ TellsCharacter texts c result =
     MatchOption result
     ((go : ℤ → Effect) → on_character texts c go ≡ Traps trap.Bounds)
     (λ z. (go : ℤ → Effect) → on_character texts c go ≡ go z)
+
+-- a value that is found is one number
+abbrev pub IsNumberAt : Types → Found → Type 0
+IsNumberAt types found = (n i : ℕ) (o : Object) → found ≡ Here n i o → kinds_of types o.ty 0 ≡ Plain
+
+-- ---- frames
+
+-- a frame of the function stands in the content, where others have the rest in the hand
+abbrev pub StandsIn : Types → Function → (rest : ℕ → ℕ) → Content → List Cell → Type 0
+StandsIn types f rest c cells = Stands types f rest (state_of c cells [] [])
+
+-- .. of some function
+abbrev pub IsStanding : Types → Content → List Cell → Type 0
+IsStanding types c cells = (f : Function) × (rest : ℕ → ℕ) × StandsIn types f rest c cells
 
 -- ---- steps
 

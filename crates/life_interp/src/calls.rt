@@ -6,14 +6,15 @@ ghost use Rattle.life_core.specs.Operands.{argument_of, location_of};
 ghost use Rattle.life_core.specs.Step.{Call};
 ghost use Rattle.life_core.specs.Tree.{Action, Return};
 ghost use Rattle.life_interp.specs.Cells.{cells_seen, one_seen, state_of, world_of};
-ghost use Rattle.life_interp.specs.Fits.{meant, most_births, CanStep, CellFits, CellsFit, Grows, HoldsNumbers, IsFit};
+ghost use Rattle.life_interp.specs.Fits.{meant, most_births, CanStep, CellFits, CellsFit, Grows, IsFit};
 ghost use Rattle.life_interp.specs.Frames.{all_cells, function_at, stack_seen, waiting_cells, AllBegin, AreFrames, AreThere};
 ghost use Rattle.life_interp.specs.Steps.{Begins, IsSet, LeavesBoth};
 ghost use Rattle.life_interp.specs.Walking.{acts, barred_of, returns, Enters, IsSoundWalk, Moves, StandsHere};
 ghost use Rattle.life_interp.specs.declared.ending.Halt.TheVariants as halts;
 ghost use Rattle.life_interp.specs.declared.value.Cell.TheVariants as held;
 ghost use Rattle.life_types.specs.declared.place.Place.{Place as AnyPlace};
-ghost use Rattle.life_seen.specs.Housed.{Later};
+ghost use Rattle.life_seen.specs.Housed.{IsHoused, Later};
+ghost use Rattle.life_seen.specs.Kinds.{kinds_of};
 ghost use Rattle.life_store.specs.Doing.{Setting, Next};
 ghost use Rattle.life_store.specs.Meaning.{frame};
 ghost use Rattle.life_interp.specs.SoFar.{parameters_given, target_given};
@@ -81,7 +82,7 @@ fn entered<S: Store>(
     values: &[Cell],
     store: &mut S,
 ) -> Result<Vec<Cell>, Halt>
-    requires store { HoldsNumbers (program_of program.now).types (S.content store.old) (S.rows store.old) }
+    requires housed { IsHoused (kinds_of (program_of program.now).types) (S.content store.old) (S.rows store.old) }
     requires values { CellsFit (S.content store.old) (S.rows store.old) values.now }
     requires countable { CanStep (S.content store.old) }
     requires room { S.limit store.old < most_births }
@@ -115,7 +116,7 @@ pub(crate) fn given_cells<S: Store>(
     values: &[Cell],
     store: &mut S,
 ) -> Result<Vec<Cell>, Ending>
-    requires store { HoldsNumbers (program_of program.now).types (S.content store.old) (S.rows store.old) }
+    requires housed { IsHoused (kinds_of (program_of program.now).types) (S.content store.old) (S.rows store.old) }
     requires values { CellsFit (S.content store.old) (S.rows store.old) values.now }
     requires countable { CanStep (S.content store.old) }
     requires room { S.limit store.old < most_births }

@@ -1,17 +1,19 @@
 // Instructions that bring locals to life and end them.
-ghost use Rattle.std.specs.Prelude.{◌≡◌, ◌≤◌, ◌+◌, IfErr, IfOk, OnOk, slice_get, Some};
-ghost use Rattle.life_core.specs.Function.{function_of};
+ghost use Rattle.std.specs.Prelude.{◌≡◌, ◌≤◌, ◌+◌, IfErr, IfOk, OnOk, slice_get, Some, ℕ};
+ghost use Rattle.life_core.specs.Function.{function_of, Function};
 ghost use Rattle.life_interp.specs.Cells.{pointer_seen};
-ghost use Rattle.life_interp.specs.Fits.{meant, CanBear, CanStep, Grows, IsFit, IsNumber};
+ghost use Rattle.life_interp.specs.Fits.{meant, CanBear, CanStep, Grows, IsFit};
 ghost use Rattle.life_interp.specs.Layouts.{AreReady};
-ghost use Rattle.life_interp.specs.Steps.{BirthFails, LeavesBoth};
+ghost use Rattle.life_interp.specs.Steps.{BirthFails, IsStanding, LeavesBoth, StandsIn};
 ghost use Rattle.life_seen.specs.Housed.{IsHoused, Later, Shows};
 ghost use Rattle.life_seen.specs.Kinds.{Kinds};
 ghost use Rattle.life_seen.specs.Seen.{seen};
 ghost use Rattle.life_store.specs.Cells.{at};
 ghost use Rattle.life_store.specs.Content.{live_words_of};
-ghost use Rattle.life_store.specs.Doing.{with_value_object, cell, born_object, born_pointer, Setting};
-ghost use Rattle.life_interp.specs.SoFar.{end_cell, end_locals, live_local};
+ghost use Rattle.life_store.specs.Doing.{with_value_object, cell, born_object, born_pointer, end_cell, end_locals, Setting};
+ghost use Rattle.life_store.specs.Parts.{local_parts};
+ghost use Rattle.life_types.specs.Trees.{IsOrdered};
+ghost use Rattle.life_interp.specs.SoFar.{live_local};
 
 use crate::ending::Ending;
 use crate::frame::{cell_at, put_cell};
@@ -88,7 +90,6 @@ fn born<S: Store>(
     local: u32,
 ) -> Result<(), Ending>
     requires fits { IsFit types.now (S.content store.old) (S.rows store.old) cells.old.items }
-    requires value { IsNumber types.now ty }
     requires countable { CanStep (S.content store.old) }
     ensures step { (s : Setting) → s.given.cells ≡ S.limit store.old → LeavesBoth (born_object s ty local) (meant types.now (S.content store.old) (S.rows store.old)) cells.old.items (meant types.now (S.content store.new) (S.rows store.new)) cells.new.items result }
     ensures fits { OnOk result (IsFit types.now (S.content store.new) (S.rows store.new) cells.new.items) }
@@ -133,8 +134,11 @@ pub(crate) fn end<S: Store>(
     locals: &[u32],
 ) -> Result<(), Ending>
     requires layouts { AreReady types.now layouts.now }
+    requires ordered { IsOrdered types.now }
     requires fits { IsFit types.now (S.content store.old) (S.rows store.old) cells.old.items }
-    ensures step { LeavesBoth (end_locals types.now locals.now) (meant types.now (S.content store.old) (S.rows store.old)) cells.old.items (meant types.now (S.content store.new) (S.rows store.new)) cells.new.items result }
+    requires stands { IsStanding types.now (meant types.now (S.content store.old) (S.rows store.old)) cells.old.items }
+    ensures step { (f : Function) (rest : ℕ → ℕ) → StandsIn types.now f rest (meant types.now (S.content store.old) (S.rows store.old)) cells.old.items
+        → LeavesBoth (end_locals types.now f locals.now) (meant types.now (S.content store.old) (S.rows store.old)) cells.old.items (meant types.now (S.content store.new) (S.rows store.new)) cells.new.items result }
     ensures fits { OnOk result (IsFit types.now (S.content store.new) (S.rows store.new) cells.new.items) }
     ensures later { OnOk result (Later (S.content store.old) (S.content store.new) (S.rows store.old) (S.rows store.new)) }
     ensures births { OnOk result ((S.content store.new).births ≡ (S.content store.old).births) }
@@ -159,8 +163,11 @@ fn end_one<S: Store>(
     local: u32,
 ) -> Result<(), Ending>
     requires layouts { AreReady types.now layouts.now }
+    requires ordered { IsOrdered types.now }
     requires fits { IsFit types.now (S.content store.old) (S.rows store.old) cells.old.items }
-    ensures step { LeavesBoth (λ st. end_cell types.now (cell st local) local st) (meant types.now (S.content store.old) (S.rows store.old)) cells.old.items (meant types.now (S.content store.new) (S.rows store.new)) cells.new.items result }
+    requires stands { IsStanding types.now (meant types.now (S.content store.old) (S.rows store.old)) cells.old.items }
+    ensures step { (f : Function) (rest : ℕ → ℕ) → StandsIn types.now f rest (meant types.now (S.content store.old) (S.rows store.old)) cells.old.items
+        → LeavesBoth (λ st. end_cell (local_parts types.now f local) (cell st local) local st) (meant types.now (S.content store.old) (S.rows store.old)) cells.old.items (meant types.now (S.content store.new) (S.rows store.new)) cells.new.items result }
     ensures fits { OnOk result (IsFit types.now (S.content store.new) (S.rows store.new) cells.new.items) }
     ensures later { OnOk result (Later (S.content store.old) (S.content store.new) (S.rows store.old) (S.rows store.new)) }
     ensures births { OnOk result ((S.content store.new).births ≡ (S.content store.old).births) }

@@ -4,10 +4,12 @@ ghost use Rattle.life_core.specs.Function.{function_of, program_of};
 ghost use Rattle.life_core.specs.Linked.{code_of};
 ghost use Rattle.life_proper.specs.ProperPrograms.{IsProperProgram};
 ghost use Rattle.life_interp.specs.Cells.{cell_seen, cells_seen};
-ghost use Rattle.life_interp.specs.Fits.{meant, most_births, CanStep, CellFits, CellsFit, Grows, HoldsNumbers, IsFit};
+ghost use Rattle.life_interp.specs.Fits.{meant, most_births, CanStep, CellFits, CellsFit, Grows, IsFit};
 ghost use Rattle.life_interp.specs.Layouts.{AreReady};
 ghost use Rattle.life_interp.specs.Runs.{barred_as, links_seen, IsBarred, RunEnds};
 ghost use Rattle.life_interp.specs.Steps.{Begins};
+ghost use Rattle.life_seen.specs.Housed.{IsHoused};
+ghost use Rattle.life_seen.specs.Kinds.{kinds_of};
 ghost use Rattle.life_store.specs.Calls.{entry_arguments};
 ghost use Rattle.life_store.specs.Cells.{none};
 ghost use Rattle.life_store.specs.Content.{empty_content, Content};
@@ -121,7 +123,7 @@ fn first_cells<S: Store>(
     input: &[i64],
     store: &mut S,
 ) -> Result<Vec<Cell>, Ending>
-    requires store { HoldsNumbers (program_of program.now).types (S.content store.old) (S.rows store.old) }
+    requires housed { IsHoused (kinds_of (program_of program.now).types) (S.content store.old) (S.rows store.old) }
     requires countable { CanStep (S.content store.old) }
     requires room { S.limit store.old < most_births }
     requires enough { f.now.parameters ≤ length input.now }

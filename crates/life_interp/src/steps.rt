@@ -1,9 +1,11 @@
 // One instruction of any kind.
-ghost use Rattle.std.specs.Prelude.{◌≡◌, drop, OnOk};
+ghost use Rattle.std.specs.Prelude.{◌≡◌, [], drop, OnOk};
 ghost use Rattle.life_core.specs.Function.{function_of, program_of};
 ghost use Rattle.life_core.specs.Step.{step_of};
+ghost use Rattle.life_interp.specs.Cells.{state_of};
 ghost use Rattle.life_interp.specs.Fits.{meant, CanStep, Grows, IsFit};
 ghost use Rattle.life_interp.specs.Layouts.{AreReady};
+ghost use Rattle.life_interp.specs.Sound.{IsAt};
 ghost use Rattle.life_interp.specs.Steps.{IsSet, LeavesBoth};
 ghost use Rattle.life_interp.specs.Walking.{IsOwn, IsQuiet, Performs};
 ghost use Rattle.life_seen.specs.Housed.{Later};
@@ -38,6 +40,7 @@ pub(crate) fn perform<S: Store, O: Sink>(
     requires own { IsOwn (step_of instr.now) }
     requires layouts { AreReady (program_of program.now).types layouts.now }
     requires fits { IsFit (program_of program.now).types (S.content store.old) (S.rows store.old) cells.old.items }
+    requires at { IsAt (program_of program.now) (function_of f.now) (step_of instr.now) (state_of (meant (program_of program.now).types (S.content store.old) (S.rows store.old)) cells.old.items [] []) }
     requires countable { CanStep (S.content store.old) }
     ensures step { (s : Setting) → IsSet s (S.limit store.old) (program_of program.now).texts
         → Performs (does s (program_of program.now).types (function_of f.now) (step_of instr.now))
@@ -67,6 +70,7 @@ fn act<S: Store>(
     requires own { IsOwn (step_of instr.now) }
     requires layouts { AreReady (program_of program.now).types layouts.now }
     requires fits { IsFit (program_of program.now).types (S.content store.old) (S.rows store.old) cells.old.items }
+    requires at { IsAt (program_of program.now) (function_of f.now) (step_of instr.now) (state_of (meant (program_of program.now).types (S.content store.old) (S.rows store.old)) cells.old.items [] []) }
     requires countable { CanStep (S.content store.old) }
     ensures step { (s : Setting) → IsSet s (S.limit store.old) (program_of program.now).texts
         → LeavesBoth (does s (program_of program.now).types (function_of f.now) (step_of instr.now)) (meant (program_of program.now).types (S.content store.old) (S.rows store.old)) cells.old.items (meant (program_of program.now).types (S.content store.new) (S.rows store.new)) cells.new.items result }

@@ -5,7 +5,7 @@ ghost use Rattle.life_core.specs.Operands.{operand_of};
 ghost use Rattle.life_interp.specs.Fits.{meant, CellsFit, IsFit};
 ghost use Rattle.life_interp.specs.Cells.{characters_seen};
 ghost use Rattle.life_interp.specs.SoFar.{loaded};
-ghost use Rattle.life_interp.specs.Steps.{stored, LeavesBoth, LeavesCells, TellsCharacter};
+ghost use Rattle.life_interp.specs.Steps.{place_in, stored, IsNumberAt, LeavesBoth, LeavesCells, TellsCharacter};
 ghost use Rattle.life_seen.specs.Housed.{Later};
 ghost use Rattle.life_store.specs.Content.{Content};
 ghost use Rattle.life_store.specs.References.{Rows};
@@ -158,7 +158,8 @@ pub(crate) fn load<S: Store>(
     into: u32,
     from: &Operand,
 ) -> Result<(), Ending>
-    requires { IsFit types.now (S.content store.now) (S.rows store.now) cells.old.items }
+    requires fits { IsFit types.now (S.content store.now) (S.rows store.now) cells.old.items }
+    requires number { IsNumberAt types.now (place_in (meant types.now (S.content store.now) (S.rows store.now)) cells.old.items (operand_of from.now)) }
     ensures step { (s : Setting) → s.texts ≡ map name_bytes texts.now → LeavesCells (loaded s into (operand_of from.now)) (meant types.now (S.content store.now) (S.rows store.now)) cells.old.items cells.new.items result }
     ensures fits { OnOk result (IsFit types.now (S.content store.now) (S.rows store.now) cells.new.items) }
 {
@@ -187,7 +188,8 @@ pub(crate) fn save<S: Store>(
     to: &Operand,
     from: u32,
 ) -> Result<(), Ending>
-    requires { IsFit types.now (S.content store.old) (S.rows store.old) cells.now }
+    requires fits { IsFit types.now (S.content store.old) (S.rows store.old) cells.now }
+    requires number { IsNumberAt types.now (place_in (meant types.now (S.content store.old) (S.rows store.old)) cells.now (operand_of to.now)) }
     ensures step { LeavesBoth (stored (operand_of to.now) from) (meant types.now (S.content store.old) (S.rows store.old)) cells.now (meant types.now (S.content store.new) (S.rows store.new)) cells.now result }
     ensures fits { OnOk result (IsFit types.now (S.content store.new) (S.rows store.new) cells.now) }
     ensures later { OnOk result (Later (S.content store.old) (S.content store.new) (S.rows store.old) (S.rows store.new)) }

@@ -44,7 +44,7 @@ give_target-requires-clause-fits g c =
     let ws = c.pop.new.self.items in
     let w = c.in-Some.waiting in
     let waiting = subst (CellsFit content rows) (ap waiting_cells c.in-Some.ensures.items ∙ waiting_push ws w) (fit_front content rows (waiting_cells frames.waiting.items) frames.cells.items c.requires.fits.held) in
-    record { store = c.requires.fits.store; held = fit_behind content rows (waiting_cells ws) w.cells.items waiting }
+    record { housed = c.requires.fits.housed; held = fit_behind content rows (waiting_cells ws) w.cells.items waiting }
 
 pub give_target-requires-clause-value : goal.give_target-requires-clause-value
 give_target-requires-clause-value g c =
@@ -136,7 +136,7 @@ returns-in-Ok-clause-fits g c =
     let d = g.S.Store.content c.give_target.new.store in
     let new = g.S.Store.rows c.give_target.new.store in
     record {
-      store = c.in-Ok.ensures.fits.store;
+      housed = c.in-Ok.ensures.fits.housed;
       held = fit_both d new (waiting_cells ws) c.give_target.new.cells.items (cells_later content d rows new c.in-Ok.ensures.later (waiting_cells ws) (fit_front content rows (waiting_cells ws) w.cells.items waiting)) c.in-Ok.ensures.fits.held;
     }
 

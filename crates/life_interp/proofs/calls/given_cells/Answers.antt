@@ -10,7 +10,7 @@ use Rattle.life_interp.proofs.FrameLemmas.{frame_is}
 use Rattle.life_interp.proofs.calls.given_cells.Goals as goal
 
 pub give_all-requires-clause-fits : goal.give_all-requires-clause-fits
-give_all-requires-clause-fits g c = rw c.in-Ok.ensures (record { store = c.requires.store; held = blank_fits _ _ _ })
+give_all-requires-clause-fits g c = rw c.in-Ok.ensures (record { housed = c.requires.housed; held = blank_fits _ _ _ })
 
 pub returns-in-Err-give_all-clause-step : goal.returns-in-Err-give_all-clause-step
 returns-in-Err-give_all-clause-step g c = λ s e output input.

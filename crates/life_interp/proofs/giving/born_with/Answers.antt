@@ -5,6 +5,8 @@ use Rattle.std.specs.Int.{w64, cast_unsigned}
 use Rattle.life_store.specs.Content.{Content, Object}
 use Rattle.life_store.specs.Doing.{Next, put_cell}
 use Rattle.life_store.specs.Cells.{at}
+use Rattle.life_store.specs.Kinds.{kind_in}
+use Rattle.life_store.specs.Parts.{Parts}
 use Rattle.life_store.specs.References.{Rows, HasWord}
 use Rattle.life_store.specs.State as state
 use Rattle.life_seen.specs.Kinds.{kinds_of}
@@ -15,10 +17,9 @@ use Rattle.life_interp.specs.Cells.{state_of}
 use Rattle.life_interp.specs.Fits.{meant}
 use Rattle.life_interp.specs.declared.value.Cell.TheVariants as held
 use Rattle.life_interp.proofs.FitLemmas.{cells_later, later_rows, set_fits}
-use Rattle.life_interp.proofs.GiveLemmas.{born_with_is, given_gives, numbers_given, shows_given}
+use Rattle.life_interp.proofs.GiveLemmas.{born_with_is, given_gives, shows_given}
 use Rattle.life_interp.proofs.LocalLemmas.{birth_fails, on_next_ends}
-use Rattle.life_interp.proofs.NumberLemmas.{holds, new_has_word, new_value, plain_here, ref_placed}
-use Rattle.life_interp.proofs.Numbers.{numbers_born}
+use Rattle.life_interp.proofs.NumberLemmas.{new_has_word, new_value, ref_placed}
 use Rattle.life_interp.proofs.StepLemmas.{put_now}
 use Rattle.life_interp.proofs.giving.born_with.Goals as goal
 
@@ -34,7 +35,7 @@ put_number-requires g c =
     let m = meant c.args.types.now (g.S.Store.content c.args.store.now) (g.S.Store.rows c.args.store.now) in
     let d = g.S.Store.content c.new_object.new.store in
     let new = g.S.Store.rows c.new_object.new.store in
-    let v = new_value kinds m d new c.in-Ok.object c.args.ty (q.shows kinds c.requires.fits.store.housed) q.number q.placed in
+    let v = new_value kinds m d new c.in-Ok.object c.args.ty (q.shows kinds c.requires.fits.housed) q.number q.placed in
     subst (λ (o : Option Object). IfSome o (HasWord 0 0)) (sym v.there) (new_has_word kinds d new c.in-Ok.object c.args.ty m.clock v)
 
 pub returns-in-Ok : goal.returns-in-Ok
@@ -50,13 +51,13 @@ returns-in-Ok g c =
     let e = g.S.Store.content c.put_number.new.store in
     let after = g.S.Store.rows c.put_number.new.store in
     let r = c.in-Ok.object in
-    let housed = c.requires.fits.store.housed in
+    let housed = c.requires.fits.housed in
     let born = q.shows kinds housed in
     let v = new_value kinds m d new r c.args.ty born q.number q.placed in
-    let held_there = holds types d new _ born (numbers_born types m c.requires.fits.store.numbers c.args.ty c.requires.value) in
+    let plain = ap (λ (o : Object). kinds o.ty 0) v.is ∙ ap (λ (q : Parts). kind_in q 0) c.requires.value in
     let fits : SFits w64 c.args.number = search rules in
     let word : c.cast_unsigned.result ≡ cast_unsigned w64 c.args.number = c.cast_unsigned.ensures ∙ ap (cast_unsigned w64) (to_z-of_z w64 c.args.number fits) in
-    let shows = shows_given kinds m d e new after r c.args.ty c.args.number c.cast_unsigned.result q.number born.is word v (c.put_number.ensures.shows kinds v.object (plain_here types d new held_there r v.object v.there 0)) in
+    let shows = shows_given kinds m d e new after r c.args.ty c.args.number c.cast_unsigned.result q.number born.is word v (c.put_number.ensures.shows kinds v.object (record { housed = born.housed; there = v.there; plain = plain })) in
     let births : e.births ≡ content.births + 1 = ap (λ (x : Content). x.births) shows.is in
     let were : d.births ≡ content.births + 1 = ap (λ (x : Content). x.births) born.is in
     let later = later_then content d e rows new after q.later (later_rows d e new after (omega (arith, births, were)) c.put_number.ensures.rows) in
@@ -70,7 +71,7 @@ returns-in-Ok g c =
       fits =
           rw c.put_at.ensures
           (record {
-            store = holds types e after _ shows (numbers_given types m c.args.number c.args.ty c.requires.fits.store.numbers c.requires.value);
+            housed = shows.housed;
             held = set_fits e after c.args.cells.now.items c.args.local (held.Object r) (cells_later content e rows after later c.args.cells.now.items c.requires.fits.held)
                 (ref_placed e after r (omega (arith, births, q.number)) (ap (λ (x : Rows). at x r.birth) c.put_number.ensures.rows ∙ q.placed));
           });

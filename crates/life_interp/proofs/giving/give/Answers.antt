@@ -60,7 +60,7 @@ returns-in-Number-sort_of-clause-fits g c =
     let content = g.S.Store.content c.args.store.now in
     let rows = g.S.Store.rows c.args.store.now in
     rw c.put_at.ensures
-    (record { store = c.requires.fits.store; held = set_fits content rows c.args.cells.now.items c.args.local (held.Number _) c.requires.fits.held tt })
+    (record { housed = c.requires.fits.housed; held = set_fits content rows c.args.cells.now.items c.args.local (held.Number _) c.requires.fits.held tt })
 
 pub returns-in-Blank-clause-step : goal.returns-in-Blank-clause-step
 returns-in-Blank-clause-step g c = λ s e output input.
@@ -113,7 +113,7 @@ returns-in-Points-clause-fits g c =
     let rows = g.S.Store.rows c.args.store.now in
     let fit = subst (λ (v : Cell). CellFits content rows v) c.in-Points.is c.requires.value in
     rw c.put_at-in-Points.ensures
-    (record { store = c.requires.fits.store; held = set_fits content rows c.args.cells.now.items c.args.local (held.Points c.in-Points.pointer) c.requires.fits.held fit })
+    (record { housed = c.requires.fits.housed; held = set_fits content rows c.args.cells.now.items c.args.local (held.Points c.in-Points.pointer) c.requires.fits.held fit })
 
 pub returns-else-local-len-clause-step : goal.returns-else-local-len-clause-step
 returns-else-local-len-clause-step g c = λ s e output input.

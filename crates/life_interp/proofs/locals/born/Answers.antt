@@ -7,8 +7,7 @@ use Rattle.life_interp.specs.Fits.{meant}
 use Rattle.life_interp.specs.declared.value.Cell.TheVariants as held
 use Rattle.life_interp.proofs.FitLemmas.{cells_later, set_fits}
 use Rattle.life_interp.proofs.LocalLemmas.{birth_fails, born_step}
-use Rattle.life_interp.proofs.NumberLemmas.{holds, ref_placed}
-use Rattle.life_interp.proofs.Numbers.{numbers_born}
+use Rattle.life_interp.proofs.NumberLemmas.{ref_placed}
 use Rattle.life_interp.proofs.locals.born.Goals as goal
 
 pub returns-in-Err-clause-step : goal.returns-in-Err-clause-step
@@ -21,7 +20,7 @@ returns-in-Ok-clause-step g c = λ s e output input.
     let kinds = kinds_of c.args.types.now in
     let content = g.S.Store.content c.args.store.now in
     let rows = g.S.Store.rows c.args.store.now in
-    let shows = q.shows kinds c.requires.fits.store.housed in
+    let shows = q.shows kinds c.requires.fits.housed in
     let live = live_words_seen kinds (names_of content rows) content in
     born_step s c.args.ty c.args.local (meant c.args.types.now content rows) (meant c.args.types.now (g.S.Store.content c.new_object.new.store) (g.S.Store.rows c.new_object.new.store)) c.args.cells.now.items c.put_cell.new.cells.items c.in-Ok.object output input
     (λ lt. omega (arith, lt, e, q.room, live)) q.number shows.is c.put_cell.ensures
@@ -34,11 +33,11 @@ returns-in-Ok-clause-fits g c =
     let rows = g.S.Store.rows c.args.store.now in
     let d = g.S.Store.content c.new_object.new.store in
     let new = g.S.Store.rows c.new_object.new.store in
-    let shows = q.shows (kinds_of types) c.requires.fits.store.housed in
+    let shows = q.shows (kinds_of types) c.requires.fits.housed in
     let births : d.births ≡ content.births + 1 = ap (λ (x : Content). x.births) shows.is in
     rw c.put_cell.ensures
     (record {
-      store = holds types d new _ shows (numbers_born types (meant types content rows) c.requires.fits.store.numbers c.args.ty c.requires.value);
+      housed = shows.housed;
       held = set_fits d new c.args.cells.now.items c.args.local (held.Object c.in-Ok.object)
           (cells_later content d rows new q.later c.args.cells.now.items c.requires.fits.held)
           (ref_placed d new c.in-Ok.object (omega (arith, births, q.number)) q.placed);
@@ -46,7 +45,7 @@ returns-in-Ok-clause-fits g c =
 
 pub returns-in-Ok-clause-grows : goal.returns-in-Ok-clause-grows
 returns-in-Ok-clause-grows g c =
-    let shows = c.in-Ok.ensures.shows (kinds_of c.args.types.now) c.requires.fits.store.housed in
+    let shows = c.in-Ok.ensures.shows (kinds_of c.args.types.now) c.requires.fits.housed in
     let content = g.S.Store.content c.args.store.now in
     let d = g.S.Store.content c.new_object.new.store in
     let births : d.births ≡ content.births + 1 = ap (λ (x : Content). x.births) shows.is in

@@ -11,12 +11,8 @@ use Rattle.life_interp.specs.declared.value.Cell.TheVariants as held
 use Rattle.life_interp.specs.Fits.{meant}
 use Rattle.life_interp.proofs.FitLemmas.{set_fits}
 use Rattle.life_interp.proofs.LocalLemmas.{born_fits, leaves_as, live_is, live_strays, none_strays, static_fits}
-use Rattle.life_interp.proofs.Single.{object_is_number}
 use Rattle.life_interp.proofs.StepLemmas.{seen, put_now}
 use Rattle.life_interp.proofs.locals.live.Goals as goal
-
-pub born-requires-clause-value : goal.born-requires-clause-value
-born-requires-clause-value g c = object_is_number c.args.types.now c.index-declared.result.now (sym (ap sort_seen c.in-Object.is) ∙ c.sort_of.ensures)
 
 pub returns-in-Object-clause-step : goal.returns-in-Object-clause-step
 returns-in-Object-clause-step g c = λ s e.
@@ -55,7 +51,7 @@ returns-in-View-clause-fits g c =
     let content = g.S.Store.content c.args.store.now in
     let rows = g.S.Store.rows c.args.store.now in
     rw c.put_cell-in-View.ensures
-    (record { store = c.requires.fits.store; held = set_fits content rows c.args.cells.now.items c.args.local (held.Points c.empty_view.result) c.requires.fits.held (static_fits c.empty_view.result _ content rows c.empty_view.ensures) })
+    (record { housed = c.requires.fits.housed; held = set_fits content rows c.args.cells.now.items c.args.local (held.Points c.empty_view.result) c.requires.fits.held (static_fits c.empty_view.result _ content rows c.empty_view.ensures) })
 
 pub returns-in-View-clause-step : goal.returns-in-View-clause-step
 returns-in-View-clause-step g c = λ s e output input.
@@ -88,7 +84,7 @@ returns-in-Pointer-clause-fits g c =
     let content = g.S.Store.content c.args.store.now in
     let rows = g.S.Store.rows c.args.store.now in
     rw c.put_cell.ensures
-    (record { store = c.requires.fits.store; held = set_fits content rows c.args.cells.now.items c.args.local (held.Points c.born_pointer.result) c.requires.fits.held (born_fits c.args.form c.born_pointer.result content rows c.born_pointer.ensures) })
+    (record { housed = c.requires.fits.housed; held = set_fits content rows c.args.cells.now.items c.args.local (held.Points c.born_pointer.result) c.requires.fits.held (born_fits c.args.form c.born_pointer.result content rows c.born_pointer.ensures) })
 
 pub returns-in-Some-Object-clause-step : goal.returns-in-Some-Object-clause-step
 returns-in-Some-Object-clause-step g c = λ s e output input.

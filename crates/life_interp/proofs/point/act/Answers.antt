@@ -17,17 +17,23 @@ use Rattle.life_interp.specs.Fits.{meant}
 use Rattle.life_interp.proofs.CodeLists.{function_there}
 use Rattle.life_interp.proofs.FitLemmas.{cells_later, fit_behind, fit_both, fit_front}
 use Rattle.life_interp.proofs.PointLemmas.{act_ends, act_goes, grows_more, leads_quiet, own_else}
-use Rattle.life_interp.proofs.SoundFrames.{own_sound}
+use Rattle.life_interp.proofs.SoundFrames.{own_at, own_sound}
 use Rattle.life_interp.proofs.WalkLemmas.{untouched}
 use Rattle.life_interp.proofs.point.act.Goals as goal
 
 pub perform-requires : goal.perform-requires
 perform-requires g c =
+    let p = program_of c.args.program.now in
     let frames = c.args.frames.now in
+    let content = meant p.types (g.S.Store.content c.args.store.now) (g.S.Store.rows c.args.store.now) in
+    let all = c.args.program.now.functions in
+    let at = slice_get_read all.items all.len frames.function c.index-f.result.now all.ok.0 (omega (arith, c.requires.frames.here, length-map all.items function_of, all.ok.0)) c.index-f.ensures in
+    let f_is = function_there p.functions frames.function (function_of c.index-f.result.now) (slice_get-map function_of all.items frames.function ∙ ap (option_map function_of) at) in
     record {
       own = own_else c.args.instr.now (λ target f xs e. c.in_default.not-Call target f xs e);
       layouts = c.requires.layouts;
-      fits = record { store = c.requires.fits.store; held = fit_behind _ _ (waiting_cells frames.waiting.items) frames.cells.items c.requires.fits.held };
+      fits = record { housed = c.requires.fits.housed; held = fit_behind _ _ (waiting_cells frames.waiting.items) frames.cells.items c.requires.fits.held };
+      at = own_at p frames content c.requires.sound c.args.place (step_of c.args.instr.now) c.args.to c.requires.here (function_of c.index-f.result.now) f_is;
       countable = c.requires.countable;
     }
 
@@ -90,7 +96,7 @@ returns-in-Ok g c = record {
       let content = g.S.Store.content c.args.store.now in
       let rows = g.S.Store.rows c.args.store.now in
       let waiting = cells_later content _ rows _ c.in-Ok.ensures.later (waiting_cells frames.waiting.items) (fit_front content rows (waiting_cells frames.waiting.items) frames.cells.items c.requires.fits.held) in
-      record { store = c.in-Ok.ensures.fits.store; held = fit_both _ _ (waiting_cells frames.waiting.items) c.perform.new.cells.items waiting c.in-Ok.ensures.fits.held };
+      record { housed = c.in-Ok.ensures.fits.housed; held = fit_both _ _ (waiting_cells frames.waiting.items) c.perform.new.cells.items waiting c.in-Ok.ensures.fits.held };
   sound =
       let p = program_of c.args.program.now in
       let frames = c.args.frames.now in
@@ -102,7 +108,7 @@ returns-in-Ok g c = record {
       let own = own_else c.args.instr.now (λ target f xs e. c.in_default.not-Call target f xs e) in
       let s : Setting = record { given = record { growth = Always; cells = g.S.Store.limit c.args.store.now; depth = c.args.depth }; texts = p.texts } in
       let went = c.in-Ok.ensures.step s (record { cells = refl; texts = refl }) in
-      own_sound p frames content c.requires.sound c.args.place (step_of c.args.instr.now) c.args.to c.requires.here own c.requires.fits.store.numbers.single (function_of c.index-f.result.now) f_is s ins (drop c.perform.new.taken c.args.input.now) went.0
+      own_sound p frames content c.requires.sound c.args.place (step_of c.args.instr.now) c.args.to c.requires.here own (function_of c.index-f.result.now) f_is s ins (drop c.perform.new.taken c.args.input.now) went.0
       (meant p.types (g.S.Store.content c.perform.new.store) (g.S.Store.rows c.perform.new.store)) c.perform.new.cells.items (went.2 []);
   grows = grows_more _ _ c.in-Ok.ensures.grows;
   limit = c.perform.ensures.limit;

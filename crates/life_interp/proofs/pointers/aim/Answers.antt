@@ -23,7 +23,7 @@ returns-in-Null-clause-step g c = λ set texts output input.
 
 pub returns-in-Null-clause-fits : goal.returns-in-Null-clause-fits
 returns-in-Null-clause-fits g c =
-    record { store = c.requires.store; held = subst (CellsFit (g.S.Store.content c.args.store.now) (g.S.Store.rows c.args.store.now)) (sym c.put_cell.ensures) (set_fits _ _ c.args.cells.now.items c.args.pointer (held.Points leads.Null) c.requires.held tt) }
+    record { housed = c.requires.housed; held = subst (CellsFit (g.S.Store.content c.args.store.now) (g.S.Store.rows c.args.store.now)) (sym c.put_cell.ensures) (set_fits _ _ c.args.cells.now.items c.args.pointer (held.Points leads.Null) c.requires.held tt) }
 
 pub returns-in-Text-clause-step : goal.returns-in-Text-clause-step
 returns-in-Text-clause-step g c = λ set texts output input.
@@ -61,7 +61,7 @@ returns-in-Ok-Slot-clause-fits g c =
     let rows = g.S.Store.rows c.args.store.now in
     let p = c.in-Ok-Slot.position in
     record {
-      store = c.requires.store;
+      housed = c.requires.housed;
       held = subst (CellsFit content rows) (sym c.put_cell-in-Ok-Slot.ensures) (set_fits content rows c.args.cells.now.items c.args.pointer (held.Points (leads.To p.index p.object c.now.result)) c.requires.held (slot_of c.args.types.now content rows _ c.in-Ok-Slot.field-0 p c.in-Ok-Slot.field-0-is c.in-Ok-Slot.ensures).fits);
     }
 
@@ -70,7 +70,7 @@ returns-in-Text-clause-fits g c =
     let content = g.S.Store.content c.args.store.now in
     let rows = g.S.Store.rows c.args.store.now in
     record {
-      store = c.requires.store;
+      housed = c.requires.housed;
       held = subst (CellsFit content rows) (sym c.put_cell-in-Text.ensures) (set_fits content rows c.args.cells.now.items c.args.pointer (held.Points c.viewed.result) c.requires.held (static_fits c.viewed.result _ content rows c.viewed.ensures));
     }
 
@@ -113,7 +113,7 @@ returns-in-Some-clause-fits g c =
     let content = g.S.Store.content c.args.store.now in
     let rows = g.S.Store.rows c.args.store.now in
     record {
-      store = c.requires.store;
+      housed = c.requires.housed;
       held = subst (CellsFit content rows) (sym c.put_cell-in-Some.ensures) (set_fits content rows c.args.cells.now.items c.args.pointer (held.Points c.one_of.result) c.requires.held (static_fits c.one_of.result _ content rows c.one_of.ensures));
     }
 
@@ -130,6 +130,6 @@ returns-in-Empty-clause-fits g c =
     let content = g.S.Store.content c.args.store.now in
     let rows = g.S.Store.rows c.args.store.now in
     record {
-      store = c.requires.store;
+      housed = c.requires.housed;
       held = subst (CellsFit content rows) (sym c.put_cell-in-Empty.ensures) (set_fits content rows c.args.cells.now.items c.args.pointer (held.Points c.empty_view.result) c.requires.held (static_fits c.empty_view.result _ content rows c.empty_view.ensures));
     }

@@ -20,7 +20,7 @@ use Rattle.life_interp.specs.Walking.{from, Sunk}
 use Rattle.life_interp.specs.declared.frames.Frames.{Frames}
 use Rattle.life_interp.specs.declared.frames.Waiting.{Waiting}
 use Rattle.life_interp.specs.declared.outcome.Outcome.TheVariants as outcome
-use Rattle.life_interp.proofs.EmptyStore.{holds_nothing, meant_empty}
+use Rattle.life_interp.proofs.EmptyStore.{housed_nothing, meant_empty}
 use Rattle.life_interp.proofs.RunLemmas.{all_begin, barred_ends, begins_sound, can_be_barred, fault_ends, front_ends, if_there, not_lost, of_there, part_ends, run_from_frames, steps_end, trap_ends, value_ends}
 use Rattle.life_interp.proofs.WalkLemmas.{untouched}
 use Rattle.life_interp.proofs.run.run_on.Goals as goal
@@ -36,7 +36,7 @@ first_cells-requires g c =
     let input = c.args.input.now in
     let admitted = of_there p.functions entry f (λ k. IsAdmitted p k input) there c.requires.admitted in
     record {
-      store = holds_nothing p.types (g.S.Store.content c.args.store.now) (g.S.Store.rows c.args.store.now) c.requires.empty c.requires.rows;
+      housed = housed_nothing p.types (g.S.Store.content c.args.store.now) (g.S.Store.rows c.args.store.now) c.requires.empty c.requires.rows;
       countable = subst CanStep (sym c.requires.empty) (record { births = omega arith; clock = omega arith });
       room = omega (arith, c.requires.limit);
       enough = admitted.enough;

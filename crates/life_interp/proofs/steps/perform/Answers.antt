@@ -19,7 +19,7 @@ pub returns-in-Port-clause-fits : goal.returns-in-Port-clause-fits
 returns-in-Port-clause-fits g c =
     let content = g.S.Store.content c.args.store.now in
     let rows = g.S.Store.rows c.args.store.now in
-    fit_where_ok (program_of c.args.program.now).types content rows c.pass.new.cells.items c.pass.result c.requires.fits.store (c.pass.ensures.fits content rows c.requires.fits.held)
+    fit_where_ok (program_of c.args.program.now).types content rows c.pass.new.cells.items c.pass.result c.requires.fits.housed (c.pass.ensures.fits content rows c.requires.fits.held)
 
 pub returns-in_default : goal.returns-in_default
 returns-in_default g c = record {

@@ -9,13 +9,14 @@ use Rattle.life_store.specs.Doing.{Effect, Fixed, Next, on_character, put_cell, 
 use Rattle.life_store.specs.References.{HasWord}
 use Rattle.life_store.specs.State as state
 use Rattle.life_seen.specs.Kinds.{kinds_of}
+use Rattle.life_seen.specs.Named.{names_of}
+use Rattle.life_seen.specs.Seen.{object_seen}
 use Rattle.life_interp.specs.Cells.{characters_seen, state_of}
 use Rattle.life_interp.specs.Fits.{meant, CellsFit}
 use Rattle.life_interp.specs.Steps.{place_in, IsPosition}
 use Rattle.life_interp.specs.declared.value.Cell.{Cell}
 use Rattle.life_interp.specs.declared.value.Cell.TheVariants as held
 use Rattle.life_interp.proofs.FitLemmas.{set_fits}
-use Rattle.life_interp.proofs.NumberLemmas.{plain_here}
 use Rattle.life_interp.proofs.StepLemmas.{put_now, place_fixed, place_found, slot_of, text_of}
 use Rattle.life_interp.proofs.values.load.Goals as goal
 
@@ -34,7 +35,7 @@ returns-in-Ok-Slot-clause-step g c = λ s texts output input.
     let fits : SFits w64 c.cast_signed.result = search rules in
     let here = slot_of types content rows _ c.in-Ok-Slot.field-0 p c.in-Ok-Slot.field-0-is c.in-Ok-Slot.ensures in
     let there = subst (λ (cells : List Cell). IsPosition types content rows (place_in m cells (operand_of c.args.from.now)) p) c.deref.ensures.value here in
-    let word = c.number-word.ensures (kinds_of types) there.object (plain_here types content rows c.requires.store p.object there.object there.lives 0) in
+    let word = c.number-word.ensures (kinds_of types) there.object (record { housed = c.requires.fits.housed; there = there.lives; plain = c.requires.number p.object.birth p.index (object_seen (kinds_of types) (names_of content rows) there.object) there.here }) in
     let st = state_of m c.args.cells.now.items output input in
     place_found _ _ (operand_of c.args.from.now) types content rows c.args.cells.now.items p output input there
     ∙ ap (λ n. Next (put_cell c.args.into (state.Number (number_in_word n)) st)) (sym word)
@@ -47,8 +48,8 @@ returns-in-Ok-Slot-clause-fits g c =
     let content = g.S.Store.content c.args.store.now in
     let rows = g.S.Store.rows c.args.store.now in
     record {
-      store = c.requires.store;
-      held = subst (CellsFit content rows) (sym c.put_cell.ensures) (set_fits content rows c.args.cells.now.items c.args.into (held.Number _) c.requires.held tt);
+      housed = c.requires.fits.housed;
+      held = subst (CellsFit content rows) (sym c.put_cell.ensures) (set_fits content rows c.args.cells.now.items c.args.into (held.Number _) c.requires.fits.held tt);
     }
 
 pub returns-in-None-clause-step : goal.returns-in-None-clause-step
@@ -89,6 +90,6 @@ returns-in-Some-clause-fits g c =
     let content = g.S.Store.content c.args.store.now in
     let rows = g.S.Store.rows c.args.store.now in
     record {
-      store = c.requires.store;
-      held = subst (CellsFit content rows) (sym c.put_cell-in-Some.ensures) (set_fits content rows c.args.cells.now.items c.args.into (held.Number _) c.requires.held tt);
+      housed = c.requires.fits.housed;
+      held = subst (CellsFit content rows) (sym c.put_cell-in-Some.ensures) (set_fits content rows c.args.cells.now.items c.args.into (held.Number _) c.requires.fits.held tt);
     }

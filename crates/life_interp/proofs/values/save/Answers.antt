@@ -12,7 +12,6 @@ use Rattle.life_seen.specs.Seen.{object_seen}
 use Rattle.life_interp.specs.Cells.{state_of}
 use Rattle.life_interp.specs.Fits.{meant}
 use Rattle.life_interp.proofs.FitLemmas.{cells_later, later_rows}
-use Rattle.life_interp.proofs.NumberLemmas.{holds_written, plain_here}
 use Rattle.life_interp.proofs.StepLemmas.{a_number, place_found, slot_of}
 use Rattle.life_interp.proofs.values.save.Goals as goal
 
@@ -31,7 +30,7 @@ returns-in-Ok-Slot g c =
     let new = g.S.Store.rows c.put_number.new.store in
     let p = c.in-Ok-Slot.position in
     let here = slot_of types content rows _ c.in-Ok-Slot.field-0 p c.in-Ok-Slot.field-0-is c.in-Ok-Slot.ensures in
-    let shows = c.put_number.ensures.shows (kinds_of types) here.object (plain_here types content rows c.requires.store p.object here.object here.lives 0) in
+    let shows = c.put_number.ensures.shows (kinds_of types) here.object (record { housed = c.requires.fits.housed; there = here.lives; plain = c.requires.number p.object.birth p.index (object_seen (kinds_of types) (names_of content rows) here.object) here.here }) in
     let births = ap (λ (x : Content). x.births) shows.is in
     let later = later_rows content d rows new (omega (arith, births)) c.put_number.ensures.rows in
     record {
@@ -44,8 +43,8 @@ returns-in-Ok-Slot g c =
           ∙ ap (λ w. Next (put_content (with_object p.object.birth (with_word p.index 0 w (object_seen (kinds_of types) (names_of content rows) here.object)) m) st)) (sym word)
           ∙ ap (λ (x : Content). Next (state_of x c.args.cells.now output input)) (sym shows.is);
       fits = record {
-        store = holds_written types content rows c.requires.store d new p.object p.index c.cast_unsigned-word.result here.object here.lives shows;
-        held = cells_later content d rows new later c.args.cells.now c.requires.held;
+        housed = shows.housed;
+        held = cells_later content d rows new later c.args.cells.now c.requires.fits.held;
       };
       later = later;
       births = births;

@@ -55,7 +55,7 @@ returns-in-Err g c = λ s set depth.
     (leads_as (means s p at.frames (meant p.types (content at.store) (rows at.store)) (drop at.taken c.args.input.now)) (passes s p at.frames (meant p.types (content at.store) (rows at.store)) (drop at.taken c.args.input.now)) p.functions
     (meant p.types (content at.store) (rows at.store)) (drop at.taken c.args.input.now) at.frames (meant p.types (content at.store) (rows at.store)) (drop at.taken c.args.input.now)
     (record { old = taken at.out; new = taken c.pass.new.out; faults = faults at.out; later = faults c.pass.new.out }) (failed c.in-Err.halt)
-    (passes_same s p at.frames (meant p.types (content at.store) (rows at.store)) at.invariant.sound at.invariant.fits.store.numbers.single (drop at.taken c.args.input.now))
+    (passes_same s p at.frames (meant p.types (content at.store) (rows at.store)) at.invariant.sound (drop at.taken c.args.input.now))
     (c.in-Err.ensures.step s (record { cells = set.cells ∙ sym at.invariant.limit; texts = set.texts }) depth))
 
 pub loop-left-preserved : goal.loop-left-preserved
@@ -79,7 +79,7 @@ loop-left-preserved g c =
             takes_on (taken c.args.out.now) (taken at.out) (taken c.pass.new.out) (faults c.args.out.now) (faults at.out) (faults c.pass.new.out) went.0 did.0 went.1 did.1,
             went.2
                 ∙ a_step s p at.frames (meant p.types (g.S.Store.content at.store) (g.S.Store.rows at.store)) (drop at.taken c.args.input.now) at.left went.0 c.loop-left-test.true
-                ∙ passes_same s p at.frames (meant p.types (g.S.Store.content at.store) (g.S.Store.rows at.store)) h.sound h.fits.store.numbers.single (drop at.taken c.args.input.now) (walk s p (at.left - 1)) (at.left - 1) went.0
+                ∙ passes_same s p at.frames (meant p.types (g.S.Store.content at.store) (g.S.Store.rows at.store)) h.sound (drop at.taken c.args.input.now) (walk s p (at.left - 1)) (at.left - 1) went.0
                 ∙ did.2 (walk s p (at.left - 1)) (at.left - 1) went.0,
           );
     }
