@@ -6,6 +6,7 @@ mod frame;
 mod iterators;
 mod locations;
 mod members;
+mod parts;
 mod scope;
 mod stops;
 
@@ -16,4 +17,5 @@ pub use locations::{point, pointer_at};
 pub use members::{
     local_type, location_type, member_word, target_type, type_at, type_within, word_within,
 };
+pub use parts::cut;
 pub use scope::Scope;
