@@ -4,5 +4,7 @@ pub mod FitLemmas
 pub mod Iterating
 pub mod LocationLemmas
 pub mod MemberLemmas
+pub mod OwnerLemmas
+pub mod PlaceLemmas
 pub mod StepLemmas
 pub mod Stored

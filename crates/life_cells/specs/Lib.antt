@@ -1,5 +1,6 @@
 pub mod Cells
 pub mod Fits
+pub mod Owners
 pub mod Scopes
 pub mod Steps
 pub mod Typed

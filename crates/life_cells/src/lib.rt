@@ -6,7 +6,9 @@ mod frame;
 mod iterators;
 mod locations;
 mod members;
+mod owners;
 mod parts;
+mod places;
 mod scope;
 mod stops;
 
@@ -17,5 +19,7 @@ pub use locations::{point, pointer_at};
 pub use members::{
     local_type, location_type, member_word, target_type, type_at, type_within, word_within,
 };
+pub use owners::{local_owner, owner_at};
 pub use parts::cut;
+pub use places::locate;
 pub use scope::Scope;
