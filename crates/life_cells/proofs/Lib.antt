@@ -1,4 +1,5 @@
 pub mod CellLemmas
+pub mod Choosing
 pub mod Cutting
 pub mod FitLemmas
 pub mod Iterating

@@ -2,6 +2,7 @@
 #![tactic(auto)]
 
 mod cell;
+mod elements;
 mod frame;
 mod iterators;
 mod locations;
@@ -13,6 +14,7 @@ mod scope;
 mod stops;
 
 pub use cell::{Cell, holding, pointer_of};
+pub use elements::element;
 pub use frame::{cell_at, number_at, object_at, own_pointer, put_at, put_cell};
 pub use iterators::advance;
 pub use locations::{point, pointer_at};
