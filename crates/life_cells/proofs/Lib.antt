@@ -7,5 +7,6 @@ pub mod LocationLemmas
 pub mod MemberLemmas
 pub mod OwnerLemmas
 pub mod PlaceLemmas
+pub mod Ranges
 pub mod StepLemmas
 pub mod Stored

@@ -2,6 +2,7 @@
 #![tactic(auto)]
 
 mod cell;
+mod cursors;
 mod elements;
 mod frame;
 mod iterators;
@@ -14,6 +15,7 @@ mod scope;
 mod stops;
 
 pub use cell::{Cell, holding, pointer_of};
+pub use cursors::cursor;
 pub use elements::element;
 pub use frame::{cell_at, number_at, object_at, own_pointer, put_at, put_cell};
 pub use iterators::advance;
