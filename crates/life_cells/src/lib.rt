@@ -12,6 +12,7 @@ mod owners;
 mod parts;
 mod places;
 mod scope;
+mod sizes;
 mod stops;
 
 pub use cell::{Cell, holding, pointer_of};
@@ -27,3 +28,4 @@ pub use owners::{local_owner, owner_at};
 pub use parts::cut;
 pub use places::locate;
 pub use scope::Scope;
+pub use sizes::size;
