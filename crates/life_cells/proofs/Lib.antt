@@ -1,5 +1,6 @@
 pub mod CellLemmas
 pub mod Choosing
+pub mod Compared
 pub mod Cutting
 pub mod FitLemmas
 pub mod Iterating

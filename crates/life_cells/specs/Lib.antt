@@ -1,4 +1,5 @@
 pub mod Cells
+pub mod Compared
 pub mod Fits
 pub mod Owners
 pub mod Scopes

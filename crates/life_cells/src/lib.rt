@@ -2,6 +2,7 @@
 #![tactic(auto)]
 
 mod cell;
+mod comparing;
 mod cursors;
 mod elements;
 mod frame;
@@ -16,6 +17,7 @@ mod sizes;
 mod stops;
 
 pub use cell::{Cell, holding, pointer_of};
+pub use comparing::same;
 pub use cursors::cursor;
 pub use elements::element;
 pub use frame::{cell_at, number_at, object_at, own_pointer, put_at, put_cell};

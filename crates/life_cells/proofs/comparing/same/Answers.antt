@@ -1,0 +1,58 @@
+use Rattle.std.proofs.Common.{◌≡◌, List, Ok, Err, ap, rules, subst, sym, ◌∙◌}
+use Rattle.std.proofs.lemmas.Int.{to_z-of_z}
+use Rattle.std.proofs.lemmas.Result.{err_from_is_err_and}
+use mir.Val.{SFits}
+use Rattle.std.specs.Int.{w64}
+use Rattle.std.specs.Prelude.{ℤ, Bool}
+use Rattle.life_core.specs.Operands.{location_of}
+use Rattle.life_store.specs.Doing as spec
+use Rattle.life_store.specs.Effects.{Next, put_cell}
+use Rattle.life_store.specs.Parts.{location_parts}
+use Rattle.life_store.specs.State as state
+use Rattle.life_pointers.specs.Attempts.{itself, tried}
+use Rattle.life_cells.specs.Cells.{state_in, state_of}
+use Rattle.life_cells.specs.Fits.{meant, CellsFit}
+use Rattle.life_cells.specs.Scopes.{function_in, types_in}
+use Rattle.life_cells.specs.declared.cell.Cell.TheVariants as held
+use Rattle.life_cells.specs.declared.cell.Cell.{Cell}
+use Rattle.life_cells.proofs.Compared.{told_into}
+use Rattle.life_cells.proofs.FitLemmas.{other_cells, set_fits}
+use Rattle.life_cells.proofs.LocationLemmas.{put_now}
+use Rattle.life_cells.proofs.StepLemmas.{stopped}
+use Rattle.life_cells.proofs.comparing.same.Goals as goal
+
+pub returns-in_err-same-clause-step : goal.returns-in_err-same-clause-step
+returns-in_err-same-clause-step g c = λ s texts output input.
+    let types = types_in c.args.scope.now in
+    let f = function_in c.args.scope.now in
+    let m = meant types (g.S.Store.content c.args.store.now) (g.S.Store.rows c.args.store.now) in
+    let left = location_of c.args.left.now in
+    let right = location_of c.args.right.now in
+    let st = state_of m c.args.cells.now.items output input in
+    let stop = c.in_err-same.field-0.0 in
+    let is = subst (λ (cs : List Cell). tried itself (Err stop) ≡ spec.compared s types f (location_parts types f left) left right (state_in m cs)) c.deref.ensures.value (c.in_err-same.ensures s texts) in
+    let e = err_from_is_err_and c.from_residual.result c.from_residual.ensures.1 in
+    rw (e.1, e.2) (told_into s types f left right m c.args.cells.now.items output input c.args.into c.args.equal (Err stop) is ∙ stopped itself (λ (same : Bool). Next (put_cell c.args.into (state.Number (spec.told same c.args.equal)) st)) stop)
+
+pub returns-clause-step : goal.returns-clause-step
+returns-clause-step g c = λ s texts output input.
+    let types = types_in c.args.scope.now in
+    let f = function_in c.args.scope.now in
+    let m = meant types (g.S.Store.content c.args.store.now) (g.S.Store.rows c.args.store.now) in
+    let left = location_of c.args.left.now in
+    let right = location_of c.args.right.now in
+    let st = state_of m c.args.cells.now.items output input in
+    let same = c.in_ok-same.same in
+    let is = subst (λ (cs : List Cell). tried itself (Ok same) ≡ spec.compared s types f (location_parts types f left) left right (state_in m cs)) c.deref.ensures.value (c.in_ok-same.ensures s texts) in
+    let fits : SFits w64 c.told.result = search rules in
+    told_into s types f left right m c.args.cells.now.items output input c.args.into c.args.equal (Ok same) is
+    ∙ ap (λ (z : ℤ). Next (put_cell c.args.into (state.Number z) st)) (sym (to_z-of_z w64 c.told.result fits ∙ c.told.ensures))
+    ∙ ap Next (put_now m c.args.cells.now.items c.put_cell.new.cells.items c.args.into (held.Number _) output input c.put_cell.ensures)
+
+pub returns-clause-fits : goal.returns-clause-fits
+returns-clause-fits g c =
+    let types = types_in c.args.scope.now in
+    let content = g.S.Store.content c.args.store.now in
+    let rows = g.S.Store.rows c.args.store.now in
+    other_cells types content rows c.args.cells.now.items c.put_cell.new.cells.items c.requires.fits
+    (subst (CellsFit content rows) (sym c.put_cell.ensures) (set_fits content rows c.args.cells.now.items c.args.into (held.Number _) c.requires.fits.held tt))
