@@ -1,5 +1,5 @@
 // Texts of the program.
-ghost use Rattle.std.specs.Prelude.{◌≡◌, ◌<◌, ◌^◌, map, slice_get, ℤ};
+ghost use Rattle.std.specs.Prelude.{◌≡◌, ◌<◌, ◌≤◌, ◌+◌, ◌^◌, map, slice_get, IfOk, ℤ};
 ghost use Rattle.life_core.specs.Function.{name_bytes};
 ghost use Rattle.life_store.specs.Content.{Content};
 ghost use Rattle.life_store.specs.Doing.{on_character};
@@ -51,7 +51,8 @@ pub(crate) fn text_length(texts: &[Vec<u8>], number: u32) -> u64
 
 /// The value of the first character, unless it is the end of its text.
 pub fn character(texts: &[Vec<u8>], characters: Characters) -> Result<i64, Stop>
-    ensures { (go : ℤ → Effect) → on_character (map name_bytes texts.now) (characters_seen characters) go ≡ on_got (tried itself result) go }
+    ensures is { (go : ℤ → Effect) → on_character (map name_bytes texts.now) (characters_seen characters) go ≡ on_got (tried itself result) go }
+    ensures within { IfOk result (λ _. characters.index + 1 ≤ 2 ^ 63) }
 {
     match characters.text {
         None => Err(Stop::Trap(TrapKind::Bounds)),
