@@ -1,3 +1,4 @@
+pub mod Aimed
 pub mod CellLemmas
 pub mod Choosing
 pub mod Compared

@@ -1,6 +1,7 @@
 //! The cells of a frame, and the instructions that make pointers and look at what they point to.
 #![tactic(auto)]
 
+mod aiming;
 mod cell;
 mod comparing;
 mod cursors;
@@ -16,6 +17,7 @@ mod scope;
 mod sizes;
 mod stops;
 
+pub use aiming::{aim, repoint};
 pub use cell::{Cell, holding, pointer_of};
 pub use comparing::same;
 pub use cursors::cursor;
