@@ -120,146 +120,164 @@ module _ (types : Types) (f : Function) (rest : ℕ → ℕ) (S : Fact → Type 
       ty_same : (q : Location) → to ≡ named.Name q → type_in types f q ≡ type_of types f to
       ty_same q h = subst (λ (o : Operand). ty_if types (shapes.operand_type types f o) ≡ type_of types f to) h (typed types f rest S st k to solid_to)
 
-  -- ---- its type
+  -- ---- whatever holds where a value is written, or what is owned there is touched
 
-  module _ (u : Ty) (is : type_of types f to ≡ u) where
-    solid : is_void u ≡ false
-    solid = ap is_void (sym is) ∙ solid_to
+  module _ (Q : State → Type 0)
+      (written : (r : IsReached types f st NoInput any_root S to) → is_value (type_of types f to) ≡ true → holds_owner (tree_if types (shapes.operand_type types f to)) ≡ false → (ws : List ℕ) → length ws ≡ 1
+      → Q (put_content (wrote_spot (record { object = r.region.object; index = r.index; word = r.region.word }) ws st.world.content) st))
+      (changed : (r : IsReached types f st NoInput any_root S to) → holds_owner (tree_if types (shapes.operand_type types f to)) ≡ true → (d : Content) → Touches (kinds_of types) (foot_of types r.region) st.world.content d → Q (put_content d st)) where
+    -- ---- its type
 
-    of : IsOfType types (operand_type types f to) u
-    of = operand_of types k.ordered k.once 0 [] f k.shaped to u is solid
+    module _ (u : Ty) (is : type_of types f to ≡ u) where
+      solid : is_void u ≡ false
+      solid = ap is_void (sym is) ∙ solid_to
 
-    holds_is : holds_owner (tree_if types (shapes.operand_type types f to)) ≡ holds_owner (tree_of types (tree_at types) (Some u))
-    holds_is =
-        ap (λ (id : Option TyId). holds_owner (tree_if types id)) (operand_same types k.ordered k.once 0 [] f k.shaped to ∙ of.is)
-        ∙ ap holds_owner (tree_made types k.ordered of.number ∙ ap (tree_of types (tree_at types)) of.there)
+      of : IsOfType types (operand_type types f to) u
+      of = operand_of types k.ordered k.once 0 [] f k.shaped to u is solid
 
-    parts_are : operand_parts types f to ≡ parts_of types (parts_at types) (Some u)
-    parts_are = ap (parts_if types) of.is ∙ parts_typed types k.ordered of.number u of.there
+      holds_is : holds_owner (tree_if types (shapes.operand_type types f to)) ≡ holds_owner (tree_of types (tree_at types) (Some u))
+      holds_is =
+          ap (λ (id : Option TyId). holds_owner (tree_if types id)) (operand_same types k.ordered k.once 0 [] f k.shaped to ∙ of.is)
+          ∙ ap holds_owner (tree_made types k.ordered of.number ∙ ap (tree_of types (tree_at types)) of.there)
 
-    -- ---- a value
+      parts_are : operand_parts types f to ≡ parts_of types (parts_at types) (Some u)
+      parts_are = ap (parts_if types) of.is ∙ parts_typed types k.ordered of.number u of.there
 
-    module _ (value : is_value u ≡ true) (single : parts_of types (parts_at types) (Some u) ≡ Single) (holds : holds_owner (tree_of types (tree_at types) (Some u)) ≡ false) (r : IsReached types f st NoInput any_root S to) where
-      gone : (e : Element) → is_gone types f place (Copy to from) e ≡ false
-      gone e = ap (λ b. is_killed (if b then one_kill (named_kill place to) else one_kill None) e) (holds_is ∙ holds)
+      -- ---- a value
 
-      value_copied : (ws : List ℕ) → length ws ≡ 1 → OnRight (copied_to s Single (record { object = r.region.object; index = r.index; word = r.region.word }) ws st) (FrameCovered types f S')
-      value_copied ws one x v e =
-          unkilled_cover types k.ordered (hand_of rest st) st.world.content (wrote_spot (record { object = r.region.object; index = r.index; word = r.region.word }) ws st.world.content) (store_of types f rest S st k)
-          (words_touches types f rest S st k to r (subst (λ (t : Ty). is_value t ≡ true) (sym is) value) ws one) (RootStands types f NoInput st.cells) (RootStands types f NoInput st.cells) any_root (rooted_of types f rest S st k).fits sigs f place (Copy to from) S S' right.closed gone
-          (λ a h names free stands. stands) (local_place x) (look_at types f x) v (not_written to to_whole r x v e) (k.covered x v e)
+      module _ (value : is_value u ≡ true) (single : parts_of types (parts_at types) (Some u) ≡ Single) (holds : holds_owner (tree_of types (tree_at types) (Some u)) ≡ false) (r : IsReached types f st NoInput any_root S to) where
+        value_copied : (ws : List ℕ) → length ws ≡ 1 → OnRight (copied_to s Single (record { object = r.region.object; index = r.index; word = r.region.word }) ws st) Q
+        value_copied ws one = written r (subst (λ (t : Ty). is_value t ≡ true) (sym is) value) (holds_is ∙ holds) ws one
 
-      value_from : OnRight (on_place (locate types f from st) (λ m i object. copied_to s (operand_parts types f to) (record { object = r.region.object; index = r.index; word = r.region.word }) (words_at st.world.content m i (operand_word types f from st) (width (operand_parts types f to))) st)
-          (λ c. on_character s.texts c (λ z. copied_to s (operand_parts types f to) (record { object = r.region.object; index = r.index; word = r.region.word }) (word_of_number z ∷ []) st))) (FrameCovered types f S')
-      value_from =
-          subst (λ (p : Parts). OnRight (on_place (locate types f from st) (λ m i object. copied_to s p (record { object = r.region.object; index = r.index; word = r.region.word }) (words_at st.world.content m i (operand_word types f from st) (width p)) st)
-          (λ c. on_character s.texts c (λ z. copied_to s p (record { object = r.region.object; index = r.index; word = r.region.word }) (word_of_number z ∷ []) st))) (FrameCovered types f S')) (sym (parts_are ∙ single))
-          (on_place_right types f st NoInput any_root S from reach_from
-          (λ m i object. copied_to s Single (record { object = r.region.object; index = r.index; word = r.region.word }) (words_at st.world.content m i (operand_word types f from st) 1) st)
-          (λ c. on_character s.texts c (λ z. copied_to s Single (record { object = r.region.object; index = r.index; word = r.region.word }) (word_of_number z ∷ []) st)) (FrameCovered types f S')
-          (λ h. value_copied (words_at st.world.content h.region.object h.index (operand_word types f from st) 1)
-          (subst (λ w. length (words_at st.world.content h.region.object h.index w 1) ≡ 1) (sym h.word)
-          (place_copied types k.ordered (hand_of rest st) st.world.content (store_of types f rest S st k) h.region.ty h.region.object h.index h.region.word h.holder (record { there = h.there; slot = h.small; within = region_within types f rest S st k from h }) Single
-          (value_there types f rest S st k from h (subst (λ (t : Ty). is_value t ≡ true) (sym is ∙ alike) value))).wide))
-          (λ c one. character_right s.texts c (λ z. copied_to s Single (record { object = r.region.object; index = r.index; word = r.region.word }) (word_of_number z ∷ []) st) (FrameCovered types f S') (λ z. value_copied (word_of_number z ∷ []) refl)))
+        value_from : OnRight (on_place (locate types f from st) (λ m i object. copied_to s (operand_parts types f to) (record { object = r.region.object; index = r.index; word = r.region.word }) (words_at st.world.content m i (operand_word types f from st) (width (operand_parts types f to))) st)
+            (λ c. on_character s.texts c (λ z. copied_to s (operand_parts types f to) (record { object = r.region.object; index = r.index; word = r.region.word }) (word_of_number z ∷ []) st))) Q
+        value_from =
+            subst (λ (p : Parts). OnRight (on_place (locate types f from st) (λ m i object. copied_to s p (record { object = r.region.object; index = r.index; word = r.region.word }) (words_at st.world.content m i (operand_word types f from st) (width p)) st)
+            (λ c. on_character s.texts c (λ z. copied_to s p (record { object = r.region.object; index = r.index; word = r.region.word }) (word_of_number z ∷ []) st))) Q) (sym (parts_are ∙ single))
+            (on_place_right types f st NoInput any_root S from reach_from
+            (λ m i object. copied_to s Single (record { object = r.region.object; index = r.index; word = r.region.word }) (words_at st.world.content m i (operand_word types f from st) 1) st)
+            (λ c. on_character s.texts c (λ z. copied_to s Single (record { object = r.region.object; index = r.index; word = r.region.word }) (word_of_number z ∷ []) st)) Q
+            (λ h. value_copied (words_at st.world.content h.region.object h.index (operand_word types f from st) 1)
+            (subst (λ w. length (words_at st.world.content h.region.object h.index w 1) ≡ 1) (sym h.word)
+            (place_copied types k.ordered (hand_of rest st) st.world.content (store_of types f rest S st k) h.region.ty h.region.object h.index h.region.word h.holder (record { there = h.there; slot = h.small; within = region_within types f rest S st k from h }) Single
+            (value_there types f rest S st k from h (subst (λ (t : Ty). is_value t ≡ true) (sym is ∙ alike) value))).wide))
+            (λ c one. character_right s.texts c (λ z. copied_to s Single (record { object = r.region.object; index = r.index; word = r.region.word }) (word_of_number z ∷ []) st) Q (λ z. value_copied (word_of_number z ∷ []) refl)))
 
-    -- ---- a vector or a string
+      -- ---- a vector or a string
 
-    module _ (item : TyId) (owned : owned_in_type types (Some u) ≡ Some item) (buffer : has_buffer u ≡ true) (one : width (parts_of types (parts_at types) (Some u)) ≡ 1) (no_value : parts_of types (parts_at types) (Some u) ≡ Single → ⊥) (holds : holds_owner (tree_of types (tree_at types) (Some u)) ≡ true)
-        (r : IsReached types f st NoInput any_root S to) where
-      into : IsOpened types f rest S st k to r u item
-      into = opened types f rest S st k to r u is item owned buffer
+      module _ (item : TyId) (owned : owned_in_type types (Some u) ≡ Some item) (buffer : has_buffer u ≡ true) (one : width (parts_of types (parts_at types) (Some u)) ≡ 1) (no_value : parts_of types (parts_at types) (Some u) ≡ Single → ⊥) (holds : holds_owner (tree_of types (tree_at types) (Some u)) ≡ true)
+          (r : IsReached types f st NoInput any_root S to) where
+        into : IsOpened types f rest S st k to r u item
+        into = opened types f rest S st k to r u is item owned buffer
 
-      into_parts : parts_at types r.region.ty ≡ parts_of types (parts_at types) (Some u)
-      into_parts = parts_typed types k.ordered r.region.ty u into.there
+        into_parts : parts_at types r.region.ty ≡ parts_of types (parts_at types) (Some u)
+        into_parts = parts_typed types k.ordered r.region.ty u into.there
 
-      owner_copied : (h : IsReached types f st NoInput any_root S from)
-          → OnRight (copied_to s (parts_of types (parts_at types) (Some u)) (record { object = r.region.object; index = r.index; word = r.region.word }) (spot_words st.world.content (record { object = h.region.object; index = h.index; word = h.region.word }) (width (parts_of types (parts_at types) (Some u)))) st) (FrameCovered types f S')
-      owner_copied h =
-          right_then (copied s (parts_of types (parts_at types) (Some u)) ws st.world.content) (λ v. Next (put_content (replaced (parts_of types (parts_at types) (Some u)) spot v) st))
-          (λ v. Touches (kinds_of types) (foot_of types r.region) st.world.content (replaced (parts_of types (parts_at types) (Some u)) spot v)) (FrameCovered types f S')
-          (right_got (copied s (parts_of types (parts_at types) (Some u)) ws st.world.content) (λ v. Touches (kinds_of types) (foot_of types r.region) st.world.content (replaced (parts_of types (parts_at types) (Some u)) spot v))
-          (subst (λ (q : Parts). IfGot (copied s q ws st.world.content) (λ v. Touches (kinds_of types) (foot_of types r.region) st.world.content (replaced q spot v))) into_parts
-          (copy_touches types k.ordered (hand_of rest st) st.world.content (store_of types f rest S st k) r.region.object r.index r.region.word r.region.ty r.holder r.there (region_within types f rest S st k to r) r.small s ws
-          (subst (λ (q : Parts). length ws ≡ width q) (sym into_parts) are.wide) (subst (λ (q : Parts). Known (kinds_of types) st.world.content q ws) (sym into_parts) are.known)
-          (subst (λ (q : Parts). (j : ℕ) → 0 < times (owned_of q ws) j → 0 < alive st.world.content j) (sym into_parts) are.living)))
-          (faultless_of (copied s (parts_of types (parts_at types) (Some u)) ws st.world.content) _
-          (copied_right types k.ordered (hand_of rest st) st.world.content (store_of types f rest S st k) k.buffered s (parts_of types (parts_at types) (Some u)) (subst IsWhole into_parts (whole_parts types k.plain r.region.ty))
-          h.region.object h.index h.holder t.0 (ap (parts_at types) (all.type h.holder h.there) ∙ from_parts) h.there t.1 ws first st.world.content (now types k.ordered (hand_of rest st) st.world.content (store_of types f rest S st k) k.buffered s))))
-          (λ v touch x w e. operand_copied types k.ordered f (hand_of rest st) st (store_of types f rest S st k) NoInput any_root any_root (rooted_of types f rest S st k) sigs place from S S' to r refl right.closed (holds_is ∙ holds)
-          (replaced (parts_of types (parts_at types) (Some u)) spot v) touch (local_place x) (look_at types f x) w (not_written to to_whole r x w e) (k.covered x w e))
-        where
-          spot : Spot
-          spot = record { object = r.region.object; index = r.index; word = r.region.word }
+        owner_copied : (h : IsReached types f st NoInput any_root S from)
+            → OnRight (copied_to s (parts_of types (parts_at types) (Some u)) (record { object = r.region.object; index = r.index; word = r.region.word }) (spot_words st.world.content (record { object = h.region.object; index = h.index; word = h.region.word }) (width (parts_of types (parts_at types) (Some u)))) st) Q
+        owner_copied h =
+            right_then (copied s (parts_of types (parts_at types) (Some u)) ws st.world.content) (λ v. Next (put_content (replaced (parts_of types (parts_at types) (Some u)) spot v) st))
+            (λ v. Touches (kinds_of types) (foot_of types r.region) st.world.content (replaced (parts_of types (parts_at types) (Some u)) spot v)) Q
+            (right_got (copied s (parts_of types (parts_at types) (Some u)) ws st.world.content) (λ v. Touches (kinds_of types) (foot_of types r.region) st.world.content (replaced (parts_of types (parts_at types) (Some u)) spot v))
+            (subst (λ (q : Parts). IfGot (copied s q ws st.world.content) (λ v. Touches (kinds_of types) (foot_of types r.region) st.world.content (replaced q spot v))) into_parts
+            (copy_touches types k.ordered (hand_of rest st) st.world.content (store_of types f rest S st k) r.region.object r.index r.region.word r.region.ty r.holder r.there (region_within types f rest S st k to r) r.small s ws
+            (subst (λ (q : Parts). length ws ≡ width q) (sym into_parts) are.wide) (subst (λ (q : Parts). Known (kinds_of types) st.world.content q ws) (sym into_parts) are.known)
+            (subst (λ (q : Parts). (j : ℕ) → 0 < times (owned_of q ws) j → 0 < alive st.world.content j) (sym into_parts) are.living)))
+            (faultless_of (copied s (parts_of types (parts_at types) (Some u)) ws st.world.content) _
+            (copied_right types k.ordered (hand_of rest st) st.world.content (store_of types f rest S st k) k.buffered s (parts_of types (parts_at types) (Some u)) (subst IsWhole into_parts (whole_parts types k.plain r.region.ty))
+            h.region.object h.index h.holder t.0 (ap (parts_at types) (all.type h.holder h.there) ∙ from_parts) h.there t.1 ws first st.world.content (now types k.ordered (hand_of rest st) st.world.content (store_of types f rest S st k) k.buffered s))))
+            (λ v touch. changed r (holds_is ∙ holds) (replaced (parts_of types (parts_at types) (Some u)) spot v) touch)
+          where
+            spot : Spot
+            spot = record { object = r.region.object; index = r.index; word = r.region.word }
 
-          ws : List ℕ
-          ws = spot_words st.world.content (record { object = h.region.object; index = h.index; word = h.region.word }) (width (parts_of types (parts_at types) (Some u)))
+            ws : List ℕ
+            ws = spot_words st.world.content (record { object = h.region.object; index = h.index; word = h.region.word }) (width (parts_of types (parts_at types) (Some u)))
 
-          out : IsOpened types f rest S st k from h u item
-          out = opened types f rest S st k from h u (sym alike ∙ is) item owned buffer
+            out : IsOpened types f rest S st k from h u item
+            out = opened types f rest S st k from h u (sym alike ∙ is) item owned buffer
 
-          from_parts : parts_at types h.region.ty ≡ parts_of types (parts_at types) (Some u)
-          from_parts = parts_typed types k.ordered h.region.ty u out.there
+            from_parts : parts_at types h.region.ty ≡ parts_of types (parts_at types) (Some u)
+            from_parts = parts_typed types k.ordered h.region.ty u out.there
 
-          are : AreCopied types st.world.content (parts_of types (parts_at types) (Some u)) (spot_words st.world.content (record { object = h.region.object; index = h.index; word = h.region.word }) (width (parts_of types (parts_at types) (Some u))))
-          are =
-              place_copied types k.ordered (hand_of rest st) st.world.content (store_of types f rest S st k) h.region.ty h.region.object h.index h.region.word h.holder (record { there = h.there; slot = h.small; within = region_within types f rest S st k from h })
-              (parts_of types (parts_at types) (Some u)) from_parts
+            are : AreCopied types st.world.content (parts_of types (parts_at types) (Some u)) (spot_words st.world.content (record { object = h.region.object; index = h.index; word = h.region.word }) (width (parts_of types (parts_at types) (Some u))))
+            are =
+                place_copied types k.ordered (hand_of rest st) st.world.content (store_of types f rest S st k) h.region.ty h.region.object h.index h.region.word h.holder (record { there = h.there; slot = h.small; within = region_within types f rest S st k from h })
+                (parts_of types (parts_at types) (Some u)) from_parts
 
-          all : IsAllOf types f rest S st k h.region
-          all = region_all types f rest S st k from h
+            all : IsAllOf types f rest S st k h.region
+            all = region_all types f rest S st k from h
 
-          t : (x : Slot) × (slice_get h.holder.slots h.index ≡ Some x)
-          t = slot_there h.holder.slots h.index h.small
+            t : (x : Slot) × (slice_get h.holder.slots h.index ≡ Some x)
+            t = slot_there h.holder.slots h.index h.small
 
-          first : slice_index (spot_words st.world.content (record { object = h.region.object; index = h.index; word = h.region.word }) (width (parts_of types (parts_at types) (Some u)))) 0 ≡ slice_index t.0.words 0
-          first =
-              ap (λ w. slice_index (spot_words st.world.content (record { object = h.region.object; index = h.index; word = h.region.word }) w) 0) one
-              ∙ ap (λ (x : Option Object). slice_index (take 1 (drop h.region.word (words_if (slice_get (slots_if x) h.index)))) 0) h.there
-              ∙ first_of (words_if (slice_get h.holder.slots h.index)) h.region.word
-              ∙ ap (λ (x : Option Slot). slice_index (words_if x) h.region.word) t.1
-              ∙ ap (slice_index t.0.words) all.word
+            first : slice_index (spot_words st.world.content (record { object = h.region.object; index = h.index; word = h.region.word }) (width (parts_of types (parts_at types) (Some u)))) 0 ≡ slice_index t.0.words 0
+            first =
+                ap (λ w. slice_index (spot_words st.world.content (record { object = h.region.object; index = h.index; word = h.region.word }) w) 0) one
+                ∙ ap (λ (x : Option Object). slice_index (take 1 (drop h.region.word (words_if (slice_get (slots_if x) h.index)))) 0) h.there
+                ∙ first_of (words_if (slice_get h.holder.slots h.index)) h.region.word
+                ∙ ap (λ (x : Option Slot). slice_index (words_if x) h.region.word) t.1
+                ∙ ap (slice_index t.0.words) all.word
 
-      owner_from : OnRight (on_place (locate types f from st) (λ m i object. copied_to s (operand_parts types f to) (record { object = r.region.object; index = r.index; word = r.region.word }) (words_at st.world.content m i (operand_word types f from st) (width (operand_parts types f to))) st)
-          (λ c. on_character s.texts c (λ z. copied_to s (operand_parts types f to) (record { object = r.region.object; index = r.index; word = r.region.word }) (word_of_number z ∷ []) st))) (FrameCovered types f S')
-      owner_from =
-          subst (λ (q : Parts). OnRight (on_place (locate types f from st) (λ m i object. copied_to s q (record { object = r.region.object; index = r.index; word = r.region.word }) (words_at st.world.content m i (operand_word types f from st) (width q)) st)
-          (λ c. on_character s.texts c (λ z. copied_to s q (record { object = r.region.object; index = r.index; word = r.region.word }) (word_of_number z ∷ []) st))) (FrameCovered types f S')) (sym parts_are)
-          (on_place_right types f st NoInput any_root S from reach_from
-          (λ m i object. copied_to s (parts_of types (parts_at types) (Some u)) (record { object = r.region.object; index = r.index; word = r.region.word }) (words_at st.world.content m i (operand_word types f from st) (width (parts_of types (parts_at types) (Some u)))) st)
-          (λ c. on_character s.texts c (λ z. copied_to s (parts_of types (parts_at types) (Some u)) (record { object = r.region.object; index = r.index; word = r.region.word }) (word_of_number z ∷ []) st)) (FrameCovered types f S')
-          (λ h. subst (λ w. OnRight (copied_to s (parts_of types (parts_at types) (Some u)) (record { object = r.region.object; index = r.index; word = r.region.word }) (words_at st.world.content h.region.object h.index w (width (parts_of types (parts_at types) (Some u)))) st) (FrameCovered types f S')) (sym h.word) (owner_copied h))
-          (λ c single. absurd (no_value (sym from_typed ∙ single))))
-        where
-          from_typed : parts_if types (operand_type types f from) ≡ parts_of types (parts_at types) (Some u)
-          from_typed =
-              let out = operand_of types k.ordered k.once 0 [] f k.shaped from u (sym alike ∙ is) solid in
-              ap (parts_if types) out.is ∙ parts_typed types k.ordered out.number u out.there
+        owner_from : OnRight (on_place (locate types f from st) (λ m i object. copied_to s (operand_parts types f to) (record { object = r.region.object; index = r.index; word = r.region.word }) (words_at st.world.content m i (operand_word types f from st) (width (operand_parts types f to))) st)
+            (λ c. on_character s.texts c (λ z. copied_to s (operand_parts types f to) (record { object = r.region.object; index = r.index; word = r.region.word }) (word_of_number z ∷ []) st))) Q
+        owner_from =
+            subst (λ (q : Parts). OnRight (on_place (locate types f from st) (λ m i object. copied_to s q (record { object = r.region.object; index = r.index; word = r.region.word }) (words_at st.world.content m i (operand_word types f from st) (width q)) st)
+            (λ c. on_character s.texts c (λ z. copied_to s q (record { object = r.region.object; index = r.index; word = r.region.word }) (word_of_number z ∷ []) st))) Q) (sym parts_are)
+            (on_place_right types f st NoInput any_root S from reach_from
+            (λ m i object. copied_to s (parts_of types (parts_at types) (Some u)) (record { object = r.region.object; index = r.index; word = r.region.word }) (words_at st.world.content m i (operand_word types f from st) (width (parts_of types (parts_at types) (Some u)))) st)
+            (λ c. on_character s.texts c (λ z. copied_to s (parts_of types (parts_at types) (Some u)) (record { object = r.region.object; index = r.index; word = r.region.word }) (word_of_number z ∷ []) st)) Q
+            (λ h. subst (λ w. OnRight (copied_to s (parts_of types (parts_at types) (Some u)) (record { object = r.region.object; index = r.index; word = r.region.word }) (words_at st.world.content h.region.object h.index w (width (parts_of types (parts_at types) (Some u)))) st) Q) (sym h.word) (owner_copied h))
+            (λ c single. absurd (no_value (sym from_typed ∙ single))))
+          where
+            from_typed : parts_if types (operand_type types f from) ≡ parts_of types (parts_at types) (Some u)
+            from_typed =
+                let out = operand_of types k.ordered k.once 0 [] f k.shaped from u (sym alike ∙ is) solid in
+                ap (parts_if types) out.is ∙ parts_typed types k.ordered out.number u out.there
 
-  -- ---- the kind
+    -- ---- the kind
 
-  copies_from : (r : IsReached types f st NoInput any_root S to) (u : Ty) → type_of types f to ≡ u → is_pointer u ≡ false → IsCopyable u
-      → OnRight (on_place (locate types f from st) (λ m i object. copied_to s (operand_parts types f to) (record { object = r.region.object; index = r.index; word = r.region.word }) (words_at st.world.content m i (operand_word types f from st) (width (operand_parts types f to))) st)
-      (λ c. on_character s.texts c (λ z. copied_to s (operand_parts types f to) (record { object = r.region.object; index = r.index; word = r.region.word }) (word_of_number z ∷ []) st))) (FrameCovered types f S')
-  copies_from r ty.Bool is pointer can = value_from ty.Bool is refl refl refl r
-  copies_from r ty.Char is pointer can = value_from ty.Char is refl refl refl r
-  copies_from r ty.Int is pointer can = value_from ty.Int is refl refl refl r
-  copies_from r ty.Long is pointer can = value_from ty.Long is refl refl refl r
-  copies_from r ty.Size is pointer can = value_from ty.Size is refl refl refl r
-  copies_from r ty.Text is pointer can = owner_from ty.Text is (characters_type types) refl refl refl (λ h. cc) refl r
-  copies_from r (ty.Vector element) is pointer can = owner_from (ty.Vector element) is element refl refl refl (λ h. cc) holds_vector r
-    where
-      holds_vector : holds_owner (tree_of types (tree_at types) (Some (ty.Vector element))) ≡ true
-      holds_vector = refl
-  copies_from r (ty.Unique target) is pointer can = absurd can
-  copies_from r (ty.Struct number) is pointer can = absurd can
-  copies_from r ty.Void is pointer can = absurd (false≢true (sym solid_to ∙ ap is_void is))
-  copies_from r _ is pointer can = absurd (false≢true (sym pointer))
+    copies_from : (r : IsReached types f st NoInput any_root S to) (u : Ty) → type_of types f to ≡ u → is_pointer u ≡ false → IsCopyable u
+        → OnRight (on_place (locate types f from st) (λ m i object. copied_to s (operand_parts types f to) (record { object = r.region.object; index = r.index; word = r.region.word }) (words_at st.world.content m i (operand_word types f from st) (width (operand_parts types f to))) st)
+        (λ c. on_character s.texts c (λ z. copied_to s (operand_parts types f to) (record { object = r.region.object; index = r.index; word = r.region.word }) (word_of_number z ∷ []) st))) Q
+    copies_from r ty.Bool is pointer can = value_from ty.Bool is refl refl refl r
+    copies_from r ty.Char is pointer can = value_from ty.Char is refl refl refl r
+    copies_from r ty.Int is pointer can = value_from ty.Int is refl refl refl r
+    copies_from r ty.Long is pointer can = value_from ty.Long is refl refl refl r
+    copies_from r ty.Size is pointer can = value_from ty.Size is refl refl refl r
+    copies_from r ty.Text is pointer can = owner_from ty.Text is (characters_type types) refl refl refl (λ h. cc) refl r
+    copies_from r (ty.Vector element) is pointer can = owner_from (ty.Vector element) is element refl refl refl (λ h. cc) holds_vector r
+      where
+        holds_vector : holds_owner (tree_of types (tree_at types) (Some (ty.Vector element))) ≡ true
+        holds_vector = refl
+    copies_from r (ty.Unique target) is pointer can = absurd can
+    copies_from r (ty.Struct number) is pointer can = absurd can
+    copies_from r ty.Void is pointer can = absurd (false≢true (sym solid_to ∙ ap is_void is))
+    copies_from r _ is pointer can = absurd (false≢true (sym pointer))
 
+    pub copy_right : is_pointer (type_of types f to) ≡ false → IsCopyable (type_of types f to) → OnRight (does s types f (Copy to from) st) Q
+    copy_right pointer can = by_reach types f st NoInput any_root S to reach_to go Q (λ r. subst (λ e. OnRight e Q) (sym (spot_is types f st NoInput any_root S to r go)) (copies_from r (type_of types f to) refl pointer can))
+      where
+        go : Spot → Effect
+        go spot =
+            on_place (locate types f from st) (λ m i object. copied_to s (operand_parts types f to) spot (words_at st.world.content m i (operand_word types f from st) (width (operand_parts types f to))) st)
+            (λ c. on_character s.texts c (λ z. copied_to s (operand_parts types f to) spot (word_of_number z ∷ []) st))
+
+  -- .. as that the facts cover all pointers
   pub copy_kind : is_pointer (type_of types f to) ≡ false → IsCopyable (type_of types f to) → OnRight (does s types f (Copy to from) st) (FrameCovered types f S')
-  copy_kind pointer can = by_reach types f st NoInput any_root S to reach_to go (FrameCovered types f S') (λ r. subst (λ e. OnRight e (FrameCovered types f S')) (sym (spot_is types f st NoInput any_root S to r go)) (copies_from r (type_of types f to) refl pointer can))
+  copy_kind = copy_right (FrameCovered types f S') value_written owner_written
     where
-      go : Spot → Effect
-      go spot =
-          on_place (locate types f from st) (λ m i object. copied_to s (operand_parts types f to) spot (words_at st.world.content m i (operand_word types f from st) (width (operand_parts types f to))) st)
-          (λ c. on_character s.texts c (λ z. copied_to s (operand_parts types f to) spot (word_of_number z ∷ []) st))
+      value_written : (r : IsReached types f st NoInput any_root S to) → is_value (type_of types f to) ≡ true → holds_owner (tree_if types (shapes.operand_type types f to)) ≡ false → (ws : List ℕ) → length ws ≡ 1
+          → FrameCovered types f S' (put_content (wrote_spot (record { object = r.region.object; index = r.index; word = r.region.word }) ws st.world.content) st)
+      value_written r value holds ws one x v e =
+          unkilled_cover types k.ordered (hand_of rest st) st.world.content (wrote_spot (record { object = r.region.object; index = r.index; word = r.region.word }) ws st.world.content) (store_of types f rest S st k)
+          (words_touches types f rest S st k to r value ws one) (RootStands types f NoInput st.cells) (RootStands types f NoInput st.cells) any_root (rooted_of types f rest S st k).fits sigs f place (Copy to from) S S' right.closed gone
+          (λ a h names free stands. stands) (local_place x) (look_at types f x) v (not_written to to_whole r x v e) (k.covered x v e)
+        where
+          gone : (e : Element) → is_gone types f place (Copy to from) e ≡ false
+          gone e = ap (λ b. is_killed (if b then one_kill (named_kill place to) else one_kill None) e) holds
+
+      owner_written : (r : IsReached types f st NoInput any_root S to) → holds_owner (tree_if types (shapes.operand_type types f to)) ≡ true → (d : Content) → Touches (kinds_of types) (foot_of types r.region) st.world.content d → FrameCovered types f S' (put_content d st)
+      owner_written r holds d touch x w e =
+          operand_copied types k.ordered f (hand_of rest st) st (store_of types f rest S st k) NoInput any_root any_root (rooted_of types f rest S st k) sigs place from S S' to r refl right.closed holds d touch
+          (local_place x) (look_at types f x) w (not_written to to_whole r x w e) (k.covered x w e)

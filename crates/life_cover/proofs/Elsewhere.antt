@@ -34,7 +34,7 @@ stepped_same a s = go (nat_lt a.length 8)
     go true = refl
     go false = refl
 
-member_same : (a : AbsPlace) (m : ℕ) → (member_place a m).root ≡ a.root
+pub member_same : (a : AbsPlace) (m : ℕ) → (member_place a m).root ≡ a.root
 member_same a m = go (nat_lt m owned_step)
   where
     go : (b : Bool) → (if b then stepped a m else too_long a).root ≡ a.root

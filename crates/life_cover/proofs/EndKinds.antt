@@ -160,6 +160,23 @@ cell_names _ n = false
 abbrev pub foot_among : List Cell → List ℕ → Foot
 foot_among cells xs = record { whole = λ n. list_any (λ x. cell_names (slice_get cells x) n) xs; part = λ m w. false }
 
+-- one of these locals names it
+pub among_named : (cells : List Cell) (zs : List ℕ) (m : ℕ) → list_any (λ z. cell_names (slice_get cells z) m) zs ≡ true → (z : ℕ) × (list_any (λ w. nat_eq w z) zs ≡ true) × (slice_get cells z ≡ Some (Named m))
+among_named cells [] m e = absurd (false≢true e)
+among_named cells (z ∷ zs) m e = go (cell_names (slice_get cells z) m) refl e (among_named cells zs m)
+  where
+    names : (v : Option Cell) → slice_get cells z ≡ v → cell_names v m ≡ true → slice_get cells z ≡ Some (Named m)
+    names (Some (Named j)) h t = h ∙ ap (λ i. Some (Named i)) (eqb-true j m t)
+    names (Some Empty) h t = absurd (false≢true t)
+    names (Some (Number i)) h t = absurd (false≢true t)
+    names (Some (Points p)) h t = absurd (false≢true t)
+    names None h t = absurd (false≢true t)
+
+    go : (b : Bool) → cell_names (slice_get cells z) m ≡ b → (b || list_any (λ w. cell_names (slice_get cells w) m) zs) ≡ true
+        → (list_any (λ w. cell_names (slice_get cells w) m) zs ≡ true → (y : ℕ) × (list_any (λ w. nat_eq w y) zs ≡ true) × (slice_get cells y ≡ Some (Named m))) → (y : ℕ) × (list_any (λ w. nat_eq w y) (z ∷ zs) ≡ true) × (slice_get cells y ≡ Some (Named m))
+    go true h t rest = (z, left_true (nat_eq z z) (list_any (λ w. nat_eq w z) zs) (eq_same z), names (slice_get cells z) refl h)
+    go false h t rest = let r = rest t in (r.0, right_true (nat_eq z r.0) (list_any (λ w. nat_eq w r.0) zs) r.1, r.2)
+
 module _ (types : Types) where
   -- behind the end of these locals, one after the other
   pub record AreEnded (xs : List ℕ) (st st' : State) : Type 0 where
@@ -268,23 +285,6 @@ module _ (types : Types) (f : Function) (rest : ℕ → ℕ) (S : Fact → Type 
   abbrev hand : ℕ → ℕ
   hand m = times (named_in st.cells) m + rest m
 
-  -- a local that stays names no object of one that ends, and none beneath it
-  named_whole : (zs : List ℕ) (m : ℕ) → list_any (λ z. cell_names (slice_get st.cells z) m) zs ≡ true → (z : ℕ) × (list_any (λ w. nat_eq w z) zs ≡ true) × (slice_get st.cells z ≡ Some (Named m))
-  named_whole [] m e = absurd (false≢true e)
-  named_whole (z ∷ zs) m e = go (cell_names (slice_get st.cells z) m) refl e (named_whole zs m)
-    where
-      names : (v : Option Cell) → slice_get st.cells z ≡ v → cell_names v m ≡ true → slice_get st.cells z ≡ Some (Named m)
-      names (Some (Named j)) h t = h ∙ ap (λ i. Some (Named i)) (eqb-true j m t)
-      names (Some Empty) h t = absurd (false≢true t)
-      names (Some (Number i)) h t = absurd (false≢true t)
-      names (Some (Points p)) h t = absurd (false≢true t)
-      names None h t = absurd (false≢true t)
-
-      go : (b : Bool) → cell_names (slice_get st.cells z) m ≡ b → (b || list_any (λ w. cell_names (slice_get st.cells w) m) zs) ≡ true
-          → (list_any (λ w. cell_names (slice_get st.cells w) m) zs ≡ true → (y : ℕ) × (list_any (λ w. nat_eq w y) zs ≡ true) × (slice_get st.cells y ≡ Some (Named m))) → (y : ℕ) × (list_any (λ w. nat_eq w y) (z ∷ zs) ≡ true) × (slice_get st.cells y ≡ Some (Named m))
-      go true h t rest = (z, left_true (nat_eq z z) (list_any (λ w. nat_eq w z) zs) (eq_same z), names (slice_get st.cells z) refl h)
-      go false h t rest = let r = rest t in (r.0, right_true (nat_eq z r.0) (list_any (λ w. nat_eq w r.0) zs) r.1, r.2)
-
   -- what a local names isn't owned
   unowned : (y m j : ℕ) → slice_get st.cells y ≡ Some (Named m) → 0 < owns_at (kinds_of types) st.world.content every j m → ⊥
   unowned y m j e own =
@@ -305,15 +305,15 @@ module _ (types : Types) (f : Function) (rest : ℕ → ℕ) (S : Fact → Type 
           omega (arith, two, h, alive))
 
       one : (j : ℕ) → list_any (λ z. cell_names (slice_get st.cells z) j) xs ≡ true → Beneath (kinds_of types) st.world.content (all_of (m ∷ [])) j → ⊥
-      one j t (whole _ w) = let z = named_whole xs j t in clash z.0 z.1 (subst (λ i. slice_get st.cells z.0 ≡ Some (Named i)) (sym (one_there m j (let p = positive_is (times (m ∷ []) j) w in omega (arith, p)))) z.2)
-      one j t (part i _ own) = let z = named_whole xs j t in unowned z.0 j i z.2 (own_all (kinds_of types) st.world.content (λ u. false) i j own)
-      one j t (under i _ low own) = let z = named_whole xs j t in unowned z.0 j i z.2 own
+      one j t (whole _ w) = let z = among_named st.cells xs j t in clash z.0 z.1 (subst (λ i. slice_get st.cells z.0 ≡ Some (Named i)) (sym (one_there m j (let p = positive_is (times (m ∷ []) j) w in omega (arith, p)))) z.2)
+      one j t (part i _ own) = let z = among_named st.cells xs j t in unowned z.0 j i z.2 (own_all (kinds_of types) st.world.content (λ u. false) i j own)
+      one j t (under i _ low own) = let z = among_named st.cells xs j t in unowned z.0 j i z.2 own
 
       other : (j : ℕ) → (all_of (m ∷ [])).whole j ≡ true → Beneath (kinds_of types) st.world.content (foot_among st.cells xs) j → ⊥
       other j w low = at_m j (one_there m j (let p = positive_is (times (m ∷ []) j) w in omega (arith, p))) low
         where
           at_m : (i : ℕ) → m ≡ i → Beneath (kinds_of types) st.world.content (foot_among st.cells xs) i → ⊥
-          at_m i same (whole _ t) = let z = named_whole xs i t in clash z.0 z.1 (subst (λ h. slice_get st.cells z.0 ≡ Some (Named h)) (sym same) z.2)
+          at_m i same (whole _ t) = let z = among_named st.cells xs i t in clash z.0 z.1 (subst (λ h. slice_get st.cells z.0 ≡ Some (Named h)) (sym same) z.2)
           at_m i same (part h _ own) = unowned y m h e (subst (λ q. 0 < owns_at (kinds_of types) st.world.content every h q) (sym same) (own_all (kinds_of types) st.world.content (λ u. false) h i own))
           at_m i same (under h _ low own) = unowned y m h e (subst (λ q. 0 < owns_at (kinds_of types) st.world.content every h q) (sym same) own)
 

@@ -19,7 +19,6 @@ use Rattle.life_proper.specs.WellFormed.{is_well_formed_node}
 use Rattle.life_proper.specs.WellFormedPrograms.{is_well_formed_function}
 use Rattle.life_proper.proofs.SortedNodes.{formed_parts}
 use Rattle.life_store.specs.Cells.{at}
-use Rattle.life_store.specs.Content.{Content}
 use Rattle.life_store.specs.Doing.{does}
 use Rattle.life_store.specs.Effects.{Setting, Effect, Next, Traps, Faults, Strays}
 use Rattle.life_store.specs.State.{Pointer, Points, State, ready_of}
@@ -30,8 +29,10 @@ use Rattle.life_forest.proofs.SettlingLives.{HaveMembers}
 use Rattle.life_forest.proofs.Shaped.{locals_shaped}
 use Rattle.life_forest.proofs.Slots.{ArePointsFormed}
 use Rattle.life_forest.proofs.TypedPoints.{slot_free}
+use Rattle.life_forest.proofs.Holding.{KeepsWaiting}
 use Rattle.life_cover.specs.Frames.{FrameCovered}
 use Rattle.life_cover.proofs.FrameSteps.{IsSpoken}
+use Rattle.life_cover.proofs.Behind.{IsBehind}
 use Rattle.life_cover.proofs.KeptBuffers.{IsBuffered}
 use Rattle.life_cover.proofs.KnownFrames.{IsKnownFrame, IsRight}
 use Rattle.life_cover.proofs.Pointers.{OnRight}
@@ -65,18 +66,25 @@ pub record IsSafe (types : Types) (f : Function) (rest : ℕ → ℕ) (S : Fact 
   pub covered : FrameCovered types f S st
   pub buffered : IsBuffered types st
 
--- .. in the next state, if there is one, with these locals; there is neither a fault nor a stray step
-abbrev pub GoesSafe : Types → Function → (ℕ → ℕ) → (Fact → Type 0) → Ready → Effect → Type 0
-GoesSafe types f rest S bits (Next st) = IsSafe types f rest S st × (ready_of st ≡ bits)
-GoesSafe types f rest S bits (Traps kind) = Unit {0}
-GoesSafe types f rest S bits (Faults kind) = ⊥
-GoesSafe types f rest S bits Strays = ⊥
+-- .. in the next state, with these locals; what the instruction touched lies beneath what the frame named, and what waits has its pointers
+pub record IsSafeNext (types : Types) (f : Function) (rest : ℕ → ℕ) (S : Fact → Type 0) (past : Ready) (before st : State) : Type 0 where
+  pub safe : IsSafe types f rest S st
+  pub bits : ready_of st ≡ past
+  pub behind : IsBehind types before st
+  pub waits : KeepsWaiting types rest before.world.content st.world.content
 
-goes_safe : (types : Types) (f : Function) (rest : ℕ → ℕ) (S : Fact → Type 0) (c : Content) (bits : Ready) (e : Effect) → GoesOn types f rest c bits e → OnRight e (λ st. FrameCovered types f S st × IsBuffered types st) → GoesSafe types f rest S bits e
-goes_safe types f rest S c bits (Next st) goes right = (record { sound = goes.sound; covered = right.0; buffered = right.1 }, goes.bits)
-goes_safe types f rest S c bits (Traps kind) goes right = tt
-goes_safe types f rest S c bits (Faults kind) goes right = right
-goes_safe types f rest S c bits Strays goes right = goes
+-- .. if there is one; there is neither a fault nor a stray step
+abbrev pub GoesSafe : Types → Function → (ℕ → ℕ) → (Fact → Type 0) → Ready → State → Effect → Type 0
+GoesSafe types f rest S bits before (Next st) = IsSafeNext types f rest S bits before st
+GoesSafe types f rest S bits before (Traps kind) = Unit {0}
+GoesSafe types f rest S bits before (Faults kind) = ⊥
+GoesSafe types f rest S bits before Strays = ⊥
+
+pub goes_safe : (types : Types) (f : Function) (rest : ℕ → ℕ) (S : Fact → Type 0) (before : State) (bits : Ready) (e : Effect) → GoesOn types f rest before.world.content bits e → OnRight e (λ st. FrameCovered types f S st × IsBehind types before st) → GoesSafe types f rest S bits before e
+goes_safe types f rest S before bits (Next st) goes right = record { safe = record { sound = goes.sound; covered = right.0; buffered = right.1.buffered }; bits = goes.bits; behind = right.1; waits = goes.waits }
+goes_safe types f rest S before bits (Traps kind) goes right = tt
+goes_safe types f rest S before bits (Faults kind) goes right = right
+goes_safe types f rest S before bits Strays goes right = goes
 
 -- a frame at its entry is safe with any facts, if it is given no pointer and nothing lives yet
 pub entry_safe : (types : Types) (f : Function) (rest : ℕ → ℕ) (S : Fact → Type 0) (st : State) → IsSound types f rest st → ((x : ℕ) (v : Pointer) → slice_get st.cells x ≡ Some (Points v) → ⊥) → ((n : ℕ) → at st.world.content.objects n ≡ None) → IsSafe types f rest S st
@@ -84,7 +92,7 @@ entry_safe types f rest S st sound none empty = record { sound = sound; covered 
 
 module _ (types : Types) (ordered : IsOrdered types) (once : HasEachOnce types) (some : HaveMembers types) (names texts : ℕ) (fs : List Function) (f : Function) (formed : is_well_formed_function types names texts fs f ≡ true) (points : ArePointsFormed types texts fs f)
     (ready : HasReadyWays types f) (plain : types.structs ≡ []) (short : AreShort (elements_of types f)) where
-  known : (rest : ℕ → ℕ) (S : Fact → Type 0) (st : State) → IsSafe types f rest S st → IsKnownFrame types f rest S st
+  pub known : (rest : ℕ → ℕ) (S : Fact → Type 0) (st : State) → IsSafe types f rest S st → IsKnownFrame types f rest S st
   known rest S st safe = record {
     ordered = ordered;
     once = once;
@@ -98,10 +106,10 @@ module _ (types : Types) (ordered : IsOrdered types) (once : HasEachOnce types) 
   }
 
   pub point_safe : (rest : ℕ → ℕ) (s : Setting) (sigs : List Signature) (n : ℕ) (place : Place) (S S' : Fact → Type 0) (p : ℕ) (st : State) (l : Linked) (i : Step) → Reaches types f p (ready_of st) → numbered (code_of f) p ≡ Some l → l.spot.node ≡ Action i → IsSpoken types f i
-      → IsRight sigs types n f place i S S' → IsSafe types f rest S st → GoesSafe types f rest S' (bits_past types f (Action i) (ready_of st)) (does s types f i st)
+      → IsRight sigs types n f place i S S' → IsSafe types f rest S st → GoesSafe types f rest S' (bits_past types f (Action i) (ready_of st)) st (does s types f i st)
   point_safe rest s sigs n place S S' p st l i way here is spoken right safe =
       let are = subst (IsNodeReady types f (ready_of st)) is (ready.ready p (ready_of st) l way here) in
-      goes_safe types f rest S' st.world.content (bits_past types f (Action i) (ready_of st)) (does s types f i st)
+      goes_safe types f rest S' st (bits_past types f (Action i) (ready_of st)) (does s types f i st)
       (held_goes types ordered once some names texts fs f formed points ready rest s p st l i way here is (one_frame types f i spoken) safe.sound)
       (step_right types f rest S st (known rest S st safe) sigs n place S' texts fs s i spoken right (subst (λ (m : Node). is_well_formed_node types texts fs f m ≡ true) is (points p l here))
       (slot_free types ordered once names texts fs f formed points ready p (ready_of st) way i are) are)

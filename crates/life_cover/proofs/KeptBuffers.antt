@@ -1,5 +1,6 @@
--- Behind each instruction of a frame without structs that moves nothing, each vector and each string has its buffer.
-use Rattle.std.proofs.Common.{◌≡◌, ◌≢◌, ⊎_elim, ℕ, zero, suc, ◌<◌, List, [], ◌∷◌, ◌++◌, length, Option, Some, None, refl, sym, ap, subst, ◌∙◌, arith, ◌⊎◌}
+-- Behind an end and a change in a frame without structs each vector and each string has its buffer; and what a change touches lies beneath what the
+-- frame names.
+use Rattle.std.proofs.Common.{◌≡◌, ◌≢◌, ⊎_elim, ℕ, zero, suc, ◌<◌, List, [], ◌∷◌, ◌++◌, length, Option, Some, None, refl, sym, ap, subst, ◌∙◌, arith, ◌⊎◌, inl}
 use Rattle.std.specs.Prelude.{ℤ, slice_get}
 use Rattle.std.specs.Int.{cast_unsigned, w64}
 use Rattle.life_types.specs.Types.{Types}
@@ -8,14 +9,14 @@ use Rattle.life_types.specs.declared.ty.TyId.{TyId}
 use Rattle.life_core.specs.Function.{Function}
 use Rattle.life_core.specs.Operands.{Characters, Location, Operand, whole}
 use Rattle.life_core.specs.Operands as named
-use Rattle.life_core.specs.Step.{Append, Change, Changes, Clear, Erase, PopBack, PushBack, Reserve, Set}
+use Rattle.life_core.specs.Step.{Append, Change, Changes, Clear, Erase, PopBack, PushBack, Reserve, Set, End}
 use Rattle.life_pset.specs.declared.element.Fact.{Fact}
 use Rattle.life_proper.specs.Placed.{type_of}
 use Rattle.life_store.specs.Births.{end_cell, end_locals, end_object}
 use Rattle.life_store.specs.Cells.{at}
 use Rattle.life_store.specs.Content.{Slot, Object, Content, without}
 use Rattle.life_store.specs.Doing.{changed, does, edits, erases, on_given, pointer_to, pushes}
-use Rattle.life_store.specs.Edits.{Edit, Add, Clear as ClearAll, Pop, Push, Put, Reserve as Room, buffer_of, characters_of, edited, erased, owned_at, pushed, reserved, rewritten, size_of}
+use Rattle.life_store.specs.Edits.{Edit, Add, Clear as ClearAll, Pop, Push, Put, Reserve as Room, buffer_of, characters_of, cleared, edited, erased, owned_at, popped, pushed, reserved, rewritten, size_of}
 use Rattle.life_store.specs.Effects.{Attempt, GotFault, GotLost, Effect, Next, Traps, Faults, Strays, Setting, cell, got_or, on_got, on_next, put_content, word_of_number}
 use Rattle.life_store.specs.Held.{slots_at, words_if}
 use Rattle.life_store.specs.Iterators.{erasable, iterator}
@@ -26,23 +27,35 @@ use Rattle.life_store.specs.State.{Cell, Empty, Named, Number, Pointer, Points, 
 use Rattle.life_store.specs.Views.{seen_words, used}
 use Rattle.life_store.specs.declared.run.FaultKind.TheVariants as fault
 use Rattle.life_store.proofs.CellLemmas.{none_some, some_same}
+use Rattle.life_forest.specs.Forest.{Touches}
 use Rattle.life_forest.specs.Frames.{OnNext}
+use Rattle.life_forest.specs.Kinds.{kinds_of}
 use Rattle.life_forest.specs.Values.{AllWide}
+use Rattle.life_forest.specs.Within.{LiesWithin}
 use Rattle.life_forest.proofs.Coming.{IfGot}
 use Rattle.life_forest.proofs.FrameChanges.{erasable_below}
 use Rattle.life_forest.proofs.Frames.{on_got_next}
 use Rattle.life_forest.proofs.SeenTypes.{character_parts, parts_typed}
 use Rattle.life_forest.proofs.StandingChanges.{on_got_each, on_number_next}
+use Rattle.life_forest.proofs.Following.{in_hand}
 use Rattle.life_cover.specs.Buffered.{AreBuffered}
 use Rattle.life_cover.specs.Frames.{NoInput, any_root}
+use Rattle.life_cover.specs.Regions.{foot_of}
+use Rattle.life_cover.proofs.Behind.{IsBehind, behind_content, behind_points, both_got, both_next, right_next}
 use Rattle.life_cover.proofs.Buffering.{AllSome, IsBufferOwner, IsOwnerAt, all_in, cleared_buffered, ended_but, none_out, popped_buffered, without_but}
+use Rattle.life_cover.proofs.Buffers.{clear_touches, pop_touches, push_touches, reserve_touches, rewrite_touches}
 use Rattle.life_cover.proofs.Copies.{whole_parts}
+use Rattle.life_cover.proofs.EraseKinds.{erased_within}
 use Rattle.life_cover.proofs.HeldElements.{all_free, elements_shut, held, held_type, vector_operand, vector_parts}
-use Rattle.life_cover.proofs.KnownFrames.{IsKnownFrame}
+use Rattle.life_cover.proofs.KnownFrames.{IsKnownFrame, hand_of, store_of}
 use Rattle.life_cover.proofs.Opening.{IsAllOf, IsOpened, region_all, text_opened, vector_opened}
 use Rattle.life_cover.proofs.Reaching.{IsReached, Reach, reached, fixed, outside, astray, spot_is}
 use Rattle.life_cover.proofs.Rebuffering.{AreFree, rewritten_buffered}
 use Rattle.life_cover.proofs.Regrown.{pushed_buffered, reserved_buffered}
+use Rattle.life_cover.proofs.SaveKinds.{region_within}
+use Rattle.life_cover.proofs.Sparing.{change_spares, named_spares}
+use Rattle.life_cover.proofs.EndKinds.{AreEnded, all_end, among_named, foot_among}
+use Rattle.std.proofs.lemmas.Bool.{false≢true}
 
 -- each vector and each string of the state has its buffer
 abbrev pub IsBuffered : Types → State → Type 0
@@ -65,7 +78,7 @@ module _ (types : Types) (f : Function) where
           (without_but types (λ k. ⊥) n (ended (local_parts types f x) (words_if (slice_get o.slots 0)) st.world.content)
           (ended_but types (λ k. ⊥) (local_parts types f x) (words_if (slice_get o.slots 0)) st.world.content (none_out types st.world.content h)))
 
-  pub ends_buffered : (xs : List ℕ) (st : State) → IsBuffered types st → OnNext (end_locals types f xs st) (IsBuffered types)
+  ends_buffered : (xs : List ℕ) (st : State) → IsBuffered types st → OnNext (end_locals types f xs st) (IsBuffered types)
   ends_buffered [] st h = h
   ends_buffered (x ∷ xs) st h = go (end_cell (local_parts types f x) (cell st x) x st) (one_ended x st h (cell st x)) (λ after k. ends_buffered xs after k)
     where
@@ -74,6 +87,22 @@ module _ (types : Types) (f : Function) where
       go (Traps kind) h each = tt
       go (Faults kind) h each = tt
       go Strays h each = tt
+
+-- .. and what ends is named
+module _ (types : Types) (f : Function) (rest : ℕ → ℕ) (S : Fact → Type 0) (st : State) (k : IsKnownFrame types f rest S st) (s : Setting) (xs : List ℕ) where
+  pub ends_behind : OnNext (does s types f (End xs) st) (IsBehind types st)
+  ends_behind =
+      both_next (end_locals types f xs st) (IsBuffered types) (AreEnded types xs st) (IsBehind types st) (ends_buffered types f xs st k.buffered)
+      (right_next (end_locals types f xs st) (AreEnded types xs st) (all_end types k.ordered f rest xs st k.stands))
+      (λ after buffered over.
+      record {
+        buffered = buffered;
+        touch = named_spares types f rest S st k (foot_among st.cells xs) after.world.content (λ n e. let z = among_named st.cells xs n e in in_hand st.cells z.0 n z.2) (λ m w e. false≢true e) over.touch;
+        named = λ x n e. inl (in_hand st.cells x n (over.was x (Named n) e (unlike n)).0);
+      })
+    where
+      unlike : (n : ℕ) → Named n ≡ Empty → ⊥
+      unlike n e = cc
 
 -- ---- what is reached
 
@@ -94,6 +123,16 @@ all_some types w lt (x ∷ ss) h (suc i) t e = all_some types w lt ss h.1 i t e
 -- ---- changes of an owner that is reached
 
 module _ (types : Types) (f : Function) (rest : ℕ → ℕ) (S : Fact → Type 0) (st : State) (k : IsKnownFrame types f rest S st) (o : Operand) (r : IsReached types f st NoInput any_root S o) (s : Setting) where
+  -- the buffers are there, and what is touched is what is owned there
+  abbrev pub IsEdited : Content → Type 0
+  IsEdited d = AreBuffered types d × Touches (kinds_of types) (foot_of types r.region) st.world.content d
+
+  edited_behind : (d : Content) → IsEdited d → IsBehind types st (put_content d st)
+  edited_behind d h = behind_content types st d h.0 (change_spares types f rest S st k o r d h.1)
+
+  within : LiesWithin types r.holder.ty r.region.word r.region.ty
+  within = region_within types f rest S st k o r
+
   pub holder_born : r.region.object < st.world.content.births
   holder_born = k.stands.store.forest.births r.region.object r.holder r.there
 
@@ -115,31 +154,31 @@ module _ (types : Types) (f : Function) (rest : ℕ → ℕ) (S : Fact → Type 
   at_start P h = subst (λ w. P (record { object = r.region.object; index = r.index; word = w })) (sym all_of.word) h
 
   module _ (b : ℕ) (owned : owned_at st.world.content (record { object = r.region.object; index = r.index; word = r.region.word }) ≡ Some b) where
-    edit_next : (p : Parts) (edit : Edit) → IfGot (edited s p (record { object = r.region.object; index = r.index; word = r.region.word }) b edit st.world.content) (AreBuffered types)
-        → OnNext (edits s p (record { object = r.region.object; index = r.index; word = r.region.word }) edit st) (IsBuffered types)
+    edit_next : (p : Parts) (edit : Edit) → IfGot (edited s p (record { object = r.region.object; index = r.index; word = r.region.word }) b edit st.world.content) IsEdited
+        → OnNext (edits s p (record { object = r.region.object; index = r.index; word = r.region.word }) edit st) (IsBehind types st)
     edit_next p edit h =
-        subst (λ w. OnNext (on_got (got_or w (GotFault fault.Moved)) go) (IsBuffered types)) (sym owned)
-        (on_got_next (edited s p (record { object = r.region.object; index = r.index; word = r.region.word }) b edit st.world.content) (λ d. Next (put_content d st)) (AreBuffered types) (IsBuffered types) h (λ d j. j))
+        subst (λ w. OnNext (on_got (got_or w (GotFault fault.Moved)) go) (IsBehind types st)) (sym owned)
+        (on_got_next (edited s p (record { object = r.region.object; index = r.index; word = r.region.word }) b edit st.world.content) (λ d. Next (put_content d st)) IsEdited (IsBehind types st) h edited_behind)
       where
         go : ℕ → Effect
         go m = on_got (edited s p (record { object = r.region.object; index = r.index; word = r.region.word }) m edit st.world.content) (λ d. Next (put_content d st))
 
-  no_edit : (p : Parts) (edit : Edit) → ((b : ℕ) → edited s p (record { object = r.region.object; index = r.index; word = r.region.word }) b edit st.world.content ≡ GotLost) → OnNext (edits s p (record { object = r.region.object; index = r.index; word = r.region.word }) edit st) (IsBuffered types)
+  no_edit : (p : Parts) (edit : Edit) → ((b : ℕ) → edited s p (record { object = r.region.object; index = r.index; word = r.region.word }) b edit st.world.content ≡ GotLost) → OnNext (edits s p (record { object = r.region.object; index = r.index; word = r.region.word }) edit st) (IsBehind types st)
   no_edit p edit lost =
-      on_got_each (buffer_of st.world.content (record { object = r.region.object; index = r.index; word = r.region.word })) (λ b. on_got (edited s p (record { object = r.region.object; index = r.index; word = r.region.word }) b edit st.world.content) (λ d. Next (put_content d st))) (IsBuffered types)
-      (λ b. subst (λ (x : Attempt Content). OnNext (on_got x (λ d. Next (put_content d st))) (IsBuffered types)) (sym (lost b)) tt)
+      on_got_each (buffer_of st.world.content (record { object = r.region.object; index = r.index; word = r.region.word })) (λ b. on_got (edited s p (record { object = r.region.object; index = r.index; word = r.region.word }) b edit st.world.content) (λ d. Next (put_content d st))) (IsBehind types st)
+      (λ b. subst (λ (x : Attempt Content). OnNext (on_got x (λ d. Next (put_content d st))) (IsBehind types st)) (sym (lost b)) tt)
 
-  pub by_change : (p : Parts) → operand_parts types f o ≡ p → (change : Change) → OnNext (changed s types f p (record { object = r.region.object; index = r.index; word = r.region.word }) change st) (IsBuffered types) → OnNext (does s types f (Changes o change) st) (IsBuffered types)
+  pub by_change : (p : Parts) → operand_parts types f o ≡ p → (change : Change) → OnNext (changed s types f p (record { object = r.region.object; index = r.index; word = r.region.word }) change st) (IsBehind types st) → OnNext (does s types f (Changes o change) st) (IsBehind types st)
   by_change p is change h =
-      subst (λ e. OnNext e (IsBuffered types)) (sym (spot_is types f st NoInput any_root S o r (λ sp. changed s types f (operand_parts types f o) sp change st)))
-      (subst (λ q. OnNext (changed s types f q (record { object = r.region.object; index = r.index; word = r.region.word }) change st) (IsBuffered types)) (sym is) h)
+      subst (λ e. OnNext e (IsBehind types st)) (sym (spot_is types f st NoInput any_root S o r (λ sp. changed s types f (operand_parts types f o) sp change st)))
+      (subst (λ q. OnNext (changed s types f q (record { object = r.region.object; index = r.index; word = r.region.word }) change st) (IsBehind types st)) (sym is) h)
 
   -- a number, or no value, is added
-  by_number : (p : Parts) (x : ℕ) → ((m : ℕ) → cell st x ≡ Some (Named m) → ⊥) → ((z : ℤ) → OnNext (edits s p (record { object = r.region.object; index = r.index; word = r.region.word }) (Push (λ c. (word_of_number z ∷ [], c))) st) (IsBuffered types))
-      → OnNext (pushes s types f p (record { object = r.region.object; index = r.index; word = r.region.word }) x (cell st x) st) (IsBuffered types)
+  by_number : (p : Parts) (x : ℕ) → ((m : ℕ) → cell st x ≡ Some (Named m) → ⊥) → ((z : ℤ) → OnNext (edits s p (record { object = r.region.object; index = r.index; word = r.region.word }) (Push (λ c. (word_of_number z ∷ [], c))) st) (IsBehind types st))
+      → OnNext (pushes s types f p (record { object = r.region.object; index = r.index; word = r.region.word }) x (cell st x) st) (IsBehind types st)
   by_number p x free each = go (cell st x) refl
     where
-      go : (v : Option Cell) → cell st x ≡ v → OnNext (pushes s types f p (record { object = r.region.object; index = r.index; word = r.region.word }) x v st) (IsBuffered types)
+      go : (v : Option Cell) → cell st x ≡ v → OnNext (pushes s types f p (record { object = r.region.object; index = r.index; word = r.region.word }) x v st) (IsBehind types st)
       go None e = tt
       go (Some Empty) e = tt
       go (Some (Points q)) e = tt
@@ -162,28 +201,30 @@ module _ (types : Types) (f : Function) (rest : ℕ → ℕ) (S : Fact → Type 
     pub text_operand : operand_parts types f o ≡ Text (characters_type types)
     text_operand = ap (parts_if types) text_at.typed ∙ text_parts
 
-    text_rewritten : (words : List ℕ) → IfGot (rewritten s (characters_type types) (record { object = r.region.object; index = r.index; word = r.region.word }) text_at.buffer words st.world.content) (AreBuffered types)
+    text_rewritten : (words : List ℕ) → IfGot (rewritten s (characters_type types) (record { object = r.region.object; index = r.index; word = r.region.word }) text_at.buffer words st.world.content) IsEdited
     text_rewritten words =
-        at_start (λ spot. IfGot (rewritten s (characters_type types) spot text_at.buffer words st.world.content) (AreBuffered types))
-        (rewritten_buffered types s (characters_type types) r.region.object r.index text_at.buffer words st.world.content (character_parts types k.ordered) holder_born (is_owner (Text (characters_type types)) text_parts refl (λ ws m e. (m, e))) k.buffered)
+        both_got (rewritten s (characters_type types) (record { object = r.region.object; index = r.index; word = r.region.word }) text_at.buffer words st.world.content) (AreBuffered types) (Touches (kinds_of types) (foot_of types r.region) st.world.content)
+        (at_start (λ spot. IfGot (rewritten s (characters_type types) spot text_at.buffer words st.world.content) (AreBuffered types))
+        (rewritten_buffered types s (characters_type types) r.region.object r.index text_at.buffer words st.world.content (character_parts types k.ordered) holder_born (is_owner (Text (characters_type types)) text_parts refl (λ ws m e. (m, e))) k.buffered))
+        (rewrite_touches types k.ordered (hand_of rest st) st.world.content (store_of types f rest S st k) r.region.object r.index r.region.word r.region.ty r.holder r.there within r.small (characters_type types) text_parts text_at.buffer text_at.owned s words)
 
     text_edit : (edit : Edit) (words : List ℕ) → edited s (Text (characters_type types)) (record { object = r.region.object; index = r.index; word = r.region.word }) text_at.buffer edit st.world.content
         ≡ rewritten s (characters_type types) (record { object = r.region.object; index = r.index; word = r.region.word }) text_at.buffer words st.world.content
-        → OnNext (edits s (Text (characters_type types)) (record { object = r.region.object; index = r.index; word = r.region.word }) edit st) (IsBuffered types)
-    text_edit edit words is = edit_next text_at.buffer text_at.owned (Text (characters_type types)) edit (subst (λ (x : Attempt Content). IfGot x (AreBuffered types)) (sym is) (text_rewritten words))
+        → OnNext (edits s (Text (characters_type types)) (record { object = r.region.object; index = r.index; word = r.region.word }) edit st) (IsBehind types st)
+    text_edit edit words is = edit_next text_at.buffer text_at.owned (Text (characters_type types)) edit (subst (λ (x : Attempt Content). IfGot x IsEdited) (sym is) (text_rewritten words))
 
-    text_changed : (change : Change) → ((x : ℕ) → change ≡ PushBack x → (m : ℕ) → cell st x ≡ Some (Named m) → ⊥) → OnNext (changed s types f (Text (characters_type types)) (record { object = r.region.object; index = r.index; word = r.region.word }) change st) (IsBuffered types)
+    text_changed : (change : Change) → ((x : ℕ) → change ≡ PushBack x → (m : ℕ) → cell st x ≡ Some (Named m) → ⊥) → OnNext (changed s types f (Text (characters_type types)) (record { object = r.region.object; index = r.index; word = r.region.word }) change st) (IsBehind types st)
     text_changed (PushBack x) free = by_number (Text (characters_type types)) x (free x refl) (λ z. text_edit (Push (λ c. (word_of_number z ∷ [], c))) (characters_of st.world.content text_at.buffer ++ (word_of_number z ∷ [])) refl)
     text_changed PopBack free = no_edit (Text (characters_type types)) Pop (λ b. refl)
     text_changed Clear free = text_edit ClearAll [] refl
-    text_changed (Reserve n) free = on_number_next (cell st n) (λ z. edits s (Text (characters_type types)) (record { object = r.region.object; index = r.index; word = r.region.word }) (Room (cast_unsigned w64 z)) st) (IsBuffered types) (λ z. no_edit (Text (characters_type types)) (Room (cast_unsigned w64 z)) (λ b. refl))
-    text_changed (Erase from into) free = on_got_each (iterator st.world.content (location_cell types f from st)) (λ v. erases types f (Text (characters_type types)) (record { object = r.region.object; index = r.index; word = r.region.word }) v into st) (IsBuffered types) (λ v. tt)
-    text_changed (Set given) free = given_next given (λ ws. edits s (Text (characters_type types)) (record { object = r.region.object; index = r.index; word = r.region.word }) (Put ws) st) (IsBuffered types) (λ ws. text_edit (Put ws) ws refl)
+    text_changed (Reserve n) free = on_number_next (cell st n) (λ z. edits s (Text (characters_type types)) (record { object = r.region.object; index = r.index; word = r.region.word }) (Room (cast_unsigned w64 z)) st) (IsBehind types st) (λ z. no_edit (Text (characters_type types)) (Room (cast_unsigned w64 z)) (λ b. refl))
+    text_changed (Erase from into) free = on_got_each (iterator st.world.content (location_cell types f from st)) (λ v. erases types f (Text (characters_type types)) (record { object = r.region.object; index = r.index; word = r.region.word }) v into st) (IsBehind types st) (λ v. tt)
+    text_changed (Set given) free = given_next given (λ ws. edits s (Text (characters_type types)) (record { object = r.region.object; index = r.index; word = r.region.word }) (Put ws) st) (IsBehind types st) (λ ws. text_edit (Put ws) ws refl)
     text_changed (Append given) free =
-        given_next given (λ ws. edits s (Text (characters_type types)) (record { object = r.region.object; index = r.index; word = r.region.word }) (Add ws) st) (IsBuffered types) (λ ws. text_edit (Add ws) (characters_of st.world.content text_at.buffer ++ ws) refl)
+        given_next given (λ ws. edits s (Text (characters_type types)) (record { object = r.region.object; index = r.index; word = r.region.word }) (Add ws) st) (IsBehind types st) (λ ws. text_edit (Add ws) (characters_of st.world.content text_at.buffer ++ ws) refl)
 
-    pub text_buffered : (change : Change) → ((x : ℕ) → change ≡ PushBack x → (m : ℕ) → cell st x ≡ Some (Named m) → ⊥) → OnNext (does s types f (Changes o change) st) (IsBuffered types)
-    text_buffered change free = by_change (Text (characters_type types)) text_operand change (text_changed change free)
+    pub text_behind : (change : Change) → ((x : ℕ) → change ≡ PushBack x → (m : ℕ) → cell st x ≡ Some (Named m) → ⊥) → OnNext (does s types f (Changes o change) st) (IsBehind types st)
+    text_behind change free = by_change (Text (characters_type types)) text_operand change (text_changed change free)
 
   -- ---- a vector
 
@@ -204,11 +245,13 @@ module _ (types : Types) (f : Function) (rest : ℕ → ℕ) (S : Fact → Type 
     old_ones : AreFree types (parts_at types element) (λ m. ⊥ ⊎ (m ≡ st.world.content.births)) (slots_at st.world.content vector_at.buffer)
     old_ones = all_free types f rest S st k o r element is_vector (λ m. ⊥ ⊎ (m ≡ st.world.content.births)) (λ m q there low out. ⊎_elim (λ none. none) (λ new. let born = k.stands.store.forest.births m q there in absurd (omega (arith, born, new))) out)
 
-    vector_reserved : (count : ℕ) → IfGot (reserved s element (parts_at types element) (record { object = r.region.object; index = r.index; word = r.region.word }) vector_at.buffer count st.world.content) (AreBuffered types)
+    vector_reserved : (count : ℕ) → IfGot (reserved s element (parts_at types element) (record { object = r.region.object; index = r.index; word = r.region.word }) vector_at.buffer count st.world.content) IsEdited
     vector_reserved count =
-        at_start (λ spot. IfGot (reserved s element (parts_at types element) spot vector_at.buffer count st.world.content) (AreBuffered types))
+        both_got (reserved s element (parts_at types element) (record { object = r.region.object; index = r.index; word = r.region.word }) vector_at.buffer count st.world.content) (AreBuffered types) (Touches (kinds_of types) (foot_of types r.region) st.world.content)
+        (at_start (λ spot. IfGot (reserved s element (parts_at types element) spot vector_at.buffer count st.world.content) (AreBuffered types))
         (reserved_buffered types s element (parts_at types element) (whole_parts types k.plain element) refl r.region.object r.index vector_at.buffer count st.world.content old_ones holder_born
-        (is_owner (Vector element (parts_at types element)) parts_are refl (λ ws m e. (m, e))) k.buffered)
+        (is_owner (Vector element (parts_at types element)) parts_are refl (λ ws m e. (m, e))) k.buffered))
+        (reserve_touches types k.ordered (hand_of rest st) st.world.content (store_of types f rest S st k) r.region.object r.index r.region.word r.region.ty r.holder r.there within r.small element (parts_at types element) parts_are vector_at.buffer vector_at.owned s count)
 
     module _ (single : parts_at types element ≡ Single) where
       -- it has another object than itself
@@ -218,12 +261,15 @@ module _ (types : Types) (f : Function) (rest : ℕ → ℕ) (S : Fact → Type 
           unlike : Single ≡ Vector element (parts_at types element) → ⊥
           unlike h = cc
 
-      vector_pushed : (z : ℤ) → OnNext (edits s (Vector element Single) (record { object = r.region.object; index = r.index; word = r.region.word }) (Push (λ c. (word_of_number z ∷ [], c))) st) (IsBuffered types)
+      vector_pushed : (z : ℤ) → OnNext (edits s (Vector element Single) (record { object = r.region.object; index = r.index; word = r.region.word }) (Push (λ c. (word_of_number z ∷ [], c))) st) (IsBehind types st)
       vector_pushed z =
           edit_next vector_at.buffer vector_at.owned (Vector element Single) (Push (λ c. (word_of_number z ∷ [], c)))
+          (both_got (pushed s element Single (record { object = r.region.object; index = r.index; word = r.region.word }) vector_at.buffer (λ c. (word_of_number z ∷ [], c)) st.world.content) (AreBuffered types) (Touches (kinds_of types) (foot_of types r.region) st.world.content)
           (at_start (λ spot. IfGot (pushed s element Single spot vector_at.buffer (λ c. (word_of_number z ∷ [], c)) st.world.content) (AreBuffered types))
           (pushed_buffered types s element single vector_at.buffer st.world.content k.buffered (λ x there. ap (λ (y : Object). y.ty) (some_same (sym there ∙ elements.1)) ∙ elements_type) (λ j t e. (tt, tt)) r.region.object r.index (word_of_number z ∷ []) holder_born apart
           (is_owner (Vector element (parts_at types element)) parts_are refl (λ ws m e. (m, e)))))
+          (push_touches types k.ordered (hand_of rest st) st.world.content (store_of types f rest S st k) r.region.object r.index r.region.word r.region.ty r.holder r.there within r.small element Single
+          (parts_are ∙ ap (Vector element) single) vector_at.buffer vector_at.owned s (word_of_number z ∷ []) refl (λ j. refl)))
 
     -- what is given the position of an erased element is a local, and to a vector of objects none is added
     abbrev pub IsKept : Change → Type 0
@@ -231,12 +277,16 @@ module _ (types : Types) (f : Function) (rest : ℕ → ℕ) (S : Fact → Type 
     IsKept (PushBack x) = (parts_at types element ≡ Single) × ((m : ℕ) → cell st x ≡ Some (Named m) → ⊥)
     IsKept _ = Unit {0}
 
-    vector_erased : (v : Pointer) (into : Location) → whole into.local ≡ into → OnNext (erases types f (Vector element (parts_at types element)) (record { object = r.region.object; index = r.index; word = r.region.word }) v into st) (IsBuffered types)
+    vector_erased : (v : Pointer) (into : Location) → whole into.local ≡ into → OnNext (erases types f (Vector element (parts_at types element)) (record { object = r.region.object; index = r.index; word = r.region.word }) v into st) (IsBehind types st)
     vector_erased v into is =
-        subst (λ (l : Location). OnNext (erases types f (Vector element (parts_at types element)) (record { object = r.region.object; index = r.index; word = r.region.word }) v l st) (IsBuffered types)) is
-        (subst (λ w. OnNext (on_got (got_or w (GotFault fault.Moved)) at_buffer) (IsBuffered types)) (sym vector_at.owned)
-        (on_got_next (erasable st.world.content vector_at.buffer v) (λ i. at_element vector_at.buffer i) (λ i. i < size_of st.world.content vector_at.buffer) (IsBuffered types) (erasable_below st.world.content vector_at.buffer v)
-        (λ i small. (elements_shut types f rest S st k o r element is_vector i small).buffers)))
+        subst (λ (l : Location). OnNext (erases types f (Vector element (parts_at types element)) (record { object = r.region.object; index = r.index; word = r.region.word }) v l st) (IsBehind types st)) is
+        (subst (λ w. OnNext (on_got (got_or w (GotFault fault.Moved)) at_buffer) (IsBehind types st)) (sym vector_at.owned)
+        (on_got_next (erasable st.world.content vector_at.buffer v) (λ i. at_element vector_at.buffer i) (λ i. i < size_of st.world.content vector_at.buffer) (IsBehind types st) (erasable_below st.world.content vector_at.buffer v)
+        (λ i small.
+        behind_points types st into.local (pointer_to (erased (parts_at types element) vector_at.buffer i st.world.content) vector_at.buffer i 0) (erased (parts_at types element) vector_at.buffer i st.world.content)
+        (elements_shut types f rest S st k o r element is_vector i small).buffers
+        (change_spares types f rest S st k o r (erased (parts_at types element) vector_at.buffer i st.world.content)
+        (erased_within types k.ordered (hand_of rest st) st.world.content (store_of types f rest S st k) r.region.object r.index r.region.word r.region.ty r.holder r.there within r.small element parts_are vector_at.buffer vector_at.owned i small)))))
       where
         at_element : (b i : ℕ) → Effect
         at_element b i = pointed types f (whole into.local) (pointer_to (erased (parts_at types element) b i st.world.content) b i 0) (put_content (erased (parts_at types element) b i st.world.content) st)
@@ -244,19 +294,35 @@ module _ (types : Types) (f : Function) (rest : ℕ → ℕ) (S : Fact → Type 
         at_buffer : ℕ → Effect
         at_buffer b = on_got (erasable st.world.content b v) (λ i. at_element b i)
 
-    vector_changed : (change : Change) → IsKept change → OnNext (changed s types f (Vector element (parts_at types element)) (record { object = r.region.object; index = r.index; word = r.region.word }) change st) (IsBuffered types)
-    vector_changed (PushBack x) kept =
-        subst (λ (p : Parts). OnNext (pushes s types f (Vector element p) (record { object = r.region.object; index = r.index; word = r.region.word }) x (cell st x) st) (IsBuffered types)) (sym kept.0) (by_number (Vector element Single) x kept.1 (vector_pushed kept.0))
-    vector_changed PopBack kept = edit_next vector_at.buffer vector_at.owned (Vector element (parts_at types element)) Pop (popped_buffered types (parts_at types element) vector_at.buffer (size_of st.world.content vector_at.buffer) st.world.content refl k.buffered)
-    vector_changed Clear kept = edit_next vector_at.buffer vector_at.owned (Vector element (parts_at types element)) ClearAll (cleared_buffered types (parts_at types element) vector_at.buffer st.world.content k.buffered)
-    vector_changed (Reserve n) kept =
-        on_number_next (cell st n) (λ z. edits s (Vector element (parts_at types element)) (record { object = r.region.object; index = r.index; word = r.region.word }) (Room (cast_unsigned w64 z)) st) (IsBuffered types)
-        (λ z. edit_next vector_at.buffer vector_at.owned (Vector element (parts_at types element)) (Room (cast_unsigned w64 z)) (vector_reserved (cast_unsigned w64 z)))
-    vector_changed (Erase from into) kept = on_got_each (iterator st.world.content (location_cell types f from st)) (λ v. erases types f (Vector element (parts_at types element)) (record { object = r.region.object; index = r.index; word = r.region.word }) v into st) (IsBuffered types) (λ v. vector_erased v into kept)
-    vector_changed (Set given) kept =
-        given_next given (λ ws. edits s (Vector element (parts_at types element)) (record { object = r.region.object; index = r.index; word = r.region.word }) (Put ws) st) (IsBuffered types) (λ ws. no_edit (Vector element (parts_at types element)) (Put ws) (λ b. refl))
-    vector_changed (Append given) kept =
-        given_next given (λ ws. edits s (Vector element (parts_at types element)) (record { object = r.region.object; index = r.index; word = r.region.word }) (Add ws) st) (IsBuffered types) (λ ws. no_edit (Vector element (parts_at types element)) (Add ws) (λ b. refl))
+    vector_popped : IfGot (popped (parts_at types element) vector_at.buffer (size_of st.world.content vector_at.buffer) st.world.content) IsEdited
+    vector_popped =
+        both_got (popped (parts_at types element) vector_at.buffer (size_of st.world.content vector_at.buffer) st.world.content) (AreBuffered types) (Touches (kinds_of types) (foot_of types r.region) st.world.content)
+        (popped_buffered types (parts_at types element) vector_at.buffer (size_of st.world.content vector_at.buffer) st.world.content refl k.buffered) (sizes (size_of st.world.content vector_at.buffer))
+      where
+        sizes : (size : ℕ) → IfGot (popped (parts_at types element) vector_at.buffer size st.world.content) (Touches (kinds_of types) (foot_of types r.region) st.world.content)
+        sizes zero = tt
+        sizes (suc size) =
+            pop_touches types k.ordered (hand_of rest st) st.world.content (store_of types f rest S st k) r.region.object r.index r.region.word r.region.ty r.holder r.there within r.small element (parts_at types element) parts_are vector_at.buffer vector_at.owned size
 
-    pub vector_buffered : (change : Change) → IsKept change → OnNext (does s types f (Changes o change) st) (IsBuffered types)
-    vector_buffered change kept = by_change (Vector element (parts_at types element)) (vector_operand types f rest S st k o r element is_vector) change (vector_changed change kept)
+    vector_cleared : IsEdited (cleared (parts_at types element) vector_at.buffer st.world.content)
+    vector_cleared = (
+      cleared_buffered types (parts_at types element) vector_at.buffer st.world.content k.buffered,
+      clear_touches types k.ordered (hand_of rest st) st.world.content (store_of types f rest S st k) r.region.object r.index r.region.word r.region.ty r.holder r.there within r.small element (parts_at types element) parts_are vector_at.buffer vector_at.owned,
+    )
+
+    vector_changed : (change : Change) → IsKept change → OnNext (changed s types f (Vector element (parts_at types element)) (record { object = r.region.object; index = r.index; word = r.region.word }) change st) (IsBehind types st)
+    vector_changed (PushBack x) kept =
+        subst (λ (p : Parts). OnNext (pushes s types f (Vector element p) (record { object = r.region.object; index = r.index; word = r.region.word }) x (cell st x) st) (IsBehind types st)) (sym kept.0) (by_number (Vector element Single) x kept.1 (vector_pushed kept.0))
+    vector_changed PopBack kept = edit_next vector_at.buffer vector_at.owned (Vector element (parts_at types element)) Pop vector_popped
+    vector_changed Clear kept = edit_next vector_at.buffer vector_at.owned (Vector element (parts_at types element)) ClearAll vector_cleared
+    vector_changed (Reserve n) kept =
+        on_number_next (cell st n) (λ z. edits s (Vector element (parts_at types element)) (record { object = r.region.object; index = r.index; word = r.region.word }) (Room (cast_unsigned w64 z)) st) (IsBehind types st)
+        (λ z. edit_next vector_at.buffer vector_at.owned (Vector element (parts_at types element)) (Room (cast_unsigned w64 z)) (vector_reserved (cast_unsigned w64 z)))
+    vector_changed (Erase from into) kept = on_got_each (iterator st.world.content (location_cell types f from st)) (λ v. erases types f (Vector element (parts_at types element)) (record { object = r.region.object; index = r.index; word = r.region.word }) v into st) (IsBehind types st) (λ v. vector_erased v into kept)
+    vector_changed (Set given) kept =
+        given_next given (λ ws. edits s (Vector element (parts_at types element)) (record { object = r.region.object; index = r.index; word = r.region.word }) (Put ws) st) (IsBehind types st) (λ ws. no_edit (Vector element (parts_at types element)) (Put ws) (λ b. refl))
+    vector_changed (Append given) kept =
+        given_next given (λ ws. edits s (Vector element (parts_at types element)) (record { object = r.region.object; index = r.index; word = r.region.word }) (Add ws) st) (IsBehind types st) (λ ws. no_edit (Vector element (parts_at types element)) (Add ws) (λ b. refl))
+
+    pub vector_behind : (change : Change) → IsKept change → OnNext (does s types f (Changes o change) st) (IsBehind types st)
+    vector_behind change kept = by_change (Vector element (parts_at types element)) (vector_operand types f rest S st k o r element is_vector) change (vector_changed change kept)

@@ -1,8 +1,12 @@
 pub mod AimKinds
+pub mod Behind
 pub mod Beside
+pub mod Births
 pub mod Branches
 pub mod Buffering
 pub mod Buffers
+pub mod CallKinds
+pub mod CalledElsewhere
 pub mod ChangeKinds
 pub mod ChangeSteps
 pub mod Changes
@@ -17,6 +21,7 @@ pub mod ErasedBuffers
 pub mod FramePoints
 pub mod FrameSteps
 pub mod Fresh
+pub mod GivenValues
 pub mod Guarding
 pub mod HeldElements
 pub mod Inside
@@ -38,6 +43,7 @@ pub mod OwnerElements
 pub mod OwnerKinds
 pub mod OwnerPointers
 pub mod OwnersStay
+pub mod Owning
 pub mod PointerKinds
 pub mod Pointers
 pub mod PushKinds
@@ -50,8 +56,10 @@ pub mod Rebuffering
 pub mod Recopying
 pub mod Regrown
 pub mod SafeBodies
+pub mod SafeCalls
 pub mod SafeRuns
 pub mod SaveKinds
+pub mod Sparing
 pub mod Stepping
 pub mod Takes
 pub mod Unaimed

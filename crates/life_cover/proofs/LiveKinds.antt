@@ -1,5 +1,5 @@
 -- A local comes to life: there is no fault, and the facts behind it cover all pointers of the frame.
-use Rattle.std.proofs.Common.{◌≡◌, ◌≢◌, ⊎_elim, ℕ, suc, ◌+◌, ◌*◌, Bool, true, false, List, [], ◌∷◌, Option, Some, None, refl, sym, ap, subst, ◌∙◌, arith}
+use Rattle.std.proofs.Common.{◌≡◌, ◌≢◌, ⊎_elim, ℕ, ◌+◌, ◌*◌, Bool, true, false, List, [], ◌∷◌, Option, Some, None, refl, sym, ap, subst, ◌∙◌}
 use Rattle.std.specs.Prelude.{Contains, cond, nat_eq, nat_lt, slice_get, slice_set}
 use Rattle.std.proofs.lemmas.Bool.{ne_eqb}
 use Rattle.life_types.specs.Pointees.{or_void, ty_of}
@@ -33,11 +33,9 @@ use Rattle.life_rules.specs.Carrying.{born, born_facts, born_raw, locations_at, 
 use Rattle.life_rules.specs.Matching.{fact_at, facts_at}
 use Rattle.life_rules.proofs.Giving.{at_head, flat_map_into}
 use Rattle.life_store.specs.Births.{born_object, born_owner, live_as, live_local, live_of, live_over, with_value_object}
-use Rattle.life_store.specs.Cells.{at, at-set_same}
-use Rattle.life_store.specs.Content.{Object, Content, live_words_of, newborn, with_birth}
+use Rattle.life_store.specs.Content.{Content, live_words_of}
 use Rattle.life_store.specs.Doing.{does}
 use Rattle.life_store.specs.Effects.{Attempt, Got, Effect, Next, Setting, Traps, cell, put_cell, put_content}
-use Rattle.life_store.specs.Held.{resized_if}
 use Rattle.life_store.specs.Owners.{Words, birth, born_pointer, empty_view, fresh, object_with, owning, sized_birth}
 use Rattle.life_store.specs.Parts.{Parts, Single, Raw, Iterates, Views, Text, Vector, Unique, Member, NoMember, characters_type, held_type_if, parts_at, parts_of, struct_of, width}
 use Rattle.life_store.specs.State.{Pointer, Null, Wild, Cell, Empty, Named, Number, Points, State}
@@ -45,18 +43,13 @@ use Rattle.life_store.specs.declared.run.TrapKind.TheVariants as trap
 use Rattle.life_store.proofs.CellLemmas.{cell_cases, some_same}
 use Rattle.life_store.proofs.MapLemmas.{one_or_apart}
 use Rattle.life_forest.specs.Forest.{Touches}
-use Rattle.life_forest.specs.Frames.{named_in}
-use Rattle.life_forest.specs.Kinds.{kinds_of, rank_of}
-use Rattle.life_forest.specs.Owned.{times}
-use Rattle.life_forest.proofs.Coming.{Came, came_touches, fresh_came}
-use Rattle.life_forest.proofs.Copying.{sized_is}
-use Rattle.life_forest.proofs.Laying.{laid_at, parts_made}
-use Rattle.life_forest.proofs.Objects.{object_came}
+use Rattle.life_forest.specs.Kinds.{kinds_of}
+use Rattle.life_forest.proofs.Laying.{parts_made}
 use Rattle.life_forest.proofs.Shaped.{no_slot}
-use Rattle.life_forest.proofs.Stores.{if_such}
 use Rattle.life_cover.specs.Covers.{IsCovered}
 use Rattle.life_cover.specs.Frames.{FrameCovered, NoInput, RootStands, any_root, look_at}
 use Rattle.life_cover.specs.Regions.{Region}
+use Rattle.life_cover.proofs.Births.{IsNew, owner_new, value_touches}
 use Rattle.life_cover.proofs.KnownFrames.{IsKnownFrame, IsRight, hand_of, rooted_of, store_of}
 use Rattle.life_cover.proofs.Listing.{caused_known, null_known, own_location, pointer_listed}
 use Rattle.life_cover.proofs.OwnerKinds.{birth_faultless, faultless_then, right_got}
@@ -118,35 +111,16 @@ module _ (types : Types) (f : Function) (rest : ℕ → ℕ) (S : Fact → Type 
       stay (root.Input q member) r h = h
 
   value_born : (ty : TyId) → OnRight (born_object s ty x st) (FrameCovered types f S')
-  value_born ty = right_if (nat_lt s.given.cells (live_words_of st.world.content + (2 + 1 * 1))) (Traps trap.Cells) _ (FrameCovered types f S') tt (object_covered st.world.content.births (with_value_object ty st.world.content) touch)
-    where
-      c : Content
-      c = st.world.content
-
-      hand : ℕ → ℕ
-      hand j = times (named_in st.cells) j + rest j
-
-      there : at (with_birth ty 1 1 st.world.content).objects st.world.content.births ≡ Some (newborn ty 1 1 st.world.content.clock)
-      there = at-set_same st.world.content.objects st.world.content.births st.world.content.births (newborn ty 1 1 st.world.content.clock) refl
-
-      touch : Touches (kinds_of types) no_foot st.world.content (with_value_object ty st.world.content)
-      touch =
-          subst (Touches (kinds_of types) no_foot st.world.content) (ap (λ (o : Option Object). resized_if o st.world.content.births 1 0 (with_birth ty 1 1 st.world.content)) there)
-          (came_touches (kinds_of types) no_foot (suc (rank_of types ty)) hand (st.world.content.births ∷ []) st.world.content _ (sized_is (kinds_of types) (suc (rank_of types ty)) hand ty 1 1 1 st.world.content (omega arith) (store_of types f rest S st k).forest).came)
+  value_born ty =
+      right_if (nat_lt s.given.cells (live_words_of st.world.content + (2 + 1 * 1))) (Traps trap.Cells) _ (FrameCovered types f S') tt
+      (object_covered st.world.content.births (with_value_object ty st.world.content) (value_touches types k.ordered (hand_of rest st) st.world.content (store_of types f rest S st k) ty))
 
   owner_born : (ty : TyId) → OnRight (born_owner s ty (parts_at types ty) form x st) (FrameCovered types f S')
   owner_born ty =
-      right_then (object_with s ty (parts_at types ty) (fresh s form (parts_at types ty)) st.world.content) (λ b. Next (put_cell x (Named b.0) (put_content b.1 st))) (λ b. Touches (kinds_of types) no_foot st.world.content b.1) (FrameCovered types f S')
-      (right_got (object_with s ty (parts_at types ty) (fresh s form (parts_at types ty)) st.world.content) (λ b. Touches (kinds_of types) no_foot st.world.content b.1)
-      (if_such (object_with s ty (parts_at types ty) (fresh s form (parts_at types ty)) st.world.content) (λ b. Came (kinds_of types) (suc (rank_of types ty)) hand (b.0 ∷ []) st.world.content b.1) (λ b. Touches (kinds_of types) no_foot st.world.content b.1)
-      (object_came (kinds_of types) ty (parts_at types ty) (λ u. refl) s (suc (rank_of types ty)) (fresh s form (parts_at types ty)) (omega arith)
-      (λ h d forest. fresh_came (kinds_of types) s form (parts_at types ty) (rank_of types ty) (laid_at types k.ordered ty) h d forest) hand st.world.content (store_of types f rest S st k).forest)
-      (λ b came. came_touches (kinds_of types) no_foot (suc (rank_of types ty)) hand (b.0 ∷ []) st.world.content b.1 came))
+      right_then (object_with s ty (parts_at types ty) (fresh s form (parts_at types ty)) st.world.content) (λ b. Next (put_cell x (Named b.0) (put_content b.1 st))) (IsNew types st.world.content) (FrameCovered types f S')
+      (right_got (object_with s ty (parts_at types ty) (fresh s form (parts_at types ty)) st.world.content) (IsNew types st.world.content) (owner_new types k.ordered (hand_of rest st) st.world.content (store_of types f rest S st k) ty s form)
       (object_faultless s ty (parts_at types ty) (fresh s form (parts_at types ty)) st.world.content (fresh_faultless s form (parts_at types ty))))
-      (λ b touch. object_covered b.0 b.1 touch)
-    where
-      hand : ℕ → ℕ
-      hand j = times (named_in st.cells) j + rest j
+      (λ b new. object_covered b.0 b.1 new.1)
 
   -- ---- a pointer
 

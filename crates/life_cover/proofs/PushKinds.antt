@@ -1,9 +1,8 @@
 -- An object is pushed to a vector, by the vector's name or through a pointer, and gives its value over: there is no fault, and as no fact points
 -- into what is given over, the facts behind it cover all pointers of the frame.
-use Rattle.std.proofs.Common.{◌≡◌, ◌≢◌, inl, inr, ⊎_elim, ℕ, ◌+◌, ◌<◌, true, false, List, [], ◌∷◌, length, Option, Some, refl, sym, ap, subst, ◌∙◌, arith, ◌⊎◌}
+use Rattle.std.proofs.Common.{◌≡◌, ◌≢◌, inl, inr, ⊎_elim, ℕ, ◌<◌, List, [], ◌∷◌, Option, Some, refl, sym, ap, subst, ◌∙◌, arith, ◌⊎◌}
 use Rattle.std.specs.Prelude.{slice_get, slice_set}
 use Rattle.std.proofs.lemmas.Bool.{false≢true}
-use Rattle.life_types.specs.Trees.{IsOrdered}
 use Rattle.life_types.specs.TypeTests.{is_void}
 use Rattle.life_types.specs.Types.{Types}
 use Rattle.life_types.specs.declared.place.Place.{Place}
@@ -22,40 +21,29 @@ use Rattle.life_contract.specs.Signatures.{Signature}
 use Rattle.life_proper.specs.Placed.{type_of}
 use Rattle.life_rules.specs.Carrying.{writes}
 use Rattle.life_store.specs.Cells.{at}
-use Rattle.life_store.specs.Content.{Slot, Object, Content}
+use Rattle.life_store.specs.Content.{Content}
 use Rattle.life_store.specs.Doing.{changed, does, edits, pushes}
-use Rattle.life_store.specs.Edits.{Push, edited, owned_at, pushed}
+use Rattle.life_store.specs.Edits.{Push, edited, pushed}
 use Rattle.life_store.specs.Effects.{Attempt, Got, GotTrap, GotFault, GotLost, Effect, Next, Setting, cell, got_or, on_got, on_next, put_cell, put_content}
 use Rattle.life_store.specs.Owners.{consumed}
-use Rattle.life_store.specs.Parts.{Parts, Vector, local_type, operand_parts, parts_at, parts_if, width, width_at}
+use Rattle.life_store.specs.Parts.{Parts, Vector, local_type, operand_parts, parts_at, parts_if}
 use Rattle.life_store.specs.State.{Cell, Empty, Named, Points, State}
 use Rattle.life_store.specs.declared.run.FaultKind.TheVariants as fault
-use Rattle.life_store.proofs.CellLemmas.{cell_cases, some_same}
+use Rattle.life_store.proofs.CellLemmas.{cell_cases}
 use Rattle.life_store.proofs.MapLemmas.{one_or_apart}
-use Rattle.life_forest.specs.Forest.{Beneath, Foot, Touches, all_of, part, under as further, whole}
-use Rattle.life_forest.specs.FrameTypes.{IsVariable}
-use Rattle.life_forest.specs.Frames.{named_in}
-use Rattle.life_forest.specs.Kinds.{kinds_of, owned_type, rank_of}
+use Rattle.life_forest.specs.Forest.{Beneath, Touches, all_of, part, under as further, whole}
+use Rattle.life_forest.specs.Kinds.{kinds_of}
 use Rattle.life_forest.specs.Owned.{every, owns_at, times}
-use Rattle.life_forest.specs.Typed.{IsStore}
-use Rattle.life_forest.specs.Values.{AllWide}
-use Rattle.life_forest.specs.Within.{LiesWithin}
-use Rattle.life_store.specs.Kinds.{kind_in}
-use Rattle.life_forest.proofs.Above.{above_apart, above_unowned, owner_above}
-use Rattle.life_forest.proofs.Adding.{pushed_object_touches}
 use Rattle.life_forest.proofs.Apart as feet
-use Rattle.life_forest.proofs.Below.{is_positive, no_part, positive_is}
-use Rattle.life_forest.proofs.Coming.{IfGot}
-use Rattle.life_forest.proofs.Counting.{one_same, one_there}
-use Rattle.life_forest.proofs.Feet.{and_all}
-use Rattle.life_forest.proofs.Frames.{less_in_hand, named_put}
+use Rattle.life_forest.proofs.Below.{no_part, positive_is}
+use Rattle.life_forest.proofs.Counting.{one_there}
 use Rattle.life_forest.proofs.Steps.{alive_le}
 use Rattle.life_cover.specs.Frames.{FrameCovered, NoInput, RootStands, any_root, look_at}
 use Rattle.life_cover.specs.Kills.{Guards, IsUnnamed, Names}
 use Rattle.life_cover.specs.Regions.{IsAt, Region, foot_of}
-use Rattle.life_cover.proofs.Buffers.{buffer, foot_covers, own}
+use Rattle.life_cover.proofs.Buffers.{own}
 use Rattle.life_cover.proofs.Guarding.{under_place}
-use Rattle.life_cover.proofs.HeldElements.{vector_operand, vector_parts}
+use Rattle.life_cover.proofs.HeldElements.{vector_operand}
 use Rattle.life_cover.proofs.Inside.{Inside, lies_inside, region_within as within_region}
 use Rattle.life_cover.proofs.Killing.{cover_on}
 use Rattle.life_cover.proofs.KnownFrames.{IsKnownFrame, IsRight, hand_of, reach_at, rooted_of, store_of, used_right}
@@ -65,38 +53,7 @@ use Rattle.life_cover.proofs.OwnerKinds.{operand_left, pushed_faultless, right_g
 use Rattle.life_cover.proofs.Pointers.{IfRight, OnRight}
 use Rattle.life_cover.proofs.Putting.{set_other}
 use Rattle.life_cover.proofs.Reaching.{IsReached, by_reach, spot_is}
-use Rattle.life_cover.proofs.SaveKinds.{region_within}
-
--- ---- what is touched
-
--- what the vector has, and what gives its value over
-abbrev pub pushed_foot : Types → Region → ℕ → Foot
-pushed_foot types r m = and_all (foot_of types r) (m ∷ [])
-
-module _ (types : Types) (ordered : IsOrdered types) (hand : ℕ → ℕ) (c : Content) (m : ℕ) (store : IsStore types (λ k. times (m ∷ []) k + hand k) c) (n i w : ℕ) (vector : TyId) (o : Object) (there : at c.objects n ≡ Some o) (within : LiesWithin types o.ty w vector)
-    (lt : i < length o.slots) (item : TyId) (is_vector : parts_at types vector ≡ Vector item (parts_at types item)) (b : ℕ) (owned : owned_at c (record { object = n; index = i; word = w }) ≡ Some b) (om : Object) (sl : Slot) (m_there : at c.objects m ≡ Some om)
-    (one_slot : om.slots ≡ sl ∷ []) (m_type : om.ty ≡ item) where
-  whole_hand : ℕ → ℕ
-  whole_hand k = times (m ∷ []) k + hand k
-
-  lower : rank_of types om.ty < rank_of types o.ty
-  lower =
-      subst (λ id. rank_of types id < rank_of types o.ty) (sym m_type)
-      (owner_above types ordered (λ k. times (m ∷ []) k + hand k) c store n w vector o there within item (let e = ap width is_vector in omega (arith, e)) (ap (λ (p : Parts). kind_in p 0) is_vector) (ap (λ (p : Parts). owned_type p 0) is_vector))
-
-  wide : length sl.words ≡ width (parts_at types item)
-  wide = let fit = store.fit m om m_there in (subst (AllWide om.width) one_slot fit.slots).0 ∙ fit.width ∙ ap (width_at types) m_type
-
-  pub object_touches : (s : Setting)
-      → IfGot (pushed s item (parts_at types item) (record { object = n; index = i; word = w }) b (consumed (parts_at types item) m) c) (Touches (kinds_of types) (pushed_foot types (record { object = n; word = w; ty = vector }) m) c)
-  object_touches s =
-      pushed_object_touches (kinds_of types) item (parts_at types item) (record { object = n; index = i; word = w }) b hand c o
-      (buffer types ordered (λ k. times (m ∷ []) k + hand k) c store n i w vector o there within lt item (parts_at types item) is_vector b owned).0 m om sl store.forest
-      (own types ordered (λ k. times (m ∷ []) k + hand k) c store n i w vector o there within lt item (parts_at types item) is_vector b owned) m_there one_slot m_type wide
-      (above_apart types ordered (λ k. times (m ∷ []) k + hand k) c store n w vector o there within m om m_there lower)
-      (above_unowned types ordered (λ k. times (m ∷ []) k + hand k) c store n w vector o there within m om m_there lower) s
-      (pushed_foot types (record { object = n; word = w; ty = vector }) m) (foot_covers types n i w vector (Vector item (parts_at types item)) is_vector)
-      (whole m (is_positive (times (m ∷ []) m) (let e = one_same m m refl in omega (arith, e))))
+use Rattle.life_cover.proofs.PushedObjects.{pushed_foot, pushed_touches}
 
 -- what is beneath both is beneath one
 split : (types : Types) (c : Content) (r : Region) (m n : ℕ) → Beneath (kinds_of types) c (pushed_foot types r m) n → Beneath (kinds_of types) c (foot_of types r) n ⊎ Beneath (kinds_of types) c (all_of (m ∷ [])) n
@@ -114,7 +71,7 @@ itself_or_owned types c m n (further q _ low own) = inr (q, own)
 
 module _ (types : Types) (f : Function) (rest : ℕ → ℕ) (S : Fact → Type 0) (st : State) (k : IsKnownFrame types f rest S st) (x m : ℕ) (named : cell st x ≡ Some (Named m)) (unnamed : IsUnnamed S x) where
   -- so another local's object isn't beneath what is given over
-  other_free : (y n : ℕ) → x ≢ y → slice_get st.cells y ≡ Some (Named n) → Beneath (kinds_of types) st.world.content (all_of (m ∷ [])) n → ⊥
+  pub other_free : (y n : ℕ) → x ≢ y → slice_get st.cells y ≡ Some (Named n) → Beneath (kinds_of types) st.world.content (all_of (m ∷ [])) n → ⊥
   other_free y n ne e low = ⊎_elim same (λ owned. named_unowned types f rest st k.stands.store k.stands.frame y n owned.0 e owned.1) (itself_or_owned types st.world.content m n low)
     where
       same : m ≡ n → ⊥
@@ -140,7 +97,7 @@ module _ (types : Types) (f : Function) (rest : ℕ → ℕ) (S : Fact → Type 
       }
 
   -- a fact's place is elsewhere
-  elsewhere : (a : AbsPlace) (r : Region) → Names S a → IsAt types st.world.content (RootStands types f NoInput st.cells) a r → Beneath (kinds_of types) st.world.content (all_of (m ∷ [])) r.object → ⊥
+  pub elsewhere : (a : AbsPlace) (r : Region) → Names S a → IsAt types st.world.content (RootStands types f NoInput st.cells) a r → Beneath (kinds_of types) st.world.content (all_of (m ∷ [])) r.object → ⊥
   elsewhere a r names at_r low = go a.root refl at_r.stands
     where
       inside : Inside types k.ordered (hand_of rest st) st.world.content (store_of types f rest S st k) at_r.start r
@@ -158,12 +115,6 @@ module _ (types : Types) (f : Function) (rest : ℕ → ℕ) (S : Fact → Type 
       go (root.Local y) e h = one_or_apart x y (λ same. absurd (unnamed a names (e ∙ ap (λ z. root.Local z) (sym same)))) (λ ne. (set_other st.cells x y Empty ne ∙ h.0, h.1, h.2))
 
   module _ (sigs : List Signature) (number : ℕ) (place : Place) (S' : Fact → Type 0) (s : Setting) (o : Operand) (item : TyId) (is_vector : type_of types f o ≡ ty.Vector item) (typed : local_type types f x ≡ Some item) (right : IsRight sigs types number f place (Changes o (PushBack x)) S S') where
-    variable : IsVariable st.world.content (local_type types f x) m
-    variable = k.stands.frame.objects x m named
-
-    m_type : variable.object.ty ≡ item
-    m_type = some_same (sym variable.type ∙ typed)
-
     module _ (r : IsReached types f st NoInput any_root S o) where
       abbrev h : IsOpened types f rest S st k o r (ty.Vector item) item
       h = vector_opened types f rest S st k o r item is_vector
@@ -185,17 +136,6 @@ module _ (types : Types) (f : Function) (rest : ℕ → ℕ) (S : Fact → Type 
               ⊎_elim (λ inner. under_place types k.ordered (hand_of rest st) st.world.content (store_of types f rest S st k) (RootStands types f NoInput st.cells) any_root (rooted_of types f rest S st k) r.place a r.region b refl r.lies at_b inner)
               (λ given. absurd (elsewhere a b names at_b given)) (split types st.world.content r.region m b.object low)
 
-      -- the store, where what is given over is in the hand by itself
-      in_two : IsStore types (λ j. times (m ∷ []) j + (times (named_in (slice_set st.cells x Empty)) j + rest j)) st.world.content
-      in_two =
-          less_in_hand types (hand_of rest st) (λ j. times (m ∷ []) j + (times (named_in (slice_set st.cells x Empty)) j + rest j)) st.world.content
-          (λ j. let e = named_put st.cells x (Named m) Empty j named in omega (arith, e)) (store_of types f rest S st k)
-
-      touched : IfGot (pushed s item (parts_at types item) (record { object = r.region.object; index = r.index; word = r.region.word }) h.buffer (consumed (parts_at types item) m) st.world.content) (Touches (kinds_of types) (pushed_foot types r.region m) st.world.content)
-      touched =
-          object_touches types k.ordered (λ j. times (named_in (slice_set st.cells x Empty)) j + rest j) st.world.content m in_two r.region.object r.index r.region.word r.region.ty r.holder r.there (region_within types f rest S st k o r) r.small
-          item (vector_parts types f rest S st k o r item is_vector) h.buffer h.owned variable.object variable.slot variable.there variable.one m_type s
-
       -- the edit, and then the cell is empty
       after_edit : (a : Attempt Content) → IfRight a (λ d. FrameCovered types f S' (put_cell x Empty (put_content d st))) → OnRight (on_next (on_got a (λ d. Next (put_content d st))) (λ after. Next (put_cell x Empty after))) (FrameCovered types f S')
       after_edit (Got d) e = e
@@ -211,7 +151,7 @@ module _ (types : Types) (f : Function) (rest : ℕ → ℕ) (S : Fact → Type 
           (after_edit (pushed s item (parts_at types item) (record { object = r.region.object; index = r.index; word = r.region.word }) h.buffer (consumed (parts_at types item) m) st.world.content)
           (right_more (pushed s item (parts_at types item) (record { object = r.region.object; index = r.index; word = r.region.word }) h.buffer (consumed (parts_at types item) m) st.world.content) (Touches (kinds_of types) (pushed_foot types r.region m) st.world.content)
           (λ d. FrameCovered types f S' (put_cell x Empty (put_content d st)))
-          (right_got (pushed s item (parts_at types item) (record { object = r.region.object; index = r.index; word = r.region.word }) h.buffer (consumed (parts_at types item) m) st.world.content) (Touches (kinds_of types) (pushed_foot types r.region m) st.world.content) touched
+          (right_got (pushed s item (parts_at types item) (record { object = r.region.object; index = r.index; word = r.region.word }) h.buffer (consumed (parts_at types item) m) st.world.content) (Touches (kinds_of types) (pushed_foot types r.region m) st.world.content) (pushed_touches types f rest S st k s o item is_vector x m named typed r)
           (pushed_faultless s item (parts_at types item) (record { object = r.region.object; index = r.index; word = r.region.word }) h.buffer (consumed (parts_at types item) m) st.world.content))
           left_covered))))
         where

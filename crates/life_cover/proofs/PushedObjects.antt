@@ -1,9 +1,11 @@
--- Behind an object that is pushed to a vector of a frame without structs, and gives its value over, each vector and each string has its buffer.
-use Rattle.std.proofs.Common.{◌≡◌, ◌≢◌, ⊎_elim, ℕ, ◌<◌, List, length, Option, Some, refl, sym, ap, subst, ◌∙◌, arith, ◌⊎◌}
-use Rattle.std.specs.Prelude.{slice_get}
+-- Behind an object that is pushed to a vector of a frame without structs, and gives its value over, each vector and each string has its buffer; and
+-- what is touched lies beneath what the frame names.
+use Rattle.std.proofs.Common.{◌≡◌, ◌≢◌, ⊎_elim, ℕ, ◌<◌, List, length, Option, Some, refl, sym, ap, subst, ◌∙◌, arith, ◌⊎◌, ◌+◌, ◌∷◌, []}
+use Rattle.std.specs.Prelude.{slice_get, slice_set}
 use Rattle.life_types.specs.Types.{Types}
 use Rattle.life_types.specs.declared.ty.Ty.TheVariants as ty
 use Rattle.life_types.specs.declared.ty.TyId.{TyId}
+use Rattle.life_types.specs.Trees.{IsOrdered}
 use Rattle.life_core.specs.Function.{Function}
 use Rattle.life_core.specs.Operands.{Operand}
 use Rattle.life_core.specs.Step.{Changes, PushBack}
@@ -12,29 +14,40 @@ use Rattle.life_proper.specs.Placed.{type_of}
 use Rattle.life_store.specs.Cells.{at}
 use Rattle.life_store.specs.Content.{Slot, Object, Content, word_in}
 use Rattle.life_store.specs.Doing.{does, edits, pushes}
-use Rattle.life_store.specs.Edits.{Push, edited, pushed}
+use Rattle.life_store.specs.Edits.{Push, edited, pushed, owned_at}
 use Rattle.life_store.specs.Effects.{Attempt, Got, GotTrap, GotFault, GotLost, Effect, Next, Setting, cell, got_or, on_got, on_next, put_cell, put_content}
 use Rattle.life_store.specs.Held.{owned_in}
 use Rattle.life_store.specs.Owners.{consumed}
 use Rattle.life_store.specs.Parts.{Parts, Single, Raw, Iterates, Views, Text, Vector, Unique, Member, NoMember, local_type, parts_at, parts_if, width, width_at}
 use Rattle.life_store.specs.State.{Cell, Empty, Named, State}
 use Rattle.life_store.specs.declared.run.FaultKind.TheVariants as fault
+use Rattle.life_store.specs.Kinds.{kind_in}
 use Rattle.life_store.proofs.CellLemmas.{some_same}
-use Rattle.life_forest.specs.Forest.{Beneath}
+use Rattle.life_forest.specs.Forest.{Beneath, Touches, Foot, whole}
 use Rattle.life_forest.specs.FrameTypes.{IsVariable}
-use Rattle.life_forest.specs.Frames.{OnNext}
-use Rattle.life_forest.specs.Kinds.{kinds_of, rank_of}
+use Rattle.life_forest.specs.Frames.{OnNext, named_in}
+use Rattle.life_forest.specs.Kinds.{kinds_of, rank_of, owned_type}
 use Rattle.life_forest.specs.Values.{AllWide, listed}
+use Rattle.life_forest.specs.Typed.{IsStore}
+use Rattle.life_forest.specs.Within.{LiesWithin}
+use Rattle.life_forest.specs.Owned.{times}
 use Rattle.life_forest.proofs.Coming.{IfGot}
 use Rattle.life_forest.proofs.Members.{within_self}
+use Rattle.life_forest.proofs.Feet.{and_all}
+use Rattle.life_forest.proofs.Adding.{pushed_object_touches}
+use Rattle.life_forest.proofs.Above.{above_apart, above_unowned, owner_above}
+use Rattle.life_forest.proofs.Below.{is_positive}
+use Rattle.life_forest.proofs.Counting.{one_same}
+use Rattle.life_forest.proofs.Frames.{less_in_hand, named_put}
+use Rattle.life_forest.proofs.Following.{in_hand}
 use Rattle.life_cover.specs.Buffered.{AreBuffered, HasBuffers}
 use Rattle.life_cover.specs.Frames.{NoInput, any_root}
 use Rattle.life_cover.specs.Regions.{Region, foot_of}
-use Rattle.life_cover.proofs.Buffers.{buffer_lives, buffer_low, low}
+use Rattle.life_cover.proofs.Buffers.{buffer_lives, buffer_low, low, foot_covers, buffer, own}
 use Rattle.life_cover.proofs.Copies.{whole_parts}
 use Rattle.life_cover.proofs.HeldElements.{all_free, elements_region, held, held_type, vector_operand, vector_parts}
 use Rattle.life_cover.proofs.Inside.{beneath_lesser, not_itself}
-use Rattle.life_cover.proofs.KeptBuffers.{IsBuffered, at_start, by_change, holder_born, is_owner}
+use Rattle.life_cover.proofs.KeptBuffers.{at_start, by_change, holder_born, is_owner}
 use Rattle.life_cover.proofs.KnownFrames.{IsKnownFrame, hand_of, store_of}
 use Rattle.life_cover.proofs.Locals.{named_free}
 use Rattle.life_cover.proofs.Opening.{IsOpened, vector_opened}
@@ -43,6 +56,41 @@ use Rattle.life_cover.proofs.PushedBuffers.{object_buffered}
 use Rattle.life_cover.proofs.Reaching.{IsReached}
 use Rattle.life_cover.proofs.Rebuffering.{IsFree}
 use Rattle.life_cover.proofs.SaveKinds.{region_within}
+use Rattle.life_cover.proofs.Behind.{behind_empty, both_got, IsBehind}
+use Rattle.life_cover.proofs.Sparing.{pushed_spares}
+
+-- ---- what is touched
+
+-- what the vector has, and what gives its value over
+abbrev pub pushed_foot : Types → Region → ℕ → Foot
+pushed_foot types r m = and_all (foot_of types r) (m ∷ [])
+
+module _ (types : Types) (ordered : IsOrdered types) (hand : ℕ → ℕ) (c : Content) (m : ℕ) (store : IsStore types (λ k. times (m ∷ []) k + hand k) c) (n i w : ℕ) (vector : TyId) (o : Object) (there : at c.objects n ≡ Some o) (within : LiesWithin types o.ty w vector)
+    (lt : i < length o.slots) (item : TyId) (is_vector : parts_at types vector ≡ Vector item (parts_at types item)) (b : ℕ) (owned : owned_at c (record { object = n; index = i; word = w }) ≡ Some b) (om : Object) (sl : Slot) (m_there : at c.objects m ≡ Some om)
+    (one_slot : om.slots ≡ sl ∷ []) (m_type : om.ty ≡ item) where
+  whole_hand : ℕ → ℕ
+  whole_hand k = times (m ∷ []) k + hand k
+
+  lower : rank_of types om.ty < rank_of types o.ty
+  lower =
+      subst (λ id. rank_of types id < rank_of types o.ty) (sym m_type)
+      (owner_above types ordered (λ k. times (m ∷ []) k + hand k) c store n w vector o there within item (let e = ap width is_vector in omega (arith, e)) (ap (λ (p : Parts). kind_in p 0) is_vector) (ap (λ (p : Parts). owned_type p 0) is_vector))
+
+  wide : length sl.words ≡ width (parts_at types item)
+  wide = let fit = store.fit m om m_there in (subst (AllWide om.width) one_slot fit.slots).0 ∙ fit.width ∙ ap (width_at types) m_type
+
+  pub object_touches : (s : Setting)
+      → IfGot (pushed s item (parts_at types item) (record { object = n; index = i; word = w }) b (consumed (parts_at types item) m) c) (Touches (kinds_of types) (pushed_foot types (record { object = n; word = w; ty = vector }) m) c)
+  object_touches s =
+      pushed_object_touches (kinds_of types) item (parts_at types item) (record { object = n; index = i; word = w }) b hand c o
+      (buffer types ordered (λ k. times (m ∷ []) k + hand k) c store n i w vector o there within lt item (parts_at types item) is_vector b owned).0 m om sl store.forest
+      (own types ordered (λ k. times (m ∷ []) k + hand k) c store n i w vector o there within lt item (parts_at types item) is_vector b owned) m_there one_slot m_type wide
+      (above_apart types ordered (λ k. times (m ∷ []) k + hand k) c store n w vector o there within m om m_there lower)
+      (above_unowned types ordered (λ k. times (m ∷ []) k + hand k) c store n w vector o there within m om m_there lower) s
+      (pushed_foot types (record { object = n; word = w; ty = vector }) m) (foot_covers types n i w vector (Vector item (parts_at types item)) is_vector)
+      (whole m (is_positive (times (m ∷ []) m) (let e = one_same m m refl in omega (arith, e))))
+
+-- ---- in a frame
 
 module _ (types : Types) (f : Function) (rest : ℕ → ℕ) (S : Fact → Type 0) (st : State) (k : IsKnownFrame types f rest S st) (s : Setting) (o : Operand) (item : TyId) (is_vector : type_of types f o ≡ ty.Vector item) (x m : ℕ) (named : cell st x ≡ Some (Named m)) (typed : local_type types f x ≡ Some item) where
   variable : IsVariable st.world.content (local_type types f x) m
@@ -74,6 +122,18 @@ module _ (types : Types) (f : Function) (rest : ℕ → ℕ) (S : Fact → Type 
 
     abbrev elements : (y : Object) × (at st.world.content.objects (vector_opened types f rest S st k o r item is_vector).buffer ≡ Some y)
     elements = held types f rest S st k o r item is_vector
+
+    -- the store, where what is given over is in the hand by itself
+    in_two : IsStore types (λ j. times (m ∷ []) j + (times (named_in (slice_set st.cells x Empty)) j + rest j)) st.world.content
+    in_two =
+        less_in_hand types (hand_of rest st) (λ j. times (m ∷ []) j + (times (named_in (slice_set st.cells x Empty)) j + rest j)) st.world.content
+        (λ j. let e = named_put st.cells x (Named m) Empty j named in omega (arith, e)) (store_of types f rest S st k)
+
+    pub pushed_touches : IfGot (pushed s item (parts_at types item) (record { object = r.region.object; index = r.index; word = r.region.word }) (vector_opened types f rest S st k o r item is_vector).buffer (consumed (parts_at types item) m) st.world.content)
+        (Touches (kinds_of types) (pushed_foot types r.region m) st.world.content)
+    pushed_touches =
+        object_touches types k.ordered (λ j. times (named_in (slice_set st.cells x Empty)) j + rest j) st.world.content m in_two r.region.object r.index r.region.word r.region.ty r.holder r.there (region_within types f rest S st k o r) r.small
+        item (vector_parts types f rest S st k o r item is_vector) h.buffer h.owned variable.object variable.slot variable.there variable.one m_type s
 
     -- a string there has another buffer than the vector
     free_of : (p : Parts) → parts_at types variable.object.ty ≡ p → IsFree types p (λ j. (j ≡ h.buffer) ⊎ (j ≡ st.world.content.births)) variable.slot.words
@@ -128,19 +188,21 @@ module _ (types : Types) (f : Function) (rest : ℕ → ℕ) (S : Fact → Type 
         variable.object variable.slot variable.there variable.one m_has m_wide (subst (λ (id : TyId). IsFree types (parts_at types id) (λ j. (j ≡ h.buffer) ⊎ (j ≡ st.world.content.births)) variable.slot.words) m_type (free_of (parts_at types variable.object.ty) refl))
         r.region.object r.index (holder_born types f rest S st k o r s) holder_apart (is_owner types f rest S st k o r s (Vector item (parts_at types item)) (vector_parts types f rest S st k o r item is_vector) refl (λ ws j e. (j, e))))
 
-    after_edit : (a : Attempt Content) → IfGot a (AreBuffered types) → OnNext (on_next (on_got a (λ d. Next (put_content d st))) (λ after. Next (put_cell x Empty after))) (IsBuffered types)
-    after_edit (Got d) e = e
+    after_edit : (a : Attempt Content) → IfGot a (λ d. AreBuffered types d × Touches (kinds_of types) (pushed_foot types r.region m) st.world.content d) → OnNext (on_next (on_got a (λ d. Next (put_content d st))) (λ after. Next (put_cell x Empty after))) (IsBehind types st)
+    after_edit (Got d) e = behind_empty types st x d e.0 (pushed_spares types f rest S st k o r m (in_hand st.cells x m named) d e.1)
     after_edit (GotTrap kind) e = tt
     after_edit (GotFault kind) e = tt
     after_edit GotLost e = tt
 
-    pub object_pushed : OnNext (does s types f (Changes o (PushBack x)) st) (IsBuffered types)
+    pub object_pushed : OnNext (does s types f (Changes o (PushBack x)) st) (IsBehind types st)
     object_pushed =
         by_change types f rest S st k o r s (Vector item (parts_at types item)) (vector_operand types f rest S st k o r item is_vector) (PushBack x)
-        (subst (λ (v : Option Cell). OnNext (pushes s types f (Vector item (parts_at types item)) (record { object = r.region.object; index = r.index; word = r.region.word }) x v st) (IsBuffered types)) (sym named)
-        (subst (λ (p : Parts). OnNext (on_next (edits s (Vector item (parts_at types item)) (record { object = r.region.object; index = r.index; word = r.region.word }) (Push (consumed p m)) st) (λ after. Next (put_cell x Empty after))) (IsBuffered types)) (sym (ap (parts_if types) typed))
-        (subst (λ w. OnNext (on_next (on_got (got_or w (GotFault fault.Moved)) go) (λ after. Next (put_cell x Empty after))) (IsBuffered types)) (sym h.owned)
-        (after_edit (pushed s item (parts_at types item) (record { object = r.region.object; index = r.index; word = r.region.word }) h.buffer (consumed (parts_at types item) m) st.world.content) pushed_one))))
+        (subst (λ (v : Option Cell). OnNext (pushes s types f (Vector item (parts_at types item)) (record { object = r.region.object; index = r.index; word = r.region.word }) x v st) (IsBehind types st)) (sym named)
+        (subst (λ (p : Parts). OnNext (on_next (edits s (Vector item (parts_at types item)) (record { object = r.region.object; index = r.index; word = r.region.word }) (Push (consumed p m)) st) (λ after. Next (put_cell x Empty after))) (IsBehind types st)) (sym (ap (parts_if types) typed))
+        (subst (λ w. OnNext (on_next (on_got (got_or w (GotFault fault.Moved)) go) (λ after. Next (put_cell x Empty after))) (IsBehind types st)) (sym h.owned)
+        (after_edit (pushed s item (parts_at types item) (record { object = r.region.object; index = r.index; word = r.region.word }) h.buffer (consumed (parts_at types item) m) st.world.content)
+        (both_got (pushed s item (parts_at types item) (record { object = r.region.object; index = r.index; word = r.region.word }) h.buffer (consumed (parts_at types item) m) st.world.content) (AreBuffered types) (Touches (kinds_of types) (pushed_foot types r.region m) st.world.content)
+        pushed_one pushed_touches)))))
       where
         go : ℕ → Effect
         go b = on_got (edited s (Vector item (parts_at types item)) (record { object = r.region.object; index = r.index; word = r.region.word }) b (Push (consumed (parts_at types item) m)) st.world.content) (λ d. Next (put_content d st))

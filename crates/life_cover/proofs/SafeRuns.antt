@@ -1,23 +1,25 @@
--- A run of an admitted entry that calls nothing, of a program without structs of which nothing is diagnosed, ends in no fault.
-use Rattle.std.proofs.Common.{◌≡◌, ⊎_elim, ℕ, zero, suc, ◌+◌, ◌*◌, Bool, true, false, List, [], ◌∷◌, length, Option, Some, None, refl, sym, ap, subst, ◌∙◌, arith, inr}
-use Rattle.std.specs.Prelude.{ℤ, cond, nat_lt, not, slice_get}
+-- A run of an admitted entry, of a program without structs whose calls hand over and give back values alone and of which nothing is diagnosed, ends in
+-- no fault.
+use Rattle.std.proofs.Common.{◌≡◌, ⊎_elim, ℕ, zero, suc, ◌+◌, Bool, true, false, List, [], ◌∷◌, length, Option, Some, None, refl, sym, ap, subst, ◌∙◌, arith, inr, inl, ◌<◌}
+use Rattle.std.specs.Prelude.{ℤ, not, slice_get}
 use Rattle.std.proofs.lemmas.Bool.{and_parts, false≢true}
 use Rattle.life_types.specs.Pointees.{ty_of}
 use Rattle.life_types.specs.Trees.{IsOrdered}
 use Rattle.life_types.specs.TypeTests.{is_void}
-use Rattle.life_types.specs.Types.{HasEachOnce, Types}
+use Rattle.life_types.specs.Types.{HasEachOnce, Types, is_slot_at}
 use Rattle.life_types.specs.declared.place.Place.{Place}
+use Rattle.life_types.specs.declared.ty.Ty.TheVariants as ty
 use Rattle.life_types.specs.declared.ty.TyId.{TyId}
+use Rattle.life_types.specs.declared.ty.Ty.{Ty}
 use Rattle.life_core.specs.declared.program.Local.{Local}
 use Rattle.life_core.specs.Function.{Function, Program}
-use Rattle.life_core.specs.Holdings.{ANumber, APointer, AView, AnObject, Blank, Holding, sort_of}
+use Rattle.life_core.specs.Holdings.{ANumber, APointer, AView, AnObject, Blank, Holding, result_sort}
 use Rattle.life_core.specs.Linked.{no_exits}
 use Rattle.life_core.specs.Proper.{HasReadyWays}
 use Rattle.life_core.specs.Ready.{entry_ready}
 use Rattle.life_pset.specs.Elements.{AreShort, elements_of}
-use Rattle.life_contract.specs.Signatures.{Signature, signatures_of}
+use Rattle.life_contract.specs.Signatures.{signatures_of}
 use Rattle.life_proper.specs.GivenOver.{all_keep_given, keeps_all_given}
-use Rattle.life_proper.specs.WellFormed.{types_taken}
 use Rattle.life_proper.specs.WellFormedPrograms.{IsWellFormedProgram, is_well_formed_function}
 use Rattle.life_proper.proofs.SortedNodes.{formed_parts}
 use Rattle.life_proper.proofs.SpotTests.{all_at}
@@ -25,211 +27,268 @@ use Rattle.life_rules.specs.Diagnosing.{IsDiagnosed}
 use Rattle.life_rules.specs.Listing.{IsProgramDiagnosed}
 use Rattle.life_rules.specs.declared.diag.Diag.{Diag}
 use Rattle.life_rules.proofs.OneFunction.{own_function}
-use Rattle.life_store.specs.Births.{with_value_object}
-use Rattle.life_store.specs.Calls.{born_with, entry_arguments, given, given_if, number_given, parameters_given}
-use Rattle.life_store.specs.Cells.{at, at-none, at-set_same}
-use Rattle.life_store.specs.Content.{Content, Object, empty_content, live_words_of, newborn, resized, with_birth, with_object, with_word}
-use Rattle.life_store.specs.Doing.{saved}
-use Rattle.life_store.specs.Effects.{Given, Setting, Effect, Next, Traps, Faults, Strays, on_next, put_cell, put_content, word_of_number}
+use Rattle.life_store.specs.Calls.{entry_arguments, given, parameters_given, slots_back, results, given_back, cell_back, other_back, number_or_zero, pointer_back}
+use Rattle.life_store.specs.Cells.{at-none}
+use Rattle.life_store.specs.Content.{Content, empty_content}
+use Rattle.life_store.specs.Effects.{Given, Setting, Effect, Next, Traps, Faults, Strays, cell, on_next}
 use Rattle.life_store.specs.Meaning.{Answer, Normal, Broke, Continued, Returned, Stopped, Back, Barred, Called, Callee, Exhausted, Faulted, IsAdmitted, Quit, Stray, Trapped, begun, calls, entered, exec, finish, first_called, first_world, frame, run_from, run_of, setting_of}
 use Rattle.life_store.specs.NoFault.{IsNoFault}
-use Rattle.life_store.specs.Parts.{Single, parts_at}
-use Rattle.life_store.specs.Places.{found_at, found_in, here_if, on_found}
 use Rattle.life_store.specs.State.{Cell, Empty, Named, Number, Pointer, Points, State, World}
-use Rattle.life_store.specs.declared.run.TrapKind.TheVariants as trap
-use Rattle.life_store.proofs.CellLemmas.{cell_cases, none_some, some_same}
+use Rattle.life_store.proofs.CellLemmas.{none_some, some_same}
 use Rattle.life_store.proofs.Entering.{empty_cells}
+use Rattle.life_store.proofs.MapLemmas.{one_or_apart}
 use Rattle.life_forest.specs.Frames.{OnNext, named_in}
 use Rattle.life_forest.specs.Owned.{times}
 use Rattle.life_forest.specs.Typed.{IsStore}
-use Rattle.life_forest.proofs.EnteredFrames.{GivesOn}
+use Rattle.life_forest.specs.Kinds.{kinds_of}
+use Rattle.life_forest.specs.Forest.{all_of}
+use Rattle.life_forest.proofs.EnteredFrames.{GivesOn, IsTaking, AreTaking, composed_points}
 use Rattle.life_forest.proofs.EntryFrames.{entry_gives, taking_all, types_held}
-use Rattle.life_forest.proofs.Frames.{less_in_hand}
-use Rattle.life_forest.proofs.HandedOver.{AreHandedTo, ArePointerSlots}
+use Rattle.life_forest.proofs.Frames.{less_in_hand, first_named}
+use Rattle.life_forest.proofs.HandedOver.{AreHandedTo, IsHandedTo}
 use Rattle.life_forest.proofs.HeldPoints.{IsNext}
 use Rattle.life_forest.proofs.NeverStrays.{HandsPointerSlots, have_members, none_named, numbers_handed, points_formed}
 use Rattle.life_forest.proofs.SettledPoints.{formed_at, kinds_fit}
 use Rattle.life_forest.proofs.SettlingLives.{HaveMembers}
 use Rattle.life_forest.proofs.Shaped.{IsShaped, locals_shaped}
-use Rattle.life_forest.proofs.Slots.{ArePointsFormed}
 use Rattle.life_forest.proofs.Worked.{empty_store}
+use Rattle.life_forest.proofs.Steps.{touches_then, touches_self}
+use Rattle.life_forest.proofs.Feet.{within_self}
+use Rattle.life_forest.proofs.Counting.{one_same, one_there}
+use Rattle.life_forest.proofs.GivenSlots.{named_append, named_parts, slots_named}
+use Rattle.life_forest.proofs.CallsGo.{GoesWell, calls_good}
+use Rattle.life_forest.proofs.CallersGo.{GoodCallee}
 use Rattle.life_cover.specs.Buffered.{AreBuffered}
-use Rattle.life_cover.proofs.Buffering.{all_in, birth_but, none_out, set_but, single_have}
-use Rattle.life_cover.proofs.KeptCopies.{object_parts}
-use Rattle.life_cover.proofs.SafeBodies.{IsSafeStop, IsSpokenBody, SafeAnswer, callless_safe}
+use Rattle.life_cover.proofs.SafeBodies.{IsSpokenBody, SafeAnswer, body_safe}
+use Rattle.life_cover.proofs.CallKinds.{AreValues}
+use Rattle.life_cover.proofs.Owning.{IsOwn, named_at}
+use Rattle.life_cover.proofs.GivenValues.{IsGiven, TakesNoSlot, value_given}
+use Rattle.life_cover.proofs.Unkilled.{no_foot}
+use Rattle.life_cover.proofs.SafeCalls.{SafeCalled, SafeCallee, calls_safe}
 
 -- ---- the entry is given numbers
 
-abbrev pub AllNumbers : List Cell → Type 0
-AllNumbers [] = Unit {0}
-AllNumbers (Number z ∷ vs) = AllNumbers vs
-AllNumbers (v ∷ vs) = ⊥
+entry_values : (types : Types) (f : Function) (x n : ℕ) (input : List ℤ) → AreValues (entry_arguments types f x n input)
+entry_values types f x zero input = tt
+entry_values types f x (suc n) [] = tt
+entry_values types f x (suc n) (z ∷ zs) = (tt, entry_values types f (x + 1) n zs)
 
-entry_numbers : (types : Types) (f : Function) (x n : ℕ) (input : List ℤ) → AllNumbers (entry_arguments types f x n input)
-entry_numbers types f x zero input = tt
-entry_numbers types f x (suc n) [] = tt
-entry_numbers types f x (suc n) (z ∷ zs) = entry_numbers types f (x + 1) n zs
+-- ---- parameters are given values
 
--- no pointer is there, and each vector and each string has its buffer
-pub record IsPlain (types : Types) (st : State) : Type 0 where
+-- no pointer is there, each vector and each string has its buffer, and nothing was touched but what was given
+pub record IsBegun (types : Types) (given : List ℕ) (before : Content) (st : State) : Type 0 where
   pub none : (x : ℕ) (v : Pointer) → slice_get st.cells x ≡ Some (Points v) → ⊥
   pub buffered : AreBuffered types st.world.content
+  pub own : IsOwn types given before st
 
-module _ (types : Types) (ordered : IsOrdered types) (s : Setting) where
-  put_plain : (x : ℕ) (new : Cell) (d : Content) (st : State) → ((v : Pointer) → new ≡ Points v → ⊥) → IsPlain types st → AreBuffered types d → IsPlain types (put_cell x new (put_content d st))
-  put_plain x new d st other plain buffered = record { none = λ y v e. ⊎_elim (λ h. other v h.1) (λ h. plain.none y v h.1) (cell_cases st.cells x y new (Points v) e); buffered = buffered }
+module _ (types : Types) (ordered : IsOrdered types) (s : Setting) (f : Function) (given_over : List ℕ) (hand : ℕ → ℕ) (before : Content) (store : IsStore types hand before) where
+  -- one more is given
+  begun_given : (x : ℕ) (v : Cell) (st after : State) → ((n : ℕ) → v ≡ Named n → 0 < times given_over n) → IsBegun types given_over before st → IsGiven types x v st after → IsBegun types given_over before after
+  begun_given x v st after among begun h = record {
+    none = λ y p e. begun.none y p (h.points y p e).1;
+    buffered = h.buffered;
+    own = record {
+      touch =
+          touches_then (kinds_of types) hand before store.forest (all_of given_over) no_foot (all_of given_over) st.world.content after.world.content begun.own.touch h.touch (within_self (kinds_of types) before (all_of given_over))
+          (record { whole = λ n lt e. absurd (false≢true e); part = λ m lt. inr (λ w e. absurd (false≢true e)) });
+      named = λ y n e. ⊎_elim
+          (λ old. begun.own.named y n old)
+          (λ other. ⊎_elim (λ is. inl (among n is)) (λ new. inr (let b = begun.own.touch.births in omega (arith, b, new))) other)
+          (h.named y n e);
+    };
+  }
 
-  named_other : (n : ℕ) (v : Pointer) → Named n ≡ Points v → ⊥
-  named_other n v e = cc
+  -- what is handed over is given to no slot
+  no_slot_taken : (x : ℕ) (l : Local) (id : TyId) → IsTaking types f x l id → (v : Cell) → IsHandedTo types before id v → TakesNoSlot types f x v
+  no_slot_taken x l id takes v suits lo n there is =
+      let composed = (subst (IsHandedTo types before id) is suits).2 in
+      ap (λ (u : Local). is_slot_at types u.ty) (some_same (sym there ∙ takes.there)) ∙ takes.free (composed_points (ty_of types id) composed)
 
-  number_other : (z : ℤ) (v : Pointer) → Number z ≡ Points v → ⊥
-  number_other z v e = cc
-
-  -- an object comes to life with a value
-  object_plain : (ty : TyId) → parts_at types ty ≡ Single → (z : ℤ) (x : ℕ) (st : State) → IsPlain types st → OnNext (born_with s ty z x st) (IsPlain types)
-  object_plain ty single z x st plain = go (nat_lt s.given.cells (live_words_of st.world.content + (2 + 1 * 1)))
+  parameters_begun : (x : ℕ) (ids : List TyId) (vs : List Cell) → AreTaking types f x ids → AreHandedTo types before ids vs → AreValues vs → ((n : ℕ) → 0 < times (named_in vs) n → 0 < times given_over n) → (st : State) → IsBegun types given_over before st
+      → OnNext (parameters_given s types f x vs st) (IsBegun types given_over before)
+  parameters_begun x [] [] taking suits all among st begun = begun
+  parameters_begun x [] (v ∷ vs) taking suits all among st begun = absurd suits
+  parameters_begun x (id ∷ ids) [] taking suits all among st begun = absurd suits
+  parameters_begun x (id ∷ ids) (v ∷ vs) taking suits all among st begun =
+      go (given s types f v x st) (value_given types ordered s f x v st begun.buffered all.0 (no_slot_taken x taking.0.0 id taking.0.1 v suits.0))
+      (λ after h. parameters_begun (x + 1) ids vs taking.1 suits.1 all.1 (λ n lt. among n (let a = first_named v vs n in omega (arith, a, lt))) after (begun_given x v st after first begun h))
     where
-      born : AreBuffered types (with_value_object ty st.world.content)
-      born =
-          all_in types (with_value_object ty st.world.content)
-          (set_but types (λ n. ⊥) st.world.content.births (resized (st.world.content.clock + 1) 1 0 (newborn ty 1 1 st.world.content.clock)) (with_birth ty 1 1 st.world.content) (with_value_object ty st.world.content)
-          (inr (single_have types (resized (st.world.content.clock + 1) 1 0 (newborn ty 1 1 st.world.content.clock)) single)) refl (birth_but types (λ n. ⊥) ty 1 1 st.world.content (none_out types st.world.content plain.buffered)))
+      first : (n : ℕ) → v ≡ Named n → 0 < times given_over n
+      first n is = among n (let a = first_named v vs n in let b = ap (λ (u : Cell). times (named_in (u ∷ [])) n) is in let i = one_same n n refl in omega (arith, a, b, i))
 
-      go : (full : Bool)
-          → OnNext (on_next (cond full (Traps trap.Cells) (Next (put_cell x (Named st.world.content.births) (put_content (with_value_object ty st.world.content) st)))) (λ later. on_found (found_at later.world.content st.world.content.births 0) (λ n i o. Next (saved z n i 0 o later)))) (IsPlain types)
-      go true = tt
-      go false = found (at (with_value_object ty st.world.content).objects st.world.content.births) refl
-        where
-          found : (o : Option Object) → at (with_value_object ty st.world.content).objects st.world.content.births ≡ o
-              → OnNext (on_found (found_in o st.world.content.births 0) (λ n i q. Next (saved z n i 0 q (put_cell x (Named st.world.content.births) (put_content (with_value_object ty st.world.content) st))))) (IsPlain types)
-          found None e = tt
-          found (Some o) e = here (nat_lt 0 (length o.slots))
-            where
-              -- the object is of the type
-              type : o.ty ≡ ty
-              type = ap (λ (q : Object). q.ty) (some_same (sym e ∙ at-set_same (with_birth ty 1 1 st.world.content).objects st.world.content.births st.world.content.births (resized (st.world.content.clock + 1) 1 0 (newborn ty 1 1 st.world.content.clock)) refl))
+      go : (e : Effect) → OnNext e (IsGiven types x v st) → ((after : State) → IsGiven types x v st after → OnNext (parameters_given s types f (x + 1) vs after) (IsBegun types given_over before))
+          → OnNext (on_next e (parameters_given s types f (x + 1) vs)) (IsBegun types given_over before)
+      go (Next after) h more = more after h
+      go (Traps kind) h more = tt
+      go (Faults kind) h more = tt
+      go Strays h more = tt
 
-              here : (b : Bool) → OnNext (on_found (here_if b st.world.content.births 0 o) (λ n i q. Next (saved z n i 0 q (put_cell x (Named st.world.content.births) (put_content (with_value_object ty st.world.content) st))))) (IsPlain types)
-              here false = tt
-              here true =
-                  put_plain x (Named st.world.content.births) (with_object st.world.content.births (with_word 0 0 (word_of_number z) o) (with_value_object ty st.world.content)) st (named_other st.world.content.births) plain
-                  (all_in types (with_object st.world.content.births (with_word 0 0 (word_of_number z) o) (with_value_object ty st.world.content))
-                  (set_but types (λ n. ⊥) st.world.content.births (with_word 0 0 (word_of_number z) o) (with_value_object ty st.world.content) (with_object st.world.content.births (with_word 0 0 (word_of_number z) o) (with_value_object ty st.world.content))
-                  (inr (single_have types (with_word 0 0 (word_of_number z) o) (ap (parts_at types) type ∙ single))) refl (none_out types (with_value_object ty st.world.content) born)))
+-- nothing is there before
+frame_begun : (types : Types) (f : Function) (given_over : List ℕ) (w : World) → AreBuffered types w.content → IsBegun types given_over w.content (frame f w)
+frame_begun types f given_over w buffered = record {
+  none = λ x v e. unlike v (empty_cells f.locals x (Points v) e);
+  buffered = buffered;
+  own = record { touch = touches_self (kinds_of types) (all_of given_over) w.content; named = λ x n e. absurd (nameless n (empty_cells f.locals x (Named n) e)) };
+}
+  where
+    unlike : (v : Pointer) → Empty ≡ Points v → ⊥
+    unlike v e = cc
 
-  module _ (f : Function) where
-    number_plain : (z : ℤ) (x : ℕ) (st : State) → IsPlain types st → OnNext (given s types f (Number z) x st) (IsPlain types)
-    number_plain z x st plain = by_local (slice_get f.locals x) refl
-      where
-        by_sort : (l : Local) (h : Holding) → (h ≡ AnObject → parts_at types l.ty ≡ Single) → OnNext (number_given s h l.ty z x st) (IsPlain types)
-        by_sort l AnObject single = object_plain l.ty (single refl) z x st plain
-        by_sort l ANumber single = put_plain x (Number z) st.world.content st (number_other z) plain plain.buffered
-        by_sort l Blank single = tt
-        by_sort l APointer single = tt
-        by_sort l AView single = tt
+    nameless : (n : ℕ) → Empty ≡ Named n → ⊥
+    nameless n e = cc
 
-        by_local : (o : Option Local) → slice_get f.locals x ≡ o → OnNext (given_if s types f o (Number z) x st) (IsPlain types)
-        by_local None e = tt
-        by_local (Some l) e = by_sort l (sort_of types f x) (object_parts types ordered f x l e)
+-- ---- what is given back is named by a cell
 
-    pub numbers_plain : (x : ℕ) (vs : List Cell) → AllNumbers vs → (st : State) → IsPlain types st → OnNext (parameters_given s types f x vs st) (IsPlain types)
-    numbers_plain x [] all st plain = plain
-    numbers_plain x (Number z ∷ vs) all st plain = go (given s types f (Number z) x st) (number_plain z x st plain) (λ later h. numbers_plain (x + 1) vs all later h)
-      where
-        go : (e : Effect) → OnNext e (IsPlain types) → ((later : State) → IsPlain types later → OnNext (parameters_given s types f (x + 1) vs later) (IsPlain types)) → OnNext (on_next e (parameters_given s types f (x + 1) vs)) (IsPlain types)
-        go (Next later) h more = more later h
-        go (Traps kind) h more = tt
-        go (Faults kind) h more = tt
-        go Strays h more = tt
-    numbers_plain x (Empty ∷ vs) all st plain = absurd all
-    numbers_plain x (Named n ∷ vs) all st plain = absurd all
-    numbers_plain x (Points p ∷ vs) all st plain = absurd all
+module _ (types : Types) (f : Function) (st : State) (j : ℕ) where
+  cell_named : (o : Option Cell) → 0 < times (named_in (cell_back o)) j → o ≡ Some (Named j)
+  cell_named None lt = absurd (omega (arith, lt))
+  cell_named (Some Empty) lt = absurd (omega (arith, lt))
+  cell_named (Some (Named n)) lt = ap (λ (i : ℕ). Some (Named i)) (one_there n j (omega (arith, lt)))
+  cell_named (Some (Number z)) lt = absurd (omega (arith, lt))
+  cell_named (Some (Points p)) lt = absurd (omega (arith, lt))
 
-    -- nothing is there before
-    frame_plain : (w : World) → AreBuffered types w.content → IsPlain types (frame f w)
-    frame_plain w buffered = record { none = λ x v e. unlike v (empty_cells f.locals x (Points v) e); buffered = buffered }
-      where
-        unlike : (v : Pointer) → Empty ≡ Points v → ⊥
-        unlike v e = cc
+  other_named : (t : Option Ty) (o : Option Cell) → 0 < times (named_in (other_back t o)) j → o ≡ Some (Named j)
+  other_named (Some ty.Void) o lt = absurd (omega (arith, lt))
+  other_named _ o lt = cell_named o lt
 
--- ---- a call that makes no fault
+  number_unnamed : (o : Option Cell) → 0 < times (named_in (number_or_zero o ∷ [])) j → ⊥
+  number_unnamed None lt = omega (arith, lt)
+  number_unnamed (Some Empty) lt = omega (arith, lt)
+  number_unnamed (Some (Named n)) lt = omega (arith, lt)
+  number_unnamed (Some (Number z)) lt = omega (arith, lt)
+  number_unnamed (Some (Points p)) lt = omega (arith, lt)
 
-abbrev pub NoFaultCalled : Called → Type 0
-NoFaultCalled (Back n w values) = Unit {0}
-NoFaultCalled (Barred kind) = Unit {0}
-NoFaultCalled (Quit stop w) = IsSafeStop stop
+  pointer_unnamed : (o : Option Cell) → 0 < times (named_in (pointer_back o)) j → ⊥
+  pointer_unnamed None lt = omega (arith, lt)
+  pointer_unnamed (Some Empty) lt = omega (arith, lt)
+  pointer_unnamed (Some (Named n)) lt = omega (arith, lt)
+  pointer_unnamed (Some (Number z)) lt = omega (arith, lt)
+  pointer_unnamed (Some (Points p)) lt = omega (arith, lt)
 
-module _ (types : Types) (ordered : IsOrdered types) (once : HasEachOnce types) (some : HaveMembers types) (names texts : ℕ) (fs : List Function) (f : Function) (formed : is_well_formed_function types names texts fs f ≡ true) (points : ArePointsFormed types texts fs f)
-    (ready : HasReadyWays types f) (plain : types.structs ≡ []) (short : AreShort (elements_of types f)) (kept : all_keep_given types f ≡ true) (free : ArePointerSlots types (types_taken f)) (spoken : IsSpokenBody types f) (sigs : List Signature) (number : ℕ)
-    (none : (d : Diag) → IsDiagnosed sigs types number f d → ⊥) (s : Setting) (call : Callee) where
-  shaped : IsShaped types f
-  shaped = locals_shaped types ordered names f (formed_parts types names texts fs f formed).locals
+  back_named : (t : Option Ty) (h : Holding) (o : Option Cell) → 0 < times (named_in (given_back t h o)) j → o ≡ Some (Named j)
+  back_named t Blank o lt = other_named t o lt
+  back_named t AnObject o lt = absurd (omega (arith, lt))
+  back_named t ANumber o lt = absurd (number_unnamed o lt)
+  back_named t APointer o lt = absurd (pointer_unnamed o lt)
+  back_named t AView o lt = absurd (pointer_unnamed o lt)
 
-  finish_safe : (a : Answer) → SafeAnswer sigs types f (λ k. 0) no_exits a → NoFaultCalled (finish types f a)
-  finish_safe (Normal n st) g = absurd g
-  finish_safe (Broke n st) g = absurd g
-  finish_safe (Continued n st) g = absurd g
-  finish_safe (Returned n st) g = tt
-  finish_safe (Stopped stop w) g = g
+  results_named : 0 < times (named_in (results types f st)) j → (x : ℕ) × (slice_get st.cells x ≡ Some (Named j))
+  results_named lt =
+      let first = given_back (slice_get types.types f.result.0) (result_sort types f) (cell st f.parameters) in
+      one_or_apart (times (named_in (given_back (slice_get types.types f.result.0) (result_sort types f) (cell st f.parameters))) j) 0
+      (λ z.
+      let both = named_append (given_back (slice_get types.types f.result.0) (result_sort types f) (cell st f.parameters)) (slots_back types f 0 f.parameters st) j in
+      let under = slots_named types f st j in
+      let parts = named_parts f.parameters st.cells j in
+      named_at st.cells j (omega (arith, lt, z, both, under, parts)))
+      (λ nz. (f.parameters, back_named (slice_get types.types f.result.0) (result_sort types f) (cell st f.parameters) (omega (arith, nz))))
 
-  begun_safe : (c : Content) (e : Effect) (w : World) (run : State → Called) → GivesOn types f (λ k. 0) c (entry_ready f) e → OnNext e (IsPlain types) → ((st : State) → IsNext types f (λ k. 0) c (entry_ready f) st → IsPlain types st → NoFaultCalled (run st))
-      → NoFaultCalled (begun e w run)
-  begun_safe c (Next st) w run g h k = k st g h
-  begun_safe c (Traps kind) w run g h k = tt
-  begun_safe c (Faults kind) w run g h k = absurd g
-  begun_safe c Strays w run g h k = absurd g
+-- ---- a function whose calls are safe
 
-  pub entered_safe : (xs : List Cell) (n : ℕ) (w : World) → AllNumbers xs → AreHandedTo types w.content (types_held types f) xs → IsStore types (λ k. times (named_in xs) k + 0) w.content → AreBuffered types w.content → NoFaultCalled (entered s types (Some f) call xs n w)
-  entered_safe xs n w all suits store buffered =
-      begun_safe w.content (parameters_given s types f 0 xs (frame f w)) w (λ st. finish types f (exec s types f call f.body n st))
-      (entry_gives types ordered f shaped (kinds_fit types ordered once some names texts fs f formed points ready) (λ k. 0) s xs w
-      (taking_all types names f shaped (formed_at types ordered once some names texts fs f formed points ready) free) store suits)
-      (numbers_plain types ordered s f 0 xs all (frame f w) (frame_plain types ordered s f w buffered))
-      (λ st next given. finish_safe (exec s types f call f.body n st)
-      (callless_safe types ordered once some names texts fs f formed points ready plain short kept spoken sigs number none (λ k. 0) s call n st next.bits
-      (λ S. record { sound = next.sound; covered = λ x v e. absurd (given.none x v e); buffered = given.buffered })))
+-- what is asked of a function of a program, beside what keeps it from straying
+pub record IsSafeFunction (types : Types) (fs : List Function) (number : ℕ) (f : Function) : Type 0 where
+  pub short : AreShort (elements_of types f)
+  pub spoken : IsSpokenBody types f
+  pub none : (d : Diag) → IsDiagnosed (signatures_of fs) types number f d → ⊥
+
+module _ (types : Types) (ordered : IsOrdered types) (once : HasEachOnce types) (some : HaveMembers types) (plain : types.structs ≡ []) (names texts : ℕ) (fs : List Function) (all : (k : ℕ) (g : Function) → slice_get fs k ≡ Some g → GoesWell types names texts fs g)
+    (all_safe : (k : ℕ) (g : Function) → slice_get fs k ≡ Some g → IsSafeFunction types fs k g) (s : Setting) where
+  module _ (call : Callee) (callees : GoodCallee types fs call) (safe : SafeCallee types fs call) (number : ℕ) (f : Function) (is : slice_get fs number ≡ Some f) (rest : ℕ → ℕ) (xs : List Cell) (n : ℕ) (w : World) (values : AreValues xs)
+      (suits : AreHandedTo types w.content (types_held types f) xs) (store : IsStore types (λ j. times (named_in xs) j + rest j) w.content) (buffered : AreBuffered types w.content) where
+    well : GoesWell types names texts fs f
+    well = all number f is
+
+    asked : IsSafeFunction types fs number f
+    asked = all_safe number f is
+
+    shaped : IsShaped types f
+    shaped = locals_shaped types ordered names f (formed_parts types names texts fs f well.formed).locals
+
+    taking : AreTaking types f 0 (types_held types f)
+    taking = taking_all types names f shaped (formed_at types ordered once some names texts fs f well.formed well.points well.ready) well.free
+
+    finish_safe : (a : Answer) → SafeAnswer (signatures_of fs) types f rest w.content (named_in xs) no_exits a → SafeCalled types (named_in xs) w.content (finish types f a)
+    finish_safe (Normal m st) g = absurd g
+    finish_safe (Broke m st) g = absurd g
+    finish_safe (Continued m st) g = absurd g
+    finish_safe (Returned m st) g = (g.safe.safe.buffered, g.safe.own.touch, λ j lt. let y = results_named types f st j lt in g.safe.own.named y.0 j y.1)
+    finish_safe (Stopped stop after) g = g
+
+    begun_safe : (e : Effect) (run : State → Called) → GivesOn types f rest w.content (entry_ready f) e → OnNext e (IsBegun types (named_in xs) w.content)
+        → ((st : State) → IsNext types f rest w.content (entry_ready f) st → IsBegun types (named_in xs) w.content st → SafeCalled types (named_in xs) w.content (run st)) → SafeCalled types (named_in xs) w.content (begun e w run)
+    begun_safe (Next st) run g h k = k st g h
+    begun_safe (Traps kind) run g h k = tt
+    begun_safe (Faults kind) run g h k = absurd g
+    begun_safe Strays run g h k = absurd g
+
+    pub entered_safe : SafeCalled types (named_in xs) w.content (entered s types (Some f) call xs n w)
+    entered_safe =
+        begun_safe (parameters_given s types f 0 xs (frame f w)) (λ st. finish types f (exec s types f call f.body n st))
+        (entry_gives types ordered f shaped (kinds_fit types ordered once some names texts fs f well.formed well.points well.ready) rest s xs w taking store suits)
+        (parameters_begun types ordered s f (named_in xs) (λ j. times (named_in xs) j + rest j) w.content store 0 (types_held types f) xs taking suits values (λ j lt. lt) (frame f w) (frame_begun types f (named_in xs) w buffered))
+        (λ st next begun. finish_safe (exec s types f call f.body n st)
+        (body_safe types ordered once some names texts fs f well.formed well.points well.ready plain asked.short well.given asked.spoken (signatures_of fs) number asked.none rest w.content (named_in xs) (λ j. times (named_in xs) j + rest j) store s call
+        (calls_safe types ordered once some names texts fs f well.formed well.points well.ready plain asked.short well.given asked.spoken (signatures_of fs) number asked.none rest w.content (named_in xs) (λ j. times (named_in xs) j + rest j) store s call callees
+        (λ k g at_k. (all k g at_k).free) safe)
+        n st next.bits (λ S. record { sound = next.sound; covered = λ y v e. absurd (begun.none y v e); buffered = begun.buffered }) begun.own next.waits))
+
+-- ---- all calls of a program
+
+pub all_calls_safe : (s : Setting) (p : Program) (ordered : IsOrdered p.types) (once : HasEachOnce p.types) (some : HaveMembers p.types) (plain : p.types.structs ≡ []) (names texts : ℕ) (all : (k : ℕ) (g : Function) → slice_get p.functions k ≡ Some g → GoesWell p.types names texts p.functions g)
+    → ((k : ℕ) (g : Function) → slice_get p.functions k ≡ Some g → IsSafeFunction p.types p.functions k g) → (depth : ℕ) → SafeCallee p.types p.functions (calls s p depth)
+all_calls_safe s p ordered once some plain names texts all safe zero k g rest xs n w is values suits store buffered = tt
+all_calls_safe s p ordered once some plain names texts all safe (suc depth) k g rest xs n w is values suits store buffered =
+    subst (λ (o : Option Function). SafeCalled p.types (named_in xs) w.content (entered s p.types o (calls s p depth) xs n w)) (sym is)
+    (entered_safe p.types ordered once some plain names texts p.functions all safe s (calls s p depth) (calls_good s p ordered once some names texts all depth) (all_calls_safe s p ordered once some plain names texts all safe depth) k g is rest xs n w values suits store buffered)
 
 -- ---- runs
 
-called_safe : (entry : Place) (before : World) (r : Called) → NoFaultCalled r → IsNoFault (run_from entry before r).outcome
-called_safe entry before (Back n w values) g = tt
-called_safe entry before (Barred kind) g = tt
-called_safe entry before (Quit (Trapped kind place) w) g = tt
-called_safe entry before (Quit (Faulted kind place) w) g = g
-called_safe entry before (Quit Stray w) g = g
-called_safe entry before (Quit Exhausted w) g = tt
+called_safe : (types : Types) (given : List ℕ) (c : Content) (entry : Place) (before : World) (r : Called) → SafeCalled types given c r → IsNoFault (run_from entry before r).outcome
+called_safe types given c entry before (Back n w values) g = tt
+called_safe types given c entry before (Barred kind) g = tt
+called_safe types given c entry before (Quit (Trapped kind place) w) g = tt
+called_safe types given c entry before (Quit (Faulted kind place) w) g = g
+called_safe types given c entry before (Quit Stray w) g = g
+called_safe types given c entry before (Quit Exhausted w) g = tt
 
 nothing_buffered : (types : Types) → AreBuffered types empty_content
 nothing_buffered types n i o s there slot = absurd (none_some (sym (at-none n) ∙ there))
 
-pub callless_runs : (p : Program) (given : Given) (entry : ℕ) (f : Function) (input : List ℤ) (n : ℕ) → IsWellFormedProgram p → HasReadyWays p.types f → keeps_all_given p ≡ true → HandsPointerSlots p → p.types.structs ≡ [] → AreShort (elements_of p.types f) → IsSpokenBody p.types f
-    → ((d : Diag) → IsProgramDiagnosed p d → ⊥) → slice_get p.functions entry ≡ Some f → IsAdmitted p f input → IsNoFault (run_of given p entry f input n).outcome
-callless_runs p given entry f input n well ready apart hands plain short spoken none is admitted =
-    called_safe f.place (first_world f input) (first_called given p entry f input n) (deep given.depth)
+pub value_runs : (p : Program) (given : Given) (entry : ℕ) (f : Function) (input : List ℤ) (n : ℕ) → IsWellFormedProgram p → ((k : ℕ) (g : Function) → slice_get p.functions k ≡ Some g → HasReadyWays p.types g) → keeps_all_given p ≡ true → HandsPointerSlots p → p.types.structs ≡ []
+    → ((k : ℕ) (g : Function) → slice_get p.functions k ≡ Some g → AreShort (elements_of p.types g) × IsSpokenBody p.types g) → ((d : Diag) → IsProgramDiagnosed p d → ⊥) → slice_get p.functions entry ≡ Some f → IsAdmitted p f input → IsNoFault (run_of given p entry f input n).outcome
+value_runs p given entry f input n well ready apart hands plain spoken none is admitted =
+    called_safe p.types (named_in (entry_arguments p.types f 0 f.parameters input)) empty_content f.place (first_world f input) (first_called given p entry f input n)
+    (all_calls_safe (setting_of given p) p well.table well.once (have_members p.types (length p.names) p.members well.members) plain (length p.names) (length p.texts) each asked given.depth entry f (λ k. 0) (entry_arguments p.types f 0 f.parameters input) n (first_world f input) is
+    (entry_values p.types f 0 f.parameters input) (numbers_handed p.types f empty_content f.parameters f.locals 0 input admitted.values admitted.room admitted.enough solid)
+    (less_in_hand p.types (λ k. 0) (λ k. times (named_in (entry_arguments p.types f 0 f.parameters input)) k + 0) empty_content (λ k. let z = none_named p.types f empty_content 0 f.parameters input k in omega (arith, z)) (empty_store p.types))
+    (nothing_buffered p.types))
   where
-    formed : is_well_formed_function p.types (length p.names) (length p.texts) p.functions f ≡ true
-    formed = all_at (is_well_formed_function p.types (length p.names) (length p.texts) p.functions) p.functions entry f well.functions is
+    formed_function : (k : ℕ) (g : Function) → slice_get p.functions k ≡ Some g → is_well_formed_function p.types (length p.names) (length p.texts) p.functions g ≡ true
+    formed_function k g at_k = all_at (is_well_formed_function p.types (length p.names) (length p.texts) p.functions) p.functions k g well.functions at_k
 
-    undiagnosed : (d : Diag) → IsDiagnosed (signatures_of p.functions) p.types entry f d → ⊥
-    undiagnosed d h =
-        let own = own_function (signatures_of p.functions) p.types entry f d h in
-        none d (f, (ap (slice_get p.functions) own ∙ is, subst (λ m. IsDiagnosed (signatures_of p.functions) p.types m f d) (sym own) h))
+    each : (k : ℕ) (g : Function) → slice_get p.functions k ≡ Some g → GoesWell p.types (length p.names) (length p.texts) p.functions g
+    each k g at_k = record {
+      formed = formed_function k g at_k;
+      points = points_formed p.types (length p.names) (length p.texts) p.functions g (formed_function k g at_k);
+      ready = ready k g at_k;
+      free = hands.free k g at_k;
+      given = all_at (all_keep_given p.types) p.functions k g apart at_k;
+    }
+
+    asked : (k : ℕ) (g : Function) → slice_get p.functions k ≡ Some g → IsSafeFunction p.types p.functions k g
+    asked k g at_k = record {
+      short = (spoken k g at_k).0;
+      spoken = (spoken k g at_k).1;
+      none = λ d h.
+          let own = own_function (signatures_of p.functions) p.types k g d h in
+          none d (g, (ap (slice_get p.functions) own ∙ at_k, subst (λ m. IsDiagnosed (signatures_of p.functions) p.types m g d) (sym own) h));
+    }
 
     solid : (i : ℕ) (l : Local) → slice_get f.locals i ≡ Some l → is_void (ty_of p.types l.ty) ≡ false
-    solid i l e = not_true (is_void (ty_of p.types l.ty)) (and_parts (not (is_void (ty_of p.types l.ty))) _ (formed_at p.types well.table well.once (have_members p.types (length p.names) p.members well.members) (length p.names) (length p.texts) p.functions f formed
-        (points_formed p.types (length p.names) (length p.texts) p.functions f formed) ready i l e)).0
+    solid i l e = not_true (is_void (ty_of p.types l.ty))
+        (and_parts (not (is_void (ty_of p.types l.ty))) _ (formed_at p.types well.table well.once (have_members p.types (length p.names) p.members well.members) (length p.names) (length p.texts) p.functions f (formed_function entry f is)
+        (points_formed p.types (length p.names) (length p.texts) p.functions f (formed_function entry f is)) (ready entry f is) i l e)).0
       where
         not_true : (b : Bool) → not b ≡ true → b ≡ false
         not_true true k = absurd (false≢true k)
         not_true false k = refl
-
-    deep : (depth : ℕ) → NoFaultCalled (calls (setting_of given p) p depth entry (entry_arguments p.types f 0 f.parameters input) n (first_world f input))
-    deep zero = tt
-    deep (suc depth) =
-        subst (λ (o : Option Function). NoFaultCalled (entered (setting_of given p) p.types o (calls (setting_of given p) p depth) (entry_arguments p.types f 0 f.parameters input) n (first_world f input))) (sym is)
-        (entered_safe p.types well.table well.once (have_members p.types (length p.names) p.members well.members) (length p.names) (length p.texts) p.functions f formed (points_formed p.types (length p.names) (length p.texts) p.functions f formed)
-        ready plain short (all_at (all_keep_given p.types) p.functions entry f apart is) (hands.free entry f is) spoken (signatures_of p.functions) entry undiagnosed (setting_of given p) (calls (setting_of given p) p depth)
-        (entry_arguments p.types f 0 f.parameters input) n (first_world f input) (entry_numbers p.types f 0 f.parameters input)
-        (numbers_handed p.types f empty_content f.parameters f.locals 0 input admitted.values admitted.room admitted.enough solid)
-        (less_in_hand p.types (λ k. 0) (λ k. times (named_in (entry_arguments p.types f 0 f.parameters input)) k + 0) empty_content (λ k. let z = none_named p.types f empty_content 0 f.parameters input k in omega (arith, z)) (empty_store p.types))
-        (nothing_buffered p.types))

@@ -1,6 +1,6 @@
 -- What an instruction makes of facts that don't point into a local that is given over doesn't point into it either: nothing aims there, and what is
 -- handed on keeps the roots of its places.
-use Rattle.std.proofs.Common.{◌≡◌, ℕ, ◌+◌, Bool, true, false, ◌&&◌, not, List, [], ◌∷◌, ◌++◌, Option, Some, None, sym, ap, ◌∙◌}
+use Rattle.std.proofs.Common.{◌≡◌, ℕ, Bool, true, false, ◌&&◌, not, List, [], ◌∷◌, ◌++◌, Option, Some, None, sym, ap, ◌∙◌}
 use Rattle.std.specs.Prelude.{cond, if◌then◌else◌, nat_eq, slice_get}
 use Rattle.std.specs.List.{list_any}
 use Rattle.std.proofs.lemmas.Bool.{false≢true}
@@ -33,8 +33,8 @@ use Rattle.life_proper.specs.GivenOver.{is_kept, is_kept_place, keeps_given}
 use Rattle.life_rules.specs.Carrying.{after_kill, aimed_from, born, born_facts, copied_facts, copied_location, drops, element_from, ended_element, ended_facts, ended_root, from_none, from_one, from_two, invalid_facts, killed_fact, killed_facts, killed_through, killed_under, kills, locations_of_local, made_element, makes, moved_facts, named_in, named_position, named_target, own_type, position_facts, reached_from, taken, whole_facts, writes}
 use Rattle.life_rules.specs.Matching.{fact_at, facts_at, given_over, gotten, is_rooted_among, part_of, points_under, position_in, reached, unless}
 use Rattle.life_rules.specs.declared.kill.Kill.{Kill}
-use Rattle.life_forest.proofs.SettledSteps.{IsOneFrame}
 use Rattle.life_cover.proofs.Elsewhere.{AreElsewhere, IsElsewhere, IsElsewhereIf, both_elsewhere, each_elsewhere, facts_elsewhere, if_elsewhere, kill_elsewhere, mapped_elsewhere, members_same, more_elsewhere, none_elsewhere, one_elsewhere, over_elsewhere, part_same, position_elsewhere, reached_elsewhere, unless_elsewhere}
+use Rattle.life_cover.proofs.CalledElsewhere.{called_none_elsewhere, called_one_elsewhere, called_two_elsewhere}
 
 module _ (x : ℕ) (sigs : List Signature) (types : Types) (f : Function) (gone : is_kept types f x ≡ false) (place : Place) where
   -- what is kept is another local
@@ -82,25 +82,25 @@ module _ (x : ℕ) (sigs : List Signature) (types : Types) (f : Function) (gone 
   made_elsewhere (made.Of y) = tt
 
   -- of no fact
-  pub from_none_elsewhere : (i : Step) → IsOneFrame i → keeps_given types f i ≡ true → AreElsewhere x (from_none sigs types f place i)
-  from_none_elsewhere (Live y form) free kept =
+  pub from_none_elsewhere : (i : Step) → keeps_given types f i ≡ true → AreElsewhere x (from_none sigs types f place i)
+  from_none_elsewhere (Live y form) kept =
       each_elsewhere x (born_facts types f place y form) (locations_of_local types f y)
       (λ l has. facts_elsewhere x l (born place y form (ty_if types (members_type types (own_type (slice_get f.locals y)) (path l)))) (born_elsewhere y form (ty_if types (members_type types (own_type (slice_get f.locals y)) (path l)))))
-  from_none_elsewhere (Copy to from) free kept = whole_elsewhere to
-  from_none_elsewhere (Move to y) free kept = more_elsewhere x (fact_at (local_place y) (element.Moved (moved place y))) (whole_facts types f to) tt (whole_elsewhere to)
-  from_none_elsewhere (Aim p s) free kept = facts_elsewhere x (located p) (named_target s) (aimed_elsewhere p s kept)
-  from_none_elsewhere (step.Element p (named.Owner o) which) free kept = facts_elsewhere x (located p) (named_in true o) (named_elsewhere true o kept)
-  from_none_elsewhere (step.Element p (named.Pointer l) which) free kept = none_elsewhere x
-  from_none_elsewhere (Cursor p (named.Owner o) end) free kept = facts_elsewhere x (located p) (named_in true o) (named_elsewhere true o kept)
-  from_none_elsewhere (Cursor p (named.Pointer l) end) free kept = none_elsewhere x
-  from_none_elsewhere (Changes o change) free kept = by_change change kept
+  from_none_elsewhere (Copy to from) kept = whole_elsewhere to
+  from_none_elsewhere (Move to y) kept = more_elsewhere x (fact_at (local_place y) (element.Moved (moved place y))) (whole_facts types f to) tt (whole_elsewhere to)
+  from_none_elsewhere (Aim p s) kept = facts_elsewhere x (located p) (named_target s) (aimed_elsewhere p s kept)
+  from_none_elsewhere (step.Element p (named.Owner o) which) kept = facts_elsewhere x (located p) (named_in true o) (named_elsewhere true o kept)
+  from_none_elsewhere (step.Element p (named.Pointer l) which) kept = none_elsewhere x
+  from_none_elsewhere (Cursor p (named.Owner o) end) kept = facts_elsewhere x (located p) (named_in true o) (named_elsewhere true o kept)
+  from_none_elsewhere (Cursor p (named.Pointer l) end) kept = none_elsewhere x
+  from_none_elsewhere (Changes o change) kept = by_change change kept
     where
       by_change : (c : Change) → keeps_given types f (Changes o c) ≡ true → AreElsewhere x (named_position o c)
       by_change (Erase at into) k = facts_elsewhere x (located into) (named_in true o) (named_elsewhere true o k)
       by_change _ k = none_elsewhere x
-  from_none_elsewhere (Make u m) free kept = one_elsewhere x (located u) (made_element m) (made_elsewhere m)
-  from_none_elsewhere (Call target g xs) free kept = absurd free
-  from_none_elsewhere _ free kept = none_elsewhere x
+  from_none_elsewhere (Make u m) kept = one_elsewhere x (located u) (made_element m) (made_elsewhere m)
+  from_none_elsewhere (Call target g xs) kept = called_none_elsewhere x types (slice_get sigs g.0) target
+  from_none_elsewhere _ kept = none_elsewhere x
 
   -- of one
   module _ (a : Fact) (away : IsElsewhere x a.element) where
@@ -171,26 +171,26 @@ module _ (x : ℕ) (sigs : List Signature) (types : Types) (f : Function) (gone 
     change_elsewhere (named.Through q ms) (Erase at into) = if_elsewhere x (is_location q a.location) (facts_at (located into) (position_in ms a.element)) (facts_elsewhere x (located into) (position_in ms a.element) (position_elsewhere x ms a.element away))
     change_elsewhere o _ = none_elsewhere x
 
-    makes_elsewhere : (i : Step) → IsOneFrame i → keeps_given types f i ≡ true → AreElsewhere x (makes sigs types f place i a)
-    makes_elsewhere (End xs) free kept = ended_elsewhere xs
-    makes_elsewhere (Copy to from) free kept = copied_elsewhere (kills types f place (Copy to from)).first to from
-    makes_elsewhere (Move to y) free kept = moved_elsewhere to y
-    makes_elsewhere (Aim p s) free kept = source_elsewhere p s kept
-    makes_elsewhere (Repoint p q) free kept = taken_elsewhere p q
-    makes_elsewhere (Advance p q r way) free kept = taken_elsewhere p q
-    makes_elsewhere (Cut p q r count) free kept = taken_elsewhere p q
-    makes_elsewhere (step.Element p b which) free kept = base_elsewhere p b
-    makes_elsewhere (Cursor p b end) free kept = base_elsewhere p b
-    makes_elsewhere (Changes o c) free kept = change_elsewhere o c
-    makes_elsewhere (Call target g xs) free kept = absurd free
-    makes_elsewhere _ free kept = none_elsewhere x
+    makes_elsewhere : (i : Step) → keeps_given types f i ≡ true → AreElsewhere x (makes sigs types f place i a)
+    makes_elsewhere (End xs) kept = ended_elsewhere xs
+    makes_elsewhere (Copy to from) kept = copied_elsewhere (kills types f place (Copy to from)).first to from
+    makes_elsewhere (Move to y) kept = moved_elsewhere to y
+    makes_elsewhere (Aim p s) kept = source_elsewhere p s kept
+    makes_elsewhere (Repoint p q) kept = taken_elsewhere p q
+    makes_elsewhere (Advance p q r way) kept = taken_elsewhere p q
+    makes_elsewhere (Cut p q r count) kept = taken_elsewhere p q
+    makes_elsewhere (step.Element p b which) kept = base_elsewhere p b
+    makes_elsewhere (Cursor p b end) kept = base_elsewhere p b
+    makes_elsewhere (Changes o c) kept = change_elsewhere o c
+    makes_elsewhere (Call target g xs) kept = called_one_elsewhere x types (slice_get sigs g.0) xs target a away
+    makes_elsewhere _ kept = none_elsewhere x
 
-    pub from_one_elsewhere : (i : Step) → IsOneFrame i → keeps_given types f i ≡ true → AreElsewhere x (from_one sigs types f place i a)
-    from_one_elsewhere i free kept =
+    pub from_one_elsewhere : (i : Step) → keeps_given types f i ≡ true → AreElsewhere x (from_one sigs types f place i a)
+    from_one_elsewhere i kept =
         both_elsewhere x (unless (drops types f place i a) a) (killed_facts (kills types f place i) i a ++ makes sigs types f place i a) (unless_elsewhere x (drops types f place i a) a away)
         (both_elsewhere x (killed_facts (kills types f place i) i a) (makes sigs types f place i a)
         (both_elsewhere x (killed_fact (kills types f place i).first i a) (killed_fact (kills types f place i).second i a) (killed_elsewhere (kills types f place i).first i) (killed_elsewhere (kills types f place i).second i))
-        (makes_elsewhere i free kept))
+        (makes_elsewhere i kept))
 
   -- of two
   under_elsewhere : (i : Step) (ms : List ℕ) (e : Element) (b : Fact) → AreElsewhere x (killed_under place i ms e b)
@@ -201,17 +201,17 @@ module _ (x : ℕ) (sigs : List Signature) (types : Types) (f : Function) (gone 
   two_elsewhere i (named.Name l) a b = none_elsewhere x
   two_elsewhere i (named.Through p ms) a b = if_elsewhere x (is_location p a.location) (killed_under place i ms a.element b) (under_elsewhere i ms a.element b)
 
-  pub from_two_elsewhere : (i : Step) → IsOneFrame i → (a b : Fact) → AreElsewhere x (from_two sigs types f place i a b)
-  from_two_elsewhere (Copy to from) free a b = held (holds_owner (tree_if types (operand_type types f to)))
+  pub from_two_elsewhere : (i : Step) → (a b : Fact) → AreElsewhere x (from_two sigs types f place i a b)
+  from_two_elsewhere (Copy to from) a b = held (holds_owner (tree_if types (operand_type types f to)))
     where
       held : (t : Bool) → AreElsewhere x (if t then killed_through place (Copy to from) to a b else [])
       held true = two_elsewhere (Copy to from) to a b
       held false = none_elsewhere x
-  from_two_elsewhere (Move to y) free a b = past (points_under (local_place y) b.element)
+  from_two_elsewhere (Move to y) a b = past (points_under (local_place y) b.element)
     where
       past : (t : Bool) → AreElsewhere x (if t then [] else killed_through place (Move to y) to a b)
       past true = none_elsewhere x
       past false = two_elsewhere (Move to y) to a b
-  from_two_elsewhere (Changes o c) free a b = two_elsewhere (Changes o c) o a b
-  from_two_elsewhere (Call target g xs) free a b = absurd free
-  from_two_elsewhere _ free a b = none_elsewhere x
+  from_two_elsewhere (Changes o c) a b = two_elsewhere (Changes o c) o a b
+  from_two_elsewhere (Call target g xs) a b = called_two_elsewhere x types place g.0 (slice_get sigs g.0) xs target a b
+  from_two_elsewhere _ a b = none_elsewhere x

@@ -1,4 +1,4 @@
--- No derived fact points into a local that is given over, in a proper function without calls.
+-- No derived fact points into a local that is given over, in a proper function.
 use Rattle.std.proofs.Common.{◌≡◌, inl, inr, ℕ, zero, suc, Bool, true, false, ◌&&◌, not, List, [], ◌∷◌, Option, Some, None, refl, sym, ap, subst, ◌∙◌, arith}
 use Rattle.std.specs.Prelude.{Contains, ◌||◌, nat_eq, option_map}
 use Rattle.std.specs.List.{list_any}
@@ -10,7 +10,6 @@ use Rattle.life_core.specs.declared.stmt.Edge.{Edge}
 use Rattle.life_core.specs.declared.stmt.Point.{Point}
 use Rattle.life_core.specs.Function.{Function}
 use Rattle.life_core.specs.Linked.{Linked, code_of, numbered, spot_of, spot_of_linked}
-use Rattle.life_core.specs.Step.{Step}
 use Rattle.life_core.specs.Tree.{Action, Node, Question, Return, Spot, Stop, spots}
 use Rattle.life_core.proofs.SpotLemmas.{code_spots}
 use Rattle.life_pset.specs.declared.element.Fact.{Fact}
@@ -23,7 +22,6 @@ use Rattle.life_rules.specs.Carrying.{Gives, node_none, node_one, node_two, none
 use Rattle.life_rules.specs.Deriving.{Derives, along, entry}
 use Rattle.life_rules.proofs.Giving.{at_head, cons_cases, flat_map_into, none_in_empty}
 use Rattle.life_store.proofs.CellLemmas.{none_some, some_same}
-use Rattle.life_forest.proofs.SettledSteps.{IsOneFrame}
 use Rattle.life_cover.specs.Kills.{IsUnnamed}
 use Rattle.life_cover.proofs.Edges.{FactsAt}
 use Rattle.life_cover.proofs.Listing.{map_into}
@@ -33,39 +31,35 @@ use Rattle.life_cover.proofs.Unaimed.{from_none_elsewhere, from_one_elsewhere, f
 module _ (x : ℕ) (sigs : List Signature) (types : Types) (f : Function) (gone : is_kept types f x ≡ false) (place : Place) where
   -- ---- of what stands at a point
 
-  module _ (n : Node) (calls : (i : Step) → n ≡ Action i → IsOneFrame i) (kept : node_keeps_given types f n ≡ true) where
+  module _ (n : Node) (kept : node_keeps_given types f n ≡ true) where
     none_node : AreElsewhere x (node_none sigs types f place n)
-    none_node = go n calls kept
+    none_node = go n kept
       where
-        go : (m : Node) → ((i : Step) → m ≡ Action i → IsOneFrame i) → node_keeps_given types f m ≡ true → AreElsewhere x (node_none sigs types f place m)
-        go (Action i) free k = from_none_elsewhere x sigs types f gone place i (free i refl) k
-        go (Question t) free k = none_elsewhere x
-        go Return free k = none_elsewhere x
-        go Stop free k = none_elsewhere x
+        go : (m : Node) → node_keeps_given types f m ≡ true → AreElsewhere x (node_none sigs types f place m)
+        go (Action i) k = from_none_elsewhere x sigs types f gone place i k
+        go (Question t) k = none_elsewhere x
+        go Return k = none_elsewhere x
+        go Stop k = none_elsewhere x
 
     one_node : (branch : Option Bool) (a : Fact) → IsElsewhere x a.element → AreElsewhere x (node_one sigs types f place branch n a)
-    one_node branch a away = go n calls kept
+    one_node branch a away = go n kept
       where
-        go : (m : Node) → ((i : Step) → m ≡ Action i → IsOneFrame i) → node_keeps_given types f m ≡ true → AreElsewhere x (node_one sigs types f place branch m a)
-        go (Action i) free k = from_one_elsewhere x sigs types f gone place a away i (free i refl) k
-        go (Question t) free k = unless_elsewhere x (stops_at t branch a) a away
-        go Return free k = more_elsewhere x a [] away (none_elsewhere x)
-        go Stop free k = more_elsewhere x a [] away (none_elsewhere x)
+        go : (m : Node) → node_keeps_given types f m ≡ true → AreElsewhere x (node_one sigs types f place branch m a)
+        go (Action i) k = from_one_elsewhere x sigs types f gone place a away i k
+        go (Question t) k = unless_elsewhere x (stops_at t branch a) a away
+        go Return k = more_elsewhere x a [] away (none_elsewhere x)
+        go Stop k = more_elsewhere x a [] away (none_elsewhere x)
 
     two_node : (a b : Fact) → AreElsewhere x (node_two sigs types f place n a b)
-    two_node a b = go n calls
+    two_node a b = go n
       where
-        go : (m : Node) → ((i : Step) → m ≡ Action i → IsOneFrame i) → AreElsewhere x (node_two sigs types f place m a b)
-        go (Action i) free = from_two_elsewhere x sigs types f gone place i (free i refl) a b
-        go (Question t) free = none_elsewhere x
-        go Return free = none_elsewhere x
-        go Stop free = none_elsewhere x
+        go : (m : Node) → AreElsewhere x (node_two sigs types f place m a b)
+        go (Action i) = from_two_elsewhere x sigs types f gone place i a b
+        go (Question t) = none_elsewhere x
+        go Return = none_elsewhere x
+        go Stop = none_elsewhere x
 
 -- ---- all derived facts
-
--- no point of a function's body is a call
-abbrev pub HasNoCalls : Function → Type 0
-HasNoCalls f = (p : ℕ) (l : Linked) (i : Step) → numbered (code_of f) p ≡ Some l → l.spot.node ≡ Action i → IsOneFrame i
 
 among : (y : ℕ) (xs : List ℕ) → Contains xs y → list_any (nat_eq y) xs ≡ true
 among y [] h = absurd (none_in_empty y h)
@@ -84,36 +78,32 @@ given_away types f (suc n) l y here object has =
     let spot = subst (λ (ss : List Spot). Contains ss l.spot) (code_spots f) (map_into spot_of_linked (code_of f) l (numbered_contains (code_of f) n l here)) in
     ap (λ b. not (b && list_any (nat_eq y) (given_in f))) object ∙ ap not (among y (given_in f) (flat_map_into given_spot (spots f.body) l.spot y spot has))
 
-module _ (sigs : List Signature) (types : Types) (f : Function) (free : HasNoCalls f) (given : all_keep_given types f ≡ true) (x : ℕ) (gone : is_kept types f x ≡ false) where
+module _ (sigs : List Signature) (types : Types) (f : Function) (given : all_keep_given types f ≡ true) (x : ℕ) (gone : is_kept types f x ≡ false) where
   module _ (edge : Edge) where
     -- what stands at its first point
-    record IsSpot (s : Spot) : Type 0 where
-      pub calls : (i : Step) → s.node ≡ Action i → IsOneFrame i
-      pub keeps : spot_keeps_given types f s ≡ true
+    spots_keep : (o : Option Linked) → numbered (code_of f) edge.from.0 ≡ o → (s : Spot) → option_map spot_of_linked o ≡ Some s → spot_keeps_given types f s ≡ true
+    spots_keep None e s is = absurd (none_some is)
+    spots_keep (Some l) e s is = subst (λ (t : Spot). spot_keeps_given types f t ≡ true) (some_same is) (point_tested (spot_keeps_given types f) f edge.from.0 l given e)
 
-    spots_are : (o : Option Linked) → numbered (code_of f) edge.from.0 ≡ o → (s : Spot) → option_map spot_of_linked o ≡ Some s → IsSpot s
-    spots_are None e s is = absurd (none_some is)
-    spots_are (Some l) e s is = subst IsSpot (some_same is) (record { calls = λ i node. free edge.from.0 l i e node; keeps = point_tested (spot_keeps_given types f) f edge.from.0 l given e })
+    spot_keeps : (s : Spot) → spot_of f edge.from ≡ Some s → spot_keeps_given types f s ≡ true
+    spot_keeps s is = spots_keep (numbered (code_of f) edge.from.0) refl s is
 
-    spot_is : (s : Spot) → spot_of f edge.from ≡ Some s → IsSpot s
-    spot_is s is = spots_are (numbered (code_of f) edge.from.0) refl s is
-
-    none_given : (o : Option Spot) → ((s : Spot) → o ≡ Some s → IsSpot s) → AreElsewhere x (none_at sigs types f o)
+    none_given : (o : Option Spot) → ((s : Spot) → o ≡ Some s → spot_keeps_given types f s ≡ true) → AreElsewhere x (none_at sigs types f o)
     none_given None spot = none_elsewhere x
-    none_given (Some s) spot = let h = spot s refl in none_node x sigs types f gone s.place s.node h.calls h.keeps
+    none_given (Some s) spot = none_node x sigs types f gone s.place s.node (spot s refl)
 
-    one_given : (o : Option Spot) → ((s : Spot) → o ≡ Some s → IsSpot s) → (a : Fact) → IsElsewhere x a.element → AreElsewhere x (one_at sigs types f edge.branch o a)
+    one_given : (o : Option Spot) → ((s : Spot) → o ≡ Some s → spot_keeps_given types f s ≡ true) → (a : Fact) → IsElsewhere x a.element → AreElsewhere x (one_at sigs types f edge.branch o a)
     one_given None spot a away = none_elsewhere x
-    one_given (Some s) spot a away = let h = spot s refl in one_node x sigs types f gone s.place s.node h.calls h.keeps edge.branch a away
+    one_given (Some s) spot a away = one_node x sigs types f gone s.place s.node (spot s refl) edge.branch a away
 
-    two_given : (o : Option Spot) → ((s : Spot) → o ≡ Some s → IsSpot s) → (a b : Fact) → AreElsewhere x (two_at sigs types f o a b)
+    two_given : (o : Option Spot) → ((s : Spot) → o ≡ Some s → spot_keeps_given types f s ≡ true) → (a b : Fact) → AreElsewhere x (two_at sigs types f o a b)
     two_given None spot a b = none_elsewhere x
-    two_given (Some s) spot a b = let h = spot s refl in two_node x sigs types f gone s.place s.node h.calls h.keeps a b
+    two_given (Some s) spot a b = two_node x sigs types f gone s.place s.node (spot s refl) a b
 
     given_elsewhere : (premises : List Fact) (y : Fact) → ((a : Fact) → Contains premises a → IsElsewhere x a.element) → Gives sigs types f edge premises y → IsElsewhere x y.element
-    given_elsewhere [] y away has = none_given (spot_of f edge.from) spot_is y has
-    given_elsewhere (a ∷ []) y away has = one_given (spot_of f edge.from) spot_is a (away a (at_head a [])) y has
-    given_elsewhere (a ∷ b ∷ []) y away has = two_given (spot_of f edge.from) spot_is a b y has
+    given_elsewhere [] y away has = none_given (spot_of f edge.from) spot_keeps y has
+    given_elsewhere (a ∷ []) y away has = one_given (spot_of f edge.from) spot_keeps a (away a (at_head a [])) y has
+    given_elsewhere (a ∷ b ∷ []) y away has = two_given (spot_of f edge.from) spot_keeps a b y has
     given_elsewhere (a ∷ b ∷ d ∷ more) y away has = absurd has
 
   derived_elsewhere : {p : Point} {y : Fact} → Derives sigs types f p y → IsElsewhere x y.element

@@ -1,9 +1,8 @@
 -- An instruction of a frame without structs and inputs, at which nothing is wrong, makes no fault; and what is known of the frame before it is
--- known behind it: the facts cover all pointers, and each vector and each string has its buffer.
-use Rattle.std.proofs.Common.{◌≡◌, ℕ, Bool, true, false, ◌&&◌, not, Option, Some, None, List, refl, sym, ap, subst}
+-- known behind it: the facts cover all pointers, and each vector and each string has its buffer. What it touches lies beneath what the frame names.
+use Rattle.std.proofs.Common.{◌≡◌, ℕ, Bool, true, false, ◌&&◌, not, Option, Some, None, List, refl, sym, ap, subst, ◌∙◌}
 use Rattle.std.specs.Prelude.{if◌then◌else◌}
 use Rattle.std.proofs.lemmas.Bool.{and_parts, false≢true}
-use Rattle.std.proofs.lemmas.List.Elements.{Contains-append_left}
 use Rattle.life_types.specs.Pointees.{ty_of}
 use Rattle.life_types.specs.TypeTests.{is_constant, is_iterator, is_pointer, is_value, is_void}
 use Rattle.life_types.specs.Types.{Types}
@@ -22,8 +21,7 @@ use Rattle.life_contract.specs.Signatures.{Signature}
 use Rattle.life_proper.specs.OperandTypes.{aims_at, are_alike, is_range, keeps_const, same, walks}
 use Rattle.life_proper.specs.Placed.{element_of, is_const_base, is_const_place, is_given, is_number_of, object_at, register_at, result_at, slot_at, type_at, type_in, type_of, type_of_element}
 use Rattle.life_proper.specs.WellFormed.{is_change_of, is_well_formed_step}
-use Rattle.life_rules.specs.Diagnosing.{used_in}
-use Rattle.life_store.specs.Doing.{changed, does, pushes}
+use Rattle.life_store.specs.Doing.{changed, does, pushes, with_output}
 use Rattle.life_store.specs.Effects.{Effect, Next, Traps, Faults, Strays, Setting, cell}
 use Rattle.life_store.specs.Parts.{Vector, local_type, operand_parts, parts_at}
 use Rattle.life_store.specs.Places.{Spot}
@@ -39,14 +37,16 @@ use Rattle.life_forest.proofs.TypedSteps.{IsSlotFree, value_solid}
 use Rattle.life_cover.specs.Frames.{FrameCovered, NoInput, any_root}
 use Rattle.life_cover.proofs.FrameSteps.{IsSpoken, alike_points, not_false, source_points, step_covered}
 use Rattle.life_cover.proofs.HeldElements.{vector_operand}
-use Rattle.life_cover.proofs.KeptBuffers.{IsBuffered, IsKept, by_change, by_next, ends_buffered, text_buffered, vector_buffered}
-use Rattle.life_cover.proofs.KeptCopies.{copy_buffered, live_buffered, save_buffered}
+use Rattle.life_cover.proofs.KeptBuffers.{IsKept, by_change, by_next, ends_behind, text_behind, vector_behind}
+use Rattle.life_cover.proofs.KeptCopies.{copy_behind, live_behind, save_behind}
 use Rattle.life_cover.proofs.KnownFrames.{at_pointer, IsKnownFrame, IsRight, number_free, object_uncounted, reach_at, used_right, whole_location}
 use Rattle.life_cover.proofs.Leaving.{advances_leave, aims_leave, cursors_leave, cuts_leave, elements_leave, repoints_leave}
 use Rattle.life_cover.proofs.Looks.{given_type}
 use Rattle.life_cover.proofs.Pointers.{OnRight}
 use Rattle.life_cover.proofs.PushedObjects.{object_pushed}
 use Rattle.life_cover.proofs.Reaching.{IsReached, Reach}
+use Rattle.life_cover.proofs.Behind.{IsBehind, behind_input, behind_number, behind_pointer, behind_self}
+use Rattle.life_proper.proofs.HeldSorts.{same_is}
 
 both_right : (e : Effect) (P Q : State → Type 0) → OnRight e P → OnNext e Q → OnRight e (λ st. P st × Q st)
 both_right (Next st) P Q h k = (h, k)
@@ -55,8 +55,8 @@ both_right (Faults kind) P Q h k = h
 both_right Strays P Q h k = tt
 
 module _ (types : Types) (f : Function) (rest : ℕ → ℕ) (S : Fact → Type 0) (st : State) (k : IsKnownFrame types f rest S st) (sigs : List Signature) (n : ℕ) (place : Place) (S' : Fact → Type 0) (texts : ℕ) (fs : List Function) (s : Setting) where
-  abbrev Buffered : Step → Type 0
-  Buffered i = OnNext (does s types f i st) (IsBuffered types)
+  abbrev Behind : Step → Type 0
+  Behind i = OnNext (does s types f i st) (IsBehind types st)
 
   abbrev Right : Step → Type 0
   Right i = IsRight sigs types n f place i S S'
@@ -91,16 +91,16 @@ module _ (types : Types) (f : Function) (rest : ℕ → ℕ) (S : Fact → Type 
     pushed_free x e m there = number_free types f rest S st k x (number_any types f ty.Char x e) m there
 
     -- what a change does with the owner, where it is reached
-    by_owner : is_void (type_of types f o) ≡ false → (IsReached types f st NoInput any_root S o → Buffered (Changes o c)) → Buffered (Changes o c)
-    by_owner solid each = by_next types f S st o (reach_owner solid) (λ spot. changed s types f (operand_parts types f o) spot c st) (IsBuffered types) each
+    by_owner : is_void (type_of types f o) ≡ false → (IsReached types f st NoInput any_root S o → Behind (Changes o c)) → Behind (Changes o c)
+    by_owner solid each = by_next types f S st o (reach_owner solid) (λ spot. changed s types f (operand_parts types f o) spot c st) (IsBehind types st) each
 
-    plain_buffered : (element : TyId) → type_of types f o ≡ ty.Vector element → (d : Change) → c ≡ d → IsPlain element d → is_change_of types texts fs f (ty.Vector element) d ≡ true → Buffered (Changes o c)
-    plain_buffered element is d one plain e =
-        by_owner (ap is_void is) (λ r. subst (λ (x : Change). Buffered (Changes o x)) (sym one) (vector_buffered types f rest S st k o r s element is d (kept_change element d plain e r is)))
+    plain_changed : (element : TyId) → type_of types f o ≡ ty.Vector element → (d : Change) → c ≡ d → IsPlain element d → is_change_of types texts fs f (ty.Vector element) d ≡ true → Behind (Changes o c)
+    plain_changed element is d one plain e =
+        by_owner (ap is_void is) (λ r. subst (λ (x : Change). Behind (Changes o x)) (sym one) (vector_behind types f rest S st k o r s element is d (kept_change element d plain e r is)))
 
-    object_buffered : (element : TyId) → type_of types f o ≡ ty.Vector element → (x : ℕ) → c ≡ PushBack x → is_given types f (ty_of types element) x ≡ true → Buffered (Changes o c)
-    object_buffered element is x one e =
-        by_owner (ap is_void is) (λ r. subst (λ (d : Change). Buffered (Changes o d)) (sym one) (by_cell r (cell st x) refl))
+    object_changed : (element : TyId) → type_of types f o ≡ ty.Vector element → (x : ℕ) → c ≡ PushBack x → is_given types f (ty_of types element) x ≡ true → Behind (Changes o c)
+    object_changed element is x one e =
+        by_owner (ap is_void is) (λ r. subst (λ (d : Change). Behind (Changes o d)) (sym one) (by_cell r (cell st x) refl))
       where
         outer : (object_at types f x ≡ true) × ((not (result_at types f x) && (not (slot_at types f x) && same (ty_of types element) (type_at types f x))) ≡ true)
         outer = and_parts (object_at types f x) _ e
@@ -108,38 +108,38 @@ module _ (types : Types) (f : Function) (rest : ℕ → ℕ) (S : Fact → Type 
         typed : local_type types f x ≡ Some element
         typed = given_type types k.ordered k.once f k.shaped x element (and_parts (not (slot_at types f x)) _ (and_parts (not (result_at types f x)) _ outer.1).1).1
 
-        nothing : (r : IsReached types f st NoInput any_root S o) (v : Option Cell) → cell st x ≡ v → ((spot : Spot) → OnNext (pushes s types f (Vector element (parts_at types element)) spot x v st) (IsBuffered types)) → Buffered (Changes o (PushBack x))
+        nothing : (r : IsReached types f st NoInput any_root S o) (v : Option Cell) → cell st x ≡ v → ((spot : Spot) → OnNext (pushes s types f (Vector element (parts_at types element)) spot x v st) (IsBehind types st)) → Behind (Changes o (PushBack x))
         nothing r v there none =
             by_change types f rest S st k o r s (Vector element (parts_at types element)) (vector_operand types f rest S st k o r element is) (PushBack x)
-            (subst (λ (w : Option Cell). OnNext (pushes s types f (Vector element (parts_at types element)) (record { object = r.region.object; index = r.index; word = r.region.word }) x w st) (IsBuffered types)) (sym there)
+            (subst (λ (w : Option Cell). OnNext (pushes s types f (Vector element (parts_at types element)) (record { object = r.region.object; index = r.index; word = r.region.word }) x w st) (IsBehind types st)) (sym there)
             (none (record { object = r.region.object; index = r.index; word = r.region.word })))
 
-        by_cell : (r : IsReached types f st NoInput any_root S o) (v : Option Cell) → cell st x ≡ v → Buffered (Changes o (PushBack x))
+        by_cell : (r : IsReached types f st NoInput any_root S o) (v : Option Cell) → cell st x ≡ v → Behind (Changes o (PushBack x))
         by_cell r (Some (Named m)) there = object_pushed types f rest S st k s o element is x m there typed r
         by_cell r (Some (Number z)) there = absurd (object_uncounted types f rest S st k x z outer.0 there)
         by_cell r None there = nothing r None there (λ spot. tt)
         by_cell r (Some Empty) there = nothing r (Some Empty) there (λ spot. tt)
         by_cell r (Some (Points p)) there = nothing r (Some (Points p)) there (λ spot. tt)
 
-    push_buffered : (element : TyId) → type_of types f o ≡ ty.Vector element → (x : ℕ) → c ≡ PushBack x → (value : Bool) → is_value (ty_of types element) ≡ value
-        → (if value then is_number_of types f (ty_of types element) x else is_given types f (ty_of types element) x) ≡ true → Buffered (Changes o c)
-    push_buffered element is x one true value e = plain_buffered element is (PushBack x) one value (subst (λ b. (if b then is_number_of types f (ty_of types element) x else is_given types f (ty_of types element) x) ≡ true) (sym value) e)
-    push_buffered element is x one false value e = object_buffered element is x one e
+    push_changed : (element : TyId) → type_of types f o ≡ ty.Vector element → (x : ℕ) → c ≡ PushBack x → (value : Bool) → is_value (ty_of types element) ≡ value
+        → (if value then is_number_of types f (ty_of types element) x else is_given types f (ty_of types element) x) ≡ true → Behind (Changes o c)
+    push_changed element is x one true value e = plain_changed element is (PushBack x) one value (subst (λ b. (if b then is_number_of types f (ty_of types element) x else is_given types f (ty_of types element) x) ≡ true) (sym value) e)
+    push_changed element is x one false value e = object_changed element is x one e
 
-    in_vector : (element : TyId) → type_of types f o ≡ ty.Vector element → (d : Change) → c ≡ d → is_change_of types texts fs f (ty.Vector element) d ≡ true → Buffered (Changes o c)
-    in_vector element is (PushBack x) one e = push_buffered element is x one (is_value (ty_of types element)) refl e
-    in_vector element is PopBack one e = plain_buffered element is PopBack one tt e
-    in_vector element is Clear one e = plain_buffered element is Clear one tt e
-    in_vector element is (Reserve q) one e = plain_buffered element is (Reserve q) one tt e
-    in_vector element is (Erase at into) one e = plain_buffered element is (Erase at into) one tt e
+    in_vector : (element : TyId) → type_of types f o ≡ ty.Vector element → (d : Change) → c ≡ d → is_change_of types texts fs f (ty.Vector element) d ≡ true → Behind (Changes o c)
+    in_vector element is (PushBack x) one e = push_changed element is x one (is_value (ty_of types element)) refl e
+    in_vector element is PopBack one e = plain_changed element is PopBack one tt e
+    in_vector element is Clear one e = plain_changed element is Clear one tt e
+    in_vector element is (Reserve q) one e = plain_changed element is (Reserve q) one tt e
+    in_vector element is (Erase at into) one e = plain_changed element is (Erase at into) one tt e
     in_vector element is (Set given) one e = absurd (false≢true e)
     in_vector element is (Append given) one e = absurd (false≢true e)
 
-    change_buffered : (t : Ty) → type_of types f o ≡ t → is_change_of types texts fs f t c ≡ true → Buffered (Changes o c)
-    change_buffered ty.Text is e =
-        by_owner (ap is_void is) (λ r. text_buffered types f rest S st k o r s is c (λ x push. pushed_free x (subst (λ (d : Change). is_change_of types texts fs f ty.Text d ≡ true) push e)))
-    change_buffered (ty.Vector element) is e = in_vector element is c refl e
-    change_buffered _ is e = absurd (false≢true e)
+    change_behind : (t : Ty) → type_of types f o ≡ t → is_change_of types texts fs f t c ≡ true → Behind (Changes o c)
+    change_behind ty.Text is e =
+        by_owner (ap is_void is) (λ r. text_behind types f rest S st k o r s is c (λ x push. pushed_free x (subst (λ (d : Change). is_change_of types texts fs f ty.Text d ≡ true) push e)))
+    change_behind (ty.Vector element) is e = in_vector element is c refl e
+    change_behind _ is e = absurd (false≢true e)
 
   -- ---- a pointer that is a local is given a value
 
@@ -148,47 +148,48 @@ module _ (types : Types) (f : Function) (rest : ℕ → ℕ) (S : Fact → Type 
 
   -- ---- each instruction
 
-  pub step_buffered : (i : Step) → IsSpoken types f i → Right i → is_well_formed_step types texts fs f i ≡ true → Buffered i
-  step_buffered (Live x form) spoken right e = live_buffered types f rest S st k s x form
-  step_buffered (End xs) spoken right e = ends_buffered types f xs st k.buffered
-  step_buffered (Eval r o) spoken right e = evaluated_gives types f st (IsBuffered types) (λ q z. k.buffered) r o
-  step_buffered (Load r o) spoken right e = loaded_gives types f st (IsBuffered types) (λ q z. k.buffered) s r o
-  step_buffered (Save o r) spoken right e =
+  pub step_behind : (i : Step) → IsSpoken types f i → Right i → is_well_formed_step types texts fs f i ≡ true → Behind i
+  step_behind (Live x form) spoken right e = live_behind types f rest S st k s x form
+  step_behind (End xs) spoken right e = ends_behind types f rest S st k s xs
+  step_behind (Eval r o) spoken right e = evaluated_gives types f st (IsBehind types st) (behind_number types st k.buffered) r o
+  step_behind (Load r o) spoken right e = loaded_gives types f st (IsBehind types st) (behind_number types st k.buffered) s r o
+  step_behind (Save o r) spoken right e =
       let number = (and_parts (is_number_of types f (type_of types f o) r) (not (is_const_place types f o)) e).0 in
       let value = (and_parts (is_value (type_of types f o)) (same (type_of types f o) (type_at types f r)) (and_parts (register_at types f r) (is_value (type_of types f o) && same (type_of types f o) (type_at types f r)) number).1).0 in
-      save_buffered types f rest S st k o s value (reach_at types f rest S st k o (value_solid (type_of types f o) value) (λ q h. used_right sigs types n f place (Save o r) S right.clean q h)) r
-  step_buffered (Copy to from) spoken right e =
+      save_behind types f rest S st k o s value (reach_at types f rest S st k o (value_solid (type_of types f o) value) (λ q h. used_right sigs types n f place (Save o r) S right.clean q h)) r
+  step_behind (Copy to from) spoken right e =
       let first = and_parts (same (type_of types f to) (type_of types f from)) _ e in
       let pointer = (and_parts (not (is_pointer (type_of types f to))) _ first.1).0 in
       let solid = same_solid (type_of types f to) (type_of types f from) first.0 in
-      copy_buffered types f rest S st k to s (reach_at types f rest S st k to solid (λ q h. used_right sigs types n f place (Copy to from) S right.clean q (Contains-append_left (used_in to) (used_in from) q h))) from solid (not_false (is_pointer (type_of types f to)) pointer) spoken
-  step_buffered (Move to y) spoken right e = absurd spoken
-  step_buffered (Aim p sr) spoken right e =
-      to_pointer p (source_points types f rest S st k sigs n place S' texts fs s (type_in types f p) sr spoken e) (λ q. Buffered (Aim q sr)) (λ x. aims_leave types f st (IsBuffered types) x (λ v. k.buffered) s sr spoken)
-  step_buffered (Repoint p q) spoken right e =
-      to_pointer p (alike_points types (type_in types f p) (type_in types f q) (and_parts (are_alike types (type_in types f p) (type_in types f q)) _ e).0).0 (λ a. Buffered (Repoint a q)) (λ x. repoints_leave types f st (IsBuffered types) x (λ v. k.buffered) q)
-  step_buffered (step.Element p b w) spoken right e =
+      copy_behind types f rest S st k sigs n place S' s to from right solid (ap is_void (sym (same_is (type_of types f to) (type_of types f from) first.0)) ∙ solid) (same_is (type_of types f to) (type_of types f from) first.0) (not_false (is_pointer (type_of types f to)) pointer) spoken
+  step_behind (Move to y) spoken right e = absurd spoken
+  step_behind (Aim p sr) spoken right e =
+      to_pointer p (source_points types f rest S st k sigs n place S' texts fs s (type_in types f p) sr spoken e) (λ q. Behind (Aim q sr)) (λ x. aims_leave types f st (IsBehind types st) x (behind_pointer types st k.buffered x) s sr spoken)
+  step_behind (Repoint p q) spoken right e =
+      to_pointer p (alike_points types (type_in types f p) (type_in types f q) (and_parts (are_alike types (type_in types f p) (type_in types f q)) _ e).0).0 (λ a. Behind (Repoint a q)) (λ x. repoints_leave types f st (IsBehind types st) x (behind_pointer types st k.buffered x) q)
+  step_behind (step.Element p b w) spoken right e =
       let both = and_parts (aims_at types (type_in types f p) (type_of_element types f b w)) (keeps_const (is_constant (type_in types f p)) (is_const_base types f b)) e in
-      to_pointer p (aims_seen types k.ordered k.once (type_in types f p) (type_of_element types f b w) both.0).pointer (λ q. Buffered (step.Element q b w)) (λ x. elements_leave types f st (IsBuffered types) x (λ v. k.buffered) b w spoken)
-  step_buffered (Cursor p b end) spoken right e =
+      to_pointer p (aims_seen types k.ordered k.once (type_in types f p) (type_of_element types f b w) both.0).pointer (λ q. Behind (step.Element q b w)) (λ x. elements_leave types f st (IsBehind types st) x (behind_pointer types st k.buffered x) b w spoken)
+  step_behind (Cursor p b end) spoken right e =
       let both = and_parts (walks types (type_in types f p) (element_of types f b)) (keeps_const (is_constant (type_in types f p)) (is_const_base types f b)) e in
-      to_pointer p (walks_seen types k.ordered k.once (type_in types f p) (element_of types f b) both.0).pointer (λ q. Buffered (Cursor q b end)) (λ x. cursors_leave types f st (IsBuffered types) x (λ v. k.buffered) b end)
-  step_buffered (Advance p q r way) spoken right e =
-      to_pointer p (iterator_points (type_in types f p) (and_parts (is_iterator (type_in types f p)) _ e).0) (λ a. Buffered (Advance a q r way)) (λ x. advances_leave types f st (IsBuffered types) x (λ v. k.buffered) s q r way)
-  step_buffered (Cut p q r count) spoken right e =
-      to_pointer p (range_points (type_in types f p) (and_parts (is_range (type_in types f p)) _ e).0) (λ a. Buffered (Cut a q r count)) (λ x. cuts_leave types f st (IsBuffered types) x (λ v. k.buffered) q r count)
-  step_buffered (Size r b) spoken right e = sizes_give types f st (IsBuffered types) (λ q z. k.buffered) r b
-  step_buffered (Same r a b equal) spoken right e = sames_give types f st (IsBuffered types) (λ q z. k.buffered) s r a b equal
-  step_buffered (Changes o c) spoken right e = change_buffered o c right (type_of types f o) refl (and_parts (is_change_of types texts fs f (type_of types f o) c) (not (is_const_place types f o)) e).0
-  step_buffered (Make u m) spoken right e = absurd spoken
-  step_buffered (Call target g xs) spoken right e = absurd spoken
-  step_buffered (Ports p) spoken right e = ports_give types f st (IsBuffered types) (λ text. k.buffered) (λ q z zs. k.buffered) s p
+      to_pointer p (walks_seen types k.ordered k.once (type_in types f p) (element_of types f b) both.0).pointer (λ q. Behind (Cursor q b end)) (λ x. cursors_leave types f st (IsBehind types st) x (behind_pointer types st k.buffered x) b end)
+  step_behind (Advance p q r way) spoken right e =
+      to_pointer p (iterator_points (type_in types f p) (and_parts (is_iterator (type_in types f p)) _ e).0) (λ a. Behind (Advance a q r way)) (λ x. advances_leave types f st (IsBehind types st) x (behind_pointer types st k.buffered x) s q r way)
+  step_behind (Cut p q r count) spoken right e =
+      to_pointer p (range_points (type_in types f p) (and_parts (is_range (type_in types f p)) _ e).0) (λ a. Behind (Cut a q r count)) (λ x. cuts_leave types f st (IsBehind types st) x (behind_pointer types st k.buffered x) q r count)
+  step_behind (Size r b) spoken right e = sizes_give types f st (IsBehind types st) (behind_number types st k.buffered) r b
+  step_behind (Same r a b equal) spoken right e = sames_give types f st (IsBehind types st) (behind_number types st k.buffered) s r a b equal
+  step_behind (Changes o c) spoken right e = change_behind o c right (type_of types f o) refl (and_parts (is_change_of types texts fs f (type_of types f o) c) (not (is_const_place types f o)) e).0
+  step_behind (Make u m) spoken right e = absurd spoken
+  step_behind (Call target g xs) spoken right e = absurd spoken
+  step_behind (Ports p) spoken right e = ports_give types f st (IsBehind types st) (λ text. behind_self types st k.buffered (with_output text st) refl refl)
+      (behind_input types st k.buffered) s p
 
   -- what is known of it before
-  pub step_right : (i : Step) → IsSpoken types f i → Right i → is_well_formed_step types texts fs f i ≡ true → IsSlotFree types f i → AreReady (ready_of st) (touched_by f i) → OnRight (does s types f i st) (λ after. FrameCovered types f S' after × IsBuffered types after)
+  pub step_right : (i : Step) → IsSpoken types f i → Right i → is_well_formed_step types texts fs f i ≡ true → IsSlotFree types f i → AreReady (ready_of st) (touched_by f i) → OnRight (does s types f i st) (λ after. FrameCovered types f S' after × IsBehind types st after)
   step_right i spoken right e free ready =
-      both_right (does s types f i st) (FrameCovered types f S') (IsBuffered types) (step_covered types f rest S st k sigs n place S' texts fs s i spoken right e free ready) (step_buffered i spoken right e)
+      both_right (does s types f i st) (FrameCovered types f S') (IsBehind types st) (step_covered types f rest S st k sigs n place S' texts fs s i spoken right e free ready) (step_behind i spoken right e)
 
   -- .. is known behind it, where its store and its cells stand
-  pub known_behind : (after : State) → FrameCovered types f S' after × IsBuffered types after → Stands types f rest after → IsPoised types f after → IsKnownFrame types f rest S' after
-  known_behind after h stands poised = record { ordered = k.ordered; once = k.once; plain = k.plain; shaped = k.shaped; short = k.short; stands = stands; poised = poised; covered = h.0; buffered = h.1 }
+  pub known_behind : (after : State) → FrameCovered types f S' after × IsBehind types st after → Stands types f rest after → IsPoised types f after → IsKnownFrame types f rest S' after
+  known_behind after h stands poised = record { ordered = k.ordered; once = k.once; plain = k.plain; shaped = k.shaped; short = k.short; stands = stands; poised = poised; covered = h.0; buffered = h.1.buffered }

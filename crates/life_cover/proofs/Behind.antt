@@ -1,0 +1,92 @@
+-- What holds behind an instruction of a frame: each vector and each string has its buffer, what is touched lies beneath what the frame named, and
+-- what it names it named before, or it is new.
+use Rattle.std.proofs.Common.{◌≡◌, ◌⊎◌, inl, inr, ⊎_elim, ℕ, ◌≤◌, ◌<◌, List, Some, refl, sym, subst}
+use Rattle.std.specs.Prelude.{ℤ, slice_get}
+use Rattle.life_types.specs.Types.{Types}
+use Rattle.life_store.specs.Content.{Content}
+use Rattle.life_store.specs.Effects.{Effect, Next, Traps, Faults, Strays, Attempt, Got, GotTrap, GotFault, GotLost, put_cell, put_content}
+use Rattle.life_store.specs.State.{Cell, Empty, Named, Number, Pointer, Points, State}
+use Rattle.life_store.proofs.CellLemmas.{cell_cases}
+use Rattle.life_forest.specs.Forest.{Touches, all_of}
+use Rattle.life_forest.specs.Frames.{OnNext, named_in}
+use Rattle.life_forest.specs.Kinds.{kinds_of}
+use Rattle.life_forest.specs.Owned.{times}
+use Rattle.life_forest.proofs.Coming.{IfGot}
+use Rattle.life_forest.proofs.Following.{in_hand}
+use Rattle.life_forest.proofs.Steps.{touches_self}
+use Rattle.life_cover.specs.Buffered.{AreBuffered}
+use Rattle.life_cover.proofs.Pointers.{OnRight}
+
+-- two things hold of what is got
+pub both_got : {A : Type 0} (x : Attempt A) (P Q : A → Type 0) → IfGot x P → IfGot x Q → IfGot x (λ a. P a × Q a)
+both_got (Got a) P Q h k = (h, k)
+both_got (GotTrap kind) P Q h k = tt
+both_got (GotFault kind) P Q h k = tt
+both_got GotLost P Q h k = tt
+
+-- .. and of a next state
+pub both_next : (e : Effect) (P Q R : State → Type 0) → OnNext e P → OnNext e Q → ((after : State) → P after → Q after → R after) → OnNext e R
+both_next (Next st) P Q R h k both = both st h k
+both_next (Traps kind) P Q R h k both = tt
+both_next (Faults kind) P Q R h k both = tt
+both_next Strays P Q R h k both = tt
+
+pub right_next : (e : Effect) (P : State → Type 0) → OnRight e P → OnNext e P
+right_next (Next st) P h = h
+right_next (Traps kind) P h = tt
+right_next (Faults kind) P h = tt
+right_next Strays P h = tt
+
+module _ (types : Types) (st : State) where
+  pub record IsBehind (st' : State) : Type 0 where
+    pub buffered : AreBuffered types st'.world.content
+    pub touch : Touches (kinds_of types) (all_of (named_in st.cells)) st.world.content st'.world.content
+    pub named : (x n : ℕ) → slice_get st'.cells x ≡ Some (Named n) → (0 < times (named_in st.cells) n) ⊎ (st.world.content.births ≤ n)
+
+  -- the cells are as they were
+  pub behind_same : (st' : State) → st'.cells ≡ st.cells → AreBuffered types st'.world.content → Touches (kinds_of types) (all_of (named_in st.cells)) st.world.content st'.world.content → IsBehind st'
+  behind_same st' cells buffered touch = record { buffered = buffered; touch = touch; named = λ x n e. inl (in_hand st.cells x n (subst (λ (vs : List Cell). slice_get vs x ≡ Some (Named n)) cells e)) }
+
+  pub behind_content : (d : Content) → AreBuffered types d → Touches (kinds_of types) (all_of (named_in st.cells)) st.world.content d → IsBehind (put_content d st)
+  behind_content d = behind_same (put_content d st) refl
+
+  -- .. and a cell, which may name what is new
+  pub behind_cell : (x : ℕ) (v : Cell) (d : Content) → ((n : ℕ) → v ≡ Named n → st.world.content.births ≤ n) → AreBuffered types d → Touches (kinds_of types) (all_of (named_in st.cells)) st.world.content d → IsBehind (put_cell x v (put_content d st))
+  behind_cell x v d new buffered touch = record {
+    buffered = buffered;
+    touch = touch;
+    named = λ y n e. ⊎_elim (λ h. inr (new n h.1)) (λ h. inl (in_hand st.cells y n h.1)) (cell_cases st.cells x y v (Named n) e);
+  }
+
+  -- .. that is empty now, or points
+  pub behind_empty : (x : ℕ) (d : Content) → AreBuffered types d → Touches (kinds_of types) (all_of (named_in st.cells)) st.world.content d → IsBehind (put_cell x Empty (put_content d st))
+  behind_empty x d = behind_cell x Empty d (λ n e. absurd (unlike n e))
+    where
+      unlike : (n : ℕ) → Empty ≡ Named n → ⊥
+      unlike n e = cc
+
+  pub behind_points : (x : ℕ) (v : Pointer) (d : Content) → AreBuffered types d → Touches (kinds_of types) (all_of (named_in st.cells)) st.world.content d → IsBehind (put_cell x (Points v) (put_content d st))
+  behind_points x v d = behind_cell x (Points v) d (λ n e. absurd (unlike n e))
+    where
+      unlike : (n : ℕ) → Points v ≡ Named n → ⊥
+      unlike n e = cc
+
+  -- a pointer or a number alone is another one, or nothing is
+  module _ (buffered : AreBuffered types st.world.content) where
+    pub behind_self : (st' : State) → st'.world.content ≡ st.world.content → st'.cells ≡ st.cells → IsBehind st'
+    behind_self st' content cells =
+        behind_same st' cells (subst (AreBuffered types) (sym content) buffered)
+        (subst (Touches (kinds_of types) (all_of (named_in st.cells)) st.world.content) (sym content) (touches_self (kinds_of types) (all_of (named_in st.cells)) st.world.content))
+
+    pub behind_pointer : (x : ℕ) (v : Pointer) → IsBehind (put_cell x (Points v) st)
+    behind_pointer x v = behind_points x v st.world.content buffered (touches_self (kinds_of types) (all_of (named_in st.cells)) st.world.content)
+
+    pub behind_number : (x : ℕ) (z : ℤ) → IsBehind (put_cell x (Number z) st)
+    behind_number x z = behind_cell x (Number z) st.world.content (λ n e. absurd (unlike n e)) buffered (touches_self (kinds_of types) (all_of (named_in st.cells)) st.world.content)
+      where
+        unlike : (n : ℕ) → Number z ≡ Named n → ⊥
+        unlike n e = cc
+
+    -- .. where input was taken, too
+    pub behind_input : (x : ℕ) (z : ℤ) (zs : List ℤ) → IsBehind (put_cell x (Number z) (record st { world = record (st.world) { input = zs } }))
+    behind_input x z zs = let h = behind_number x z in record { buffered = h.buffered; touch = h.touch; named = h.named }
