@@ -48,10 +48,13 @@ use Rattle.life_cover.proofs.CopyKinds.{IsCopyable, copy_kind}
 use Rattle.life_cover.proofs.EndKinds.{end_kind}
 use Rattle.life_cover.proofs.KnownFrames.{at_pointer, IsKnownFrame, IsRight, reach_at, used_right, whole_location}
 use Rattle.life_cover.proofs.LiveKinds.{live_kind}
+use Rattle.life_cover.proofs.MakeKinds.{IsMade}
+use Rattle.life_cover.proofs.MakeSteps.{IsSpokenMade, make_right}
+use Rattle.life_cover.proofs.MoveSteps.{IsSpokenMove, move_right}
 use Rattle.life_cover.proofs.Looks.{view_range, HasItem, aims_single, const_kept, element_item, element_ranged, seen_at, spans_range, walks_single, whole_item}
 use Rattle.life_cover.proofs.NumberKinds.{IsPort, eval_kind, load_kind, port_kind, register_covered, same_kind, seen_size_kind}
 use Rattle.life_cover.proofs.Opening.{opened}
-use Rattle.life_cover.proofs.Pointers.{OnRight}
+use Rattle.life_cover.proofs.Pointers.{OnRight, right_weaker}
 use Rattle.life_cover.proofs.Reaching.{by_reach, spot_is}
 use Rattle.life_cover.proofs.SaveKinds.{save_kind}
 
@@ -87,7 +90,7 @@ pub not_false : (b : Bool) → not b ≡ true → b ≡ false
 not_false true e = absurd (false≢true e)
 not_false false e = refl
 
--- ---- the kinds of instructions that are spoken of: no object is moved
+-- ---- the kinds of instructions that are spoken of: no vector and no string is moved, nothing is made of a temporary that owns, and no unique_ptr is opened
 
 abbrev pub IsSpokenSource : Source → Type 0
 IsSpokenSource (named.Get u) = ⊥
@@ -100,8 +103,8 @@ IsElement _ = Unit {0}
 
 abbrev pub IsSpoken : Types → Function → Step → Type 0
 IsSpoken types f (Copy to from) = IsCopyable (type_of types f to)
-IsSpoken types f (Move to y) = ⊥
-IsSpoken types f (Make u made) = ⊥
+IsSpoken types f (Move to y) = IsSpokenMove types f to
+IsSpoken types f (Make u made) = IsSpokenMade types f made
 IsSpoken types f (Call target g xs) = ⊥
 IsSpoken types f (Aim p s) = IsSpokenSource s
 IsSpoken types f (step.Element p b w) = IsElement w
@@ -258,7 +261,7 @@ module _ (types : Types) (f : Function) (rest : ℕ → ℕ) (S : Fact → Type 
       let pointer = (and_parts (not (is_pointer (type_of types f to))) _ first.1).0 in
       copy_kind types f rest S st k sigs n place S' s to from right (same_solid (type_of types f to) (type_of types f from) first.0) (also_solid (type_of types f to) (type_of types f from) first.0) (same_is (type_of types f to) (type_of types f from) first.0)
       (not_false (is_pointer (type_of types f to)) pointer) spoken
-  step_covered (Move to y) spoken right e free ready = absurd spoken
+  step_covered (Move to y) spoken right e free ready = right_weaker (does s types f (Move to y) st) (IsMade types f S' st) (FrameCovered types f S') (move_right types f rest S st k sigs n place S' texts fs s y to spoken right e) (λ after h. h.0)
   step_covered (Aim p sr) spoken right e free ready =
       to_pointer p (source_points (type_in types f p) sr spoken e) (λ q. Right (Aim q sr) → is_source_of types texts fs f (type_in types f q) sr ≡ true → Covers (Aim q sr)) (λ q now here. aim_step q sr spoken now here) right e
   step_covered (Repoint p q) spoken right e free ready =
@@ -304,6 +307,6 @@ module _ (types : Types) (f : Function) (rest : ℕ → ℕ) (S : Fact → Type 
       (λ x now here. to_pointer b points.1 (λ y. Right (Same r (whole x) y equal) → are_compared types (type_at types f x) (type_in types f y) ≡ true → Covers (Same r (whole x) y equal))
       (λ y next alike. same_kind types f rest S st k sigs n place S' s r x y equal next (number_any types f ty.Bool r both.0) alike) now here) right both.1
   step_covered (Changes o c) spoken right e free ready = change_step types f rest S st k sigs n place S' texts fs s o c (type_of types f o) refl right (and_parts (is_change_of types texts fs f (type_of types f o) c) (not (is_const_place types f o)) e).0
-  step_covered (Make u m) spoken right e free ready = absurd spoken
+  step_covered (Make u m) spoken right e free ready = right_weaker (does s types f (Make u m) st) (IsMade types f S' st) (FrameCovered types f S') (make_right types f rest S st k sigs n place S' texts fs s u m spoken right e) (λ after h. h.0)
   step_covered (Call target g xs) spoken right e free ready = absurd spoken
   step_covered (Ports p) spoken right e free ready = port_kind types f rest S st k sigs n place S' s p right (port_whole p e)

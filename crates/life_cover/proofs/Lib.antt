@@ -35,7 +35,12 @@ pub mod Listing
 pub mod LiveKinds
 pub mod Locals
 pub mod Looks
+pub mod MakeKinds
+pub mod MakeSteps
 pub mod Making
+pub mod MoveKinds
+pub mod MoveSteps
+pub mod Moved
 pub mod NumberKinds
 pub mod Opening
 pub mod Owned
@@ -55,6 +60,7 @@ pub mod Reading
 pub mod Rebuffering
 pub mod Recopying
 pub mod Regrown
+pub mod Remade
 pub mod SafeBodies
 pub mod SafeCalls
 pub mod SafeRuns
@@ -63,6 +69,8 @@ pub mod Sparing
 pub mod Stepping
 pub mod Takes
 pub mod Unaimed
+pub mod UniqueFacts
+pub mod UniqueLocals
 pub mod Unkilled
 pub mod Unnamed
 pub mod Using

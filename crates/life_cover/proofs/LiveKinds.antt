@@ -63,7 +63,7 @@ use Rattle.life_cover.proofs.Using.{Faultless}
 sized_faultless : (s : Setting) (ty : TyId) (w size : ℕ) (c : Content) → Faultless (sized_birth s ty w size c)
 sized_faultless s ty w size c = faultless_then (birth s ty w size c) _ (birth_faultless s ty w size c) (λ b. tt)
 
-fresh_faultless : (s : Setting) (form : Form) (p : Parts) (c : Content) → Faultless (fresh s form p c)
+pub fresh_faultless : (s : Setting) (form : Form) (p : Parts) (c : Content) → Faultless (fresh s form p c)
 fresh_faultless s form Single c = tt
 fresh_faultless s form Raw c = tt
 fresh_faultless s form Iterates c = tt
@@ -75,7 +75,7 @@ fresh_faultless s form (Member first others) c =
     faultless_then (fresh s form first c) _ (fresh_faultless s form first c) (λ a. faultless_then (fresh s form others a.1) _ (fresh_faultless s form others a.1) (λ b. tt))
 fresh_faultless s form NoMember c = tt
 
-object_faultless : (s : Setting) (ty : TyId) (p : Parts) (value : Content → Attempt Words) (c : Content) → ((d : Content) → Faultless (value d)) → Faultless (object_with s ty p value c)
+pub object_faultless : (s : Setting) (ty : TyId) (p : Parts) (value : Content → Attempt Words) (c : Content) → ((d : Content) → Faultless (value d)) → Faultless (object_with s ty p value c)
 object_faultless s ty p value c each = faultless_then (sized_birth s ty (width p) 1 c) _ (sized_faultless s ty (width p) 1 c) (λ b. faultless_then (value b.1) _ (each b.1) (λ v. tt))
 
 right_if : (b : Bool) (x y : Effect) (Q : State → Type 0) → OnRight x Q → OnRight y Q → OnRight (cond b x y) Q

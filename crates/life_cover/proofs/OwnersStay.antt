@@ -37,11 +37,15 @@ read_slot [] i w v s e lt = absurd (none_some e)
 read_slot (x ∷ xs) zero w v s e lt = read_word s.words w v lt
 read_slot (x ∷ xs) (suc i) w v s e lt = read_slot xs i w v s e lt
 
--- the owner has the object that it was given
+-- the owner has what it was given
+pub word_written : (c : Content) (n i w v : ℕ) (o : Object) (s : Slot) → at c.objects n ≡ Some o → slice_get o.slots i ≡ Some s → w < length s.words
+    → owned_at (wrote_spot (record { object = n; index = i; word = w }) (v ∷ []) c) (record { object = n; index = i; word = w }) ≡ owned_in v
+word_written c n i w v o s there has lt =
+    ap (λ (x : Option Object). owned_at (wrote_if x n i w (v ∷ []) c) (record { object = n; index = i; word = w })) there
+    ∙ owned_is (wrote_if (Some o) n i w (v ∷ []) c) n i w (with_word i w v o) (at-set_same c.objects n n (with_word i w v o) refl)
+    ∙ ap (λ (x : Option Slot). owned_in (word_in (slice_get (set_slot o.slots i (option_map (written w v) x)) i) w)) has
+    ∙ ap owned_in (read_slot o.slots i w v s has lt)
+
 pub owner_written : (c : Content) (n i w m : ℕ) (o : Object) (s : Slot) → at c.objects n ≡ Some o → slice_get o.slots i ≡ Some s → w < length s.words
     → owned_at (wrote_spot (record { object = n; index = i; word = w }) (owner_word (Some m) ∷ []) c) (record { object = n; index = i; word = w }) ≡ Some m
-owner_written c n i w m o s there has lt =
-    ap (λ (x : Option Object). owned_at (wrote_if x n i w (suc m ∷ []) c) (record { object = n; index = i; word = w })) there
-    ∙ owned_is (wrote_if (Some o) n i w (suc m ∷ []) c) n i w (with_word i w (suc m) o) (at-set_same c.objects n n (with_word i w (suc m) o) refl)
-    ∙ ap (λ (x : Option Slot). owned_in (word_in (slice_get (set_slot o.slots i (option_map (written w (suc m)) x)) i) w)) has
-    ∙ ap owned_in (read_slot o.slots i w (suc m) s has lt)
+owner_written c n i w m o s there has lt = word_written c n i w (suc m) o s there has lt

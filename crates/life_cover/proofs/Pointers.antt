@@ -36,6 +36,12 @@ OnRight (Traps kind) Q = Unit {0}
 OnRight (Faults kind) Q = ⊥
 OnRight Strays Q = Unit {0}
 
+pub right_weaker : (e : Effect) (P Q : State → Type 0) → OnRight e P → ((st : State) → P st → Q st) → OnRight e Q
+right_weaker (Next st) P Q h weaker = weaker st h
+right_weaker (Traps kind) P Q h weaker = tt
+right_weaker (Faults kind) P Q h weaker = h
+right_weaker Strays P Q h weaker = tt
+
 pub right_then : {A : Type 0} (x : Attempt A) (go : A → Effect) (P : A → Type 0) (Q : State → Type 0) → IfRight x P → ((a : A) → P a → OnRight (go a) Q) → OnRight (on_got x go) Q
 right_then (Got a) go P Q h each = each a h
 right_then (GotTrap kind) go P Q h each = tt

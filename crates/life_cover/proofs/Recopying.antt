@@ -211,15 +211,25 @@ module _ (types : Types) (ordered : IsOrdered types) (s : Setting) where
   row_have (Unique ty target) o ws typed one wide row = plain_have o ws (Unique ty target) typed (λ us. tt)
   row_have NoMember o ws typed one wide row = plain_have o ws NoMember typed (λ us. tt)
 
-  pub born_buffered : (form : Form) (ty : TyId) (c : Content) → IsWhole (parts_at types ty) → AreBuffered types c → IfGot (object_with s ty (parts_at types ty) (fresh s form (parts_at types ty)) c) (λ b. AreBuffered types b.1)
-  born_buffered form ty c is h =
-      got_then (sized_birth s ty (width (parts_at types ty)) 1 c) (λ b. then_get (fresh s form (parts_at types ty) b.1) (λ v. Got (b.0, wrote b.0 0 0 v.0 v.1))) (λ f. IsSized c ty (width (parts_at types ty)) 1 f × AreBut types (λ k. ⊥ ⊎ (k ≡ f.0)) f.1) (λ b. AreBuffered types b.1)
+  -- an object with a value that has its buffers
+  pub with_buffered : (value : Content → Attempt Words) (ty : TyId) (c : Content) → ((out : ℕ → Type 0) (d : Content) → AreBut types out d → IfGot (value d) (IsCopied (parts_at types ty) out d)) → AreBuffered types c → IfGot (object_with s ty (parts_at types ty) value c) (λ b. AreBuffered types b.1)
+  with_buffered value ty c each h =
+      got_then (sized_birth s ty (width (parts_at types ty)) 1 c) (λ b. then_get (value b.1) (λ v. Got (b.0, wrote b.0 0 0 v.0 v.1))) (λ f. IsSized c ty (width (parts_at types ty)) 1 f × AreBut types (λ k. ⊥ ⊎ (k ≡ f.0)) f.1) (λ b. AreBuffered types b.1)
       (sized_but types s ty (width (parts_at types ty)) 1 c (λ k. ⊥) (none_out types c h))
-      (λ f k. got_then (fresh s form (parts_at types ty) f.1) (λ v. Got (f.0, wrote f.0 0 0 v.0 v.1)) (IsCopied (parts_at types ty) (λ j. ⊥ ⊎ (j ≡ f.0)) f.1) (λ b. AreBuffered types b.1)
-      (fresh_but form (parts_at types ty) is (λ j. ⊥ ⊎ (j ≡ f.0)) f.1 k.1)
+      (λ f k. got_then (value f.1) (λ v. Got (f.0, wrote f.0 0 0 v.0 v.1)) (IsCopied (parts_at types ty) (λ j. ⊥ ⊎ (j ≡ f.0)) f.1) (λ b. AreBuffered types b.1)
+      (each (λ j. ⊥ ⊎ (j ≡ f.0)) f.1 k.1)
       (λ v made. all_in types (wrote f.0 0 0 v.0 v.1) (written_in f.0 v.0 v.1 (λ o there.
       let number = k.0.number in
       let births = k.0.births in
       let same : k.0.object ≡ o = some_same (sym (made.more.same f.0 (omega (arith, number, births)) ∙ k.0.there) ∙ there) in
       subst (λ (x : Object). Have types (with_words 0 0 v.0 x)) same
       (row_have (parts_at types ty) k.0.object v.0 (ap (parts_at types) k.0.type) k.0.count (λ t e. slot_wide k.0.object.slots t (width (parts_at types ty)) k.0.wide e) made.row)) made.buffers)))
+
+  -- as it comes to life
+  pub born_buffered : (form : Form) (ty : TyId) (c : Content) → IsWhole (parts_at types ty) → AreBuffered types c → IfGot (object_with s ty (parts_at types ty) (fresh s form (parts_at types ty)) c) (λ b. AreBuffered types b.1)
+  born_buffered form ty c is h = with_buffered (fresh s form (parts_at types ty)) ty c (fresh_but form (parts_at types ty) is) h
+
+  -- .. with a number
+  pub number_buffered : (word : ℕ) (ty : TyId) (c : Content) → parts_at types ty ≡ Single → AreBuffered types c → IfGot (object_with s ty (parts_at types ty) (λ d. Got (word ∷ [], d)) c) (λ b. AreBuffered types b.1)
+  number_buffered word ty c single h =
+      with_buffered (λ d. Got (word ∷ [], d)) ty c (λ out d k. record { row = subst (λ (p : Parts). IsOwningRow p (word ∷ [])) (sym single) tt; buffers = k; more = more_self d }) h

@@ -3,6 +3,7 @@ use Rattle.std.proofs.Common.{◌≡◌, inl, inr, ℕ, ◌<◌, true, [], ◌�
 use Rattle.std.specs.Prelude.{slice_get}
 use Rattle.std.proofs.lemmas.Bool.{false≢true}
 use Rattle.life_types.specs.Types.{Types}
+use Rattle.life_types.specs.declared.ty.TyId.{TyId}
 use Rattle.life_core.specs.Function.{Function}
 use Rattle.life_core.specs.Operands.{Operand}
 use Rattle.life_pset.specs.Places.{path}
@@ -33,7 +34,7 @@ module _ (types : Types) (f : Function) (rest : ℕ → ℕ) (S : Fact → Type 
   abbrev pub named_foot : Foot
   named_foot = all_of (named_in st.cells)
 
-  local_low : (x n : ℕ) → slice_get st.cells x ≡ Some (Named n) → Beneath (kinds_of types) st.world.content (all_of (named_in st.cells)) n
+  pub local_low : (x n : ℕ) → slice_get st.cells x ≡ Some (Named n) → Beneath (kinds_of types) st.world.content (all_of (named_in st.cells)) n
   local_low x n named = whole n (is_positive (times (named_in st.cells) n) (in_hand st.cells x n named))
 
   -- what is beneath a region of a local is beneath what is named
@@ -54,6 +55,17 @@ module _ (types : Types) (f : Function) (rest : ℕ → ℕ) (S : Fact → Type 
   named_spares t d names none touch =
       touches_more (kinds_of types) (hand_of rest st) st.world.content (store_of types f rest S st k).forest t (all_of (named_in st.cells)) d touch
       (record { whole = λ n lt e. whole n (is_positive (times (named_in st.cells) n) (names n e)); part = λ m lt. inr (λ w e. absurd (none m w e)) })
+
+  -- .. or what a whole local has
+  pub local_spares : (x n : ℕ) → slice_get st.cells x ≡ Some (Named n) → (id : TyId) (d : Content) → Touches (kinds_of types) (foot_of types (record { object = n; word = 0; ty = id })) st.world.content d → Touches (kinds_of types) (all_of (named_in st.cells)) st.world.content d
+  local_spares x n named id d touch =
+      touches_more (kinds_of types) (hand_of rest st) st.world.content (store_of types f rest S st k).forest (foot_of types (record { object = n; word = 0; ty = id })) (all_of (named_in st.cells)) d touch
+      (record {
+        whole = λ j lt e. absurd (false≢true e);
+        part = λ j lt. one_or_apart j n
+            (λ same. inl (subst (Beneath (kinds_of types) st.world.content (all_of (named_in st.cells))) (sym same) (local_low x n named)))
+            (λ ne. inr (λ w e. absurd (ne (region_within types (record { object = n; word = 0; ty = id }) j w e).object)));
+      })
 
   module _ (o : Operand) (r : IsReached types f st NoInput any_root S o) where
     inside : Inside types k.ordered (hand_of rest st) st.world.content (store_of types f rest S st k) r.lies.start r.region

@@ -42,10 +42,13 @@ use Rattle.life_cover.proofs.KeptCopies.{copy_behind, live_behind, save_behind}
 use Rattle.life_cover.proofs.KnownFrames.{at_pointer, IsKnownFrame, IsRight, number_free, object_uncounted, reach_at, used_right, whole_location}
 use Rattle.life_cover.proofs.Leaving.{advances_leave, aims_leave, cursors_leave, cuts_leave, elements_leave, repoints_leave}
 use Rattle.life_cover.proofs.Looks.{given_type}
-use Rattle.life_cover.proofs.Pointers.{OnRight}
+use Rattle.life_cover.proofs.Pointers.{OnRight, right_weaker}
 use Rattle.life_cover.proofs.PushedObjects.{object_pushed}
 use Rattle.life_cover.proofs.Reaching.{IsReached, Reach}
-use Rattle.life_cover.proofs.Behind.{IsBehind, behind_input, behind_number, behind_pointer, behind_self}
+use Rattle.life_cover.proofs.Behind.{IsBehind, behind_input, behind_number, behind_pointer, behind_self, right_next}
+use Rattle.life_cover.proofs.MakeKinds.{IsMade}
+use Rattle.life_cover.proofs.MakeSteps.{make_right}
+use Rattle.life_cover.proofs.MoveSteps.{move_right}
 use Rattle.life_proper.proofs.HeldSorts.{same_is}
 
 both_right : (e : Effect) (P Q : State → Type 0) → OnRight e P → OnNext e Q → OnRight e (λ st. P st × Q st)
@@ -162,7 +165,9 @@ module _ (types : Types) (f : Function) (rest : ℕ → ℕ) (S : Fact → Type 
       let pointer = (and_parts (not (is_pointer (type_of types f to))) _ first.1).0 in
       let solid = same_solid (type_of types f to) (type_of types f from) first.0 in
       copy_behind types f rest S st k sigs n place S' s to from right solid (ap is_void (sym (same_is (type_of types f to) (type_of types f from) first.0)) ∙ solid) (same_is (type_of types f to) (type_of types f from) first.0) (not_false (is_pointer (type_of types f to)) pointer) spoken
-  step_behind (Move to y) spoken right e = absurd spoken
+  step_behind (Move to y) spoken right e =
+      right_next (does s types f (Move to y) st) (IsBehind types st)
+      (right_weaker (does s types f (Move to y) st) (IsMade types f S' st) (IsBehind types st) (move_right types f rest S st k sigs n place S' texts fs s y to spoken right e) (λ after h. h.1))
   step_behind (Aim p sr) spoken right e =
       to_pointer p (source_points types f rest S st k sigs n place S' texts fs s (type_in types f p) sr spoken e) (λ q. Behind (Aim q sr)) (λ x. aims_leave types f st (IsBehind types st) x (behind_pointer types st k.buffered x) s sr spoken)
   step_behind (Repoint p q) spoken right e =
@@ -180,7 +185,9 @@ module _ (types : Types) (f : Function) (rest : ℕ → ℕ) (S : Fact → Type 
   step_behind (Size r b) spoken right e = sizes_give types f st (IsBehind types st) (behind_number types st k.buffered) r b
   step_behind (Same r a b equal) spoken right e = sames_give types f st (IsBehind types st) (behind_number types st k.buffered) s r a b equal
   step_behind (Changes o c) spoken right e = change_behind o c right (type_of types f o) refl (and_parts (is_change_of types texts fs f (type_of types f o) c) (not (is_const_place types f o)) e).0
-  step_behind (Make u m) spoken right e = absurd spoken
+  step_behind (Make u m) spoken right e =
+      right_next (does s types f (Make u m) st) (IsBehind types st)
+      (right_weaker (does s types f (Make u m) st) (IsMade types f S' st) (IsBehind types st) (make_right types f rest S st k sigs n place S' texts fs s u m spoken right e) (λ after h. h.1))
   step_behind (Call target g xs) spoken right e = absurd spoken
   step_behind (Ports p) spoken right e = ports_give types f st (IsBehind types st) (λ text. behind_self types st k.buffered (with_output text st) refl refl)
       (behind_input types st k.buffered) s p

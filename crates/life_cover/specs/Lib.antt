@@ -4,3 +4,4 @@ pub mod Frames
 pub mod Kills
 pub mod Regions
 pub mod Roots
+pub mod Uniques

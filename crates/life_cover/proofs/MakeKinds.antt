@@ -1,0 +1,186 @@
+-- A unique_ptr that is a whole local is given null, an object that comes to life, or one of a number; what it had ends. There is no fault, the facts
+-- behind it cover all pointers of the frame, and what is touched lies beneath what the frame names.
+use Rattle.std.proofs.Common.{◌≡◌, ◌≢◌, ℕ, ◌<◌, true, List, [], ◌∷◌, length, Option, Some, None, refl, sym, ap, subst, ◌∙◌, arith}
+use Rattle.life_types.specs.TypeTests.{is_unique}
+use Rattle.life_types.specs.Types.{Types}
+use Rattle.life_types.specs.declared.place.Place.{Place}
+use Rattle.life_core.specs.declared.instr.Form.TheVariants as form
+use Rattle.life_core.specs.declared.instr.Made.{Made}
+use Rattle.life_core.specs.declared.instr.Made.TheVariants as made
+use Rattle.life_core.specs.Function.{Function}
+use Rattle.life_core.specs.Operands.{whole}
+use Rattle.life_core.specs.Step.{Make}
+use Rattle.life_pset.specs.Elements.{changed, local_place}
+use Rattle.life_pset.specs.Places.{under}
+use Rattle.life_pset.specs.declared.element.Element.TheVariants as element
+use Rattle.life_pset.specs.declared.element.Fact.{Fact}
+use Rattle.life_contract.specs.Signatures.{Signature}
+use Rattle.life_proper.specs.Placed.{type_at}
+use Rattle.life_rules.specs.Carrying.{writes}
+use Rattle.life_rules.proofs.Giving.{at_head}
+use Rattle.life_store.specs.Cells.{at}
+use Rattle.life_store.specs.Content.{Object, Content}
+use Rattle.life_store.specs.Doing.{does, made_fresh, made_of, remade, replaced}
+use Rattle.life_store.specs.Effects.{Attempt, Effect, Got, Next, Setting, cell, on_got, put_content, word_of_number}
+use Rattle.life_store.specs.Held.{owner_word}
+use Rattle.life_store.specs.Owners.{fresh, object_with}
+use Rattle.life_store.specs.Parts.{Parts, Single, Unique, location_parts, parts_at, parts_if, width}
+use Rattle.life_store.specs.Places.{Spot, on_location, owner_spot_if}
+use Rattle.life_store.specs.State.{Cell, Empty, Named, Number, Points, State}
+use Rattle.life_store.proofs.CellLemmas.{some_same}
+use Rattle.life_forest.specs.Forest.{Touches}
+use Rattle.life_forest.specs.Kinds.{kinds_of}
+use Rattle.life_forest.specs.Within.{LiesWithin}
+use Rattle.life_forest.proofs.Coming.{IfGot}
+use Rattle.life_forest.proofs.Following.{in_hand}
+use Rattle.life_forest.proofs.Members.{within_self}
+use Rattle.life_forest.specs.Values.{AllWide}
+use Rattle.life_cover.specs.Buffered.{AreBuffered, HasBuffers}
+use Rattle.life_cover.specs.Frames.{FrameCovered, NoInput, RootStands, any_root, look_at}
+use Rattle.life_cover.specs.Kills.{LeftBy}
+use Rattle.life_cover.specs.Regions.{IsAt, Region, foot_of}
+use Rattle.life_cover.proofs.Behind.{IsBehind, behind_content, both_got}
+use Rattle.life_cover.proofs.Changes.{place_cover}
+use Rattle.life_cover.proofs.Copies.{whole_parts}
+use Rattle.life_cover.proofs.KnownFrames.{IsKnownFrame, IsRight, hand_of, rooted_of, store_of}
+use Rattle.life_cover.proofs.Left.{left_by_name}
+use Rattle.life_cover.proofs.LiveKinds.{fresh_faultless, object_faultless}
+use Rattle.life_cover.proofs.OwnerKinds.{right_got}
+use Rattle.life_cover.proofs.Pointers.{OnRight, right_then}
+use Rattle.life_cover.proofs.Putting.{other_local}
+use Rattle.life_cover.proofs.Recopying.{born_buffered, number_buffered}
+use Rattle.life_cover.proofs.Remade.{IsRemade, null_touches, remade_fresh, remade_number, replaced_buffered}
+use Rattle.life_cover.proofs.Sparing.{local_spares}
+use Rattle.life_cover.proofs.UniqueLocals.{IsUniqueLocal, unique_local}
+use Rattle.life_cover.proofs.Using.{Faultless}
+
+-- what is known behind it
+abbrev pub IsMade : Types → Function → (S' : Fact → Type 0) → State → State → Type 0
+IsMade types f S' st after = FrameCovered types f S' after × IsBehind types st after
+
+module _ (types : Types) (f : Function) (rest : ℕ → ℕ) (S : Fact → Type 0) (st : State) (k : IsKnownFrame types f rest S st) (sigs : List Signature) (number : ℕ) (place : Place) (S' : Fact → Type 0) (s : Setting) (x : ℕ) (unique : is_unique (type_at types f x) ≡ true) where
+  -- what is done with the local's word
+  at_local : (go : Spot → Effect) (Q : State → Type 0) → ((n : ℕ) → cell st x ≡ Some (Named n) → OnRight (go (record { object = n; index = 0; word = 0 })) Q) → OnRight (on_location types f (whole x) st go) Q
+  at_local go Q each = over (cell st x) refl
+    where
+      over : (v : Option Cell) → cell st x ≡ v → OnRight (on_got (owner_spot_if types f (whole x) v) go) Q
+      over None e = tt
+      over (Some Empty) e = tt
+      over (Some (Number z)) e = tt
+      over (Some (Points p)) e = tt
+      over (Some (Named n)) e = each n e
+
+  module _ (m : Made) (right : IsRight sigs types number f place (Make (whole x) m) S S') (n : ℕ) (named : cell st x ≡ Some (Named n)) where
+    abbrev u : IsUniqueLocal types f rest S st k x n
+    u = unique_local types f rest S st k x n named unique
+
+    abbrev region : Region
+    region = record { object = n; word = 0; ty = (unique_local types f rest S st k x n named unique).number }
+
+    at_x : IsAt types st.world.content (RootStands types f NoInput st.cells) (local_place x) region
+    at_x = record { start = region; stands = (named, refl, u.typed); lies = refl }
+
+    left : LeftBy (RootStands types f NoInput st.cells) (under (local_place x)) (writes (Make (whole x) m)) S S'
+    left =
+        left_by_name sigs types f place (Make (whole x) m) S S' right.closed (RootStands types f NoInput st.cells) (record { owner = local_place x; cause = changed place x }) refl (λ e. refl)
+        (at_head (element.Invalid (changed place x)) [])
+
+    covered : (d : Content) → Touches (kinds_of types) (foot_of types region) st.world.content d → FrameCovered types f S' (put_content d st)
+    covered d touch y v e =
+        place_cover types k.ordered (hand_of rest st) st.world.content d (store_of types f rest S st k) (RootStands types f NoInput st.cells) any_root any_root (rooted_of types f rest S st k) (local_place x) region refl at_x touch
+        (writes (Make (whole x) m)) S S' left (local_place y) (look_at types f y) v (other_local x y apart) (k.covered y v e)
+      where
+        unlike : Named n ≡ Points v → ⊥
+        unlike h = cc
+
+        apart : x ≢ y
+        apart same = unlike (some_same (sym named ∙ ap (cell st) same ∙ e))
+
+    made_safe : (d : Content) → Touches (kinds_of types) (foot_of types region) st.world.content d → AreBuffered types d → IsMade types f S' st (put_content d st)
+    made_safe d touch buffered = (covered d touch, behind_content types st d buffered (local_spares types f rest S st k x n named u.number d touch))
+
+    -- its parts need no buffer
+    plain : (c : Content) → at c.objects n ≡ Some u.variable.object → (o : Object) → at c.objects n ≡ Some o → (ws : List ℕ) → HasBuffers (parts_at types o.ty) ws
+    plain c kept o there ws = subst (λ (p : Parts). HasBuffers p ws) (sym (ap (λ (q : Object). parts_at types q.ty) (sym (some_same (sym kept ∙ there))) ∙ ap (parts_at types) u.type ∙ u.parts)) tt
+
+    parts_here : location_parts types f (whole x) ≡ parts_at types u.number
+    parts_here = ap (parts_if types) u.typed
+
+    within : LiesWithin types u.variable.object.ty 0 u.number
+    within = subst (λ id. LiesWithin types id 0 u.number) (sym u.type) (within_self types u.number)
+
+    slot : 0 < length u.variable.object.slots
+    slot = let e = ap length u.variable.one in omega (arith, e)
+
+    in_the_hand : 0 < hand_of rest st n
+    in_the_hand = let e = in_hand st.cells x n named in omega (arith, e)
+
+    wide : 0 < length u.variable.slot.words
+    wide =
+        let fit = (store_of types f rest S st k).fit n u.variable.object u.variable.there in
+        let a = (subst (AllWide u.variable.object.width) u.variable.one fit.slots).0 in
+        let b = fit.width in
+        let e = ap (λ id. width (parts_at types id)) u.type ∙ ap width u.parts in
+        omega (arith, a, b, e)
+
+    -- ---- null
+
+    null_made : IsMade types f S' st (put_content (replaced (location_parts types f (whole x)) (record { object = n; index = 0; word = 0 }) (owner_word None ∷ [], st.world.content)) st)
+    null_made =
+        subst (λ (p : Parts). IsMade types f S' st (put_content (replaced p (record { object = n; index = 0; word = 0 }) (owner_word None ∷ [], st.world.content)) st)) (sym parts_here)
+        (made_safe (replaced (parts_at types u.number) (record { object = n; index = 0; word = 0 }) (owner_word None ∷ [], st.world.content))
+        (null_touches types k.ordered (hand_of rest st) st.world.content (store_of types f rest S st k) n u.number u.variable.object u.variable.there within slot u.target u.parts)
+        (replaced_buffered types st.world.content n (parts_at types u.number) (owner_word None) (plain st.world.content u.variable.there) k.buffered))
+
+    -- ---- an object
+
+    abbrev Remade : ℕ × Content → Type 0
+    Remade b = IsRemade types k.ordered (hand_of rest st) st.world.content (store_of types f rest S st k) n u.number u.variable.object u.variable.there within slot u.target u.parts b
+
+    remade_safe : (b : ℕ × Content) → Remade b → AreBuffered types b.1 → IsMade types f S' st (remade (Unique u.target (parts_at types u.target)) (record { object = n; index = 0; word = 0 }) b st)
+    remade_safe b h buffered =
+        subst (λ (p : Parts). IsMade types f S' st (put_content (replaced p (record { object = n; index = 0; word = 0 }) (owner_word (Some b.0) ∷ [], b.1)) st)) u.parts
+        (made_safe (replaced (parts_at types u.number) (record { object = n; index = 0; word = 0 }) (owner_word (Some b.0) ∷ [], b.1)) h.touch
+        (replaced_buffered types b.1 n (parts_at types u.number) (owner_word (Some b.0)) (plain b.1 h.kept) buffered))
+
+    object_made : (a : Attempt (ℕ × Content)) → IfGot a Remade → IfGot a (λ b. AreBuffered types b.1) → Faultless a → OnRight (on_got a (λ b. Next (remade (Unique u.target (parts_at types u.target)) (record { object = n; index = 0; word = 0 }) b st))) (IsMade types f S' st)
+    object_made a one two right_a =
+        right_then a (λ b. Next (remade (Unique u.target (parts_at types u.target)) (record { object = n; index = 0; word = 0 }) b st)) (λ b. Remade b × AreBuffered types b.1) (IsMade types f S' st)
+        (right_got a (λ b. Remade b × AreBuffered types b.1) (both_got a Remade (λ b. AreBuffered types b.1) one two) right_a) (λ b h. remade_safe b h.0 h.1)
+
+    fresh_made : OnRight (made_fresh s (location_parts types f (whole x)) (record { object = n; index = 0; word = 0 }) st) (IsMade types f S' st)
+    fresh_made =
+        subst (λ (p : Parts). OnRight (made_fresh s p (record { object = n; index = 0; word = 0 }) st) (IsMade types f S' st)) (sym (parts_here ∙ u.parts))
+        (object_made (object_with s u.target (parts_at types u.target) (fresh s form.Zero (parts_at types u.target)) st.world.content)
+        (remade_fresh types k.ordered (hand_of rest st) st.world.content (store_of types f rest S st k) n u.number u.variable.object u.variable.there within slot u.target u.parts in_the_hand u.variable.slot u.variable.one wide s form.Zero)
+        (born_buffered types k.ordered s form.Zero u.target st.world.content (whole_parts types k.plain u.target) k.buffered)
+        (object_faultless s u.target (parts_at types u.target) (fresh s form.Zero (parts_at types u.target)) st.world.content (fresh_faultless s form.Zero (parts_at types u.target))))
+
+    number_made : parts_at types u.target ≡ Single → (y : ℕ) → ((j : ℕ) → cell st y ≡ Some (Named j) → ⊥) → OnRight (made_of s types f (location_parts types f (whole x)) (record { object = n; index = 0; word = 0 }) y (cell st y) st) (IsMade types f S' st)
+    number_made single y free =
+        subst (λ (p : Parts). OnRight (made_of s types f p (record { object = n; index = 0; word = 0 }) y (cell st y) st) (IsMade types f S' st)) (sym (parts_here ∙ u.parts)) (over (cell st y) refl)
+      where
+        over : (v : Option Cell) → cell st y ≡ v → OnRight (made_of s types f (Unique u.target (parts_at types u.target)) (record { object = n; index = 0; word = 0 }) y v st) (IsMade types f S' st)
+        over None e = tt
+        over (Some Empty) e = tt
+        over (Some (Points p)) e = tt
+        over (Some (Named j)) e = absurd (free j e)
+        over (Some (Number z)) e =
+            object_made (object_with s u.target (parts_at types u.target) (λ d. Got (word_of_number z ∷ [], d)) st.world.content)
+            (remade_number types k.ordered (hand_of rest st) st.world.content (store_of types f rest S st k) n u.number u.variable.object u.variable.there within slot u.target u.parts in_the_hand u.variable.slot u.variable.one wide s (word_of_number z) single)
+            (number_buffered types k.ordered s (word_of_number z) u.target st.world.content single k.buffered)
+            (object_faultless s u.target (parts_at types u.target) (λ d. Got (word_of_number z ∷ [], d)) st.world.content (λ d. tt))
+
+  -- ---- the kind
+
+  pub null_kind : IsRight sigs types number f place (Make (whole x) made.Null) S S' → OnRight (does s types f (Make (whole x) made.Null) st) (IsMade types f S' st)
+  null_kind right =
+      at_local (λ spot. Next (put_content (replaced (location_parts types f (whole x)) spot (owner_word None ∷ [], st.world.content)) st)) (IsMade types f S' st) (λ n named. null_made made.Null right n named)
+
+  pub fresh_kind : IsRight sigs types number f place (Make (whole x) made.Zero) S S' → OnRight (does s types f (Make (whole x) made.Zero) st) (IsMade types f S' st)
+  fresh_kind right = at_local (λ spot. made_fresh s (location_parts types f (whole x)) spot st) (IsMade types f S' st) (λ n named. fresh_made made.Zero right n named)
+
+  pub number_kind : (y : ℕ) → IsRight sigs types number f place (Make (whole x) (made.Of y)) S S' → ((n : ℕ) (named : cell st x ≡ Some (Named n)) → parts_at types (unique_local types f rest S st k x n named unique).target ≡ Single) → ((j : ℕ) → cell st y ≡ Some (Named j) → ⊥)
+      → OnRight (does s types f (Make (whole x) (made.Of y)) st) (IsMade types f S' st)
+  number_kind y right single free =
+      at_local (λ spot. made_of s types f (location_parts types f (whole x)) spot y (cell st y) st) (IsMade types f S' st) (λ n named. number_made (made.Of y) right n named (single n named) y free)
