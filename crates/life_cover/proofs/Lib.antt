@@ -68,6 +68,7 @@ pub mod SaveKinds
 pub mod Sparing
 pub mod Stepping
 pub mod Takes
+pub mod TargetKinds
 pub mod Unaimed
 pub mod UniqueFacts
 pub mod UniqueLocals

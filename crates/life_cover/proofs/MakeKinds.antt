@@ -21,11 +21,10 @@ use Rattle.life_rules.proofs.Giving.{at_head}
 use Rattle.life_store.specs.Cells.{at}
 use Rattle.life_store.specs.Content.{Object, Content}
 use Rattle.life_store.specs.Doing.{does, made_fresh, made_of, remade, replaced}
-use Rattle.life_store.specs.Effects.{Attempt, Effect, Got, Next, Setting, cell, on_got, put_content, word_of_number}
+use Rattle.life_store.specs.Effects.{Attempt, Got, Next, Setting, cell, on_got, put_content, word_of_number}
 use Rattle.life_store.specs.Held.{owner_word}
 use Rattle.life_store.specs.Owners.{fresh, object_with}
 use Rattle.life_store.specs.Parts.{Parts, Single, Unique, location_parts, parts_at, parts_if, width}
-use Rattle.life_store.specs.Places.{Spot, on_location, owner_spot_if}
 use Rattle.life_store.specs.State.{Cell, Empty, Named, Number, Points, State}
 use Rattle.life_store.proofs.CellLemmas.{some_same}
 use Rattle.life_forest.specs.Forest.{Touches}
@@ -51,7 +50,7 @@ use Rattle.life_cover.proofs.Putting.{other_local}
 use Rattle.life_cover.proofs.Recopying.{born_buffered, number_buffered}
 use Rattle.life_cover.proofs.Remade.{IsRemade, null_touches, remade_fresh, remade_number, replaced_buffered}
 use Rattle.life_cover.proofs.Sparing.{local_spares}
-use Rattle.life_cover.proofs.UniqueLocals.{IsUniqueLocal, unique_local}
+use Rattle.life_cover.proofs.UniqueLocals.{IsUniqueLocal, on_location_local, unique_local}
 use Rattle.life_cover.proofs.Using.{Faultless}
 
 -- what is known behind it
@@ -59,17 +58,6 @@ abbrev pub IsMade : Types → Function → (S' : Fact → Type 0) → State → 
 IsMade types f S' st after = FrameCovered types f S' after × IsBehind types st after
 
 module _ (types : Types) (f : Function) (rest : ℕ → ℕ) (S : Fact → Type 0) (st : State) (k : IsKnownFrame types f rest S st) (sigs : List Signature) (number : ℕ) (place : Place) (S' : Fact → Type 0) (s : Setting) (x : ℕ) (unique : is_unique (type_at types f x) ≡ true) where
-  -- what is done with the local's word
-  at_local : (go : Spot → Effect) (Q : State → Type 0) → ((n : ℕ) → cell st x ≡ Some (Named n) → OnRight (go (record { object = n; index = 0; word = 0 })) Q) → OnRight (on_location types f (whole x) st go) Q
-  at_local go Q each = over (cell st x) refl
-    where
-      over : (v : Option Cell) → cell st x ≡ v → OnRight (on_got (owner_spot_if types f (whole x) v) go) Q
-      over None e = tt
-      over (Some Empty) e = tt
-      over (Some (Number z)) e = tt
-      over (Some (Points p)) e = tt
-      over (Some (Named n)) e = each n e
-
   module _ (m : Made) (right : IsRight sigs types number f place (Make (whole x) m) S S') (n : ℕ) (named : cell st x ≡ Some (Named n)) where
     abbrev u : IsUniqueLocal types f rest S st k x n
     u = unique_local types f rest S st k x n named unique
@@ -175,12 +163,12 @@ module _ (types : Types) (f : Function) (rest : ℕ → ℕ) (S : Fact → Type 
 
   pub null_kind : IsRight sigs types number f place (Make (whole x) made.Null) S S' → OnRight (does s types f (Make (whole x) made.Null) st) (IsMade types f S' st)
   null_kind right =
-      at_local (λ spot. Next (put_content (replaced (location_parts types f (whole x)) spot (owner_word None ∷ [], st.world.content)) st)) (IsMade types f S' st) (λ n named. null_made made.Null right n named)
+      on_location_local types f rest S st k x (λ spot. Next (put_content (replaced (location_parts types f (whole x)) spot (owner_word None ∷ [], st.world.content)) st)) (IsMade types f S' st) (λ n named. null_made made.Null right n named)
 
   pub fresh_kind : IsRight sigs types number f place (Make (whole x) made.Zero) S S' → OnRight (does s types f (Make (whole x) made.Zero) st) (IsMade types f S' st)
-  fresh_kind right = at_local (λ spot. made_fresh s (location_parts types f (whole x)) spot st) (IsMade types f S' st) (λ n named. fresh_made made.Zero right n named)
+  fresh_kind right = on_location_local types f rest S st k x (λ spot. made_fresh s (location_parts types f (whole x)) spot st) (IsMade types f S' st) (λ n named. fresh_made made.Zero right n named)
 
   pub number_kind : (y : ℕ) → IsRight sigs types number f place (Make (whole x) (made.Of y)) S S' → ((n : ℕ) (named : cell st x ≡ Some (Named n)) → parts_at types (unique_local types f rest S st k x n named unique).target ≡ Single) → ((j : ℕ) → cell st y ≡ Some (Named j) → ⊥)
       → OnRight (does s types f (Make (whole x) (made.Of y)) st) (IsMade types f S' st)
   number_kind y right single free =
-      at_local (λ spot. made_of s types f (location_parts types f (whole x)) spot y (cell st y) st) (IsMade types f S' st) (λ n named. number_made (made.Of y) right n named (single n named) y free)
+      on_location_local types f rest S st k x (λ spot. made_of s types f (location_parts types f (whole x)) spot y (cell st y) st) (IsMade types f S' st) (λ n named. number_made (made.Of y) right n named (single n named) y free)

@@ -1,9 +1,8 @@
 -- A unique_ptr that is a whole local takes what another one has: there is no fault, the facts behind it cover all pointers of the frame, and what is
 -- touched lies beneath what the frame names.
 use Rattle.std.proofs.Common.{◌≡◌, ◌≢◌, inl, inr, ⊎_elim, ◌⊎◌, ℕ, ◌<◌, Bool, true, false, List, [], ◌∷◌, ◌++◌, length, Option, Some, None, refl, sym, ap, subst, ◌∙◌, arith}
-use Rattle.std.specs.Prelude.{◌||◌, ◌&&◌, Contains, nat_lt, not, slice_index}
+use Rattle.std.specs.Prelude.{◌||◌, ◌&&◌, Contains, not, slice_index}
 use Rattle.std.proofs.lemmas.Bool.{false≢true}
-use Rattle.std.proofs.lemmas.Bool.Decides.{nat_tests}
 use Rattle.std.proofs.lemmas.List.Elements.{Contains-append_left, Contains-append_right}
 use Rattle.life_types.specs.TypeTests.{is_unique}
 use Rattle.life_types.specs.Types.{Types}
@@ -31,15 +30,13 @@ use Rattle.life_rules.proofs.Giving.{at_head, in_tail}
 use Rattle.life_store.specs.Cells.{at, at-set_other}
 use Rattle.life_store.specs.Content.{Object, Content}
 use Rattle.life_store.specs.Doing.{does, moves_from, replaced}
-use Rattle.life_store.specs.Effects.{Effect, Setting, cell, put_content}
+use Rattle.life_store.specs.Effects.{Setting, cell, put_content}
 use Rattle.life_store.specs.Held.{owned_in, owner_word, slot_words, wrote}
-use Rattle.life_store.specs.Parts.{Parts, Single, Unique, local_parts, local_type, parts_at, parts_if, width}
-use Rattle.life_store.specs.Places.{Spot, found_in, here_if, named_by, on_found, on_spot, operand_word}
+use Rattle.life_store.specs.Parts.{Parts, Single, Unique, local_parts, parts_at, parts_if, width}
 use Rattle.life_store.specs.State.{Cell, Empty, Named, Number, Points, State}
 use Rattle.life_store.proofs.CellLemmas.{some_same}
 use Rattle.life_store.proofs.MapLemmas.{one_or_apart}
 use Rattle.life_forest.specs.Forest.{Beneath, Touches, all_of, part, under as further, whole as one}
-use Rattle.life_forest.specs.FrameTypes.{IsVariable}
 use Rattle.life_forest.specs.Frames.{named_in}
 use Rattle.life_forest.specs.Kinds.{kinds_of}
 use Rattle.life_forest.specs.Within.{LiesWithin}
@@ -66,7 +63,7 @@ use Rattle.life_cover.proofs.Pointers.{OnRight}
 use Rattle.life_cover.proofs.Putting.{other_local}
 use Rattle.life_cover.proofs.Remade.{replaced_buffered}
 use Rattle.life_cover.proofs.Sparing.{local_low}
-use Rattle.life_cover.proofs.UniqueLocals.{IsUniqueLocal, unique_local}
+use Rattle.life_cover.proofs.UniqueLocals.{IsUniqueLocal, on_spot_local, unique_local}
 
 both_false : (a b : Bool) → a ≡ false → b ≡ false → (a || b) ≡ false
 both_false true b e f = e
@@ -91,9 +88,6 @@ or_before false b e = absurd (false≢true e)
 or_behind : (a b : Bool) → b ≡ true → (a || b) ≡ true
 or_behind true b e = refl
 or_behind false b e = e
-
-lt_true : (a b : ℕ) → a < b → nat_lt a b ≡ true
-lt_true a b h = grind (arith, nat_tests)
 
 -- ---- what the rules leave
 
@@ -175,23 +169,6 @@ split types c a b ne n (further m _ low own) = ⊎_elim (λ l. inl (further m n 
 
 module _ (types : Types) (f : Function) (rest : ℕ → ℕ) (S : Fact → Type 0) (st : State) (k : IsKnownFrame types f rest S st) (sigs : List Signature) (number : ℕ) (place : Place) (S' : Fact → Type 0) (s : Setting) (x y : ℕ)
     (right : IsRight sigs types number f place (Move (named.Name (whole x)) y) S S') (unique : is_unique (type_at types f x) ≡ true) (same_type : type_at types f x ≡ type_at types f y) (other : x ≢ y) where
-  -- what is done with the local's word
-  at_local : (go : Spot → Effect) (Q : State → Type 0) → ((n : ℕ) → cell st x ≡ Some (Named n) → OnRight (go (record { object = n; index = 0; word = 0 })) Q) → OnRight (on_spot types f (named.Name (whole x)) st go) Q
-  at_local go Q each = over (cell st x) refl
-    where
-      over : (v : Option Cell) → cell st x ≡ v → OnRight (on_found (named_by st.world.content v) (λ n i object. go (record { object = n; index = i; word = operand_word types f (named.Name (whole x)) st }))) Q
-      over None e = tt
-      over (Some Empty) e = tt
-      over (Some (Number z)) e = tt
-      over (Some (Points p)) e = tt
-      over (Some (Named n)) e = variable (k.stands.frame.objects x n e)
-        where
-          variable : IsVariable st.world.content (local_type types f x) n → OnRight (on_found (named_by st.world.content (Some (Named n))) (λ j i object. go (record { object = j; index = i; word = operand_word types f (named.Name (whole x)) st }))) Q
-          variable v =
-              let small : 0 < length v.object.slots = let l = ap length v.one in omega (arith, l) in
-              subst (λ (ob : Option Object). OnRight (on_found (found_in ob n 0) (λ j i object. go (record { object = j; index = i; word = operand_word types f (named.Name (whole x)) st }))) Q) (sym v.there)
-              (subst (λ b. OnRight (on_found (here_if b n 0 v.object) (λ j i object. go (record { object = j; index = i; word = operand_word types f (named.Name (whole x)) st }))) Q) (sym (lt_true 0 (length v.object.slots) small)) (each n e))
-
   module _ (n m : ℕ) (named_x : cell st x ≡ Some (Named n)) (named_y : cell st y ≡ Some (Named m)) where
     abbrev u : IsUniqueLocal types f rest S st k x n
     u = unique_local types f rest S st k x n named_x unique
@@ -301,7 +278,7 @@ module _ (types : Types) (f : Function) (rest : ℕ → ℕ) (S : Fact → Type 
         (subst (λ (p : Parts). IsMade types f S' st (put_content (replaced p (record { object = n; index = 0; word = 0 }) (owner_word owned ∷ [], emptied)) st)) u.parts moved_safe)
 
   pub move_kind : OnRight (does s types f (Move (named.Name (whole x)) y) st) (IsMade types f S' st)
-  move_kind = at_local (λ spot. moves_from (local_parts types f y) spot (cell st y) st) (IsMade types f S' st) (λ n named. by_cell n named (cell st y) refl)
+  move_kind = on_spot_local types f rest S st k x (λ spot. moves_from (local_parts types f y) spot (cell st y) st) (IsMade types f S' st) (λ n named. by_cell n named (cell st y) refl)
     where
       by_cell : (n : ℕ) → cell st x ≡ Some (Named n) → (v : Option Cell) → cell st y ≡ v → OnRight (moves_from (local_parts types f y) (record { object = n; index = 0; word = 0 }) v st) (IsMade types f S' st)
       by_cell n named (Some (Named m)) e = moves_here n m named e

@@ -13,7 +13,7 @@ use Rattle.life_store.specs.Kinds.{is_value, kind_in}
 use Rattle.life_store.specs.Owners.{taken}
 use Rattle.life_store.specs.Parts.{Parts, Unique, parts_at, width, width_at}
 use Rattle.life_store.specs.Places.{spot_words}
-use Rattle.life_forest.specs.Forest.{Beneath, Foot, Touches, part, whole}
+use Rattle.life_forest.specs.Forest.{Beneath, Foot, Touches, whole}
 use Rattle.life_forest.specs.Kinds.{kinds_of}
 use Rattle.life_forest.specs.Owned.{times}
 use Rattle.life_forest.specs.Typed.{IsStore}

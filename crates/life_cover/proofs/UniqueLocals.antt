@@ -1,22 +1,26 @@
 -- The locals of a frame without structs that are unique_ptrs: what they are, and that they have what they had where nothing of them is touched.
-use Rattle.std.proofs.Common.{◌≡◌, inl, inr, ℕ, Bool, true, false, [], Option, Some, refl, sym, ap, subst, ◌∙◌}
-use Rattle.std.specs.Prelude.{slice_get}
+use Rattle.std.proofs.Common.{◌≡◌, inl, inr, ℕ, Bool, true, false, [], Option, Some, refl, sym, ap, subst, ◌∙◌, ◌<◌, length, None, arith}
+use Rattle.std.specs.Prelude.{slice_get, nat_lt}
 use Rattle.std.proofs.lemmas.Bool.{false≢true}
+use Rattle.std.proofs.lemmas.Bool.Decides.{nat_tests}
 use Rattle.life_types.specs.TypeTests.{is_unique, is_void}
 use Rattle.life_types.specs.Types.{Types}
 use Rattle.life_types.specs.declared.ty.Ty.{Ty}
 use Rattle.life_types.specs.declared.ty.Ty.TheVariants as ty
 use Rattle.life_types.specs.declared.ty.TyId.{TyId}
 use Rattle.life_core.specs.Function.{Function}
-use Rattle.life_core.specs.Operands.{Operand}
+use Rattle.life_core.specs.Operands.{Operand, whole}
+use Rattle.life_core.specs.Operands as named
 use Rattle.life_pset.specs.Shapes.{ty_if}
 use Rattle.life_pset.specs.declared.element.Fact.{Fact}
 use Rattle.life_proper.specs.Placed.{type_at, type_of}
 use Rattle.life_store.specs.Cells.{at}
-use Rattle.life_store.specs.Content.{Content}
+use Rattle.life_store.specs.Content.{Content, Object}
+use Rattle.life_store.specs.Effects.{Effect, cell, on_got}
 use Rattle.life_store.specs.Kinds.{is_value, kind_in}
 use Rattle.life_store.specs.Parts.{Parts, Single, Unique, local_type, parts_at}
-use Rattle.life_store.specs.State.{Named, State}
+use Rattle.life_store.specs.Places.{Spot, found_in, here_if, named_by, on_found, on_location, on_spot, operand_word, owner_spot_if}
+use Rattle.life_store.specs.State.{Cell, Empty, Named, Number, Points, State}
 use Rattle.life_store.proofs.CellLemmas.{some_same}
 use Rattle.life_forest.specs.Forest.{Beneath, Foot, Touches}
 use Rattle.life_forest.specs.FrameTypes.{IsVariable}
@@ -33,11 +37,15 @@ use Rattle.life_cover.proofs.KnownFrames.{IsKnownFrame, store_of}
 use Rattle.life_cover.proofs.Locals.{named_free}
 use Rattle.life_cover.proofs.Opening.{region_all}
 use Rattle.life_cover.proofs.OwnersStay.{owner_kept}
+use Rattle.life_cover.proofs.Pointers.{OnRight}
 use Rattle.life_cover.proofs.Reaching.{IsReached}
 
 unique_is : (t : Ty) → is_unique t ≡ true → (target : TyId) × (t ≡ ty.Unique target)
 unique_is (ty.Unique target) e = (target, refl)
 unique_is _ e = absurd (false≢true e)
+
+lt_true : (a b : ℕ) → a < b → nat_lt a b ≡ true
+lt_true a b h = grind (arith, nat_tests)
 
 module _ (types : Types) (f : Function) (rest : ℕ → ℕ) (S : Fact → Type 0) (st : State) (k : IsKnownFrame types f rest S st) where
   -- its type, its parts, and its object
@@ -108,3 +116,34 @@ module _ (types : Types) (f : Function) (rest : ℕ → ℕ) (S : Fact → Type 
       -- so it has what it had behind a change of the operand
       pub had_beside : (d : Content) → Touches (kinds_of types) (foot_of types r.region) st.world.content d → had_by d n ≡ had_by st.world.content n
       had_beside d touch = had_stays (foot_of types r.region) d touch (beside_region r.region) not_in
+
+  -- ---- what is done with the word of a whole local
+
+  module _ (x : ℕ) (go : Spot → Effect) (Q : State → Type 0) (each : (n : ℕ) → cell st x ≡ Some (Named n) → OnRight (go (record { object = n; index = 0; word = 0 })) Q) where
+    -- where it is a unique_ptr by its location
+    pub on_location_local : OnRight (on_location types f (whole x) st go) Q
+    on_location_local = over (cell st x) refl
+      where
+        over : (v : Option Cell) → cell st x ≡ v → OnRight (on_got (owner_spot_if types f (whole x) v) go) Q
+        over None e = tt
+        over (Some Empty) e = tt
+        over (Some (Number z)) e = tt
+        over (Some (Points p)) e = tt
+        over (Some (Named n)) e = each n e
+
+    -- .. and by its name
+    pub on_spot_local : OnRight (on_spot types f (named.Name (whole x)) st go) Q
+    on_spot_local = over (cell st x) refl
+      where
+        over : (v : Option Cell) → cell st x ≡ v → OnRight (on_found (named_by st.world.content v) (λ n i object. go (record { object = n; index = i; word = operand_word types f (named.Name (whole x)) st }))) Q
+        over None e = tt
+        over (Some Empty) e = tt
+        over (Some (Number z)) e = tt
+        over (Some (Points p)) e = tt
+        over (Some (Named n)) e = variable (k.stands.frame.objects x n e)
+          where
+            variable : IsVariable st.world.content (local_type types f x) n → OnRight (on_found (named_by st.world.content (Some (Named n))) (λ j i object. go (record { object = j; index = i; word = operand_word types f (named.Name (whole x)) st }))) Q
+            variable v =
+                let small : 0 < length v.object.slots = let l = ap length v.one in omega (arith, l) in
+                subst (λ (ob : Option Object). OnRight (on_found (found_in ob n 0) (λ j i object. go (record { object = j; index = i; word = operand_word types f (named.Name (whole x)) st }))) Q) (sym v.there)
+                (subst (λ b. OnRight (on_found (here_if b n 0 v.object) (λ j i object. go (record { object = j; index = i; word = operand_word types f (named.Name (whole x)) st }))) Q) (sym (lt_true 0 (length v.object.slots) small)) (each n e))
