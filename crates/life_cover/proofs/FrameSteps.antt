@@ -4,6 +4,7 @@ use Rattle.std.proofs.Common.{◌≡◌, ◌≢◌, ℕ, Bool, true, false, ◌&
 use Rattle.std.specs.Prelude.{pos}
 use Rattle.std.proofs.lemmas.Bool.{and_parts, false≢true}
 use Rattle.life_types.specs.Pointees.{ty_of}
+use Rattle.life_types.specs.Trees.{holds_unique}
 use Rattle.life_types.specs.TypeTests.{is_constant, is_iterator, is_pointer, is_value, is_view, is_void}
 use Rattle.life_types.specs.Types.{Types}
 use Rattle.life_types.specs.declared.place.Place.{Place}
@@ -21,7 +22,7 @@ use Rattle.life_core.specs.Ready.{IsThere}
 use Rattle.life_core.specs.Step.{Advance, Aim, Call, Changes, Copy, Cursor, Cut, End, Eval, Live, Load, Make, Move, Port, Ports, Repoint, Same, Save, Size, Step, Takes, Writes, WritesView}
 use Rattle.life_core.specs.Step as step
 use Rattle.life_core.specs.Touched.{touched_by}
-use Rattle.life_pset.specs.Shapes.{has_buffer}
+use Rattle.life_pset.specs.Shapes.{has_buffer, operand_type, tree_if}
 use Rattle.life_pset.specs.declared.element.Fact.{Fact}
 use Rattle.life_contract.specs.Signatures.{Signature}
 use Rattle.life_proper.specs.OperandTypes.{aims_at, are_alike, are_compared, is_range, keeps_const, owned_element, same, seen_element, spans, takes, walks}
@@ -44,7 +45,8 @@ use Rattle.life_cover.specs.Frames.{FrameCovered, NoInput, any_root, look_at}
 use Rattle.life_cover.specs.Regions.{owned_in_type}
 use Rattle.life_cover.proofs.AimKinds.{advances_kind, cuts_kind, empty_kind, null_kind, owner_cursor_kind, owner_item_kind, place_kind, repoint_kind, seen_cursor_kind, seen_item_kind, text_kind, whole_aim_kind}
 use Rattle.life_cover.proofs.ChangeSteps.{change_step}
-use Rattle.life_cover.proofs.CopyKinds.{IsCopyable, copy_kind}
+use Rattle.life_cover.proofs.CopyKinds.{copy_kind}
+use Rattle.life_cover.proofs.Copyable.{copied_type}
 use Rattle.life_cover.proofs.EndKinds.{end_kind}
 use Rattle.life_cover.proofs.KnownFrames.{at_pointer, IsKnownFrame, IsRight, reach_at, used_right, whole_location}
 use Rattle.life_cover.proofs.LiveKinds.{live_kind}
@@ -102,7 +104,6 @@ IsElement which.Target = ⊥
 IsElement _ = Unit {0}
 
 abbrev pub IsSpoken : Types → Function → Step → Type 0
-IsSpoken types f (Copy to from) = IsCopyable (type_of types f to)
 IsSpoken types f (Move to y) = IsSpokenMove types f to
 IsSpoken types f (Make u made) = IsSpokenMade types f made
 IsSpoken types f (Call target g xs) = ⊥
@@ -259,8 +260,9 @@ module _ (types : Types) (f : Function) (rest : ℕ → ℕ) (S : Fact → Type 
   step_covered (Copy to from) spoken right e free ready =
       let first = and_parts (same (type_of types f to) (type_of types f from)) _ e in
       let pointer = (and_parts (not (is_pointer (type_of types f to))) _ first.1).0 in
+      let unique = (and_parts (not (holds_unique (tree_if types (operand_type types f to)))) _ (and_parts (not (is_pointer (type_of types f to))) _ first.1).1).0 in
       copy_kind types f rest S st k sigs n place S' s to from right (same_solid (type_of types f to) (type_of types f from) first.0) (also_solid (type_of types f to) (type_of types f from) first.0) (same_is (type_of types f to) (type_of types f from) first.0)
-      (not_false (is_pointer (type_of types f to)) pointer) spoken
+      (not_false (is_pointer (type_of types f to)) pointer) (copied_type types f rest S st k to (same_solid (type_of types f to) (type_of types f from) first.0) unique)
   step_covered (Move to y) spoken right e free ready = right_weaker (does s types f (Move to y) st) (IsMade types f S' st) (FrameCovered types f S') (move_right types f rest S st k sigs n place S' texts fs s y to spoken right e) (λ after h. h.0)
   step_covered (Aim p sr) spoken right e free ready =
       to_pointer p (source_points (type_in types f p) sr spoken e) (λ q. Right (Aim q sr) → is_source_of types texts fs f (type_in types f q) sr ≡ true → Covers (Aim q sr)) (λ q now here. aim_step q sr spoken now here) right e

@@ -96,12 +96,6 @@ module _ (types : Types) (ordered : IsOrdered types) (s : Setting) (x : ℕ) (v 
   object_given : (ty : TyId) → parts_at types ty ≡ Single → (z : ℤ) → OnNext (born_with s ty z x st) (IsGiven types x v st)
   object_given ty single z = go (nat_lt s.given.cells (live_words_of st.world.content + (2 + 1 * 1)))
     where
-      b : ℕ
-      b = st.world.content.births
-
-      blank : Object
-      blank = resized (st.world.content.clock + 1) 1 0 (newborn ty 1 1 st.world.content.clock)
-
       born : AreBuffered types (with_value_object ty st.world.content)
       born =
           all_in types (with_value_object ty st.world.content)

@@ -13,6 +13,7 @@ pub mod Changes
 pub mod Copied
 pub mod Copies
 pub mod CopyKinds
+pub mod Copyable
 pub mod Edges
 pub mod Elsewhere
 pub mod EndKinds

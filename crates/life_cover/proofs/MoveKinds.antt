@@ -69,14 +69,6 @@ both_false : (a b : Bool) → a ≡ false → b ≡ false → (a || b) ≡ false
 both_false true b e f = e
 both_false false b e f = f
 
-left_false : (a b : Bool) → (a || b) ≡ false → a ≡ false
-left_false true b e = e
-left_false false b e = refl
-
-right_false : (a b : Bool) → (a || b) ≡ false → b ≡ false
-right_false true b e = absurd (false≢true (sym e))
-right_false false b e = e
-
 either_true : (a b : Bool) → (a || b) ≡ true → (a ≡ true) ⊎ (b ≡ true)
 either_true true b e = inl refl
 either_true false b e = inr e
@@ -92,9 +84,6 @@ or_behind false b e = e
 -- ---- what the rules leave
 
 module _ (sigs : List Signature) (types : Types) (f : Function) (place : Place) (x y : ℕ) (S S' : Fact → Type 0) (closed : Closed sigs types f place (Move (named.Name (whole x)) y) S S') (Stands : Root → Region → Type 0) where
-  abbrev killed : AbsPlace → Bool
-  killed a = under (local_place y) a || under (local_place x) a
-
   hit_under : (e : Element) → is_hit (λ a. under (local_place y) a || under (local_place x) a) e ≡ (points_under (local_place y) e || points_under (local_place x) e)
   hit_under element.Null = refl
   hit_under (element.Invalid c) = refl

@@ -50,9 +50,6 @@ module _ (types : Types) (ordered : IsOrdered types) (hand : ℕ → ℕ) (c : C
   abbrev from : Region
   from = record { object = m; word = 0; ty = id }
 
-  abbrev p : Parts
-  p = parts_at types id
-
   -- where the other one has nothing
   abbrev emptied : Content
   emptied = wrote m 0 0 (owner_word None ∷ []) c

@@ -169,9 +169,6 @@ module _ (types : Types) (ordered : IsOrdered types) (hand : ℕ → ℕ) (c : C
             kept : at b.1.objects n ≡ Some o
             kept = came.same n born_n ∙ there
 
-            before : ℕ → ℕ
-            before k = times (b.0 ∷ []) k + hand k
-
             after : IsStore types (λ k. times (b.0 ∷ []) k + hand k) b.1
             after = record { forest = came.forest; fit = fit }
 

@@ -174,7 +174,6 @@ module _ (types : Types) (f : Function) (st : State) (j : ℕ) where
 
   results_named : 0 < times (named_in (results types f st)) j → (x : ℕ) × (slice_get st.cells x ≡ Some (Named j))
   results_named lt =
-      let first = given_back (slice_get types.types f.result.0) (result_sort types f) (cell st f.parameters) in
       one_or_apart (times (named_in (given_back (slice_get types.types f.result.0) (result_sort types f) (cell st f.parameters))) j) 0
       (λ z.
       let both = named_append (given_back (slice_get types.types f.result.0) (result_sort types f) (cell st f.parameters)) (slots_back types f 0 f.parameters st) j in

@@ -30,10 +30,6 @@ use Rattle.life_cover.proofs.Reaching.{IsReached}
 use Rattle.life_cover.proofs.Unkilled.{no_foot}
 
 module _ (types : Types) (f : Function) (rest : ℕ → ℕ) (S : Fact → Type 0) (st : State) (k : IsKnownFrame types f rest S st) where
-  -- all that the frame names
-  abbrev pub named_foot : Foot
-  named_foot = all_of (named_in st.cells)
-
   pub local_low : (x n : ℕ) → slice_get st.cells x ≡ Some (Named n) → Beneath (kinds_of types) st.world.content (all_of (named_in st.cells)) n
   local_low x n named = whole n (is_positive (times (named_in st.cells) n) (in_hand st.cells x n named))
 

@@ -4,6 +4,7 @@ use Rattle.std.proofs.Common.{◌≡◌, ℕ, Bool, true, false, ◌&&◌, not, 
 use Rattle.std.specs.Prelude.{if◌then◌else◌}
 use Rattle.std.proofs.lemmas.Bool.{and_parts, false≢true}
 use Rattle.life_types.specs.Pointees.{ty_of}
+use Rattle.life_types.specs.Trees.{holds_unique}
 use Rattle.life_types.specs.TypeTests.{is_constant, is_iterator, is_pointer, is_value, is_void}
 use Rattle.life_types.specs.Types.{Types}
 use Rattle.life_types.specs.declared.place.Place.{Place}
@@ -16,6 +17,7 @@ use Rattle.life_core.specs.Proper.{AreReady}
 use Rattle.life_core.specs.Step.{Advance, Aim, Append, Call, Change, Changes, Clear, Copy, Cursor, Cut, End, Erase, Eval, Live, Load, Make, Move, PopBack, Ports, PushBack, Repoint, Reserve, Same, Save, Set, Size, Step}
 use Rattle.life_core.specs.Step as step
 use Rattle.life_core.specs.Touched.{touched_by}
+use Rattle.life_pset.specs.Shapes.{operand_type, tree_if}
 use Rattle.life_pset.specs.declared.element.Fact.{Fact}
 use Rattle.life_contract.specs.Signatures.{Signature}
 use Rattle.life_proper.specs.OperandTypes.{aims_at, are_alike, is_range, keeps_const, same, walks}
@@ -35,6 +37,7 @@ use Rattle.life_forest.proofs.SeenTypes.{aims_seen, iterator_points, pointer_sol
 use Rattle.life_forest.proofs.StandingNumbers.{evaluated_gives, loaded_gives, ports_give, sames_give, sizes_give}
 use Rattle.life_forest.proofs.TypedSteps.{IsSlotFree, value_solid}
 use Rattle.life_cover.specs.Frames.{FrameCovered, NoInput, any_root}
+use Rattle.life_cover.proofs.Copyable.{copied_type}
 use Rattle.life_cover.proofs.FrameSteps.{IsSpoken, alike_points, not_false, source_points, step_covered}
 use Rattle.life_cover.proofs.HeldElements.{vector_operand}
 use Rattle.life_cover.proofs.KeptBuffers.{IsKept, by_change, by_next, ends_behind, text_behind, vector_behind}
@@ -163,8 +166,9 @@ module _ (types : Types) (f : Function) (rest : ℕ → ℕ) (S : Fact → Type 
   step_behind (Copy to from) spoken right e =
       let first = and_parts (same (type_of types f to) (type_of types f from)) _ e in
       let pointer = (and_parts (not (is_pointer (type_of types f to))) _ first.1).0 in
+      let unique = (and_parts (not (holds_unique (tree_if types (operand_type types f to)))) _ (and_parts (not (is_pointer (type_of types f to))) _ first.1).1).0 in
       let solid = same_solid (type_of types f to) (type_of types f from) first.0 in
-      copy_behind types f rest S st k sigs n place S' s to from right solid (ap is_void (sym (same_is (type_of types f to) (type_of types f from) first.0)) ∙ solid) (same_is (type_of types f to) (type_of types f from) first.0) (not_false (is_pointer (type_of types f to)) pointer) spoken
+      copy_behind types f rest S st k sigs n place S' s to from right solid (ap is_void (sym (same_is (type_of types f to) (type_of types f from) first.0)) ∙ solid) (same_is (type_of types f to) (type_of types f from) first.0) (not_false (is_pointer (type_of types f to)) pointer) (copied_type types f rest S st k to solid unique)
   step_behind (Move to y) spoken right e =
       right_next (does s types f (Move to y) st) (IsBehind types st)
       (right_weaker (does s types f (Move to y) st) (IsMade types f S' st) (IsBehind types st) (move_right types f rest S st k sigs n place S' texts fs s y to spoken right e) (λ after h. h.1))
